@@ -1,0 +1,102 @@
+#!/usr/bin/env python3
+"""Inputs of any size, in four shapes.
+
+  gen.py DIR [N ...]      writes DIR/<shape>-<N>.m3u8 and DIR/<shape>-<N>.json for N in 10 100 1000 10000
+
+plain: segments alone. break: one program date time, one break of 30 s, a pod of two segments. encrypted: the same
+under AES-128 without IV (each kept segment then states its own IV: the longest output a line of input can ask for).
+rich: all that a packager writes: a key tag every 20 segments, half of them without IV, maps under a key of their own, a date on each
+segment, byte ranges with and without offset, titles, comments, unknown tags, a discontinuity every 50 segments and a
+break of three segments every 40, each with its own two-ad pod."""
+import json, os, sys
+
+OUT30 = "0xFC302000000000000000FFF00F05000000017FFFFE002932E00001" + "0" * 16
+RANGE = '#EXT-X-DATERANGE:ID="b1",START-DATE="2024-05-01T12:00:10Z",SCTE35-OUT=' + OUT30
+AB = {"breaks": [{"id": "b1", "ads": [{"segments": [
+    {"uri": "http://ads.example/a0.ts", "duration": "8"},
+    {"uri": "http://ads.example/a1.ts", "duration": "9.5"}]}]}]}
+
+
+def civil(ms):
+    import datetime
+    t = datetime.datetime(2024, 5, 1, 12, tzinfo=datetime.timezone.utc) + datetime.timedelta(milliseconds=ms)
+    return t.strftime("%Y-%m-%dT%H:%M:%S.") + "%03dZ" % (t.microsecond // 1000)
+
+
+def plain(n):
+    l = ["#EXTM3U", "#EXT-X-TARGETDURATION:10"]
+    for i in range(n):
+        l += ["#EXTINF:9.5," if i == 2 else "#EXTINF:10,", "s%d.ts" % i]
+    return l + ["#EXT-X-ENDLIST"], None
+
+
+def with_break(n, head=()):
+    l = ["#EXTM3U", "#EXT-X-VERSION:3", "#EXT-X-TARGETDURATION:10", *head, RANGE,
+         "#EXT-X-PROGRAM-DATE-TIME:2024-05-01T12:00:00Z"]
+    for i in range(n):
+        l += ["#EXTINF:10,", "s%d.ts" % i]
+    return l + ["#EXT-X-ENDLIST"], AB
+
+
+def encrypted(n):
+    return with_break(n, ["#EXT-X-MEDIA-SEQUENCE:7", '#EXT-X-KEY:METHOD=AES-128,URI="k1"'])
+
+
+def rich(n):
+    l = ["#EXTM3U", "#EXT-X-VERSION:7", "#EXT-X-TARGETDURATION:6", "#EXT-X-MEDIA-SEQUENCE:1000",
+         "#EXT-X-DISCONTINUITY-SEQUENCE:3", "#EXT-X-INDEPENDENT-SEGMENTS", "## made by a packager"]
+    breaks = []
+    ms = 0
+    for i in range(n):
+        if i % 40 == 5:
+            b = "ad-%06d" % i
+            l.append('#EXT-X-DATERANGE:ID="%s",CLASS="com.example.ad",START-DATE="%s",PLANNED-DURATION=18,'
+                     'X-CAMPAIGN="spring, one",SCTE35-OUT=%s' % (b, civil(ms), OUT30))
+            breaks.append({"id": b, "ads": [
+                {"map": {"uri": "https://ads.example/%s/init.mp4" % b},
+                 "segments": [{"uri": "https://ads.example/%s/a%d.m4s" % (b, k), "duration": "4.0" + "048"[k]} for k in range(3)]},
+                {"map": {"uri": "https://ads.example/%s/b.mp4" % b, "offset": 0, "length": 900},
+                 "key": {"method": "AES-128", "uri": "https://ads.example/%s.key" % b, "iv": "0x0123456789abcdef"},
+                 "segments": [{"uri": "https://ads.example/%s/b.mp4" % b, "duration": "3.5",
+                               "offset": 900 + 700 * k, "length": 700} for k in range(2)]}]})
+        if i % 20 == 0:
+            k = i // 20
+            l.append('#EXT-X-KEY:METHOD=AES-128,URI="keys/m%d.key",IV=0x%032x' % (k, k + 1))
+            l.append('#EXT-X-MAP:URI="video/part%d.mp4",BYTERANGE="1180@0"' % (i // 10))
+            if k % 2 == 0:
+                l.append('#EXT-X-KEY:METHOD=AES-128,URI="keys/k%d.key"' % k)
+            else:
+                l.append('#EXT-X-KEY:METHOD=AES-128,URI="keys/k%d.key",IV=0x%032x,KEYFORMATVERSIONS="1"' % (k, 99 + k))
+        if i and i % 50 == 0:
+            l.append("#EXT-X-DISCONTINUITY")
+        if i % 25 == 0:
+            l.append("#EXT-X-BITRATE:%d" % (4000 + i % 7))
+        l.append("#EXT-X-PROGRAM-DATE-TIME:" + civil(ms))
+        l.append("#EXTINF:6.000000,news at %d" % (i % 24))
+        l.append("#EXT-X-BYTERANGE:%d%s" % (750000 + i % 9, "@1180" if i % 10 == 0 else ""))
+        l.append("video/part%d.mp4" % (i // 10))
+        ms += 6000
+    return l + ["#EXT-X-ENDLIST"], {"breaks": breaks}
+
+
+def text(lines):
+    return ("\n".join(lines) + "\n").encode()
+
+
+def write_all(dir, sizes):
+    os.makedirs(dir, exist_ok=True)
+    for name, f in (("plain", plain), ("break", with_break), ("encrypted", encrypted), ("rich", rich)):
+        for n in sizes:
+            lines, dec = f(n)
+            with open(os.path.join(dir, "%s-%d.m3u8" % (name, n)), "wb") as h:
+                h.write(text(lines))
+            if dec:
+                with open(os.path.join(dir, "%s-%d.json" % (name, n)), "w") as h:
+                    json.dump(dec, h)
+
+
+if __name__ == "__main__":
+    a = sys.argv[1:]
+    if not a:
+        sys.exit(__doc__)
+    write_all(a[0], [int(x) for x in a[1:]] or [10, 100, 1000, 10000])

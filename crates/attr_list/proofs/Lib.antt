@@ -1,0 +1,10 @@
+pub mod Cuts
+pub mod Elements
+pub mod Fronts
+pub mod Grammar
+pub mod Limits
+pub mod NumberLemmas
+pub mod Pieces
+pub mod Slices
+pub mod Steps
+pub mod Turns

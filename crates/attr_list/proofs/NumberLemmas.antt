@@ -1,0 +1,100 @@
+-- What `parse` and `from_str_radix` give at texts that are known to be digits.
+use Rattle.std.proofs.Common.{◌≡◌, ℕ, ◌^◌, ◌<◌, ◌≤◌, Bool, true, false, cond, List, [], ◌∷◌, drop, length, get_or, refl, ap, sym, ◌∙◌, arith, rules, Ok, Err, Some, None, Result}
+use Rattle.std.specs.Prelude.{◌&&◌, ◌==◌, nat_lt}
+use Rattle.std.specs.List.{list_all}
+use Rattle.std.specs.Char.{is_ascii_digit, is_ascii_hexdigit, digit_value}
+use Rattle.std.specs.Result.{result_ok, OkIff}
+use Rattle.std.specs.Str.Parse.{digits_value, AllDigits, ParsesUnsigned, without_leading_plus}
+use Rattle.std.proofs.lemmas.Bool.{and_parts, and_from, cond-true, cond-false, lt-ltb, le-leb, le-ltb}
+use Rattle.std.proofs.lemmas.Bool.Decides.{nat_tests}
+use Rattle.std.proofs.Math.Nat.{pow-le-pow_right}
+use Rattle.std.proofs.lemmas.Int.Digits.{digits_value-lt}
+use Rattle.std.proofs.lemmas.Str.Parse.{without_leading_plus_none}
+use Rattle.std.specs.Fmt.{decimal}
+use Rattle.std.proofs.lemmas.Str.Parse.{IsNumeralModel, numerals_by_value}
+use Rattle.std.proofs.lemmas.Fmt.{decimal_is_IsNumeral, length-decimal-le, decimal_nonempty, digits_decimal}
+use Rattle.attr_list.specs.Numbers.{decimal_of, hex_of, has_up_to, has_hex_prefix}
+
+-- digits by a test of each
+digits_by : (p : ℕ → Bool) (radix : ℕ) (ds : List ℕ) → ((c : ℕ) → p c ≡ true → digit_value c < radix) → list_all p ds ≡ true → AllDigits radix ds
+digits_by p radix [] each h = tt
+digits_by p radix (c ∷ ds) each h = let a = and_parts _ _ h in (each c a.0, digits_by p radix ds each a.1)
+
+decimal_digit : (c : ℕ) → is_ascii_digit c ≡ true → digit_value c < 10
+decimal_digit c h = grind (arith, nat_tests)
+
+hex_digit : (c : ℕ) → is_ascii_hexdigit c ≡ true → digit_value c < 16
+hex_digit c h = grind (arith, nat_tests)
+
+-- no plus stands before digits
+no_plus : (radix : ℕ) (ds : List ℕ) → radix ≤ 16 → AllDigits radix ds → get_or ds 0 0 ≡ 43 → 0 < length ds → ⊥
+no_plus radix [] s h e l = omega arith
+no_plus radix (c ∷ ds) s h e l = plus_value c (omega (arith, h.0)) e
+  where
+    plus_value : (c : ℕ) → digit_value c < 16 → c ≡ 43 → ⊥
+    plus_value c h e = grind (arith, nat_tests)
+
+plain : (radix : ℕ) (ds : List ℕ) → radix ≤ 16 → AllDigits radix ds → 0 < length ds → without_leading_plus ds ≡ ds
+plain radix ds s h l = without_leading_plus_none ds (λ e. no_plus radix ds s h e l)
+
+-- the answer of a parse, where the text has digits alone
+parsed : {E : Type 0} (k radix : ℕ) (ds : List ℕ) (r : Result ℕ E) → radix ≤ 16 → AllDigits radix ds → 0 < length ds → ParsesUnsigned k radix ds r
+    → result_ok r ≡ cond (nat_lt (digits_value radix ds) (2 ^ k)) (Some (digits_value radix ds)) None
+parsed k radix ds r s h l p = by r (digits_value radix ds) (2 ^ k) (l, h) (rw (plain radix ds s h l) at p)
+  where
+    by : {E : Type 0} (r : Result ℕ E) (v top : ℕ) {Q : Type 0} → Q → OkIff r (Q × (v < top)) v → result_ok r ≡ cond (nat_lt v top) (Some v) None
+    by (Ok x) v top q o = ap Some o.1 ∙ sym (cond-true _ _ _ (lt-ltb _ _ o.0.1))
+    by (Err e) v top q o = sym (cond-false _ _ _ (le-ltb _ _ (not_below v top (λ b. o (q, b)))))
+      where
+        not_below : (v top : ℕ) → (v < top → ⊥) → top ≤ v
+        not_below v top h = omega arith
+
+some_digits : (ds : List ℕ) → (length ds == 0) ≡ false → 0 < length ds
+some_digits [] h = absurd (false_is_not_true h)
+  where
+    false_is_not_true : true ≡ false → ⊥
+    false_is_not_true h = cc
+some_digits (d ∷ ds) h = omega arith
+
+pub decimal_read : {E : Type 0} (ds : List ℕ) (r : Result ℕ E) → (length ds == 0) ≡ false → length ds ≤ 20 → list_all is_ascii_digit ds ≡ true → ParsesUnsigned 64 10 ds r → result_ok r ≡ decimal_of ds
+decimal_read ds r some few all p =
+    let l = some_digits ds some in
+    let h = digits_by is_ascii_digit 10 ds decimal_digit all in
+    let size : has_up_to 20 ds ≡ true = and_from _ _ (lt-ltb _ _ l) (le-leb _ _ few) in
+    let parse = parsed 64 10 ds r (omega arith) h l p in
+    by ds (has_up_to 20 ds) (list_all is_ascii_digit ds) size all _ parse
+  where
+    by : (ds : List ℕ) (a b : Bool) → a ≡ true → b ≡ true → (o : _) → o ≡ cond (nat_lt (digits_value 10 ds) (2 ^ 64)) (Some (digits_value 10 ds)) None
+        → o ≡ cond (a && b && nat_lt (digits_value 10 ds) (2 ^ 64)) (Some (digits_value 10 ds)) None
+    by ds a b g h o e = rw (g, h) e
+
+below_top : (n l : ℕ) → n < 16 ^ l → l ≤ 32 → n < 2 ^ 128
+below_top n l h few = let most : 16 ^ l ≤ 16 ^ 32 = pow-le-pow_right {n = 16} (omega arith) few in omega arith
+
+pub hex_read : {E : Type 0} (text ds : List ℕ) (r : Result ℕ E) → has_hex_prefix text ≡ true → ds ≡ drop 2 text → (length ds == 0) ≡ false → length ds ≤ 32 → list_all is_ascii_hexdigit ds ≡ true → ParsesUnsigned 128 16 ds r → result_ok r ≡ hex_of text
+hex_read text ds r prefix after some few all p =
+    let l = some_digits ds some in
+    let h = digits_by is_ascii_hexdigit 16 ds hex_digit all in
+    let size : has_up_to 32 ds ≡ true = and_from _ _ (lt-ltb _ _ l) (le-leb _ _ few) in
+    let below = below_top (digits_value 16 ds) (length ds) (digits_value-lt 16 ds h) few in
+    let parse = parsed 128 16 ds r (omega arith) h l p ∙ cond-true _ _ _ (lt-ltb _ _ below) in
+    parse ∙ sym (by text ds (has_hex_prefix text) prefix after size all)
+  where
+    by : (text ds : List ℕ) (a : Bool) → a ≡ true → ds ≡ drop 2 text → has_up_to 32 ds ≡ true → list_all is_ascii_hexdigit ds ≡ true
+        → cond (a && has_up_to 32 (drop 2 text) && list_all is_ascii_hexdigit (drop 2 text)) (Some (digits_value 16 (drop 2 text))) None ≡ Some (digits_value 16 ds)
+    by text ds a prefix after size all =
+        rw (← after, prefix, size, all) refl
+
+-- ---- a number that is written is read
+
+by_value : IsNumeralModel (λ ds. list_all is_ascii_digit ds ≡ true) (digits_value 10)
+by_value = numerals_by_value (λ ds. list_all is_ascii_digit ds ≡ true) (search rules)
+
+pub written_decimal : (n : ℕ) → n < 2 ^ 64 → decimal_of (decimal n) ≡ Some n
+written_decimal n h =
+    let value : digits_value 10 (decimal n) ≡ n = (decimal_is_IsNumeral n h).1 in
+    let some : 0 < length (decimal n) = decimal_nonempty n h in
+    let few : length (decimal n) ≤ 20 = length-decimal-le 20 n (omega arith) (omega arith) h in
+    let size : has_up_to 20 (decimal n) ≡ true = and_from _ _ (lt-ltb _ _ some) (le-leb _ _ few) in
+    let below : nat_lt (digits_value 10 (decimal n)) (2 ^ 64) ≡ true = lt-ltb _ _ (omega arith) in
+    cond-true _ _ _ (and_from _ _ (and_from _ _ size (digits_decimal by_value n h)) below) ∙ ap Some value

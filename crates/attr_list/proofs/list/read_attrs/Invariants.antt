@@ -1,0 +1,18 @@
+use Rattle.std.proofs.Common.{◌≡◌, ◌-◌, ◌≤◌, ◌++◌, map, length, Some}
+use denote.Text.{Utf8}
+use denote.Shadow.{shadow}
+use Rattle.attr_list.specs.Attributes.{attributes_of, pairs_from, pieces, spans_from}
+use Rattle.attr_list.specs.Attrs.{attr_pair, attr_span}
+use Rattle.attr_list.proofs.list.read_attrs.Given as goal
+
+-- what is left to read gives what the text gives, and so with the places
+abbrev pub invariant-loop-attrs : goal.invariant-loop-attrs
+invariant-loop-attrs l = record {
+  utf8 : shadow (Utf8 l.rest);
+  within : length l.rest ≤ length l.text;
+  pairs : pairs_from (Some 64) (map attr_pair l.attrs.items) (pieces l.rest) ≡ attributes_of (Some 64) l.text;
+  spans : map attr_span l.attrs.items ++ spans_from (length l.text - length l.rest) (pieces l.rest) ≡ spans_from 0 (pieces l.text);
+}
+
+abbrev pub decreases-loop-attrs : goal.decreases-loop-attrs
+decreases-loop-attrs l = length l.rest

@@ -1,0 +1,172 @@
+//! Attribute lists.
+ghost use Rattle.std.specs.Prelude.{◌≡◌, ◌≤◌, ◌⊎◌, List, map, length, Ok, Err, Some, IfOk, IfErr, MatchResult, find, option_map};
+ghost use Rattle.std.specs.Option.{option_copied};
+ghost use Rattle.std.specs.List.{list_any};
+ghost use Rattle.std.specs.Slice.Iter.{iter_rest};
+ghost use Rattle.std.specs.Iterator.Adapters.{IterYieldsInOrder};
+ghost use Rattle.attr_list.specs.declared.attr.Attr.{Attr};
+ghost use Rattle.attr_list.specs.Attributes.{Pair, IsAttributeList, attributes_of, attribute, pair_of, pair_spelling, pieces, spans_from, slices_at, is_named};
+ghost use Rattle.attr_list.specs.Attrs.{attr_pair, attr_span};
+ghost use Rattle.attr_list.specs.Scanning.{first_piece, StartsWithPair};
+
+use crate::scan::{split_name, split_value};
+use crate::{Attr, AttrFault, Span};
+use std::alloc::{AllocError, Global};
+use std::marker::Model;
+use std::slice::Iter;
+
+/// The most attributes that a list may have.
+pub const MOST_ATTRIBUTES: usize = 64;
+
+/// The attributes of a tag, in order (RFC 8216, section 4.2).
+#[derive(Debug, Drop)]
+pub struct AttrList {
+    attrs: Vec<Attr>,
+}
+
+impl Model for AttrList {
+    ghost use Rattle.std.specs.Prelude.{List};
+    ghost use Rattle.attr_list.specs.declared.attr.Attr.{Attr};
+
+    ghost Value = { List Attr };
+
+    ghost view = { λ list. list.attrs.items };
+}
+
+impl AttrList {
+    /// Reads a text as an attribute list of at most 64 attributes.
+    ///
+    /// The first faulty attribute decides the fault, and in it the order TooMany, BadName, NoEquals,
+    /// Twice, OpenQuote, BadValue. OutOfMemory comes only where memory was refused.
+    pub fn read(alloc: Global, text: &str) -> Result<AttrList, AttrFault>
+        // What is read is in the grammar.
+        ensures list { IfOk result (λ list. IsAttributeList text.now (map attr_pair list)) }
+        // What is in the grammar is read, up to the limit.
+        ensures reads { (pairs : List Pair) → IsAttributeList text.now pairs → length pairs ≤ 64
+            → MatchResult result (λ list. map attr_pair list ≡ pairs) (λ e. e ≡ AttrFault.OutOfMemory) }
+
+        // Exactly the answer of the reading, with its first fault.
+        ensures ok { IfOk result (λ list. attributes_of (Some 64) text.now ≡ Ok (map attr_pair list)) }
+        ensures fault { IfErr result
+            (λ e. (e ≡ AttrFault.OutOfMemory) ⊎ (attributes_of (Some 64) text.now ≡ Err e)) }
+
+        // Each attribute's place, where its spelling stands.
+        ensures spans { IfOk result (λ list. map attr_span list ≡ spans_from 0 (pieces text.now)) }
+        ensures slices { IfOk result
+            (λ list. slices_at text.now (map attr_span list) ≡ map pair_spelling (map attr_pair list)) }
+    {
+        let attrs = read_attrs(alloc, text)?;
+        Ok(AttrList { attrs })
+    }
+
+    /// The attribute of this name, if there is one. Names are compared with their case.
+    pub fn get(&self, name: &str) -> Option<&Attr>
+        ensures pair { option_map attr_pair (option_copied result)
+            ≡ attribute (map attr_pair self.now) name.now }
+        ensures item { option_copied result
+            ≡ find (λ attr. is_named name.now (attr_pair attr)) self.now }
+    {
+        find_named(&self.attrs, name)
+    }
+
+    /// The attributes in the order of the text.
+    pub fn iter(&self) -> Iter<'_, Attr>
+        ensures rest { iter_rest result ≡ self.now }
+        ensures runs { IterYieldsInOrder Attr }
+    {
+        self.as_slice().iter()
+    }
+
+    /// The same as a slice.
+    pub fn as_slice(&self) -> &[Attr]
+        ensures { result.now ≡ self.now }
+    {
+        self.attrs.as_slice()
+    }
+}
+
+// The attributes of a text, in one pass.
+fn read_attrs(alloc: Global, text: &str) -> Result<Vec<Attr>, AttrFault>
+    ensures ok { IfOk result (λ v. attributes_of (Some 64) text.now ≡ Ok (map attr_pair v.items)) }
+    ensures fault { IfErr result
+        (λ e. (e ≡ AttrFault.OutOfMemory) ⊎ (attributes_of (Some 64) text.now ≡ Err e)) }
+    ensures spans { IfOk result (λ v. map attr_span v.items ≡ spans_from 0 (pieces text.now)) }
+{
+    let mut attrs: Vec<Attr> = Vec::new(alloc);
+    let mut rest = text;
+    loop {
+        let pair = read_pair(rest, &attrs)?;
+        let after = pair.after;
+        let span = Span {
+            start: text.len() - rest.len(),
+            end: text.len() - after.len(),
+        };
+        attrs.push(to_attr(alloc, pair, span)?)?;
+        match after.strip_prefix(',') {
+            Some(next) => rest = next,
+            None => return Ok(attrs),
+        }
+    }
+}
+
+// The parts of an attribute at the front of a text, and the text after it.
+#[derive(Clone, Copy)]
+struct PairText<'a> {
+    name: &'a str,
+    value: &'a str,
+    quoted: bool,
+    after: &'a str,
+}
+
+// The attribute at the front of a text, after these. Takes no memory.
+fn read_pair<'a>(text: &'a str, before: &[Attr]) -> Result<PairText<'a>, AttrFault>
+    ensures { MatchResult result
+        (λ p. let pair : Pair = record { name = p.name.now; value = p.value.now; quoted = p.quoted } in
+        StartsWithPair text.now pair p.after.now
+        × (pair_of (Some 64) (map attr_pair before.now) (pair_spelling pair) ≡ Ok pair))
+        (λ e. pair_of (Some 64) (map attr_pair before.now) (first_piece text.now) ≡ Err e) }
+{
+    if before.len() >= MOST_ATTRIBUTES {
+        return Err(AttrFault::TooMany);
+    }
+    let (name, rest) = split_name(text)?;
+    if has_named(before, name) {
+        return Err(AttrFault::Twice);
+    }
+    let value = split_value(rest)?;
+    Ok(PairText {
+        name,
+        value: value.value,
+        quoted: value.quoted,
+        after: value.after,
+    })
+}
+
+// The first attribute of this name.
+fn find_named<'a>(attrs: &'a [Attr], name: &str) -> Option<&'a Attr>
+    ensures { option_copied result ≡ find (λ attr. is_named name.now (attr_pair attr)) attrs.now }
+{
+    attrs.iter().find(|attr| name == attr.name.as_str())
+}
+
+// Whether an attribute has this name.
+fn has_named(attrs: &[Attr], name: &str) -> bool
+    ensures { result ≡ list_any (λ attr. is_named name.now (attr_pair attr)) attrs.now }
+{
+    attrs.iter().any(|attr| name == attr.name.as_str())
+}
+
+// A copy of the parts.
+fn to_attr(alloc: Global, pair: PairText<'_>, span: Span) -> Result<Attr, AllocError>
+    ensures { IfOk result (λ attr. (attr.span ≡ span) × (attr_pair attr
+        ≡ record { name = pair.entry.name.now; value = pair.entry.value.now; quoted = pair.entry.quoted })) }
+{
+    let name = String::from_str(alloc, pair.name)?;
+    let value = String::from_str(alloc, pair.value)?;
+    Ok(Attr {
+        name,
+        value,
+        quoted: pair.quoted,
+        span,
+    })
+}

@@ -1,0 +1,114 @@
+//! The front of a text, cut into a name and a value. Nothing here takes memory.
+ghost use Rattle.std.specs.Prelude.{◌≡◌, ◌∷◌, ◌++◌, not, false, Some, MatchResult};
+ghost use Rattle.std.specs.List.{position_or_len};
+ghost use Rattle.attr_list.specs.Attributes.{is_name_byte, ends_plain};
+ghost use Rattle.attr_list.specs.Scanning.{first_piece, ends_pair, begins_quoted, name_fault, IsNamed, IsValued, HasValueFault};
+
+use crate::AttrFault;
+
+/// A value at the front of a text, without its quotes, and the text after it.
+#[derive(Clone, Copy)]
+pub(crate) struct ValueText<'a> {
+    pub value: &'a str,
+    pub quoted: bool,
+    pub after: &'a str,
+}
+
+/// The name at the front of a text, and the text after its `=`.
+pub(crate) fn split_name(text: &str) -> Result<(&str, &str), AttrFault>
+    ensures { MatchResult result
+        (λ parts. IsNamed text.now parts.0.now parts.1.now)
+        (λ e. name_fault (first_piece text.now) ≡ Some e) }
+{
+    let (name, after) = text.split_at(name_len(text));
+    if name.is_empty() {
+        return Err(AttrFault::BadName);
+    }
+    match after.strip_prefix('=') {
+        Some(value) => Ok((name, value)),
+        None if ends_pair(after) => Err(AttrFault::NoEquals),
+        None => Err(AttrFault::BadName),
+    }
+}
+
+/// The value at the front of a text, which runs to a comma or the end.
+pub(crate) fn split_value(text: &str) -> Result<ValueText<'_>, AttrFault>
+    ensures { MatchResult result
+        (λ v. IsValued text.now v.quoted v.value.now v.after.now)
+        (λ e. HasValueFault text.now e) }
+{
+    match text.strip_prefix('"') {
+        Some(inside) => split_quoted(inside),
+        None => split_plain(text),
+    }
+}
+
+// The value whose opening quote stands before this text.
+fn split_quoted(text: &str) -> Result<ValueText<'_>, AttrFault>
+    ensures { MatchResult result
+        (λ v. IsValued (34 ∷ text.now) v.quoted v.value.now v.after.now)
+        (λ e. HasValueFault (34 ∷ text.now) e) }
+{
+    match text.split_once('"') {
+        None => Err(AttrFault::OpenQuote),
+        Some((value, after)) if ends_pair(after) => Ok(ValueText {
+            value,
+            quoted: true,
+            after,
+        }),
+        Some(_) => Err(AttrFault::BadValue),
+    }
+}
+
+// The unquoted value at the front of a text.
+fn split_plain(text: &str) -> Result<ValueText<'_>, AttrFault>
+    requires { begins_quoted text.now ≡ false }
+    ensures { MatchResult result
+        (λ v. IsValued text.now v.quoted v.value.now v.after.now)
+        (λ e. HasValueFault text.now e) }
+{
+    let (value, after) = text.split_at(plain_len(text));
+    if value.is_empty() || !ends_pair(after) {
+        return Err(AttrFault::BadValue);
+    }
+    Ok(ValueText {
+        value,
+        quoted: false,
+        after,
+    })
+}
+
+// Whether a pair may end before this text.
+fn ends_pair(text: &str) -> bool
+    ensures { result ≡ ends_pair text.now }
+{
+    matches!(text.as_bytes(), [] | [b',', ..])
+}
+
+// The length of what stands before the first comma, quote or space.
+fn plain_len(text: &str) -> usize
+    ensures { result ≡ position_or_len ends_plain text.now }
+{
+    let bytes = text.as_bytes();
+    bytes
+        .iter()
+        .position(|b| matches!(b, b',' | b'"' | b' '))
+        .unwrap_or(bytes.len())
+}
+
+// The length of the name bytes at the front.
+fn name_len(text: &str) -> usize
+    ensures { result ≡ position_or_len (λ b. not (is_name_byte b)) text.now }
+{
+    let bytes = text.as_bytes();
+    bytes
+        .iter()
+        .position(|b| !is_name_byte(*b))
+        .unwrap_or(bytes.len())
+}
+
+fn is_name_byte(byte: u8) -> bool
+    ensures { result ≡ is_name_byte byte }
+{
+    byte.is_ascii_uppercase() || byte.is_ascii_digit() || byte == b'-'
+}

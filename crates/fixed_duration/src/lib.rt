@@ -1,0 +1,194 @@
+//! Durations in whole nanoseconds, read and written as the decimal seconds of a playlist
+//! (RFC 8216, section 4.3.2.1, EXTINF): digits with at most one point.
+#![tactic(auto)]
+
+ghost use Rattle.std.specs.Prelude.{◌≡◌, ℕ, ◌+◌, ◌*◌, ◌/◌, ◌^◌, ◌<◌, ◌≤◌, ◌++◌, List, Ok, OnOk, OnErr, IsTrue, string_bytes, string_len, string_capacity};
+ghost use Rattle.std.specs.Option.{SomeIff};
+ghost use Rattle.fixed_duration.specs.Text.{whole_part, fraction_part, are_digits, number_of, nine_digits, fraction_digits};
+ghost use Rattle.fixed_duration.specs.Duration.{duration_of, duration_text, rounded_seconds_of};
+
+use itoa::Buffer;
+use std::alloc::AllocError;
+use std::error::Error;
+use std::fmt;
+use std::marker::Model;
+
+const NANOS_PER_SECOND: u64 = 1_000_000_000;
+
+/// Durations are shorter than this many seconds.
+const SECONDS_LIMIT: u64 = 1_000_000;
+
+/// Why a text is no duration. The first that holds is told, in this order.
+#[derive(Clone, Copy, Debug, PartialEq, Eq, Hash)]
+pub enum DurationFault {
+    /// The text is empty.
+    Empty,
+    /// The text isn't digits with at most one point and at least one digit (RFC 8216, section 4.2).
+    NotDigits,
+    /// The text says 1,000,000 seconds or more.
+    TooLarge,
+}
+
+impl fmt::Display for DurationFault {
+    ghost use Rattle.std.specs.Prelude.{Some};
+    ghost use Rattle.fixed_duration.specs.Duration.{fault_text};
+
+    ghost output = { λ fault. Some (fault_text fault) };
+
+    fn fmt<W: fmt::Write>(&self, f: &mut fmt::Formatter<W>) -> fmt::Result {
+        f.write_str(match self {
+            DurationFault::Empty => "U1 Empty",
+            DurationFault::NotDigits => "U2 NotDigits",
+            DurationFault::TooLarge => "U3 TooLarge",
+        })
+    }
+}
+
+impl Error for DurationFault {}
+
+/// A duration in whole nanoseconds.
+#[derive(Clone, Copy, Debug, PartialEq, Eq, PartialOrd, Ord, Hash)]
+pub struct Nanos(pub u64);
+
+impl Model for Nanos {
+    ghost use Rattle.std.specs.Prelude.{ℕ};
+
+    ghost Value = { ℕ };
+
+    ghost view = { λ a. a.0 };
+
+    ghost inverse = { λ n. record { 0 = n } };
+}
+
+impl Nanos {
+    /// Reads a text of decimal seconds, below 1,000,000 s. Digits after the ninth behind the point are dropped.
+    pub fn read(text: &str) -> Result<Nanos, DurationFault>
+        ensures { result ≡ duration_of text.now }
+    {
+        if text.is_empty() {
+            return Err(DurationFault::Empty);
+        }
+        let (whole, fraction) = parts_of(text);
+        if !is_all_digits(whole.as_bytes()) || !is_all_digits(fraction.as_bytes()) {
+            return Err(DurationFault::NotDigits);
+        }
+        if whole.is_empty() && fraction.is_empty() {
+            return Err(DurationFault::NotDigits);
+        }
+        let Some(seconds) = seconds_of(whole.as_bytes()) else {
+            return Err(DurationFault::TooLarge);
+        };
+        Ok(Nanos(seconds * NANOS_PER_SECOND + nanos_of_fraction(fraction.as_bytes())))
+    }
+
+    #[tactic(auto, using(crate::proofs::Again::read_again))]
+    /// Appends the duration in seconds, without a point where they are whole, else without zeros at the end.
+    /// Where memory was refused the text is as it was.
+    pub fn write_to(&self, out: &mut String) -> Result<(), AllocError>
+        ensures ok { OnOk result (string_bytes out.new ≡ string_bytes out.old ++ duration_text self.now) }
+        ensures err { OnErr result (string_bytes out.new ≡ string_bytes out.old) }
+
+        // What is written of less than 1,000,000 s is read as the same duration.
+        ensures again { self.now < 10 ^ 15 → duration_of (duration_text self.now) ≡ Ok self.now }
+    {
+        let mut buffer = Buffer::new();
+        let whole = buffer.format(self.0 / NANOS_PER_SECOND);
+        out.reserve(whole.len() + 10)?;
+        out.push_str(whole).unwrap();
+        let rest = self.0 % NANOS_PER_SECOND;
+        if rest != 0 {
+            out.push('.').unwrap();
+            push_fraction(out, rest);
+        }
+        Ok(())
+    }
+
+    /// The nearest whole number of seconds, where a half goes up: as EXT-X-TARGETDURATION compares
+    /// durations (RFC 8216, section 4.3.3.1).
+    pub fn rounded_seconds(&self) -> u64
+        ensures { result ≡ rounded_seconds_of self.now }
+    {
+        let seconds = self.0 / NANOS_PER_SECOND;
+        if self.0 % NANOS_PER_SECOND >= NANOS_PER_SECOND / 2 {
+            seconds + 1
+        } else {
+            seconds
+        }
+    }
+
+    /// The sum, or `None` where it passes 2^64 - 1 nanoseconds.
+    pub fn checked_add(self, other: Nanos) -> Option<Nanos>
+        ensures { SomeIff result (self + other < 2 ^ 64) (self + other) }
+    {
+        let sum = self.0.checked_add(other.0)?;
+        Some(Nanos(sum))
+    }
+}
+
+// What stands before the first point and after it. Without one the whole text stands before it.
+fn parts_of(text: &str) -> (&str, &str)
+    ensures whole { result.0.now ≡ whole_part text.now }
+    ensures fraction { result.1.now ≡ fraction_part text.now }
+{
+    text.split_once('.').unwrap_or((text, ""))
+}
+
+// Whether each byte is a decimal digit.
+fn is_all_digits(bytes: &[u8]) -> bool
+    ensures { result ≡ are_digits bytes.now }
+{
+    bytes.iter().all(|b| b.is_ascii_digit())
+}
+
+// The number that digits write, if it is below the limit. It stops there, so any number of digits may come.
+fn seconds_of(digits: &[u8]) -> Option<u64>
+    requires { IsTrue (are_digits digits.now) }
+    ensures { SomeIff result (number_of digits.now < 10 ^ 6) (number_of digits.now) }
+{
+    let mut value: u64 = 0;
+    for digit in digits {
+        value = value * 10 + u64::from(*digit - b'0');
+        if value >= SECONDS_LIMIT {
+            return None;
+        }
+    }
+    Some(value)
+}
+
+// The nanoseconds that the digits behind a point stand for.
+fn nanos_of_fraction(digits: &[u8]) -> u64
+    requires { IsTrue (are_digits digits.now) }
+    ensures value { result ≡ number_of (nine_digits digits.now) }
+    ensures below { result < 10 ^ 9 }
+{
+    let mut value: u64 = 0;
+    for i in 0..9 {
+        let digit = if i < digits.len() {
+            digits[i] - b'0'
+        } else {
+            0
+        };
+        value = value * 10 + u64::from(digit);
+    }
+    value
+}
+
+// Appends the digits of a fraction of a second, up to the last that is not 0.
+fn push_fraction(out: &mut String, nanos: u64)
+    requires below { nanos < 10 ^ 9 }
+    requires room { string_len out.old + 9 ≤ string_capacity out.old }
+    ensures { string_bytes out.new ≡ string_bytes out.old ++ fraction_digits 9 nanos }
+{
+    let mut rest = nanos;
+    let mut places: u32 = 9;
+    while rest != 0 && places != 0 {
+        places -= 1;
+        let unit = 10u64.pow(places);
+        let digit = (rest / unit) as u8;
+        out.push((b'0' + digit) as char).unwrap();
+        rest %= unit;
+    }
+}
+
+#[cfg(test)]
+mod tests;

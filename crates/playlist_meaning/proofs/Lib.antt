@@ -1,0 +1,5 @@
+pub mod Tests
+pub mod KeyOrder
+pub mod KeyLaws
+pub mod LimitLaws
+pub mod LineLaws

@@ -1,0 +1,11 @@
+pub mod Devices
+pub mod Lines
+pub mod Uri
+pub mod Instant
+pub mod Said
+pub mod LookBack
+pub mod Reading
+pub mod Rows
+pub mod Refusals
+pub mod Laws
+pub mod FaultTexts

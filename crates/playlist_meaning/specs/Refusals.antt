@@ -1,0 +1,22 @@
+-- What a fault says. Want of memory says nothing of the rest.
+use Rattle.std.specs.Prelude.{◌≡◌, ◌≢◌, ℕ, List, Option, None, Err}
+use Rattle.url.specs.Parts.{Parts}
+use Rattle.playlist_meaning.specs.declared.FaultKind.{FaultKind}
+use Rattle.playlist_meaning.specs.declared.FaultKind.TheVariants as fault
+use Rattle.playlist_meaning.specs.declared.base.BaseFault.{BaseFault}
+use Rattle.playlist_meaning.specs.declared.base.BaseFault.TheVariants.{BadBase, OutOfMemory, BadUri}
+use Rattle.playlist_meaning.specs.Said.{Outcome}
+
+-- the fault is the outcome's, want of memory apart
+abbrev pub Refuses : {A : Type 0} → FaultKind → Outcome A → Type 0
+Refuses e outcome = e ≢ fault.OutOfMemory → outcome ≡ Err e
+
+abbrev pub RefusesUri : BaseFault → Option (List ℕ) → Type 0
+RefusesUri BadBase expected = ⊥
+RefusesUri OutOfMemory expected = Unit {0}
+RefusesUri BadUri expected = expected ≡ None
+
+abbrev pub RefusesBase : BaseFault → Option Parts → Type 0
+RefusesBase BadBase expected = expected ≡ None
+RefusesBase OutOfMemory expected = Unit {0}
+RefusesBase BadUri expected = ⊥

@@ -1,0 +1,163 @@
+//! Worked rows of the definitions.
+
+ghost use Rattle.std.specs.Prelude.{◌≡◌, ℕ, [], ◌∷◌, ◌++◌, codes, Ok, Err, Some, None, true, false, pos, negsuc, map};
+ghost use Rattle.playlist_meaning.specs.Instant.{instant_of};
+ghost use Rattle.playlist_meaning.specs.Lines.{placed_lines};
+ghost use Rattle.playlist_meaning.specs.Uri.{base_of};
+ghost use Rattle.playlist_meaning.specs.Rows.{read_lines, read_text, read_after_target, read_without, is_key_tag, segments_read, keys_and_section, resolved_here};
+
+use crate::FaultKind;
+
+/// A plain playlist.
+pub fn plain_row()
+    ensures { read_lines (codes "#EXTM3U" ∷ codes "#EXT-X-TARGETDURATION:10" ∷ codes "#EXTINF:10," ∷ codes "s0.ts" ∷ codes "#EXTINF:10,"
+        ∷ codes "s1.ts" ∷ codes "#EXTINF:9.5," ∷ codes "s2.ts" ∷ codes "#EXT-X-ENDLIST" ∷ [])
+        ≡ Some (Ok (record {
+          version = 1;
+          target = 10;
+          kind = None;
+          independent = false;
+          ended = true;
+          ranges = [];
+          segments =
+              record { number = 0; discontinuity = 0; steps = 0; uri = codes "http://origin.example/ch/s0.ts"; range = None; keys = []; section = None; duration = 10000000000; title = []; time = None }
+              ∷ record { number = 1; discontinuity = 0; steps = 0; uri = codes "http://origin.example/ch/s1.ts"; range = None; keys = []; section = None; duration = 10000000000; title = []; time = None }
+              ∷ record { number = 2; discontinuity = 0; steps = 0; uri = codes "http://origin.example/ch/s2.ts"; range = None; keys = []; section = None; duration = 9500000000; title = []; time = None }
+              ∷ [];
+        })) }
+{}
+
+/// First faults and their lines.
+pub fn fault_rows()
+    ensures empty { read_text [] ≡ Some (Err (record { kind = FaultKind.NoHeader; line = 1 })) }
+    ensures header_alone { read_lines (codes "#EXTM3U" ∷ []) ≡ Some (Err (record { kind = FaultKind.NoTarget; line = 0 })) }
+    ensures target_alone { read_lines (codes "#EXTM3U" ∷ codes "#EXT-X-TARGETDURATION:10" ∷ []) ≡ Some (Err (record { kind = FaultKind.NoSegments; line = 0 })) }
+    ensures version { read_lines (codes "#EXTM3U" ∷ codes "#EXT-X-VERSION:8" ∷ []) ≡ Some (Err (record { kind = FaultKind.Version; line = 2 })) }
+    ensures master { read_lines (codes "#EXTM3U" ∷ codes "#EXT-X-STREAM-INF:BANDWIDTH=1" ∷ []) ≡ Some (Err (record { kind = FaultKind.MasterPlaylist; line = 2 })) }
+    ensures second_target { read_lines (codes "#EXTM3U" ∷ codes "#EXT-X-TARGETDURATION:10" ∷ codes "#EXT-X-TARGETDURATION:1x" ∷ []) ≡ Some (Err (record { kind = FaultKind.Repeated; line = 3 })) }
+    ensures late_sequence { read_lines (codes "#EXTM3U" ∷ codes "#EXTINF:1," ∷ codes "a.ts" ∷ codes "#EXT-X-MEDIA-SEQUENCE:1" ∷ []) ≡ Some (Err (record { kind = FaultKind.Misplaced; line = 4 })) }
+    ensures no_duration { read_lines (codes "#EXTM3U" ∷ codes "a.ts" ∷ []) ≡ Some (Err (record { kind = FaultKind.NoDuration; line = 2 })) }
+{}
+
+/// Byte ranges without an offset.
+pub fn range_rows()
+    ensures no_start { read_lines (codes "#EXTM3U" ∷ codes "#EXT-X-TARGETDURATION:10" ∷ codes "#EXTINF:10," ∷ codes "#EXT-X-BYTERANGE:100" ∷ codes "a.ts" ∷ [])
+        ≡ Some (Err (record { kind = FaultKind.RangeNoStart; line = 5 })) }
+    ensures other_resource { read_lines (codes "#EXTM3U" ∷ codes "#EXT-X-TARGETDURATION:10" ∷ codes "#EXTINF:10," ∷ codes "#EXT-X-BYTERANGE:100@0" ∷ codes "b.ts"
+        ∷ codes "#EXTINF:10," ∷ codes "#EXT-X-BYTERANGE:100" ∷ codes "a.ts" ∷ [])
+        ≡ Some (Err (record { kind = FaultKind.RangeNoStart; line = 8 })) }
+    ensures same_resource { read_lines (codes "#EXTM3U" ∷ codes "#EXT-X-TARGETDURATION:10" ∷ codes "#EXTINF:10," ∷ codes "#EXT-X-BYTERANGE:100@0" ∷ codes "a.ts"
+        ∷ codes "#EXTINF:10," ∷ codes "#EXT-X-BYTERANGE:100" ∷ codes "a.ts" ∷ [])
+        ≡ Some (Ok (record {
+          version = 1;
+          target = 10;
+          kind = None;
+          independent = false;
+          ended = false;
+          ranges = [];
+          segments =
+              record { number = 0; discontinuity = 0; steps = 0; uri = codes "http://origin.example/ch/a.ts"; range = Some (record { length = 100; offset = 0 }); keys = []; section = None; duration = 10000000000; title = []; time = None }
+              ∷ record { number = 1; discontinuity = 0; steps = 0; uri = codes "http://origin.example/ch/a.ts"; range = Some (record { length = 100; offset = 100 }); keys = []; section = None; duration = 10000000000; title = []; time = None }
+              ∷ [];
+        })) }
+{}
+
+/// Keys and sections.
+pub fn key_rows()
+    ensures no_method { read_after_target (codes "#EXT-X-KEY:URI=\"k\"" ∷ []) ≡ Some (Err (record { kind = FaultKind.MissingAttribute; line = 3 })) }
+    ensures quoted_method { read_after_target (codes "#EXT-X-KEY:METHOD=\"AES-128\",URI=\"k\"" ∷ []) ≡ Some (Err (record { kind = FaultKind.BadAttributes; line = 3 })) }
+    ensures no_uri { read_after_target (codes "#EXT-X-KEY:METHOD=AES-128" ∷ []) ≡ Some (Err (record { kind = FaultKind.MissingAttribute; line = 3 })) }
+    ensures bad_iv { read_after_target (codes "#EXT-X-KEY:METHOD=AES-128,URI=\"k\",IV=5" ∷ []) ≡ Some (Err (record { kind = FaultKind.BadAttributes; line = 3 })) }
+    ensures map_without_uri { read_after_target (codes "#EXT-X-MAP:BYTERANGE=\"5\"" ∷ []) ≡ Some (Err (record { kind = FaultKind.MissingAttribute; line = 3 })) }
+    ensures map_without_iv { read_after_target (codes "#EXT-X-KEY:METHOD=AES-128,URI=\"k\"" ∷ codes "#EXT-X-MAP:URI=\"i\"" ∷ []) ≡ Some (Err (record { kind = FaultKind.MapWithoutIv; line = 4 })) }
+    ensures none_with_iv { read_after_target (codes "#EXT-X-KEY:METHOD=NONE,IV=5" ∷ []) ≡ Some (Err (record { kind = FaultKind.NoSegments; line = 0 })) }
+    ensures mixed { read_after_target (codes "#EXTINF:1," ∷ codes "a.ts" ∷ codes "#EXT-X-MAP:URI=\"i\"" ∷ codes "#EXTINF:1," ∷ codes "b.ts" ∷ []) ≡ Some (Err (record { kind = FaultKind.MixedMaps; line = 0 })) }
+    ensures formats { read_after_target (codes "#EXT-X-KEY:METHOD=A,URI=\"http:\",KEYFORMAT=\"a\"" ∷ codes "#EXT-X-KEY:METHOD=A,URI=\"http:\",KEYFORMAT=\"b\"" ∷ codes "#EXT-X-KEY:METHOD=A,URI=\"http:\",KEYFORMAT=\"c\"" ∷ codes "#EXT-X-KEY:METHOD=A,URI=\"http:\",KEYFORMAT=\"d\"" ∷ codes "#EXT-X-KEY:METHOD=A,URI=\"http:\",KEYFORMAT=\"e\"" ∷ codes "#EXT-X-KEY:METHOD=A,URI=\"http:\",KEYFORMAT=\"f\"" ∷ codes "#EXT-X-KEY:METHOD=A,URI=\"http:\",KEYFORMAT=\"g\"" ∷ codes "#EXT-X-KEY:METHOD=A,URI=\"http:\",KEYFORMAT=\"h\"" ∷ codes "#EXT-X-KEY:METHOD=A,URI=\"http:\",KEYFORMAT=\"i\"" ∷ codes "#EXT-X-KEY:METHOD=A,URI=\"http:\",KEYFORMAT=\"j\"" ∷ codes "#EXT-X-KEY:METHOD=A,URI=\"http:\",KEYFORMAT=\"k\"" ∷ codes "#EXT-X-KEY:METHOD=A,URI=\"http:\",KEYFORMAT=\"l\"" ∷ codes "#EXT-X-KEY:METHOD=A,URI=\"http:\",KEYFORMAT=\"m\"" ∷ codes "#EXT-X-KEY:METHOD=A,URI=\"http:\",KEYFORMAT=\"n\"" ∷ codes "#EXT-X-KEY:METHOD=A,URI=\"http:\",KEYFORMAT=\"o\"" ∷ codes "#EXT-X-KEY:METHOD=A,URI=\"http:\",KEYFORMAT=\"p\"" ∷ codes "#EXT-X-KEY:METHOD=A,URI=\"http:\",KEYFORMAT=\"q\"" ∷ []) ≡ Some (Err (record { kind = FaultKind.TooMany; line = 19 })) }
+    ensures flag_with_colon { read_after_target (codes "#EXT-X-I-FRAMES-ONLY:" ∷ []) ≡ Some (Err (record { kind = FaultKind.NoSegments; line = 0 })) }
+{}
+
+/// Effective keys.
+pub fn effective_row()
+    ensures { read_after_target (codes "#EXT-X-MEDIA-SEQUENCE:7" ∷ codes "#EXT-X-KEY:METHOD=AES-128,URI=\"k1\"" ∷ codes "#EXT-X-KEY:METHOD=SAMPLE-AES,URI=\"skd://k\",KEYFORMAT=\"com.example.drm\",X=\"y\""
+        ∷ codes "#EXT-X-DISCONTINUITY" ∷ codes "#EXTINF:10,a,b" ∷ codes "s0.ts" ∷ codes "#EXTINF:5," ∷ codes "#EXT-X-KEY:METHOD=NONE" ∷ codes "#EXTINF:10," ∷ codes "#EXT-X-PROGRAM-DATE-TIME:2024-05-01T14:00:10.25+02:00" ∷ codes "s1.ts" ∷ [])
+        ≡ Some (Ok (record {
+          version = 1;
+          target = 10;
+          kind = None;
+          independent = false;
+          ended = false;
+          ranges = [];
+          segments =
+              record {
+                number = 7;
+                discontinuity = 1;
+                steps = 1;
+                uri = codes "http://origin.example/ch/s0.ts";
+                range = None;
+                keys =
+                    record { format = codes "com.example.drm"; method = codes "SAMPLE-AES"; uri = codes "skd://k"; iv = None; other = record { name = codes "X"; value = codes "y"; quoted = true } ∷ [] }
+                    ∷ record { format = codes "identity"; method = codes "AES-128"; uri = codes "http://origin.example/ch/k1"; iv = Some 7; other = [] } ∷ [];
+                section = None;
+                duration = 10000000000;
+                title = codes "a,b";
+                time = None;
+              }
+              ∷ record { number = 8; discontinuity = 1; steps = 0; uri = codes "http://origin.example/ch/s1.ts"; range = None; keys = []; section = None; duration = 10000000000; title = []; time = Some (pos 1714564810250000000) }
+              ∷ [];
+        })) }
+{}
+
+/// Instants.
+pub fn instant_rows()
+    ensures east { instant_of (codes "2024-05-01T14:00:10.25+02:00") ≡ Some (pos 1714564810250000000) }
+    ensures no_zone { instant_of (codes "2024-05-01T12:00:10.1000001") ≡ Some (pos 1714564810100000100) }
+    ensures no_such_day { instant_of (codes "2024-02-30T00:00:00Z") ≡ None }
+    ensures too_late { instant_of (codes "2199-12-31T23:59:59-00:01") ≡ None }
+    ensures first { instant_of (codes "1900-01-01T00:00:00Z") ≡ Some (negsuc 2208988799999999999) }
+    ensures epoch { instant_of (codes "1970-01-01T01:00:00+0100") ≡ Some (pos 0) }
+{}
+
+/// A tag that isn't read yet.
+pub fn later_row()
+    ensures { read_without is_key_tag (codes "#EXTM3U" ∷ codes "#EXT-X-TARGETDURATION:10" ∷ codes "#EXT-X-KEY:METHOD=NONE" ∷ codes "#EXTINF:10," ∷ codes "s0.ts" ∷ [])
+        ≡ Some (Err (record { kind = FaultKind.NotYet; line = 3 })) }
+{}
+
+/// Lines with a carriage return.
+pub fn line_rows()
+    ensures placed { placed_lines (codes "#EXTM3U" ++ (13 ∷ 10 ∷ codes "a b" ++ (10 ∷ 10 ∷ codes "c" ++ (13 ∷ [])))) ≡ (0, codes "#EXTM3U") ∷ (9, codes "a b") ∷ (13, []) ∷ (14, 99 ∷ 13 ∷ []) ∷ [] }
+    ensures lone_return { read_lines (codes "#EXTM3U" ∷ (97 ∷ 13 ∷ 98 ∷ []) ∷ []) ≡ Some (Err (record { kind = FaultKind.Control; line = 2 })) }
+    ensures high_control { read_lines (codes "#EXTM3U" ∷ (194 ∷ 133 ∷ []) ∷ []) ≡ Some (Err (record { kind = FaultKind.Control; line = 2 })) }
+    ensures not_utf8 { read_lines (codes "#EXTM3U" ∷ (194 ∷ []) ∷ []) ≡ Some (Err (record { kind = FaultKind.NotUtf8; line = 0 })) }
+    ensures other_return { read_text (codes "#EXTM3U" ++ (13 ∷ 10 ∷ codes "#EXT-X-VERSION:9" ++ (13 ∷ 10 ∷ []))) ≡ Some (Err (record { kind = FaultKind.Version; line = 2 })) }
+{}
+
+/// A section under one key, and segments under another.
+pub fn section_row()
+    ensures { map keys_and_section (segments_read (read_lines (codes "#EXTM3U"
+        ∷ codes "#EXT-X-VERSION:7"
+        ∷ codes "#EXT-X-TARGETDURATION:10"
+        ∷ codes "#EXT-X-DATERANGE:ID=\"b1\",START-DATE=\"2024-05-01T12:00:10Z\",DURATION=10,SCTE35-OUT=0xFC302000000000000000FFF00F05000000017FFFFE002932E000010000000000000000"
+        ∷ codes "#EXT-X-KEY:METHOD=AES-128,URI=\"ka\",IV=0x1"
+        ∷ codes "#EXT-X-MAP:URI=\"init.mp4\""
+        ∷ codes "#EXT-X-KEY:METHOD=AES-128,URI=\"kb\",IV=0x2"
+        ∷ codes "#EXT-X-PROGRAM-DATE-TIME:2024-05-01T12:00:00Z"
+        ∷ codes "#EXTINF:10,"
+        ∷ codes "s0.m4s"
+        ∷ codes "#EXTINF:10,"
+        ∷ codes "s1.m4s"
+        ∷ codes "#EXTINF:10,"
+        ∷ codes "s2.m4s"
+        ∷ codes "#EXT-X-ENDLIST" ∷ [])))
+        ≡ (record { format = codes "identity"; method = codes "AES-128"; uri = codes "http://origin.example/ch/kb"; iv = Some 2; other = [] } ∷ [], Some (record { uri = codes "http://origin.example/ch/init.mp4"; range = None; keys = record { format = codes "identity"; method = codes "AES-128"; uri = codes "http://origin.example/ch/ka"; iv = Some 1; other = [] } ∷ [] })) ∷ (record { format = codes "identity"; method = codes "AES-128"; uri = codes "http://origin.example/ch/kb"; iv = Some 2; other = [] } ∷ [], Some (record { uri = codes "http://origin.example/ch/init.mp4"; range = None; keys = record { format = codes "identity"; method = codes "AES-128"; uri = codes "http://origin.example/ch/ka"; iv = Some 1; other = [] } ∷ [] })) ∷ (record { format = codes "identity"; method = codes "AES-128"; uri = codes "http://origin.example/ch/kb"; iv = Some 2; other = [] } ∷ [], Some (record { uri = codes "http://origin.example/ch/init.mp4"; range = None; keys = record { format = codes "identity"; method = codes "AES-128"; uri = codes "http://origin.example/ch/ka"; iv = Some 1; other = [] } ∷ [] })) ∷ [] }
+{}
+
+/// Bases and resolved references.
+pub fn base_rows()
+    ensures other_scheme { base_of (codes "ftp://h/") ≡ None }
+    ensures relative { resolved_here (codes "x.ts") ≡ Some (Some (codes "http://origin.example/ch/x.ts")) }
+    ensures other { resolved_here (codes "SKD://k") ≡ Some (Some (codes "SKD://k")) }
+    ensures bare { resolved_here (codes "http:") ≡ Some (Some (codes "http:")) }
+    ensures up { resolved_here (codes "../a b?q#f") ≡ Some (Some (codes "http://origin.example/a%20b?q#f")) }
+    ensures failed { resolved_here (codes "//[/x") ≡ Some None }
+{}

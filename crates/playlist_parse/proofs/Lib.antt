@@ -1,0 +1,3 @@
+pub mod HasCount
+pub mod LineLemmas
+pub mod Reached

@@ -1,0 +1,5 @@
+pub mod LineViews
+pub mod Later
+pub mod Progress
+pub mod Views
+pub mod Answers

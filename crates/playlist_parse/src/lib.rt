@@ -1,0 +1,10 @@
+//! From the bytes of a media playlist to the playlist that they denote, or their first fault.
+#![tactic(auto)]
+
+mod line;
+mod progress;
+mod reader;
+mod tag;
+
+pub use line::{Line, lines};
+pub use reader::{MOST_BYTES, read};

@@ -1,0 +1,266 @@
+//! A playlist as far as it has been read, and what each tag adds to it.
+ghost use Rattle.std.specs.Prelude.{◌≡◌, ℕ, Bool, [], ◌∷◌, Some, None, Ok, Err};
+ghost use Rattle.std.specs.List.{list_any, list_all};
+ghost use Rattle.playlist_meaning.specs.Reading.{said_by, said_by_kind, said_by_tag, said_by_uri, has_section};
+ghost use Rattle.playlist_meaning.specs.Lines as kinds;
+ghost use Rattle.playlist_meaning.specs.Said as said;
+ghost use Rattle.playlist_meaning.specs.Said.{number, version_of, playlist_type_of};
+ghost use Rattle.playlist_parse.specs.Later.{this_reader};
+ghost use Rattle.playlist_parse.specs.LineViews.{slices_view, tag_view};
+ghost use Rattle.playlist_parse.specs.Progress.{progress_at, Takes, Ends};
+
+use crate::line::{Slices, slices_of};
+use crate::tag::{Tag, tag_of};
+use attr_list::read_decimal;
+use playlist_meaning::{
+    Base, DateRange, FaultKind, Items, Playlist, PlaylistKind, Segment, has_control,
+};
+use segment_state::State;
+use std::alloc::Global;
+use std::marker::Model;
+
+/// A playlist as far as it has been read.
+#[derive(Drop)]
+pub struct Progress<'a> {
+    version: Option<u64>,
+    target: Option<u64>,
+    kind: Option<PlaylistKind>,
+    independent: bool,
+    ended: bool,
+    has_sequence: bool,
+    has_discontinuity_sequence: bool,
+    has_media: bool,
+    state: State<'a>,
+    ranges: Vec<DateRange>,
+    segments: Vec<Segment>,
+}
+
+impl<'a> Model for Progress<'a> {
+    ghost use Rattle.playlist_parse.specs.Progress.{Progress};
+    ghost use Rattle.playlist_parse.specs.Views.{progress_of};
+
+    ghost Value = { Progress };
+
+    ghost view = { progress_of };
+}
+
+impl<'a> Progress<'a> {
+    /// Nothing but the header has been read.
+    pub fn new(alloc: Global, base: &'a Base) -> Progress<'a>
+        ensures { result ≡ progress_at base.now (said.nothing ∷ []) }
+    {
+        Progress {
+            version: None,
+            target: None,
+            kind: None,
+            independent: false,
+            ended: false,
+            has_sequence: false,
+            has_discontinuity_sequence: false,
+            has_media: false,
+            state: State::new(alloc, base),
+            ranges: Vec::new(alloc),
+            segments: Vec::new(alloc),
+        }
+    }
+
+    /// What one line adds.
+    pub fn line(&mut self, line: &str) -> Result<(), FaultKind>
+        ensures { Takes (λ base before. said_by this_reader base before line.now) self.old self.new result }
+    {
+        if has_control(line) {
+            return Err(FaultKind::Control);
+        }
+        match slices_of(line) {
+            Slices::Ignored => Ok(()),
+            Slices::Uri(uri) => self.uri(uri),
+            Slices::Tag { name, rest, colon } => self.tag(name, rest, colon),
+        }
+    }
+
+    fn uri(&mut self, reference: &str) -> Result<(), FaultKind>
+        ensures { Takes (λ base before. said_by_uri this_reader base before reference.now) self.old self.new result }
+    {
+        let segment = self.state.take_segment(reference)?;
+        self.has_media = true;
+        self.segments.push(segment)?;
+        Ok(())
+    }
+
+    fn tag(&mut self, name: &str, rest: &str, colon: bool) -> Result<(), FaultKind>
+        ensures { Takes (λ base before. said_by_kind this_reader base before (kinds.tag name.now rest.now colon)) self.old self.new result }
+    {
+        match tag_of(name, colon) {
+            Tag::Inf => self.duration(rest),
+            Tag::Discontinuity => self.discontinuity(),
+            Tag::Version => self.version(rest),
+            Tag::TargetDuration => self.target(rest),
+            Tag::MediaSequence => self.sequence(rest),
+            Tag::DiscontinuitySequence => self.discontinuity_sequence(rest),
+            Tag::PlaylistType => self.playlist_type(rest),
+            Tag::EndList => self.end(),
+            Tag::IndependentSegments => {
+                self.independent = true;
+                Ok(())
+            }
+            Tag::IFramesOnly => Err(FaultKind::IFramesOnly),
+            Tag::Master => Err(FaultKind::MasterPlaylist),
+            Tag::ByteRange => Err(FaultKind::NotYet),
+            Tag::Key => Err(FaultKind::NotYet),
+            Tag::Map => Err(FaultKind::NotYet),
+            Tag::ProgramDateTime => Err(FaultKind::NotYet),
+            Tag::DateRange => Err(FaultKind::NotYet),
+            Tag::Unknown => Ok(()),
+        }
+    }
+
+    fn duration(&mut self, rest: &str) -> Result<(), FaultKind>
+        ensures { Takes (λ base before. said_by_tag this_reader base before said.duration_tag rest.now) self.old self.new result }
+    {
+        self.state.duration_tag(rest)
+    }
+
+    fn discontinuity(&mut self) -> Result<(), FaultKind>
+        ensures { Takes (λ base before. said_by_tag this_reader base before said.discontinuity_tag []) self.old self.new result }
+    {
+        self.state.discontinuity()
+    }
+
+    // EXT-X-VERSION (4.3.1.2)
+    fn version(&mut self, rest: &str) -> Result<(), FaultKind>
+        ensures { Takes (λ base before. said_by_tag this_reader base before said.version_tag rest.now) self.old self.new result }
+    {
+        if self.version.is_some() {
+            return Err(FaultKind::Repeated);
+        }
+        self.version = Some(version_of(rest)?);
+        Ok(())
+    }
+
+    // EXT-X-TARGETDURATION (4.3.3.1)
+    fn target(&mut self, rest: &str) -> Result<(), FaultKind>
+        ensures { Takes (λ base before. said_by_tag this_reader base before said.target_tag rest.now) self.old self.new result }
+    {
+        if self.target.is_some() {
+            return Err(FaultKind::Repeated);
+        }
+        self.target = Some(number(rest)?);
+        Ok(())
+    }
+
+    // EXT-X-MEDIA-SEQUENCE (4.3.3.2)
+    fn sequence(&mut self, rest: &str) -> Result<(), FaultKind>
+        ensures { Takes (λ base before. said_by_tag this_reader base before said.sequence_tag rest.now) self.old self.new result }
+    {
+        if self.has_sequence {
+            return Err(FaultKind::Repeated);
+        }
+        if self.has_media {
+            return Err(FaultKind::Misplaced);
+        }
+        self.state.sequence(number(rest)?);
+        self.has_sequence = true;
+        Ok(())
+    }
+
+    // EXT-X-DISCONTINUITY-SEQUENCE (4.3.3.3)
+    fn discontinuity_sequence(&mut self, rest: &str) -> Result<(), FaultKind>
+        ensures { Takes (λ base before. said_by_tag this_reader base before said.discontinuity_sequence_tag rest.now) self.old self.new result }
+    {
+        if self.has_discontinuity_sequence {
+            return Err(FaultKind::Repeated);
+        }
+        if self.has_media || self.state.has_discontinuity() {
+            return Err(FaultKind::Misplaced);
+        }
+        self.state.discontinuity_sequence(number(rest)?);
+        self.has_discontinuity_sequence = true;
+        Ok(())
+    }
+
+    // EXT-X-PLAYLIST-TYPE (4.3.3.5)
+    fn playlist_type(&mut self, rest: &str) -> Result<(), FaultKind>
+        ensures { Takes (λ base before. said_by_tag this_reader base before said.type_tag rest.now) self.old self.new result }
+    {
+        if self.kind.is_some() {
+            return Err(FaultKind::Repeated);
+        }
+        self.kind = Some(playlist_type_of(rest)?);
+        Ok(())
+    }
+
+    // EXT-X-ENDLIST (4.3.3.4)
+    fn end(&mut self) -> Result<(), FaultKind>
+        ensures { Takes (λ base before. said_by_tag this_reader base before said.ended_tag []) self.old self.new result }
+    {
+        if self.ended {
+            return Err(FaultKind::Repeated);
+        }
+        self.ended = true;
+        Ok(())
+    }
+
+    /// The playlist, where the text as a whole has no fault: `NoTarget`, `NoSegments`, `MixedMaps`.
+    pub fn playlist(self) -> Result<Playlist, FaultKind>
+        ensures { Ends self.entry result }
+    {
+        let Some(target) = self.target else {
+            return Err(FaultKind::NoTarget);
+        };
+        if !self.has_media {
+            return Err(FaultKind::NoSegments);
+        }
+        if is_any_mapped(self.segments.as_slice()) && !are_all_mapped(self.segments.as_slice()) {
+            return Err(FaultKind::MixedMaps);
+        }
+        Ok(Playlist {
+            version: self.version.unwrap_or(1),
+            target,
+            kind: self.kind,
+            independent: self.independent,
+            ended: self.ended,
+            ranges: Items::from_vec(self.ranges),
+            segments: Items::from_vec(self.segments),
+        })
+    }
+}
+
+fn number(rest: &str) -> Result<u64, FaultKind>
+    ensures { result ≡ number rest.now }
+{
+    read_decimal(rest).map_err(|_| FaultKind::BadValue)
+}
+
+fn version_of(rest: &str) -> Result<u64, FaultKind>
+    ensures { result ≡ version_of rest.now }
+{
+    let Ok(version) = read_decimal(rest) else {
+        return Err(FaultKind::BadVersion);
+    };
+    if version == 0 || version > 7 {
+        return Err(FaultKind::Version);
+    }
+    Ok(version)
+}
+
+fn playlist_type_of(rest: &str) -> Result<PlaylistKind, FaultKind>
+    ensures { result ≡ playlist_type_of rest.now }
+{
+    match rest {
+        "EVENT" => Ok(PlaylistKind::Event),
+        "VOD" => Ok(PlaylistKind::Vod),
+        _ => Err(FaultKind::BadValue),
+    }
+}
+
+fn is_any_mapped(segments: &[Segment]) -> bool
+    ensures { result ≡ list_any has_section segments.now }
+{
+    segments.iter().any(|s: &Segment| s.section.is_some())
+}
+
+fn are_all_mapped(segments: &[Segment]) -> bool
+    ensures { result ≡ list_all has_section segments.now }
+{
+    segments.iter().all(|s: &Segment| s.section.is_some())
+}

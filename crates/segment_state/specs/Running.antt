@@ -1,0 +1,56 @@
+-- A state, and what a line does to it.
+use Rattle.std.specs.Prelude.{◌≡◌, ℕ, Bool, false, ◌+◌, Option, None, List, [], ◌∷◌, Result, Ok, MatchResult, IsOk}
+use Rattle.url.specs.Parts.{Parts}
+use Rattle.playlist_meaning.specs.declared.FaultKind.{FaultKind}
+use Rattle.playlist_meaning.specs.declared.Segment.{Segment}
+use Rattle.playlist_meaning.specs.Said.{Name, Said, media, Outcome}
+use Rattle.playlist_meaning.specs.LookBack.{Standing, Extent, standing_at, with_said, segment_at}
+use Rattle.playlist_meaning.specs.Refusals.{Refuses}
+
+-- a state reads every tag
+abbrev pub every_tag : Name → Bool
+every_tag name = false
+
+-- the base of the playlist's references, and what stands at a line
+pub record Running : Type 0 where
+  pub base : Parts
+  pub standing : Standing
+
+-- the state after lines that say this, the last first
+abbrev pub running_at : Parts → List Said → Running
+running_at base before = record { base = base; standing = standing_at before }
+
+-- what stands behind a URI line: the tags of its segment stand no more
+abbrev pub behind_segment : Running → Option Extent → Running
+behind_segment old last = record old {
+  standing = record old.standing {
+    media_count = old.standing.media_count + 1;
+    steps = 0;
+    duration = None;
+    range = None;
+    time = None;
+    extent = last;
+  };
+}
+
+-- after any lines that leave what stands, this is said too
+abbrev pub Follows : Said → Running → Running → Type 0
+Follows said old new = (before : List Said) → old.standing ≡ standing_at before → new ≡ running_at old.base (said ∷ before)
+
+-- after any lines that leave what stands, the line says its part and that stands too; or its fault
+-- is answered, and what stood stands
+abbrev pub Takes : (Parts → List Said → Outcome Said) → Running → Running → Result (Unit {0}) FaultKind → Type 0
+Takes outcome old new result =
+    (before : List Said) → old.standing ≡ standing_at before →
+    MatchResult result
+    (λ _. IsOk (outcome old.base before) × (new ≡ running_at old.base (with_said before (outcome old.base before))))
+    (λ e. Refuses e (outcome old.base before) × (new ≡ old))
+
+-- the same of a URI line, which gives a segment: the one that stands there
+abbrev pub TakesSegment : (Parts → List Said → Outcome Said) → Running → Running → Result Segment FaultKind → Type 0
+TakesSegment outcome old new result =
+    (before : List Said) → old.standing ≡ standing_at before →
+    MatchResult result
+    (λ segment. (outcome old.base before ≡ Ok (media segment.uri)) × (segment ≡ segment_at before segment.uri)
+      × (new ≡ running_at old.base (media segment.uri ∷ before)))
+    (λ e. Refuses e (outcome old.base before) × (new ≡ old))

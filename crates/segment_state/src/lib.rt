@@ -1,0 +1,323 @@
+//! What stands at a line of a media playlist: a running state that each line changes, proved equal
+//! to what RFC 8216 says by looking back over the lines before.
+#![tactic(auto)]
+
+ghost use Rattle.std.specs.Prelude.{◌≡◌, ℕ, ◌==◌, ◌+◌, ◌^◌, ◌<◌, ◌≤◌, List, [], ◌∷◌, ◌++◌, map, Some, None, Ok, Err, IfOk, MatchResult, OnOk, OnErr, option_map, nat_lt, length, vec_len, vec_capacity};
+ghost use Rattle.std.specs.List.{position_or_len, before_first, after_first};
+ghost use Rattle.std.specs.Option.{SomeIff};
+ghost use Rattle.playlist_meaning.specs.LookBack.{standing_at, range_from, range_after, extent_with, effective_key};
+ghost use Rattle.playlist_meaning.specs.Reading.{limited, said_by_tag, said_by_uri};
+ghost use Rattle.playlist_meaning.specs.Said as said;
+ghost use Rattle.playlist_meaning.specs.Said.{uri_of, duration_said};
+ghost use Rattle.playlist_meaning.specs.Refusals.{Refuses};
+ghost use Rattle.segment_state.specs.Running.{every_tag, running_at, behind_segment, Follows, Takes, TakesSegment};
+ghost use Rattle.segment_state.specs.Views.{extent_of};
+
+use fixed_duration::Nanos;
+use playlist_meaning::{
+    Base, BaseFault, ByteRange, FaultKind, InitSection, Instant, Items, Key, Keys, Segment, Text,
+};
+use std::alloc::{AllocError, Global};
+use std::marker::Model;
+
+/// How many segments a playlist may have.
+const MOST_SEGMENTS: u64 = 10_000;
+
+/// The last segment's resource, and its range of it.
+#[derive(Drop)]
+struct Extent {
+    uri: Text,
+    range: ByteRange,
+}
+
+/// What stands at a line of a playlist, after the lines before it.
+#[derive(Drop)]
+pub struct State<'a> {
+    alloc: Global,
+    base: &'a Base,
+    sequence: u64,
+    discontinuity_sequence: u64,
+    media: u64,
+    discontinuities: u64,
+    steps: u64,
+    duration: Option<(Nanos, Text)>,
+    range: Option<(u64, Option<u64>)>,
+    time: Option<Instant>,
+    keys: Vec<Key>,
+    section: Option<InitSection>,
+    last: Option<Extent>,
+}
+
+impl<'a> Model for State<'a> {
+    ghost use Rattle.std.specs.Prelude.{◌+◌, ◌^◌, ◌<◌, ◌≤◌};
+    ghost use Rattle.segment_state.specs.Running.{Running};
+    ghost use Rattle.segment_state.specs.Views.{running_of};
+
+    ghost Value = { Running };
+
+    ghost view = { running_of };
+
+    ghost invariant = { λ a. (a.discontinuity_sequence + a.discontinuities < 2 ^ 64) × (a.steps ≤ a.discontinuities) × (a.media ≤ 10000) };
+}
+
+impl<'a> State<'a> {
+    /// The state before any line.
+    pub fn new(alloc: Global, base: &'a Base) -> State<'a>
+        ensures { result ≡ running_at base.now [] }
+    {
+        State {
+            alloc,
+            base,
+            sequence: 0,
+            discontinuity_sequence: 0,
+            media: 0,
+            discontinuities: 0,
+            steps: 0,
+            duration: None,
+            range: None,
+            time: None,
+            keys: Vec::new(alloc),
+            section: None,
+            last: None,
+        }
+    }
+
+    /// Sets the Media Sequence Number of the first segment (RFC 8216, 4.3.3.2).
+    pub fn sequence(&mut self, number: u64)
+        ensures { Follows (said.sequence number) self.old self.new }
+    {
+        self.sequence = number;
+    }
+
+    /// Sets the Discontinuity Sequence Number before any discontinuity (4.3.3.3).
+    pub fn discontinuity_sequence(&mut self, number: u64)
+        requires { self.old.standing.discontinuities ≡ 0 }
+        ensures { Follows (said.discontinuity_sequence number) self.old self.new }
+    {
+        self.discontinuity_sequence = number;
+    }
+
+    /// Whether a discontinuity stood on a line before.
+    pub fn has_discontinuity(&self) -> bool
+        ensures { result ≡ nat_lt 0 self.now.standing.discontinuities }
+    {
+        self.discontinuities > 0
+    }
+
+    /// A discontinuity before the next segment (4.3.2.3). `BadValue` where its number passes 2^64 - 1.
+    pub fn discontinuity(&mut self) -> Result<(), FaultKind>
+        ensures { Takes (λ base before. said_by_tag (limited every_tag) base before said.discontinuity_tag []) self.old self.new result }
+    {
+        let Some(total) = self.discontinuities.checked_add(1) else {
+            return Err(FaultKind::BadValue);
+        };
+        if self.discontinuity_sequence.checked_add(total).is_none() {
+            return Err(FaultKind::BadValue);
+        }
+        self.discontinuities = total;
+        self.steps += 1;
+        Ok(())
+    }
+
+    /// The duration and the title of the next segment (4.3.2.1). `BadDuration` where it states none.
+    pub fn duration_tag(&mut self, rest: &str) -> Result<(), FaultKind>
+        ensures { Takes (λ base before. said_by_tag (limited every_tag) base before said.duration_tag rest.now) self.old self.new result }
+    {
+        let (seconds, title) = parts_at_comma(rest);
+        let Ok(nanos) = Nanos::read(seconds) else {
+            return Err(FaultKind::BadDuration);
+        };
+        let title = Text::copy_of(self.alloc, title)?;
+        self.duration = Some((nanos, title));
+        Ok(())
+    }
+
+    // Whether one more segment is one too many.
+    fn is_full(&self) -> bool
+        ensures { result ≡ nat_lt 10000 (self.now.standing.media_count + 1) }
+    {
+        self.media + 1 > MOST_SEGMENTS
+    }
+
+    fn number(&self) -> Option<u64>
+        ensures { SomeIff result (self.now.standing.sequence + self.now.standing.media_count < 2 ^ 64) (self.now.standing.sequence + self.now.standing.media_count) }
+    {
+        self.sequence.checked_add(self.media)
+    }
+
+    fn resolved(&self, reference: &str) -> Result<Text, FaultKind>
+        ensures { MatchResult result (λ uri. uri_of self.now.base reference.now ≡ Ok uri) (λ e. Refuses e (uri_of self.now.base reference.now)) }
+    {
+        match self.base.resolve(reference) {
+            Ok(uri) => Ok(Text::from_string(uri)),
+            Err(BaseFault::OutOfMemory) => Err(FaultKind::OutOfMemory),
+            Err(_) => Err(FaultKind::BadUri),
+        }
+    }
+
+    // The range of a segment of this resource here.
+    fn next_range(&self, uri: &str) -> Result<Option<ByteRange>, FaultKind>
+        ensures { result ≡ range_from self.now.standing.range uri.now self.now.standing.extent }
+    {
+        match self.range {
+            None => Ok(None),
+            Some((length, Some(offset))) => Ok(Some(ByteRange { length, offset })),
+            Some((length, None)) => range_after(length, uri, &self.last),
+        }
+    }
+
+    fn discontinuity_number(&self) -> u64
+        ensures { result ≡ self.now.standing.discontinuity_sequence + self.now.standing.discontinuities }
+    {
+        self.discontinuity_sequence + self.discontinuities
+    }
+
+    // The keys in force, as they decrypt the segment of this media number.
+    fn effective_keys(&self, number: u64) -> Result<Keys, AllocError>
+        ensures { IfOk result (λ keys. keys ≡ map (effective_key number) self.now.standing.keys) }
+    {
+        Ok(Items::from_vec(effective_keys(
+            self.alloc,
+            self.keys.as_slice(),
+            number,
+        )?))
+    }
+
+    // What stands behind the URI line of this segment.
+    fn segment_stands(&mut self, last: Option<Extent>)
+        requires { self.old.standing.media_count < 10000 }
+        ensures { self.new ≡ behind_segment self.old (option_map extent_of last) }
+    {
+        self.media += 1;
+        self.steps = 0;
+        self.duration = None;
+        self.range = None;
+        self.time = None;
+        self.last = last;
+    }
+
+    /// The segment of a URI line (4.3.2, 5.2), which takes the tags of one segment. The faults, in
+    /// this order: `TooMany` past 10,000 segments, `NoDuration`, `BadValue` where its media number
+    /// passes 2^64 - 1, `BadUri`, `RangeNoStart`, `BadRange`.
+    pub fn take_segment(&mut self, reference: &str) -> Result<Segment, FaultKind>
+        ensures { TakesSegment (λ base before. said_by_uri (limited every_tag) base before reference.now) self.old self.new result }
+    {
+        if self.is_full() {
+            return Err(FaultKind::TooMany);
+        }
+        if self.duration.is_none() {
+            return Err(FaultKind::NoDuration);
+        }
+        let Some(number) = self.number() else {
+            return Err(FaultKind::BadValue);
+        };
+        let uri = self.resolved(reference)?;
+        let range = self.next_range(uri.as_str())?;
+        let last = extent_with(self.alloc, uri.as_str(), range)?;
+        let keys = self.effective_keys(number)?;
+        let section = copied_section(self.alloc, &self.section)?;
+        let (duration, title) = self.duration.take().unwrap();
+        let segment = Segment {
+            number,
+            discontinuity: self.discontinuity_number(),
+            steps: self.steps,
+            uri,
+            range,
+            keys,
+            section,
+            duration,
+            title,
+            time: self.time,
+        };
+        self.segment_stands(last);
+        Ok(segment)
+    }
+}
+
+// The extent of a segment that has a range.
+fn extent_with(
+    alloc: Global,
+    uri: &str,
+    range: Option<ByteRange>,
+) -> Result<Option<Extent>, AllocError>
+    ensures { IfOk result (λ last. option_map extent_of last ≡ extent_with uri.now range) }
+{
+    let Some(range) = range else {
+        return Ok(None);
+    };
+    let uri = Text::copy_of(alloc, uri)?;
+    Ok(Some(Extent { uri, range }))
+}
+
+fn copied_section(
+    alloc: Global,
+    section: &Option<InitSection>,
+) -> Result<Option<InitSection>, AllocError>
+    ensures { IfOk result (λ s. s ≡ section.now) }
+{
+    let Some(section) = section else {
+        return Ok(None);
+    };
+    Ok(Some(InitSection {
+        uri: section.uri.clone()?,
+        range: section.range,
+        keys: Items::from_vec(copied_keys(alloc, section.keys.as_slice())?),
+    }))
+}
+
+fn copied_keys(alloc: Global, keys: &[Key]) -> Result<Vec<Key>, AllocError>
+    ensures { IfOk result (λ v. v.items ≡ keys.now) }
+{
+    Vec::from_clones(alloc, keys)
+}
+
+// A key with the media number as its IV, where it is of the format `identity` and states none.
+fn effective_key(key: &Key, number: u64) -> Result<Key, AllocError>
+    ensures { IfOk result (λ k. k ≡ effective_key number key.now) }
+{
+    let mut found = key.clone()?;
+    if found.format.as_str() == "identity" && found.iv.is_none() {
+        found.iv = Some(u128::from(number));
+    }
+    Ok(found)
+}
+
+fn effective_keys(alloc: Global, keys: &[Key], number: u64) -> Result<Vec<Key>, AllocError>
+    ensures { IfOk result (λ v. v.items ≡ map (effective_key number) keys.now) }
+{
+    let mut found = Vec::with_capacity(alloc, keys.len())?;
+    for key in keys {
+        found.push(effective_key(key, number)?)?;
+    }
+    Ok(found)
+}
+
+// What stands before the first comma and after it. Without one the whole text stands before it.
+fn parts_at_comma(text: &str) -> (&str, &str)
+    ensures front { result.0.now ≡ before_first (λ b. b == 44) text.now }
+    ensures back { result.1.now ≡ after_first (λ b. b == 44) text.now }
+{
+    text.split_once(',').unwrap_or((text, ""))
+}
+
+fn range_after(
+    length: u64,
+    uri: &str,
+    last: &Option<Extent>,
+) -> Result<Option<ByteRange>, FaultKind>
+    ensures { result ≡ range_after length uri.now (option_map extent_of last.now) }
+{
+    let Some(last) = last else {
+        return Err(FaultKind::RangeNoStart);
+    };
+    if uri != last.uri.as_str() {
+        return Err(FaultKind::RangeNoStart);
+    }
+    let Some(offset) = last.range.offset.checked_add(last.range.length) else {
+        return Err(FaultKind::BadRange);
+    };
+    match length.checked_add(offset) {
+        None => Err(FaultKind::BadRange),
+        Some(_) => Ok(Some(ByteRange { length, offset })),
+    }
+}
