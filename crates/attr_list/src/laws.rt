@@ -28,5 +28,4 @@ pub fn slices_are_spellings()
 /// A number below 2^64 that is written in decimal is read.
 pub fn written_decimal_is_read()
     ensures { DecimalsAreRead }
-{
-}
+{}

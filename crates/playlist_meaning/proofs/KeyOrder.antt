@@ -13,7 +13,7 @@ use Rattle.std.proofs.lemmas.Slice.Eq.{bytes_eq-Decides}
 use Rattle.playlist_meaning.specs.declared.Key.{Key}
 use Rattle.playlist_meaning.specs.Said.{Said, no_keys, key}
 use Rattle.playlist_meaning.specs.LookBack.{keys_at, has_format, put_key, insert_key, without_format, is_before, are_sorted}
-use Rattle.playlist_meaning.proofs.Tests.{all_from, all_filter}
+use Rattle.playlist_meaning.proofs.ListTests.{all_from, all_filter}
 
 -- ---- two keys
 

@@ -1,4 +1,4 @@
-pub mod Tests
+pub mod ListTests
 pub mod KeyOrder
 pub mod KeyLaws
 pub mod LimitLaws

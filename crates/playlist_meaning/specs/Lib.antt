@@ -9,3 +9,4 @@ pub mod Rows
 pub mod Refusals
 pub mod Laws
 pub mod FaultTexts
+pub mod TestDevices

@@ -17,7 +17,7 @@ mod fault;
 mod items;
 pub mod pieces;
 
-pub use base::{Base, BaseFault};
+pub use base::{Base, BaseFault, same_resource};
 pub use device::{Counted, Sink, Source};
 pub use items::{Items, Text};
 pub use pieces::{Pieces, Taken};
@@ -178,7 +178,9 @@ pub struct Playlist {
     pub segments: Items<Segment>,
 }
 
-pub mod rows;
+mod rows;
+#[cfg(test)]
+mod tests;
 
 /// Whether a text holds a control character.
 pub fn has_control(text: &str) -> bool

@@ -9,7 +9,7 @@ ghost use Rattle.playlist_meaning.specs.Rows.{read_lines, read_text, read_after_
 use crate::FaultKind;
 
 /// A plain playlist.
-pub fn plain_row()
+fn plain_row()
     ensures { read_lines (codes "#EXTM3U" ∷ codes "#EXT-X-TARGETDURATION:10" ∷ codes "#EXTINF:10," ∷ codes "s0.ts" ∷ codes "#EXTINF:10,"
         ∷ codes "s1.ts" ∷ codes "#EXTINF:9.5," ∷ codes "s2.ts" ∷ codes "#EXT-X-ENDLIST" ∷ [])
         ≡ Some (Ok (record {
@@ -28,7 +28,7 @@ pub fn plain_row()
 {}
 
 /// First faults and their lines.
-pub fn fault_rows()
+fn fault_rows()
     ensures empty { read_text [] ≡ Some (Err (record { kind = FaultKind.NoHeader; line = 1 })) }
     ensures header_alone { read_lines (codes "#EXTM3U" ∷ []) ≡ Some (Err (record { kind = FaultKind.NoTarget; line = 0 })) }
     ensures target_alone { read_lines (codes "#EXTM3U" ∷ codes "#EXT-X-TARGETDURATION:10" ∷ []) ≡ Some (Err (record { kind = FaultKind.NoSegments; line = 0 })) }
@@ -40,7 +40,7 @@ pub fn fault_rows()
 {}
 
 /// Byte ranges without an offset.
-pub fn range_rows()
+fn range_rows()
     ensures no_start { read_lines (codes "#EXTM3U" ∷ codes "#EXT-X-TARGETDURATION:10" ∷ codes "#EXTINF:10," ∷ codes "#EXT-X-BYTERANGE:100" ∷ codes "a.ts" ∷ [])
         ≡ Some (Err (record { kind = FaultKind.RangeNoStart; line = 5 })) }
     ensures other_resource { read_lines (codes "#EXTM3U" ∷ codes "#EXT-X-TARGETDURATION:10" ∷ codes "#EXTINF:10," ∷ codes "#EXT-X-BYTERANGE:100@0" ∷ codes "b.ts"
@@ -63,7 +63,7 @@ pub fn range_rows()
 {}
 
 /// Keys and sections.
-pub fn key_rows()
+fn key_rows()
     ensures no_method { read_after_target (codes "#EXT-X-KEY:URI=\"k\"" ∷ []) ≡ Some (Err (record { kind = FaultKind.MissingAttribute; line = 3 })) }
     ensures quoted_method { read_after_target (codes "#EXT-X-KEY:METHOD=\"AES-128\",URI=\"k\"" ∷ []) ≡ Some (Err (record { kind = FaultKind.BadAttributes; line = 3 })) }
     ensures no_uri { read_after_target (codes "#EXT-X-KEY:METHOD=AES-128" ∷ []) ≡ Some (Err (record { kind = FaultKind.MissingAttribute; line = 3 })) }
@@ -77,7 +77,7 @@ pub fn key_rows()
 {}
 
 /// Effective keys.
-pub fn effective_row()
+fn effective_row()
     ensures { read_after_target (codes "#EXT-X-MEDIA-SEQUENCE:7" ∷ codes "#EXT-X-KEY:METHOD=AES-128,URI=\"k1\"" ∷ codes "#EXT-X-KEY:METHOD=SAMPLE-AES,URI=\"skd://k\",KEYFORMAT=\"com.example.drm\",X=\"y\""
         ∷ codes "#EXT-X-DISCONTINUITY" ∷ codes "#EXTINF:10,a,b" ∷ codes "s0.ts" ∷ codes "#EXTINF:5," ∷ codes "#EXT-X-KEY:METHOD=NONE" ∷ codes "#EXTINF:10," ∷ codes "#EXT-X-PROGRAM-DATE-TIME:2024-05-01T14:00:10.25+02:00" ∷ codes "s1.ts" ∷ [])
         ≡ Some (Ok (record {
@@ -108,7 +108,7 @@ pub fn effective_row()
 {}
 
 /// Instants.
-pub fn instant_rows()
+fn instant_rows()
     ensures east { instant_of (codes "2024-05-01T14:00:10.25+02:00") ≡ Some (pos 1714564810250000000) }
     ensures no_zone { instant_of (codes "2024-05-01T12:00:10.1000001") ≡ Some (pos 1714564810100000100) }
     ensures no_such_day { instant_of (codes "2024-02-30T00:00:00Z") ≡ None }
@@ -118,13 +118,13 @@ pub fn instant_rows()
 {}
 
 /// A tag that isn't read yet.
-pub fn later_row()
+fn later_row()
     ensures { read_without is_key_tag (codes "#EXTM3U" ∷ codes "#EXT-X-TARGETDURATION:10" ∷ codes "#EXT-X-KEY:METHOD=NONE" ∷ codes "#EXTINF:10," ∷ codes "s0.ts" ∷ [])
         ≡ Some (Err (record { kind = FaultKind.NotYet; line = 3 })) }
 {}
 
 /// Lines with a carriage return.
-pub fn line_rows()
+fn line_rows()
     ensures placed { placed_lines (codes "#EXTM3U" ++ (13 ∷ 10 ∷ codes "a b" ++ (10 ∷ 10 ∷ codes "c" ++ (13 ∷ [])))) ≡ (0, codes "#EXTM3U") ∷ (9, codes "a b") ∷ (13, []) ∷ (14, 99 ∷ 13 ∷ []) ∷ [] }
     ensures lone_return { read_lines (codes "#EXTM3U" ∷ (97 ∷ 13 ∷ 98 ∷ []) ∷ []) ≡ Some (Err (record { kind = FaultKind.Control; line = 2 })) }
     ensures high_control { read_lines (codes "#EXTM3U" ∷ (194 ∷ 133 ∷ []) ∷ []) ≡ Some (Err (record { kind = FaultKind.Control; line = 2 })) }
@@ -133,7 +133,7 @@ pub fn line_rows()
 {}
 
 /// A section under one key, and segments under another.
-pub fn section_row()
+fn section_row()
     ensures { map keys_and_section (segments_read (read_lines (codes "#EXTM3U"
         ∷ codes "#EXT-X-VERSION:7"
         ∷ codes "#EXT-X-TARGETDURATION:10"
@@ -153,7 +153,7 @@ pub fn section_row()
 {}
 
 /// Bases and resolved references.
-pub fn base_rows()
+fn base_rows()
     ensures other_scheme { base_of (codes "ftp://h/") ≡ None }
     ensures relative { resolved_here (codes "x.ts") ≡ Some (Some (codes "http://origin.example/ch/x.ts")) }
     ensures other { resolved_here (codes "SKD://k") ≡ Some (Some (codes "SKD://k")) }

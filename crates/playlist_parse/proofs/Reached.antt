@@ -53,7 +53,7 @@ next {base = base} {i = i} {lines = lines} {line = line} r e h =
 -- what a line ensures, at what is reached
 pub taken_ok : {base : Parts} {progress : Progress} {i : ℕ} {lines : List (List ℕ)} (line : List ℕ) (new : Progress) (r : Reached base progress i lines)
     → ((before : List Said) → progress ≡ progress_at progress.base before
-      → IsOk (said_by this_reader progress.base before line) × (new ≡ progress_at progress.base (with_said before (said_by this_reader progress.base before line))))
+    → IsOk (said_by this_reader progress.base before line) × (new ≡ progress_at progress.base (with_said before (said_by this_reader progress.base before line))))
     → IsOk (said_by this_reader base r.before line) × (new ≡ progress_at base (with_said r.before (said_by this_reader base r.before line)))
 taken_ok {base = base} {progress = progress} line new r takes =
     subst (λ b. IsOk (said_by this_reader b r.before line) × (new ≡ progress_at b (with_said r.before (said_by this_reader b r.before line))))
@@ -81,11 +81,11 @@ pub refused : {base : Parts} {progress : Progress} {i : ℕ} {line : List ℕ} {
     → Answers (Err (fault_at e (i + 2))) (and_whole (said_from (said_by this_reader base) (nothing ∷ []) lines))
 refused {base = base} {i = i} {line = line} {lines = lines} e r d h =
     failed e (i + 2) _ (λ some.
-      let at : said_from (said_by this_reader base) r.before (drop i lines) ≡ Err (record { kind = e; line = i + 2 }) =
-        ap (said_from (said_by this_reader base) r.before) d
-        ∙ ap (λ o. at_line (length r.before + 1) o (λ said. said_from (said_by this_reader base) (said ∷ r.before) (drop (i + 1) lines))) (h some)
-        ∙ ap (λ k. Err (record { kind = e; line = k + 1 })) r.count ∙ ap (λ k. Err (record { kind = e; line = k })) (omega arith) in
-      ap and_whole (sym r.rest ∙ at))
+    let at : said_from (said_by this_reader base) r.before (drop i lines) ≡ Err (record { kind = e; line = i + 2 }) =
+    ap (said_from (said_by this_reader base) r.before) d
+    ∙ ap (λ o. at_line (length r.before + 1) o (λ said. said_from (said_by this_reader base) (said ∷ r.before) (drop (i + 1) lines))) (h some)
+    ∙ ap (λ k. Err (record { kind = e; line = k + 1 })) r.count ∙ ap (λ k. Err (record { kind = e; line = k })) (omega arith) in
+    ap and_whole (sym r.rest ∙ at))
 
 all_said : {base : Parts} {progress : Progress} {i : ℕ} {lines : List (List ℕ)} (r : Reached base progress i lines) → drop i lines ≡ []
     → said_from (said_by this_reader base) (nothing ∷ []) lines ≡ Ok r.before

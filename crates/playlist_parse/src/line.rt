@@ -26,14 +26,9 @@ pub enum Slices<'a> {
 pub enum Line {
     /// A blank line or a comment.
     Ignored,
-    Uri {
-        text: Text,
-    },
+    Uri { text: Text },
     /// A tag: its name runs from behind `#` to the first `:`, its rest is what follows.
-    Tag {
-        name: Text,
-        rest: Text,
-    },
+    Tag { name: Text, rest: Text },
 }
 
 fn is_blank(line: &str) -> bool

@@ -17,7 +17,11 @@ pub const MOST_BYTES: usize = 4_194_304;
 fn fault_at(kind: FaultKind, line: u64) -> PlaylistFault
     ensures { result ≡ fault_at kind line }
 {
-    let line = if kind == FaultKind::OutOfMemory { 0 } else { line };
+    let line = if kind == FaultKind::OutOfMemory {
+        0
+    } else {
+        line
+    };
     PlaylistFault { kind, line }
 }
 

@@ -59,7 +59,7 @@ behind_is base before uri range part = rw part refl
 -- then it says its resource, its segment is the one that stands there, and so is what stands behind it
 pub taken : (s : Standing) (base : Parts) (before : List Said) (reference uri : List ℕ) (range : Option ByteRange) (own : ℕ × List ℕ) → Taken s base reference uri range own → s ≡ standing_at before
     → (said_by_uri (limited every_tag) base before reference ≡ Ok (media uri)) × (segment_from s uri range own ≡ segment_at before uri)
-      × (behind_segment (record { base = base; standing = s }) (extent_with uri range) ≡ running_at base (media uri ∷ before))
+    × (behind_segment (record { base = base; standing = s }) (extent_with uri range) ≡ running_at base (media uri ∷ before))
 taken s base before reference uri range own t e =
     let room = ap (λ (x : Standing). nat_lt 10000 (x.media_count + 1)) (sym e) ∙ t.room in
     let is = ap (λ (x : Standing). x.duration) (sym e) ∙ t.own_is in

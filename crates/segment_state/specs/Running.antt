@@ -52,5 +52,5 @@ TakesSegment outcome old new result =
     (before : List Said) → old.standing ≡ standing_at before →
     MatchResult result
     (λ segment. (outcome old.base before ≡ Ok (media segment.uri)) × (segment ≡ segment_at before segment.uri)
-      × (new ≡ running_at old.base (media segment.uri ∷ before)))
+    × (new ≡ running_at old.base (media segment.uri ∷ before)))
     (λ e. Refuses e (outcome old.base before) × (new ≡ old))

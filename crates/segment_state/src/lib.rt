@@ -176,11 +176,7 @@ impl<'a> State<'a> {
     fn effective_keys(&self, number: u64) -> Result<Keys, AllocError>
         ensures { IfOk result (λ keys. keys ≡ map (effective_key number) self.now.standing.keys) }
     {
-        Ok(Items::from_vec(effective_keys(
-            self.alloc,
-            self.keys.as_slice(),
-            number,
-        )?))
+        Ok(Items::from_vec(effective_keys(self.alloc, self.keys.as_slice(), number)?))
     }
 
     // What stands behind the URI line of this segment.
@@ -321,3 +317,6 @@ fn range_after(
         Some(_) => Ok(Some(ByteRange { length, offset })),
     }
 }
+
+#[cfg(test)]
+mod tests;

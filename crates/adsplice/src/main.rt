@@ -1,0 +1,47 @@
+//! `adsplice`: puts advertisements into live HLS channels.
+#![tactic(auto)]
+
+use http_edge::{Command, command_vod, read_args};
+use playlist_meaning::Counted;
+use std::env;
+use std::io::{ErrorKind, Write};
+use std::process::ExitCode;
+
+const USAGE: &str = "usage: adsplice vod BASE [DECISIONS] | adsplice live PORT COUNT\n";
+
+fn usage(rt: &HostRuntime) -> ExitCode {
+    let _ = rt.stderr().write_all(USAGE.as_bytes());
+    ExitCode::from(2)
+}
+
+fn out_of_memory(rt: &HostRuntime) -> ExitCode {
+    let _ = rt.stderr().write_all(b"E5 OutOfMemory\n");
+    ExitCode::from(1)
+}
+
+fn main(rt: HostRuntime) -> ExitCode {
+    let words = match env::args(&rt) {
+        Ok(words) => words,
+        Err(e) if e.kind() == ErrorKind::OutOfMemory => return out_of_memory(&rt),
+        Err(_) => return usage(&rt),
+    };
+    let Ok(words) = words.skip(1).collect::<Vec<String>>(rt.alloc()) else {
+        return out_of_memory(&rt);
+    };
+    match read_args(words.as_slice()) {
+        Some(Command::Vod { base }) => {
+            let mut input = Counted::new(rt.stdin());
+            let mut output = Counted::new(rt.stdout());
+            let mut faults = Counted::new(rt.stderr());
+            ExitCode::from(command_vod(
+                rt.alloc(),
+                base,
+                None,
+                &mut input,
+                &mut output,
+                &mut faults,
+            ))
+        }
+        None => usage(&rt),
+    }
+}

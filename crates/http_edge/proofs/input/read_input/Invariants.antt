@@ -1,0 +1,12 @@
+use Rattle.std.proofs.Common.{◌≡◌, ◌+◌, ◌≤◌}
+use Rattle.std.specs.Io.KnownBytes.{Consumes}
+use Rattle.playlist_meaning.specs.Devices.{CalledAll}
+use Rattle.http_edge.proofs.input.read_input.Given as goal
+
+abbrev pub invariant-loop : goal.invariant-loop
+invariant-loop g l = record {
+  given : Consumes (g.S.Source.remaining l.fn.source) (g.S.Source.remaining l.source) l.input.items;
+  called : CalledAll (g.S.Source.called l.fn.source) (g.S.Source.called l.source) l.counter;
+  calls : g.S.Source.called l.source ≤ g.S.Source.called l.fn.source + l.counter;
+  failed : g.S.Source.failed l.source ≡ g.S.Source.failed l.fn.source;
+}

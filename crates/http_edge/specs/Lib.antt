@@ -1,0 +1,5 @@
+pub mod Streams
+pub mod Owed
+pub mod Vod
+pub mod Arguments
+pub mod FaultTexts

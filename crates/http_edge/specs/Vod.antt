@@ -1,0 +1,34 @@
+-- What a run from an input to an output did.
+use Rattle.std.specs.Prelude.{◌≡◌, ℕ, List, Option, Some, Result, Ok, Err}
+use Rattle.std.specs.Io.KnownBytes.{Appends}
+use Rattle.playlist_meaning.specs.declared.Playlist.{Playlist}
+use Rattle.playlist_meaning.specs.Reading.{Fault}
+use Rattle.http_edge.specs.declared.fault.VodFault.{VodFault}
+use Rattle.http_edge.specs.declared.fault.VodFault.TheVariants.{Playlist as PlaylistOf, OutOfMemory}
+use Rattle.playlist_write.specs.Handed.{TookFront}
+use Rattle.http_edge.specs.Streams.{GaveAll}
+use Rattle.http_edge.specs.Owed.{read_under, owed_text}
+
+-- the source gave an input to its end, of which this is read under the base
+pub record HasRead (base : List ℕ) (old new : Option (List ℕ)) (outcome : Result Playlist Fault) : Type 0 where
+  pub input : List ℕ
+  pub given : GaveAll old new input
+  pub read : read_under base input ≡ Some outcome
+
+-- a playlist was read, and the sink took its owed text
+pub record Writes (base : List ℕ) (source_old source_new sink_old sink_new : Option (List ℕ)) : Type 0 where
+  pub playlist : Playlist
+  pub read : HasRead base source_old source_new (Ok playlist)
+  pub written : Appends sink_old sink_new (owed_text playlist)
+
+-- a playlist was read, and the sink took a front of its owed text
+pub record WritesFront (base : List ℕ) (source_old source_new sink_old sink_new : Option (List ℕ)) : Type 0 where
+  pub playlist : Playlist
+  pub read : HasRead base source_old source_new (Ok playlist)
+  pub written : TookFront sink_old sink_new (owed_text playlist)
+
+-- the fault is that of the input, or memory was refused
+abbrev pub RefusesInput : VodFault → Result Playlist Fault → Type 0
+RefusesInput (PlaylistOf fault) outcome = outcome ≡ Err fault
+RefusesInput OutOfMemory outcome = Unit {0}
+RefusesInput _ outcome = ⊥

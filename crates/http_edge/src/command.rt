@@ -1,0 +1,128 @@
+//! One input, one playlist.
+ghost use Rattle.std.specs.Prelude.{◌≡◌, ◌≢◌, ℕ, ◌+◌, ◌≤◌, Ok, Err, Some, None, OnOk, IfOk, IfErr, IsErrOf, IsNone};
+ghost use Rattle.std.specs.Io.KnownBytes.{Appends, Keeps};
+ghost use Rattle.playlist_write.specs.Handed.{TookFront};
+ghost use Rattle.playlist_meaning.specs.Devices.{HasRisen, CalledAll};
+ghost use Rattle.playlist_meaning.specs.Uri.{base_of};
+ghost use Rattle.http_edge.specs.Owed.{owed_text};
+ghost use Rattle.playlist_meaning.specs.Reading.{reading, Fault};
+ghost use Rattle.playlist_parse.specs.Later.{this_reader};
+ghost use Rattle.http_edge.specs.Vod.{RefusesInput, HasRead, Writes, WritesFront};
+
+use crate::fault::VodFault;
+use crate::input::{MOST_READS, read_input};
+use crate::output::write_text;
+use crate::shown::owed_playlist;
+use playlist_meaning::{Base, BaseFault, FaultKind, Playlist, Sink, Source};
+use playlist_parse::read;
+use playlist_write::{WriteFault, write};
+use std::alloc::Global;
+
+fn base_said(alloc: Global, base: &str) -> Result<Base, VodFault>
+    ensures ok { IfOk result (λ b. base_of base.now ≡ Some b) }
+    ensures err { IfErr result (λ e. e ≢ VodFault.OutOfMemory → (e ≡ VodFault.BadBase) × (base_of base.now ≡ None)) }
+{
+    match Base::new(alloc, base) {
+        Ok(base) => Ok(base),
+        Err(BaseFault::OutOfMemory) => Err(VodFault::OutOfMemory),
+        Err(_) => Err(VodFault::BadBase),
+    }
+}
+
+fn playlist_read(alloc: Global, input: &[u8], base: &Base) -> Result<Playlist, VodFault>
+    ensures ok { IfOk result (λ playlist. reading this_reader base.now input.now ≡ Ok playlist) }
+    ensures err { IfErr result (λ e. RefusesInput e (reading this_reader base.now input.now)) }
+{
+    match read(alloc, input, base) {
+        Ok(playlist) => Ok(playlist),
+        Err(fault) => {
+            if fault.kind == FaultKind::OutOfMemory {
+                return Err(VodFault::OutOfMemory);
+            }
+            Err(VodFault::Playlist(fault))
+        }
+    }
+}
+
+fn write_owed<K: Sink>(alloc: Global, playlist: Playlist, sink: &mut K) -> Result<(), VodFault>
+    ensures ok { OnOk result (Appends (K.contents sink.old) (K.contents sink.new) (owed_text playlist)) }
+    ensures err { IsErrOf result VodFault.Write → TookFront (K.contents sink.old) (K.contents sink.new) (owed_text playlist) }
+    ensures memory { IfErr result (λ e. e ≢ VodFault.Write → (e ≡ VodFault.OutOfMemory) × Keeps (K.contents sink.old) (K.contents sink.new)) }
+    ensures failed { IsErrOf result VodFault.Write → HasRisen (K.failed sink.old) (K.failed sink.new) }
+{
+    let owed = owed_playlist(alloc, playlist)?;
+    match write(alloc, &owed, sink) {
+        Ok(()) => Ok(()),
+        Err(WriteFault::Io) => Err(VodFault::Write),
+        Err(WriteFault::OutOfMemory) => Err(VodFault::OutOfMemory),
+    }
+}
+
+#[tactic(auto, using(crate::proofs::Known::known_bytes))]
+/// Reads a playlist from an input and writes the controller's playlist, and nothing else. The
+/// decision file's bytes are none until breaks are filled.
+pub fn vod<S: Source, K: Sink>(
+    alloc: Global,
+    source: &mut S,
+    sink: &mut K,
+    base: &str,
+    decisions: Option<&[u8]>,
+) -> Result<(), VodFault>
+    requires { IsNone decisions }
+
+    ensures ok { OnOk result (Writes base.now (S.remaining source.old) (S.remaining source.new) (K.contents sink.old) (K.contents sink.new)) }
+
+    // Where the sink failed it took a front of the text, and else nothing.
+    ensures write { IsErrOf result VodFault.Write → WritesFront base.now (S.remaining source.old) (S.remaining source.new) (K.contents sink.old) (K.contents sink.new) }
+    ensures nothing { IfErr result (λ e. e ≢ VodFault.Write → Keeps (K.contents sink.old) (K.contents sink.new)) }
+
+    // The base is judged before anything is read.
+    ensures bad_base { IsErrOf result VodFault.BadBase → base_of base.now ≡ None }
+    ensures unread { base_of base.now ≡ None → S.called source.new ≡ S.called source.old }
+
+    // The whole input is judged before anything is written.
+    ensures playlist { IfErr result (λ e. (fault : Fault) → e ≡ VodFault.Playlist fault → HasRead base.now (S.remaining source.old) (S.remaining source.new) (Err fault)) }
+
+    // A device is blamed only where it failed.
+    ensures read_failed { IsErrOf result VodFault.Read → HasRisen (S.failed source.old) (S.failed source.new) }
+    ensures write_failed { IsErrOf result VodFault.Write → HasRisen (K.failed sink.old) (K.failed sink.new) }
+    ensures too_many { IsErrOf result VodFault.TooManyReads → CalledAll (S.called source.old) (S.called source.new) MOST_READS }
+    ensures calls { S.called source.new ≤ S.called source.old + MOST_READS }
+{
+    let base = base_said(alloc, base)?;
+    let input = read_input(alloc, source)?;
+    let playlist = playlist_read(alloc, input.as_slice(), &base)?;
+    write_owed(alloc, playlist, sink)
+}
+
+// Writes a fault's line, as far as the sink takes it.
+fn print_fault<F: Sink>(alloc: Global, fault: VodFault, faults: &mut F) {
+    match format!(in alloc; "{fault}\n") {
+        Ok(line) => write_text(line.as_bytes(), faults),
+        Err(_) => write_text(b"E5 OutOfMemory\n", faults),
+    }
+}
+
+/// Runs `vod`, writes the fault's line where there is one, and answers the exit status: 0, or 1
+/// after a fault.
+pub fn command_vod<S: Source, K: Sink, F: Sink>(
+    alloc: Global,
+    base: &str,
+    decisions: Option<&[u8]>,
+    input: &mut S,
+    output: &mut K,
+    faults: &mut F,
+) -> u8
+    requires { IsNone decisions }
+    ensures status { result ≤ 1 }
+    ensures ok { result ≡ 0 → Writes base.now (S.remaining input.old) (S.remaining input.new) (K.contents output.old) (K.contents output.new) }
+    ensures quiet { result ≡ 0 → faults.new ≡ faults.old }
+{
+    match vod(alloc, input, output, base, decisions) {
+        Ok(()) => 0,
+        Err(fault) => {
+            print_fault(alloc, fault, faults);
+            1
+        }
+    }
+}

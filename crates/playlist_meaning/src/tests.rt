@@ -1,0 +1,136 @@
+//! Each public call once, and what no clause says.
+use crate::device::READ_ROOM;
+use crate::{
+    Base, BaseFault, Counted, FaultKind, Items, Pieces, PlaylistFault, Sink, Source, Taken, Text,
+    has_control, same_resource, text_of,
+};
+use std::test::Fail;
+
+const BASE: &str = "http://origin.example/ch/index.m3u8";
+
+#[test]
+fn bases(rt: HostRuntime) -> Result<(), Fail> {
+    for text in [
+        "ftp://h/",
+        "index.m3u8",
+        "",
+        "http://",
+        "//origin.example/ch",
+    ] {
+        match Base::new(rt.alloc(), text) {
+            Ok(_) => assert!(rt; false, "{text} is no base"),
+            Err(fault) => assert_eq!(rt; fault, BaseFault::BadBase, "{text}"),
+        }
+    }
+    Base::new(rt.alloc(), " HTTPS://Origin.Example:443/a/../b ")?;
+    Ok(())
+}
+
+#[test]
+fn references(rt: HostRuntime) -> Result<(), Fail> {
+    let base = Base::new(rt.alloc(), BASE)?;
+    let table = [
+        ("x.ts", "http://origin.example/ch/x.ts"),
+        ("SKD://k", "SKD://k"),
+        ("http:", "http:"),
+        ("../a b?q#f", "http://origin.example/a%20b?q#f"),
+        ("//cdn.example/s", "http://cdn.example/s"),
+        ("", "http://origin.example/ch/index.m3u8"),
+        (" foo:a b", "foo:a b"),
+    ];
+    for (reference, resolved) in table {
+        let found = base.resolve(reference)?;
+        assert_eq!(rt; found.as_str(), resolved, "{reference}");
+    }
+    match base.resolve("//[/x") {
+        Ok(_) => assert!(rt; false, "it can't be joined"),
+        Err(fault) => assert_eq!(rt; fault, BaseFault::BadUri),
+    }
+    assert!(rt; same_resource("http://a/", "http://a/"));
+    assert!(rt; !same_resource("http://a/", "http://a"));
+    Ok(())
+}
+
+#[test]
+fn texts_and_lists(rt: HostRuntime) -> Result<(), Fail> {
+    let text = Text::copy_of(rt.alloc(), "s0.ts")?;
+    let copy = text.clone()?;
+    assert!(rt; text == copy);
+    assert_eq!(rt; copy.as_str(), "s0.ts");
+    assert_eq!(rt; copy.into_string().as_str(), "s0.ts");
+    let other = Text::from_string(String::from_str(rt.alloc(), "s1.ts")?);
+    assert!(rt; text != other);
+    let items = Items::from_vec([1u8, 2, 3].to_vec(rt.alloc())?);
+    assert_eq!(rt; items.len(), 3);
+    assert_eq!(rt; items.as_slice(), [1u8, 2, 3].as_slice());
+    assert!(rt; items.clone()? == items);
+    assert_eq!(rt; items.into_vec().as_slice(), [1u8, 2, 3].as_slice());
+    Ok(())
+}
+
+#[test]
+fn bytes_and_characters(rt: HostRuntime) -> Result<(), Fail> {
+    assert_eq!(rt; text_of(b"a\xc3\xa9")?.len(), 3);
+    assert_eq!(rt; text_of(b"a\xc3"), Err(FaultKind::NotUtf8));
+    for text in ["a\u{7}", "\u{7f}", "\u{85}", "\r"] {
+        assert!(rt; has_control(text), "{text}");
+    }
+    assert!(rt; !has_control("a \u{a0}\u{e9}\u{1f4fa}"));
+    Ok(())
+}
+
+#[test]
+fn printed_faults(rt: HostRuntime) -> Result<(), Fail> {
+    let table = [
+        (FaultKind::NotUtf8, 0, "P1 NotUtf8"),
+        (FaultKind::NoHeader, 1, "P3 NoHeader line 1"),
+        (FaultKind::MapWithoutIv, 14, "P23 MapWithoutIv line 14"),
+        (FaultKind::NotYet, 3, "P26 NotYet line 3"),
+    ];
+    for (kind, line, want) in table {
+        let fault = PlaylistFault { kind, line };
+        let text = format!(in rt.alloc(); "{fault}")?;
+        assert_eq!(rt; text.as_str(), want);
+    }
+    Ok(())
+}
+
+#[test]
+fn pieces_of_a_source(rt: HostRuntime) -> Result<(), Fail> {
+    let mut room = [0u8; READ_ROOM];
+    let mut source = Pieces::new(b"abcdefg", 3, 4, 2);
+    assert_eq!(rt; source.read(&mut room)?, 3);
+    assert!(rt; source.read(&mut room).is_err());
+    assert_eq!(rt; source.read(&mut room)?, 1);
+    assert_eq!(rt; source.read(&mut room)?, 3);
+    assert_eq!(rt; source.read(&mut room)?, 0);
+    assert_eq!(rt; source.failures(), 1);
+    assert_eq!(rt; source.calls(), 5);
+    Ok(())
+}
+
+#[test]
+fn room_of_a_sink(rt: HostRuntime) -> Result<(), Fail> {
+    let mut sink = Taken::new(rt.alloc(), 5, 3, 2)?;
+    assert_eq!(rt; sink.write(b"abcdefg")?, 3);
+    assert!(rt; sink.write(b"defg").is_err());
+    assert_eq!(rt; sink.write(b"defg")?, 2);
+    assert_eq!(rt; sink.write(b"fg")?, 0);
+    assert_eq!(rt; sink.bytes(), b"abcde".as_slice());
+    assert_eq!(rt; sink.failures(), 2);
+    Ok(())
+}
+
+#[test]
+fn counted_devices(rt: HostRuntime) -> Result<(), Fail> {
+    let mut room = [0u8; READ_ROOM];
+    let mut source = Counted::new(b"abc".as_slice());
+    assert_eq!(rt; source.read(&mut room)?, 3);
+    assert_eq!(rt; source.read(&mut room)?, 0);
+    assert_eq!(rt; Source::failures(&source), 0);
+    assert_eq!(rt; source.calls(), 2);
+    let mut sink = Counted::new(Vec::new(rt.alloc()));
+    assert_eq!(rt; sink.write(b"abc")?, 3);
+    assert_eq!(rt; Sink::failures(&sink), 0);
+    Ok(())
+}

@@ -1,0 +1,5 @@
+pub mod Digits
+pub mod Times
+pub mod Spelling
+pub mod Owed
+pub mod Handed

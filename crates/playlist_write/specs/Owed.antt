@@ -1,0 +1,139 @@
+-- The text of a playlist.
+use Rattle.std.specs.Prelude.{ℕ, ◌-◌, Bool, List, [], ◌∷◌, ◌++◌, map, codes, replicate, ℤ, Option, Some, None, if◌then◌else◌}
+use Rattle.std.specs.List.{flat_map}
+use Rattle.playlist_meaning.specs.declared.Key.{Key}
+use Rattle.playlist_meaning.specs.declared.ByteRange.{ByteRange}
+use Rattle.playlist_meaning.specs.declared.InitSection.{InitSection}
+use Rattle.playlist_meaning.specs.declared.PlaylistKind.{PlaylistKind}
+use Rattle.playlist_meaning.specs.declared.Segment.{Segment}
+use Rattle.playlist_meaning.specs.LookBack.{or_earlier}
+use Rattle.playlist_meaning.specs.Said.{Said, version, target, sequence, discontinuity_sequence, playlist_type, ended, independent, duration, range, discontinuity, no_keys, key, section, time, media}
+use Rattle.stitcher.specs.declared.KeyTag.{KeyTag}
+use Rattle.stitcher.specs.declared.KeyTag.TheVariants.{End, Set}
+use Rattle.stitcher.specs.declared.OutSegment.{OutSegment}
+use Rattle.stitcher.specs.Same.{same_option, same_section}
+use Rattle.stitcher.specs.KeyTags.{transition}
+use Rattle.playlist_write.specs.declared.OutPlaylist.{OutPlaylist}
+use Rattle.playlist_write.specs.Spelling.{spelled, date_range_line}
+
+-- ---- the lines of a segment
+
+abbrev pub tag_said : KeyTag → Said
+tag_said End = no_keys
+tag_said (Set k) = key k
+
+-- tags that set these keys
+abbrev pub set_tags : List Key → List Said
+set_tags keys = map tag_said (map Set keys)
+
+abbrev pub keys_owed : List Key → List Key → List Said
+keys_owed old new = map tag_said (transition old new)
+
+-- the keys and the section that are in force where a line is written
+pub record Current : Type 0 where
+  pub keys : List Key
+  pub section : Option InitSection
+
+abbrev pub none_yet : Current
+none_yet = record { keys = []; section = None }
+
+-- the section, where it is another than the one in force
+abbrev pub changed_section : Option InitSection → Option InitSection → Option InitSection
+changed_section current None = None
+changed_section current (Some new) = if same_option same_section (Some new) current then None else Some new
+
+-- a changed section is written under its own keys, which are then in force
+abbrev pub section_owed : List Key → Option InitSection → List Said
+section_owed keys None = []
+section_owed keys (Some new) = keys_owed keys new.keys ++ section new.uri new.range ∷ []
+
+abbrev pub keys_then : List Key → Option InitSection → List Key
+keys_then keys None = keys
+keys_then keys (Some new) = new.keys
+
+abbrev pub time_owed : Option ℤ → List Said
+time_owed None = []
+time_owed (Some t) = time t ∷ []
+
+abbrev pub range_owed : Option ByteRange → List Said
+range_owed None = []
+range_owed (Some r) = range r.length (Some r.offset) ∷ []
+
+abbrev pub media_owed : Segment → List Said
+media_owed segment = duration segment.duration segment.title ∷ (range_owed segment.range ++ media segment.uri ∷ [])
+
+abbrev pub segment_owed : Current → OutSegment → List Said
+segment_owed current out =
+    let changed = changed_section current.section out.segment.section in
+    replicate out.steps discontinuity
+    ++ (section_owed current.keys changed
+    ++ (keys_owed (keys_then current.keys changed) out.segment.keys
+    ++ (time_owed out.time ++ media_owed out.segment)))
+
+abbrev pub after_segment : Current → OutSegment → Current
+after_segment current out = record { keys = out.segment.keys; section = or_earlier out.segment.section current.section }
+
+abbrev pub segments_owed : Current → List OutSegment → List Said
+segments_owed current [] = []
+segments_owed current (out ∷ later) = segment_owed current out ++ segments_owed (after_segment current out) later
+
+-- ---- the whole
+
+abbrev pub type_owed : Option PlaylistKind → List Said
+type_owed None = []
+type_owed (Some kind) = playlist_type kind ∷ []
+
+abbrev pub independent_owed : Bool → List Said
+independent_owed test = if test then independent ∷ [] else []
+
+abbrev pub ended_owed : Bool → List Said
+ended_owed test = if test then ended ∷ [] else []
+
+abbrev pub first_number : List OutSegment → ℕ
+first_number [] = 0
+first_number (out ∷ later) = out.media
+
+-- the number before the steps of the first segment
+abbrev pub first_discontinuity : List OutSegment → ℕ
+first_discontinuity [] = 0
+first_discontinuity (out ∷ later) = out.discontinuity - out.steps
+
+abbrev pub numbers_owed : OutPlaylist → List Said
+numbers_owed p =
+    version p.version ∷ target p.target ∷ sequence (first_number p.segments) ∷ discontinuity_sequence (first_discontinuity p.segments) ∷ []
+
+abbrev pub header_owed : OutPlaylist → List Said
+header_owed p = numbers_owed p ++ (type_owed p.kind ++ independent_owed p.independent)
+
+-- a line ends with a line feed
+abbrev pub with_feed : List ℕ → List ℕ
+with_feed line = line ++ 10 ∷ []
+
+-- the line that says this, and those that say these
+unfoldable pub line_of : Said → List ℕ
+line_of said = with_feed (spelled said)
+
+abbrev pub said_text : List Said → List ℕ
+said_text says = flat_map line_of says
+
+abbrev pub key_line : Key → List ℕ
+key_line k = line_of (key k)
+
+abbrev pub section_line : InitSection → List ℕ
+section_line s = line_of (section s.uri s.range)
+
+-- date ranges stand as they are
+unfoldable pub range_line : List ℕ → List ℕ
+range_line text = with_feed (date_range_line text)
+
+abbrev pub ranges_text : List (List ℕ) → List ℕ
+ranges_text ranges = flat_map range_line ranges
+
+-- the text of a playlist: the header, the date ranges, the segments and the end
+abbrev pub text_of : OutPlaylist → List ℕ
+text_of p =
+    with_feed (codes "#EXTM3U")
+    ++ (said_text (header_owed p)
+    ++ (ranges_text p.ranges
+    ++ (said_text (segments_owed none_yet p.segments)
+    ++ said_text (ended_owed p.ended))))

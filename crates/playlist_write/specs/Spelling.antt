@@ -1,0 +1,91 @@
+-- How what a line says is written (RFC 8216, section 4.3).
+use Rattle.std.specs.Prelude.{ℕ, true, false, List, [], ◌∷◌, ◌++◌, map, codes, Option, Some, None, bytes_eq, if◌then◌else◌}
+use Rattle.std.specs.List.{flat_map}
+use Rattle.std.specs.Fmt.{decimal}
+use Rattle.fixed_duration.specs.Duration.{duration_text}
+use Rattle.attr_list.specs.Attributes.{Pair, pair_spelling, attributes_text}
+use Rattle.playlist_meaning.specs.declared.PlaylistKind.{PlaylistKind}
+use Rattle.playlist_meaning.specs.declared.PlaylistKind.TheVariants.{Event, Vod}
+use Rattle.playlist_meaning.specs.declared.Key.{Key}
+use Rattle.playlist_meaning.specs.declared.KeyAttr.{KeyAttr}
+use Rattle.playlist_meaning.specs.declared.ByteRange.{ByteRange}
+use Rattle.playlist_meaning.specs.Said.{Said, nothing, version, target, sequence, discontinuity_sequence, playlist_type, ended, independent, duration, range, discontinuity, no_keys, key, section, time, date_range, media}
+use Rattle.playlist_write.specs.Times.{time_text}
+use Rattle.playlist_write.specs.Digits.{fixed_digits}
+
+abbrev pub range_text : ℕ → ℕ → List ℕ
+range_text length offset = decimal length ++ 64 ∷ decimal offset
+
+-- ---- attributes (4.2)
+
+abbrev pub plain : List ℕ → List ℕ → Pair
+plain name value = record { name = name; value = value; quoted = false }
+
+abbrev pub in_quotes : List ℕ → List ℕ → Pair
+in_quotes name value = record { name = name; value = value; quoted = true }
+
+-- `0x` and 32 digits
+abbrev pub iv_text : ℕ → List ℕ
+iv_text iv = 48 ∷ 120 ∷ fixed_digits 16 32 iv
+
+abbrev pub iv_pairs : Option ℕ → List Pair
+iv_pairs None = []
+iv_pairs (Some iv) = plain (codes "IV") (iv_text iv) ∷ []
+
+-- the format `identity` goes without saying
+abbrev pub format_pairs : List ℕ → List Pair
+format_pairs format = if bytes_eq format (codes "identity") then [] else in_quotes (codes "KEYFORMAT") format ∷ []
+
+abbrev pub attr_pair : KeyAttr → Pair
+attr_pair attr = record { name = attr.name; value = attr.value; quoted = attr.quoted }
+
+-- the attributes of a key tag (4.3.2.4)
+abbrev pub key_pairs : Key → List Pair
+key_pairs k =
+    plain (codes "METHOD") k.method ∷ in_quotes (codes "URI") k.uri ∷ (iv_pairs k.iv ++ (format_pairs k.format ++ map attr_pair k.other))
+
+abbrev pub part_pairs : Option ByteRange → List Pair
+part_pairs None = []
+part_pairs (Some part) = in_quotes (codes "BYTERANGE") (range_text part.length part.offset) ∷ []
+
+-- the attributes of a map tag (4.3.2.5)
+abbrev pub section_pairs : List ℕ → Option ByteRange → List Pair
+section_pairs uri part = in_quotes (codes "URI") uri ∷ part_pairs part
+
+-- each attribute with a comma before it
+abbrev pub after_commas : List Pair → List ℕ
+after_commas pairs = flat_map (λ pair. 44 ∷ pair_spelling pair) pairs
+
+-- ---- lines
+
+abbrev pub type_text : PlaylistKind → List ℕ
+type_text Event = codes "EVENT"
+type_text Vod = codes "VOD"
+
+abbrev pub offset_text : Option ℕ → List ℕ
+offset_text None = []
+offset_text (Some offset) = 64 ∷ decimal offset
+
+-- a date range's attributes stand as they are (4.3.2.7)
+abbrev pub date_range_line : List ℕ → List ℕ
+date_range_line text = codes "#EXT-X-DATERANGE:" ++ text
+
+-- the line that says this
+abbrev pub spelled : Said → List ℕ
+spelled nothing = []
+spelled (version n) = codes "#EXT-X-VERSION:" ++ decimal n
+spelled (target n) = codes "#EXT-X-TARGETDURATION:" ++ decimal n
+spelled (sequence n) = codes "#EXT-X-MEDIA-SEQUENCE:" ++ decimal n
+spelled (discontinuity_sequence n) = codes "#EXT-X-DISCONTINUITY-SEQUENCE:" ++ decimal n
+spelled (playlist_type kind) = codes "#EXT-X-PLAYLIST-TYPE:" ++ type_text kind
+spelled ended = codes "#EXT-X-ENDLIST"
+spelled independent = codes "#EXT-X-INDEPENDENT-SEGMENTS"
+spelled (duration nanos title) = codes "#EXTINF:" ++ (duration_text nanos ++ 44 ∷ title)
+spelled (range length offset) = codes "#EXT-X-BYTERANGE:" ++ (decimal length ++ offset_text offset)
+spelled discontinuity = codes "#EXT-X-DISCONTINUITY"
+spelled no_keys = codes "#EXT-X-KEY:METHOD=NONE"
+spelled (key k) = codes "#EXT-X-KEY:" ++ attributes_text (key_pairs k)
+spelled (section uri part) = codes "#EXT-X-MAP:" ++ attributes_text (section_pairs uri part)
+spelled (time t) = codes "#EXT-X-PROGRAM-DATE-TIME:" ++ time_text t
+spelled (date_range r) = date_range_line r.text
+spelled (media uri) = uri

@@ -1,0 +1,31 @@
+//! Numbers in a fixed number of digits.
+ghost use Rattle.std.specs.Prelude.{◌≡◌, ◌++◌, ◌≤◌, ◌<◌, ℕ, [], ◌∷◌, OnOk, string_bytes, true};
+ghost use Rattle.std.specs.Fmt.{digit_glyph};
+ghost use Rattle.playlist_write.specs.Digits.{fixed_digits};
+
+use std::alloc::AllocError;
+
+// The digit of a value below 16.
+fn glyph(value: u8) -> char
+    requires { value < 16 }
+    ensures glyph { result ≡ digit_glyph true value }
+    ensures ascii { result < 128 }
+{
+    if value < 10 {
+        (b'0' + value) as char
+    } else {
+        (b'A' + (value - 10)) as char
+    }
+}
+
+// Appends the last `count` hexadecimal digits of a number.
+pub fn push_hex(out: &mut String, number: u128, count: u8) -> Result<(), AllocError>
+    ensures { OnOk result (string_bytes out.new ≡ string_bytes out.old ++ fixed_digits 16 count number) }
+{
+    if count == 0 {
+        return Ok(());
+    }
+    push_hex(out, number / 16, count - 1)?;
+    out.push(glyph((number % 16) as u8))?;
+    Ok(())
+}

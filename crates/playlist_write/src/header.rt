@@ -1,0 +1,138 @@
+//! The lines before and after the segments.
+ghost use Rattle.std.specs.Prelude.{◌≡◌, ◌++◌, ℕ, OnOk, string_bytes};
+ghost use Rattle.playlist_meaning.specs.Said as Said;
+ghost use Rattle.playlist_write.specs.Spelling.{type_text};
+ghost use Rattle.playlist_write.specs.Owed.{line_of, range_line, said_text, numbers_owed, header_owed, type_owed, independent_owed, ended_owed, first_number, first_discontinuity, ranges_text};
+
+use crate::OutPlaylist;
+use crate::lines::{push_line, push_line_of, push_number_line};
+use playlist_meaning::{PlaylistKind, Text};
+use std::alloc::AllocError;
+use stitcher::OutSegment;
+
+fn first_number(segments: &[OutSegment]) -> u64
+    ensures { result ≡ first_number segments.now }
+{
+    match segments.first() {
+        Some(first) => first.media,
+        None => 0,
+    }
+}
+
+fn first_discontinuity(segments: &[OutSegment]) -> u64
+    ensures { result ≡ first_discontinuity segments.now }
+{
+    match segments.first() {
+        Some(first) => first.discontinuity.saturating_sub(first.steps),
+        None => 0,
+    }
+}
+
+fn type_text(kind: PlaylistKind) -> &'static str
+    ensures { result.now ≡ type_text kind }
+{
+    match kind {
+        PlaylistKind::Event => "EVENT",
+        PlaylistKind::Vod => "VOD",
+    }
+}
+
+fn push_type(out: &mut String, kind: PlaylistKind) -> Result<(), AllocError>
+    ensures { OnOk result (string_bytes out.new ≡ string_bytes out.old ++ line_of (Said.playlist_type kind)) }
+{
+    push_line_of(out, "#EXT-X-PLAYLIST-TYPE:", type_text(kind))
+}
+
+fn push_kind(out: &mut String, kind: Option<PlaylistKind>) -> Result<(), AllocError>
+    ensures { OnOk result (string_bytes out.new ≡ string_bytes out.old ++ said_text (type_owed kind)) }
+{
+    if let Some(kind) = kind {
+        push_type(out, kind)?;
+    }
+    Ok(())
+}
+
+#[tactic(auto, unfolding(crate::specs::Owed::line_of))]
+fn push_version(out: &mut String, version: u64) -> Result<(), AllocError>
+    ensures { OnOk result (string_bytes out.new ≡ string_bytes out.old ++ line_of (Said.version version)) }
+{
+    push_number_line(out, "#EXT-X-VERSION:", version)
+}
+
+#[tactic(auto, unfolding(crate::specs::Owed::line_of))]
+fn push_target(out: &mut String, target: u64) -> Result<(), AllocError>
+    ensures { OnOk result (string_bytes out.new ≡ string_bytes out.old ++ line_of (Said.target target)) }
+{
+    push_number_line(out, "#EXT-X-TARGETDURATION:", target)
+}
+
+#[tactic(auto, unfolding(crate::specs::Owed::line_of))]
+fn push_sequence(out: &mut String, sequence: u64) -> Result<(), AllocError>
+    ensures { OnOk result (string_bytes out.new ≡ string_bytes out.old ++ line_of (Said.sequence sequence)) }
+{
+    push_number_line(out, "#EXT-X-MEDIA-SEQUENCE:", sequence)
+}
+
+#[tactic(auto, unfolding(crate::specs::Owed::line_of))]
+fn push_discontinuity_sequence(out: &mut String, sequence: u64) -> Result<(), AllocError>
+    ensures { OnOk result (string_bytes out.new ≡ string_bytes out.old ++ line_of (Said.discontinuity_sequence sequence)) }
+{
+    push_number_line(out, "#EXT-X-DISCONTINUITY-SEQUENCE:", sequence)
+}
+
+fn push_numbers(out: &mut String, playlist: &OutPlaylist) -> Result<(), AllocError>
+    ensures { OnOk result (string_bytes out.new ≡ string_bytes out.old ++ said_text (numbers_owed playlist.now)) }
+{
+    let segments = playlist.segments.as_slice();
+    push_version(out, playlist.version)?;
+    push_target(out, playlist.target)?;
+    push_sequence(out, first_number(segments))?;
+    push_discontinuity_sequence(out, first_discontinuity(segments))
+}
+
+#[tactic(auto, unfolding(crate::specs::Owed::line_of))]
+fn push_independent(out: &mut String, independent: bool) -> Result<(), AllocError>
+    ensures { OnOk result (string_bytes out.new ≡ string_bytes out.old ++ said_text (independent_owed independent)) }
+{
+    if independent {
+        push_line(out, "#EXT-X-INDEPENDENT-SEGMENTS")?;
+    }
+    Ok(())
+}
+
+/// Appends the lines that stand before the date ranges.
+pub fn push_header(out: &mut String, playlist: &OutPlaylist) -> Result<(), AllocError>
+    ensures { OnOk result (string_bytes out.new ≡ string_bytes out.old ++ said_text (header_owed playlist.now)) }
+{
+    push_numbers(out, playlist)?;
+    push_kind(out, playlist.kind)?;
+    push_independent(out, playlist.independent)
+}
+
+#[tactic(auto, unfolding(crate::specs::Owed::range_line))]
+fn push_date_range(out: &mut String, text: &str) -> Result<(), AllocError>
+    ensures { OnOk result (string_bytes out.new ≡ string_bytes out.old ++ range_line text.now) }
+{
+    push_line_of(out, "#EXT-X-DATERANGE:", text)
+}
+
+/// Appends the date ranges as they stand.
+pub fn push_date_ranges(out: &mut String, ranges: &[Text]) -> Result<(), AllocError>
+    ensures { OnOk result (string_bytes out.new ≡ string_bytes out.old ++ ranges_text ranges.now) }
+{
+    for range in ranges {
+        push_date_range(out, range.as_str())?;
+    }
+    Ok(())
+}
+
+#[tactic(auto, unfolding(crate::specs::Owed::line_of))]
+/// Appends the line that says that no segment will follow, if so.
+pub fn push_end(out: &mut String, ended: bool) -> Result<(), AllocError>
+    ensures { OnOk result (string_bytes out.new ≡ string_bytes out.old ++ said_text (ended_owed ended)) }
+{
+    if ended {
+        push_line(out, "#EXT-X-ENDLIST")?;
+    }
+    Ok(())
+}

@@ -1,0 +1,146 @@
+//! Key tags and map tags (RFC 8216, sections 4.3.2.4 and 4.3.2.5).
+ghost use Rattle.std.specs.Prelude.{◌≡◌, ◌++◌, ℕ, [], ◌∷◌, OnOk, string_bytes, map, filter, Some};
+ghost use Rattle.std.specs.Option.{option_copied};
+ghost use Rattle.attr_list.specs.Attributes.{pair_spelling};
+ghost use Rattle.playlist_write.specs.Spelling.{plain, in_quotes, iv_pairs, format_pairs, attr_pair, part_pairs, after_commas};
+ghost use Rattle.playlist_meaning.specs.Said as Said;
+ghost use Rattle.playlist_write.specs.Owed.{line_of, said_text, keys_owed, set_tags, key_line, section_line};
+ghost use Rattle.stitcher.specs.KeyTags.{is_new};
+
+use crate::digits::push_hex;
+use crate::lines::{push_feed, push_line, push_range};
+use playlist_meaning::{ByteRange, InitSection, Key, KeyAttr};
+use std::alloc::AllocError;
+use stitcher::{is_new, keeps_formats};
+
+// Appends `name=value`.
+fn push_plain(out: &mut String, name: &str, value: &str) -> Result<(), AllocError>
+    ensures { OnOk result (string_bytes out.new ≡ string_bytes out.old ++ pair_spelling (plain name.now value.now)) }
+{
+    out.push_str(name)?;
+    out.push('=')?;
+    out.push_str(value)
+}
+
+// Appends `name="value"`.
+fn push_quoted(out: &mut String, name: &str, value: &str) -> Result<(), AllocError>
+    ensures { OnOk result (string_bytes out.new ≡ string_bytes out.old ++ pair_spelling (in_quotes name.now value.now)) }
+{
+    out.push_str(name)?;
+    out.push_str("=\"")?;
+    out.push_str(value)?;
+    out.push('"')
+}
+
+fn push_iv(out: &mut String, iv: Option<u128>) -> Result<(), AllocError>
+    ensures { OnOk result (string_bytes out.new ≡ string_bytes out.old ++ after_commas (iv_pairs iv)) }
+{
+    if let Some(iv) = iv {
+        out.push_str(",IV=0x")?;
+        push_hex(out, iv, 32)?;
+    }
+    Ok(())
+}
+
+fn push_format(out: &mut String, format: &str) -> Result<(), AllocError>
+    ensures { OnOk result (string_bytes out.new ≡ string_bytes out.old ++ after_commas (format_pairs format.now)) }
+{
+    if format == "identity" {
+        return Ok(());
+    }
+    push_quoted(out, ",KEYFORMAT", format)?;
+    Ok(())
+}
+
+fn push_attr(out: &mut String, attr: &KeyAttr) -> Result<(), AllocError>
+    ensures { OnOk result (string_bytes out.new ≡ string_bytes out.old ++ pair_spelling (attr_pair attr.now)) }
+{
+    if attr.quoted {
+        push_quoted(out, attr.name.as_str(), attr.value.as_str())
+    } else {
+        push_plain(out, attr.name.as_str(), attr.value.as_str())
+    }
+}
+
+fn push_attrs(out: &mut String, attrs: &[KeyAttr]) -> Result<(), AllocError>
+    ensures { OnOk result (string_bytes out.new ≡ string_bytes out.old ++ after_commas (map attr_pair attrs.now)) }
+{
+    for attr in attrs {
+        out.push(',')?;
+        push_attr(out, attr)?;
+    }
+    Ok(())
+}
+
+fn push_key(out: &mut String, key: &Key) -> Result<(), AllocError>
+    ensures { OnOk result (string_bytes out.new ≡ string_bytes out.old ++ key_line key.now) }
+{
+    out.push_str("#EXT-X-KEY:")?;
+    push_plain(out, "METHOD", key.method.as_str())?;
+    push_quoted(out, ",URI", key.uri.as_str())?;
+    push_iv(out, key.iv)?;
+    push_format(out, key.format.as_str())?;
+    push_attrs(out, key.other.as_slice())?;
+    push_feed(out)?;
+    Ok(())
+}
+
+fn push_keys(out: &mut String, keys: &[Key]) -> Result<(), AllocError>
+    ensures { OnOk result (string_bytes out.new ≡ string_bytes out.old ++ said_text (set_tags keys.now)) }
+{
+    for key in keys {
+        push_key(out, key)?;
+    }
+    Ok(())
+}
+
+fn push_new_keys(out: &mut String, old: &[Key], new: &[Key]) -> Result<(), AllocError>
+    ensures { OnOk result (string_bytes out.new ≡ string_bytes out.old ++ said_text (set_tags (filter (is_new old.now) new.now))) }
+{
+    for key in new {
+        if is_new(old, key) {
+            push_key(out, key)?;
+        }
+    }
+    Ok(())
+}
+
+#[tactic(auto, unfolding(crate::specs::Owed::line_of))]
+fn push_no_keys(out: &mut String) -> Result<(), AllocError>
+    ensures { OnOk result (string_bytes out.new ≡ string_bytes out.old ++ line_of Said.no_keys) }
+{
+    push_line(out, "#EXT-X-KEY:METHOD=NONE")
+}
+
+/// Appends the key tags that lead from keys to keys.
+pub fn push_key_tags(out: &mut String, old: &[Key], new: &[Key]) -> Result<(), AllocError>
+    ensures { OnOk result (string_bytes out.new ≡ string_bytes out.old ++ said_text (keys_owed old.now new.now)) }
+{
+    if keeps_formats(old, new) {
+        return push_new_keys(out, old, new);
+    }
+    push_no_keys(out)?;
+    push_keys(out, new)
+}
+
+fn push_part(out: &mut String, part: Option<ByteRange>) -> Result<(), AllocError>
+    ensures { OnOk result (string_bytes out.new ≡ string_bytes out.old ++ after_commas (part_pairs part)) }
+{
+    if let Some(part) = part {
+        out.push_str(",BYTERANGE=\"")?;
+        push_range(out, part)?;
+        out.push('"')?;
+    }
+    Ok(())
+}
+
+/// Appends the map tag of an initialisation section.
+pub fn push_section(out: &mut String, section: &InitSection) -> Result<(), AllocError>
+    ensures { OnOk result (string_bytes out.new ≡ string_bytes out.old ++ section_line section.now) }
+{
+    out.push_str("#EXT-X-MAP:")?;
+    push_quoted(out, "URI", section.uri.as_str())?;
+    push_part(out, section.range)?;
+    push_feed(out)?;
+    Ok(())
+}

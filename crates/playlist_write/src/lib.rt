@@ -1,0 +1,102 @@
+//! Writes media playlists (RFC 8216, section 4.3).
+#![tactic(auto)]
+
+ghost use Rattle.std.specs.Prelude.{◌≡◌, OnOk, OnErr, IfOk, IsErrOf, string_bytes};
+ghost use Rattle.std.specs.Io.KnownBytes.{Appends, Keeps};
+ghost use Rattle.playlist_meaning.specs.Devices.{HasRisen};
+ghost use Rattle.playlist_write.specs.Owed.{text_of};
+ghost use Rattle.playlist_write.specs.Handed.{TookFront};
+
+use crate::hand_out::hand_out;
+use crate::header::{push_date_ranges, push_end, push_header};
+use crate::lines::push_line;
+use crate::segments::push_segments;
+use playlist_meaning::{Items, PlaylistKind, Sink, Text};
+use std::alloc::{AllocError, Global};
+use stitcher::OutSegment;
+
+mod digits;
+mod hand_out;
+mod header;
+mod keys;
+mod lines;
+mod segments;
+mod time;
+
+/// A playlist as it is written.
+#[derive(Clone, PartialEq, Drop)]
+pub struct OutPlaylist {
+    pub version: u64,
+    pub target: u64,
+    pub kind: Option<PlaylistKind>,
+    pub independent: bool,
+    pub ended: bool,
+    /// What stands behind `#EXT-X-DATERANGE:`, for each date range.
+    pub ranges: Items<Text>,
+    pub segments: Items<OutSegment>,
+}
+
+/// Why a playlist was not written, or not whole.
+#[derive(Clone, Copy, PartialEq, Eq, Debug)]
+pub enum WriteFault {
+    /// O1: the sink failed, or took nothing.
+    Io,
+    /// O2: memory was refused.
+    OutOfMemory,
+}
+
+impl From<AllocError> for WriteFault {
+    ghost use Rattle.playlist_write.specs.declared.WriteFault.TheVariants.{OutOfMemory};
+
+    ghost from_gives = { λ _ fault. fault ≡ OutOfMemory };
+
+    fn from(_error: AllocError) -> WriteFault {
+        WriteFault::OutOfMemory
+    }
+}
+
+// About as much room as the text takes.
+fn room_for(playlist: &OutPlaylist) -> usize {
+    let mut room: usize = 256;
+    for range in playlist.ranges.as_slice() {
+        room = room.saturating_add(range.as_str().len()).saturating_add(24);
+    }
+    for next in playlist.segments.as_slice() {
+        let segment = &next.segment;
+        let texts = segment
+            .uri
+            .as_str()
+            .len()
+            .saturating_add(segment.title.as_str().len());
+        room = room.saturating_add(texts).saturating_add(80);
+    }
+    room
+}
+
+// The text of a playlist.
+fn make_text(alloc: Global, playlist: &OutPlaylist) -> Result<String, AllocError>
+    ensures { IfOk result (λ text. string_bytes text ≡ text_of playlist.now) }
+{
+    let mut text = String::with_capacity(alloc, room_for(playlist))?;
+    push_line(&mut text, "#EXTM3U")?;
+    push_header(&mut text, playlist)?;
+    push_date_ranges(&mut text, playlist.ranges.as_slice())?;
+    push_segments(&mut text, playlist.segments.as_slice())?;
+    push_end(&mut text, playlist.ended)?;
+    Ok(text)
+}
+
+/// Writes a playlist: its whole text, or a front of it where the sink fails.
+pub fn write<S: Sink>(alloc: Global, playlist: &OutPlaylist, sink: &mut S) -> Result<(), WriteFault>
+    ensures ok { OnOk result (Appends (S.contents sink.old) (S.contents sink.new) (text_of playlist.now)) }
+    ensures err { OnErr result (TookFront (S.contents sink.old) (S.contents sink.new) (text_of playlist.now)) }
+
+    // The sink is blamed only where it failed or took nothing.
+    ensures io { IsErrOf result WriteFault.Io → HasRisen (S.failed sink.old) (S.failed sink.new) }
+
+    // Nothing was written where memory was refused.
+    ensures memory { IsErrOf result WriteFault.OutOfMemory → Keeps (S.contents sink.old) (S.contents sink.new) }
+{
+    let text = make_text(alloc, playlist)?;
+    hand_out(text.as_bytes(), sink)
+}

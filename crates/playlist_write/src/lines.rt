@@ -1,0 +1,60 @@
+//! Parts of lines.
+ghost use Rattle.std.specs.Prelude.{◌≡◌, ◌++◌, ℕ, [], ◌∷◌, OnOk, string_bytes, decimal};
+ghost use Rattle.playlist_write.specs.Spelling.{range_text};
+ghost use Rattle.playlist_write.specs.Owed.{with_feed};
+
+use itoa::Buffer;
+use playlist_meaning::ByteRange;
+use std::alloc::AllocError;
+
+// Appends a number.
+pub fn push_number(out: &mut String, number: u64) -> Result<(), AllocError>
+    ensures { OnOk result (string_bytes out.new ≡ string_bytes out.old ++ decimal number) }
+{
+    let mut buffer = Buffer::new();
+    out.push_str(buffer.format(number))?;
+    Ok(())
+}
+
+// Ends a line.
+pub fn push_feed(out: &mut String) -> Result<(), AllocError>
+    ensures { OnOk result (string_bytes out.new ≡ string_bytes out.old ++ 10 ∷ []) }
+{
+    out.push('\n')
+}
+
+// Appends a line.
+pub fn push_line(out: &mut String, line: &str) -> Result<(), AllocError>
+    ensures { OnOk result (string_bytes out.new ≡ string_bytes out.old ++ with_feed line.now) }
+{
+    out.push_str(line)?;
+    out.push('\n')?;
+    Ok(())
+}
+
+// Appends a line of two parts.
+pub fn push_line_of(out: &mut String, tag: &str, rest: &str) -> Result<(), AllocError>
+    ensures { OnOk result (string_bytes out.new ≡ string_bytes out.old ++ with_feed (tag.now ++ rest.now)) }
+{
+    out.push_str(tag)?;
+    push_line(out, rest)
+}
+
+// Appends a line that ends with a number.
+pub fn push_number_line(out: &mut String, tag: &str, number: u64) -> Result<(), AllocError>
+    ensures { OnOk result (string_bytes out.new ≡ string_bytes out.old ++ with_feed (tag.now ++ decimal number)) }
+{
+    out.push_str(tag)?;
+    push_number(out, number)?;
+    out.push('\n')?;
+    Ok(())
+}
+
+// Appends a range as `n@o`.
+pub fn push_range(out: &mut String, range: ByteRange) -> Result<(), AllocError>
+    ensures { OnOk result (string_bytes out.new ≡ string_bytes out.old ++ range_text range.length range.offset) }
+{
+    push_number(out, range.length)?;
+    out.push('@')?;
+    push_number(out, range.offset)
+}

@@ -1,0 +1,178 @@
+//! The lines of segments (RFC 8216, section 4.3.2).
+ghost use Rattle.std.specs.Prelude.{◌≡◌, ◌++◌, ℕ, ℤ, [], ◌∷◌, OnOk, string_bytes, replicate, Some};
+ghost use Rattle.std.specs.Option.{option_copied};
+ghost use Rattle.playlist_meaning.specs.Said as Said;
+ghost use Rattle.stitcher.specs.Same.{same_option, same_section};
+ghost use Rattle.playlist_write.specs.Owed.{Current, none_yet, line_of, said_text, changed_section, section_owed, keys_then, time_owed, range_owed, media_owed, segment_owed, segments_owed};
+
+use crate::keys::{push_key_tags, push_section};
+use crate::lines::{push_feed, push_line, push_range};
+use crate::time::push_time;
+use fixed_duration::Nanos;
+use playlist_meaning::{ByteRange, InitSection, Instant, Key, Segment};
+use std::alloc::AllocError;
+use stitcher::{OutSegment, is_same_section};
+
+#[tactic(auto, unfolding(crate::specs::Owed::line_of))]
+fn push_discontinuity(out: &mut String) -> Result<(), AllocError>
+    ensures { OnOk result (string_bytes out.new ≡ string_bytes out.old ++ line_of Said.discontinuity) }
+{
+    push_line(out, "#EXT-X-DISCONTINUITY")
+}
+
+fn push_steps(out: &mut String, steps: u64) -> Result<(), AllocError>
+    ensures { OnOk result (string_bytes out.new ≡ string_bytes out.old ++ said_text (replicate steps Said.discontinuity)) }
+{
+    for _ in 0..steps {
+        push_discontinuity(out)?;
+    }
+    Ok(())
+}
+
+// Whether a section is the one in force.
+fn is_current(current: Option<&InitSection>, new: &InitSection) -> bool
+    ensures { result ≡ same_option same_section (Some new.now) (option_copied current.entry) }
+{
+    match current {
+        Some(old) => is_same_section(new, old),
+        None => false,
+    }
+}
+
+// The section, where it is another than the one in force.
+fn changed_section<'a>(
+    current: Option<&InitSection>,
+    section: &'a Option<InitSection>,
+) -> Option<&'a InitSection>
+    ensures { option_copied result ≡ changed_section (option_copied current.entry) section.now }
+{
+    match section {
+        Some(new) => {
+            if is_current(current, new) {
+                None
+            } else {
+                Some(new)
+            }
+        }
+        None => None,
+    }
+}
+
+// The keys in force after a changed section.
+fn keys_then<'a>(keys: &'a [Key], changed: Option<&'a InitSection>) -> &'a [Key]
+    ensures { result.now ≡ keys_then keys.now (option_copied changed.entry) }
+{
+    match changed {
+        Some(section) => section.keys.as_slice(),
+        None => keys,
+    }
+}
+
+fn push_changed_section(
+    out: &mut String,
+    keys: &[Key],
+    changed: Option<&InitSection>,
+) -> Result<(), AllocError>
+    ensures { OnOk result (string_bytes out.new ≡ string_bytes out.old ++ said_text (section_owed keys.now (option_copied changed.entry))) }
+{
+    if let Some(section) = changed {
+        push_key_tags(out, keys, section.keys.as_slice())?;
+        push_section(out, section)?;
+    }
+    Ok(())
+}
+
+fn push_instant(out: &mut String, time: Instant) -> Result<(), AllocError>
+    ensures { OnOk result (string_bytes out.new ≡ string_bytes out.old ++ line_of (Said.time time)) }
+{
+    out.push_str("#EXT-X-PROGRAM-DATE-TIME:")?;
+    push_time(time, out)?;
+    push_feed(out)?;
+    Ok(())
+}
+
+fn push_time_tag(out: &mut String, time: Option<Instant>) -> Result<(), AllocError>
+    ensures { OnOk result (string_bytes out.new ≡ string_bytes out.old ++ said_text (time_owed time)) }
+{
+    if let Some(time) = time {
+        push_instant(out, time)?;
+    }
+    Ok(())
+}
+
+fn push_duration(out: &mut String, duration: Nanos, title: &str) -> Result<(), AllocError>
+    ensures { OnOk result (string_bytes out.new ≡ string_bytes out.old ++ line_of (Said.duration duration title.now)) }
+{
+    out.push_str("#EXTINF:")?;
+    duration.write_to(out)?;
+    out.push_str(",")?;
+    push_line(out, title)?;
+    Ok(())
+}
+
+fn push_range_line(out: &mut String, range: ByteRange) -> Result<(), AllocError>
+    ensures { OnOk result (string_bytes out.new ≡ string_bytes out.old ++ line_of (Said.range range.length (Some range.offset))) }
+{
+    out.push_str("#EXT-X-BYTERANGE:")?;
+    push_range(out, range)?;
+    push_feed(out)?;
+    Ok(())
+}
+
+fn push_range_tag(out: &mut String, range: Option<ByteRange>) -> Result<(), AllocError>
+    ensures { OnOk result (string_bytes out.new ≡ string_bytes out.old ++ said_text (range_owed range)) }
+{
+    if let Some(range) = range {
+        push_range_line(out, range)?;
+    }
+    Ok(())
+}
+
+#[tactic(auto, unfolding(crate::specs::Owed::line_of))]
+fn push_uri(out: &mut String, uri: &str) -> Result<(), AllocError>
+    ensures { OnOk result (string_bytes out.new ≡ string_bytes out.old ++ line_of (Said.media uri.now)) }
+{
+    push_line(out, uri)
+}
+
+fn push_media(out: &mut String, segment: &Segment) -> Result<(), AllocError>
+    ensures { OnOk result (string_bytes out.new ≡ string_bytes out.old ++ said_text (media_owed segment.now)) }
+{
+    push_duration(out, segment.duration, segment.title.as_str())?;
+    push_range_tag(out, segment.range)?;
+    push_uri(out, segment.uri.as_str())?;
+    Ok(())
+}
+
+// Appends the lines of a segment after those with these keys and this section in force.
+fn push_segment(
+    out: &mut String,
+    keys: &[Key],
+    section: Option<&InitSection>,
+    next: &OutSegment,
+) -> Result<(), AllocError>
+    ensures { OnOk result (string_bytes out.new ≡ string_bytes out.old
+        ++ said_text (segment_owed (record { keys = keys.now; section = option_copied section.entry }) next.now)) }
+{
+    let changed = changed_section(section, &next.segment.section);
+    push_steps(out, next.steps)?;
+    push_changed_section(out, keys, changed)?;
+    push_key_tags(out, keys_then(keys, changed), next.segment.keys.as_slice())?;
+    push_time_tag(out, next.time)?;
+    push_media(out, &next.segment)?;
+    Ok(())
+}
+
+/// Appends the lines of all segments.
+pub fn push_segments(out: &mut String, segments: &[OutSegment]) -> Result<(), AllocError>
+    ensures { OnOk result (string_bytes out.new ≡ string_bytes out.old ++ said_text (segments_owed none_yet segments.now)) }
+{
+    let mut keys: &[Key] = &[];
+    let mut section: Option<&InitSection> = None;
+    for next in segments {
+        push_segment(out, keys, section, next)?;
+        keys = next.segment.keys.as_slice();
+        section = next.segment.section.as_ref().or(section);
+    }
+    Ok(())
+}

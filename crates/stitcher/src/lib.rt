@@ -1,0 +1,33 @@
+//! What is put into a playlist: segments with their numbers, and the key tags between them.
+#![tactic(auto)]
+
+use playlist_meaning::{Instant, Key, Segment};
+
+mod key_tags;
+mod same;
+
+pub use key_tags::{is_new, keeps_formats};
+pub use same::{is_same_key, is_same_section};
+
+/// A key tag (RFC 8216, section 4.3.2.4).
+#[derive(Clone, PartialEq, Drop)]
+pub enum KeyTag {
+    /// METHOD=NONE: no key is in force any more.
+    End,
+    /// This key is in force, in place of the one of its format.
+    Set(Key),
+}
+
+/// A segment as it stands in a written playlist. Its own numbers and time are not those of `segment`.
+#[derive(Clone, PartialEq, Drop)]
+pub struct OutSegment {
+    pub segment: Segment,
+    /// Its media sequence number.
+    pub media: u64,
+    /// Its discontinuity sequence number.
+    pub discontinuity: u64,
+    /// How many discontinuities stand between it and the segment before.
+    pub steps: u64,
+    /// The instant that is written before it, if one is.
+    pub time: Option<Instant>,
+}
