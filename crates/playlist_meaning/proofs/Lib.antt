@@ -1,3 +1,4 @@
+pub mod Printable
 pub mod ListTests
 pub mod KeyOrder
 pub mod KeyLaws

@@ -4,7 +4,8 @@
 ghost use Rattle.std.specs.Prelude.{◌≡◌, ℕ, List, [], ◌∷◌, ◌++◌, length, codes, Ok, Err, Some, None, Result, IfOk, string_bytes, true, false, pos, unwrap_or};
 ghost use Rattle.std.specs.Prelude.{MatchResult, IsTrue};
 ghost use Rattle.std.specs.Str.{is_utf8};
-ghost use Rattle.playlist_meaning.specs.Lines.{has_control};
+ghost use Rattle.std.specs.List.{list_all};
+ghost use Rattle.playlist_meaning.specs.Lines.{has_control, is_printable};
 ghost use Rattle.playlist_meaning.specs.Laws.{KeysAreTheLast, KeysAreSorted, ReadsWhatIsDenoted, LinesAreSlices};
 
 use fixed_duration::Nanos;
@@ -182,10 +183,22 @@ mod rows;
 #[cfg(test)]
 mod tests;
 
-/// Whether a text holds a control character.
+// Whether each byte is an ASCII character that is no control character.
+fn is_printable_ascii(bytes: &[u8]) -> bool
+    ensures { result ≡ list_all is_printable bytes.now }
+{
+    bytes.iter().all(|b| *b >= 32 && *b < 127)
+}
+
+#[tactic(auto, using(crate::proofs::Printable::printable_has_no_control))]
+/// Whether a text holds a control character: U+0000 to U+001F or U+007F to U+009F.
 pub fn has_control(text: &str) -> bool
     ensures { result ≡ has_control text.now }
 {
+    // Most lines are ASCII, where the bytes are the characters.
+    if is_printable_ascii(text.as_bytes()) {
+        return false;
+    }
     text.chars().any(char::is_control)
 }
 
