@@ -1,0 +1,178 @@
+-- Which faults reading the parts of a section can give.
+use Rattle.std.proofs.Common.{◌≡◌, ◌≢◌, ℕ, zero, suc, ◌+◌, ◌%◌, ◌^◌, Bool, true, false, cond, not, eqb, ltb, List, length, drop, Result, Ok, Err, refl, subst, ◌∙◌, inl, inr}
+use Rattle.std.specs.Prelude.{IfErr}
+use Rattle.std.proofs.lemmas.Bool.{and_parts}
+use Rattle.scte35_codec.specs.declared.info.SpliceInfo.{SpliceInfo}
+use Rattle.scte35_codec.specs.Section.{Section, section_of}
+use Rattle.scte35_codec.specs.Hexadecimal.{is_marked, are_pairs, is_hex_text, hex_bytes, reading_hex}
+use Rattle.scte35_codec.proofs.Hexadecimals.{pairs_decode}
+use Rattle.scte35_codec.specs.declared.fault.SpliceFault.{SpliceFault}
+use Rattle.scte35_codec.specs.declared.fault.SpliceFault.TheVariants.{NotHex, TooShort, TableId, Length, Protocol, Encrypted, CommandLength, OutOfMemory, TooLarge}
+use Rattle.scte35_codec.specs.Reading.{◌>>=◌, Stops, Gives, number_at, bytes_at, bit, specified_time_at, time_at, optional_time_at, component_at, components_at, target_at, optional_duration_at, body_at, optional_body_at, insert_at, whole_insert_at, unmeasured_at, measured_of, command_at, ending_at, tail_at, contents_of, number_in, reading}
+
+-- a reading fails by the lengths alone
+abbrev pub ByLength : {A : Type 0} → Result A SpliceFault → Type 0
+ByLength (Ok x) = Unit {0}
+ByLength (Err fault) = fault ≡ CommandLength
+
+by_then : {A B : Type 0} (r : Result A SpliceFault) (f : A → Result B SpliceFault) → ByLength r → ((x : A) → ByLength (f x)) → ByLength (r >>= f)
+by_then (Ok x) f h g = g x
+by_then (Err e) f h g = h
+
+by_test : {A : Type 0} (b : Bool) (x y : Result A SpliceFault) → ByLength x → ByLength y → ByLength (cond b x y)
+by_test true x y h g = h
+by_test false x y h g = g
+
+by_number : (count : ℕ) (bytes : List ℕ) → ByLength (number_at count bytes)
+by_number count bytes = by_test (ltb (length bytes) count) _ _ refl tt
+
+by_bytes : (count : ℕ) (bytes : List ℕ) → ByLength (bytes_at count bytes)
+by_bytes count bytes = by_test (ltb (length bytes) count) _ _ refl tt
+
+by_time : (bytes : List ℕ) → ByLength (time_at bytes)
+unfolding time_at specified_time_at
+by_time bytes = by_then (number_at 1 bytes) _ (by_number 1 bytes) (λ flags. by_test (bit 7 flags.0) _ _ (by_then (number_at 5 bytes) _ (by_number 5 bytes) (λ _. tt)) tt)
+
+by_optional_time : (immediate : Bool) (bytes : List ℕ) → ByLength (optional_time_at immediate bytes)
+unfolding optional_time_at
+by_optional_time true bytes = tt
+by_optional_time false bytes = by_then (time_at bytes) _ (by_time bytes) (λ _. tt)
+
+by_components : (immediate : Bool) (count : ℕ) (bytes : List ℕ) → ByLength (components_at immediate count bytes)
+unfolding components_at component_at
+by_components immediate zero bytes = tt
+by_components immediate (suc n) bytes =
+    by_then (component_at immediate bytes) _
+    (by_then (number_at 1 bytes) _ (by_number 1 bytes) (λ tag. by_then (optional_time_at immediate tag.1) _ (by_optional_time immediate tag.1) (λ _. tt)))
+    (λ first. by_then (components_at immediate n first.1) _ (by_components immediate n first.1) (λ _. tt))
+
+by_target : (program immediate : Bool) (bytes : List ℕ) → ByLength (target_at program immediate bytes)
+unfolding target_at
+by_target true immediate bytes = by_then (optional_time_at immediate bytes) _ (by_optional_time immediate bytes) (λ _. tt)
+by_target false immediate bytes =
+    by_then (number_at 1 bytes) _ (by_number 1 bytes) (λ count. by_then (components_at immediate count.0 count.1) _ (by_components immediate count.0 count.1) (λ _. tt))
+
+by_duration : (stated : Bool) (bytes : List ℕ) → ByLength (optional_duration_at stated bytes)
+unfolding optional_duration_at
+by_duration false bytes = tt
+by_duration true bytes = by_then (number_at 5 bytes) _ (by_number 5 bytes) (λ _. tt)
+
+by_body : (bytes : List ℕ) → ByLength (body_at bytes)
+unfolding body_at
+by_body bytes =
+    by_then (number_at 1 bytes) _ (by_number 1 bytes) (λ flags.
+    by_then (target_at (bit 6 flags.0) (bit 4 flags.0) flags.1) _ (by_target (bit 6 flags.0) (bit 4 flags.0) flags.1) (λ target.
+    by_then (optional_duration_at (bit 5 flags.0) target.1) _ (by_duration (bit 5 flags.0) target.1) (λ duration.
+    by_then (number_at 4 duration.1) _ (by_number 4 duration.1) (λ _. tt))))
+
+by_optional_body : (cancelled : Bool) (bytes : List ℕ) → ByLength (optional_body_at cancelled bytes)
+unfolding optional_body_at
+by_optional_body true bytes = tt
+by_optional_body false bytes = by_then (body_at bytes) _ (by_body bytes) (λ _. tt)
+
+by_insert : (bytes : List ℕ) → ByLength (insert_at bytes)
+unfolding insert_at
+by_insert bytes =
+    by_then (number_at 4 bytes) _ (by_number 4 bytes) (λ event.
+    by_then (number_at 1 event.1) _ (by_number 1 event.1) (λ flags.
+    by_then (optional_body_at (bit 7 flags.0) flags.1) _ (by_optional_body (bit 7 flags.0) flags.1) (λ _. tt)))
+
+by_command : (n kind : ℕ) (bytes : List ℕ) → ByLength (command_at n kind bytes)
+unfolding command_at unmeasured_at measured_of whole_insert_at
+by_command n kind bytes =
+    by_test (eqb n 0xFFF) _ _
+    (by_test (not (eqb kind 5)) _ _ refl (by_then (insert_at bytes) _ (by_insert bytes) (λ _. tt)))
+    (by_then (bytes_at n bytes) _ (by_bytes n bytes) (λ front.
+    by_then (measured_of kind front.0) _
+    (by_test (eqb kind 5) _ _
+    (by_then (whole_insert_at front.0) _ (by_then (insert_at front.0) _ (by_insert front.0) (λ insert. by_test (eqb (length insert.1) 0) _ _ tt refl)) (λ _. tt))
+    tt)
+    (λ _. tt)))
+
+by_tail : (bytes : List ℕ) → ByLength (tail_at bytes)
+unfolding tail_at ending_at
+by_tail bytes =
+    by_then (number_at 2 bytes) _ (by_number 2 bytes) (λ count.
+    by_then (bytes_at count.0 count.1) _ (by_bytes count.0 count.1) (λ descriptors.
+    by_then (ending_at descriptors.1) _ (by_test (ltb (length descriptors.1) 4) _ _ refl tt) (λ _. tt)))
+
+by_contents : (bytes : List ℕ) → ByLength (contents_of bytes)
+unfolding contents_of
+by_contents bytes =
+    by_then (command_at _ _ (drop 14 bytes)) _ (by_command _ _ (drop 14 bytes)) (λ command. by_then (tail_at command.1) _ (by_tail command.1) (λ _. tt))
+
+-- a fault of a section's bytes
+abbrev pub OfBytes : {A : Type 0} → Result A SpliceFault → Type 0
+OfBytes (Ok x) = Unit {0}
+OfBytes (Err NotHex) = ⊥
+OfBytes (Err OutOfMemory) = ⊥
+OfBytes (Err TooLarge) = ⊥
+OfBytes (Err fault) = Unit {0}
+
+abbrev failed : SpliceFault → Result Section SpliceFault
+failed e = Err e
+
+by_length : {A : Type 0} (r : Result A SpliceFault) → ByLength r → OfBytes r
+by_length (Ok x) h = tt
+by_length (Err CommandLength) h = tt
+by_length (Err NotHex) h = cc h
+by_length (Err OutOfMemory) h = cc h
+by_length (Err TooLarge) h = cc h
+by_length (Err TooShort) h = tt
+by_length (Err TableId) h = tt
+by_length (Err Length) h = tt
+by_length (Err Protocol) h = tt
+by_length (Err Encrypted) h = tt
+
+of_test : {A : Type 0} (b : Bool) (x y : Result A SpliceFault) → OfBytes x → OfBytes y → OfBytes (cond b x y)
+of_test true x y h g = h
+of_test false x y h g = g
+
+of_bytes : (d e : SpliceFault) → OfBytes (failed d) → d ≡ e → (e ≢ NotHex) × (e ≢ TooLarge)
+of_bytes d e h same = (λ f. subst (λ (x : SpliceFault). OfBytes (failed x)) (same ∙ f) h, λ f. subst (λ (x : SpliceFault). OfBytes (failed x)) (same ∙ f) h)
+
+pub reading_faults : (bytes : List ℕ) → OfBytes (reading bytes)
+unfolding reading
+reading_faults bytes =
+    of_test (ltb (length bytes) 20) _ _ tt
+    (of_test (not (eqb (number_in 0 1 bytes) 0xFC)) _ _ tt
+    (of_test (not (eqb (number_in 1 2 bytes % 2 ^ 12 + 3) (length bytes))) _ _ tt
+    (of_test (not (eqb (number_in 3 1 bytes) 0)) _ _ tt
+    (of_test (bit 39 (number_in 4 5 bytes)) _ _ tt (by_length (contents_of bytes) (by_contents bytes))))))
+
+no_other : (e : SpliceFault) (r : Result Section SpliceFault) → OfBytes r → Stops e r → (e ≢ NotHex) × (e ≢ TooLarge)
+no_other e r h (inl memory) = (λ f. cc, λ f. cc)
+no_other e (Ok s) h (inr is) = absurd cc
+no_other e (Err d) h (inr is) = of_bytes d e h cc
+
+pub read_faults : (bytes : List ℕ) (result : Result SpliceInfo SpliceFault) → Gives section_of result (reading bytes) → IfErr result (λ e. (e ≢ NotHex) × (e ≢ TooLarge))
+read_faults bytes (Ok info) gives = tt
+read_faults bytes (Err e) gives = no_other e (reading bytes) (reading_faults bytes) gives
+
+-- text that is hexadecimal has bytes, and so another fault
+pub hex_is_read : (text : List ℕ) → is_hex_text text ≡ true → OfBytes (reading_hex text)
+unfolding reading_hex hex_bytes
+hex_is_read text is =
+    let both = and_parts (is_marked text) (are_pairs (drop 2 text)) is in
+    let d = pairs_decode (drop 2 text) both.1 in
+    rw (is, d.1) (reading_faults d.0)
+
+pub not_hex_is : (text : List ℕ) → is_hex_text text ≡ false → reading_hex text ≡ Err NotHex
+unfolding reading_hex hex_bytes
+not_hex_is text is = rw is refl
+
+by_text : (is : Bool) (text : List ℕ) → is_hex_text text ≡ is → Stops NotHex (reading_hex text) → is_hex_text text ≡ false
+by_text true text is h = absurd ((no_other NotHex (reading_hex text) (hex_is_read text is) h).0 refl)
+by_text false text is h = is
+
+pub hex_fault_is : (text : List ℕ) (result : Result SpliceInfo SpliceFault) → Gives section_of result (reading_hex text) → result ≡ Err NotHex → is_hex_text text ≡ false
+hex_fault_is text result gives e = by_text (is_hex_text text) text refl (subst (λ (r : Result SpliceInfo SpliceFault). Gives section_of r (reading_hex text)) e gives)
+
+by_kind : (is : Bool) (text : List ℕ) (e : SpliceFault) → is_hex_text text ≡ is → Stops e (reading_hex text) → e ≢ TooLarge
+by_kind true text e is h = (no_other e (reading_hex text) (hex_is_read text is) h).1
+by_kind false text e is (inl memory) = λ f. cc
+by_kind false text e is (inr h) = λ f. let n = not_hex_is text is in cc
+
+pub hex_faults : (text : List ℕ) (result : Result SpliceInfo SpliceFault) → Gives section_of result (reading_hex text) → IfErr result (λ e. e ≢ TooLarge)
+hex_faults text (Ok info) gives = tt
+hex_faults text (Err e) gives = by_kind (is_hex_text text) text e refl gives

@@ -1,0 +1,67 @@
+-- What a value that fits has.
+use Rattle.std.proofs.Common.{◌≡◌, ℕ, ◌^◌, ◌<◌, ◌≤◌, Bool, true, List, [], ◌∷◌, length, get_or, Option, Some, None, refl}
+use Rattle.std.specs.Prelude.{IsTrue, ◌&&◌, nat_le}
+use Rattle.std.specs.List.{list_all}
+use Rattle.std.proofs.lemmas.Bool.{and_parts, and_from, leb-true, ltb-true, eqb-false, not-true, true_from_ne_false, both_ways}
+use Rattle.std.proofs.lemmas.List.Folds.{list_all_at}
+use Rattle.scte35_codec.specs.declared.info.SpliceTime.{SpliceTime}
+use Rattle.scte35_codec.specs.Section.{Target, Program, Components, Body, Command, Insert, Other, Section, is_timed, target_is_timed, BodyIsTimed, IsProper}
+use Rattle.scte35_codec.specs.Writing.{time_fits, place_fits, target_fits, TargetFits, duration_fits, body_fits, command_fits, fits, section_length, has_section}
+
+abbrev Component : Type 0
+Component = ℕ × Option SpliceTime
+
+all_parts : (immediate : Bool) (cs : List Component) → list_all (λ c. place_fits immediate c.1) cs ≡ true → (list_all (λ c. is_timed immediate c.1) cs ≡ true) × (list_all (λ c. time_fits c.1) cs ≡ true)
+all_parts immediate [] h = (refl, refl)
+all_parts immediate (c ∷ cs) h =
+    let both = and_parts (place_fits immediate c.1) (list_all (λ d. place_fits immediate d.1) cs) h in
+    let here = and_parts (is_timed immediate c.1) (time_fits c.1) both.0 in
+    let others = all_parts immediate cs both.1 in
+    (and_from (is_timed immediate c.1) (list_all (λ d. is_timed immediate d.1) cs) here.0 others.0, and_from (time_fits c.1) (list_all (λ d. time_fits d.1) cs) here.1 others.1)
+
+pub target_needs : (immediate : Bool) (t : Target) → IsTrue (target_fits immediate t) → TargetFits t
+target_needs immediate (Program time) h = (and_parts (is_timed immediate time) (time_fits time) h).1
+target_needs immediate (Components cs) h =
+    let both = and_parts _ _ h in
+    (leb-true (length cs) 255 both.0, (all_parts immediate cs both.1).1)
+
+pub target_timed : (immediate : Bool) (t : Target) → IsTrue (target_fits immediate t) → IsTrue (target_is_timed immediate t)
+target_timed immediate (Program time) h = (and_parts (is_timed immediate time) (time_fits time) h).0
+target_timed immediate (Components cs) h = (all_parts immediate cs (and_parts _ _ h).1).0
+
+body_timed : (b : Option Body) → IsTrue (body_fits b) → BodyIsTimed b
+body_timed None h = tt
+body_timed (Some b) h = target_timed b.immediate b.target (and_parts (target_fits b.immediate b.target) (duration_fits b.duration) h).0
+
+pub is_proper : (c : Command) → IsTrue (command_fits c) → IsProper c
+is_proper (Insert i) h = body_timed i.body h
+is_proper (Other kind bytes) h = eqb-false kind 5 (not-true _ h)
+
+-- a time of components that all fit
+pub one_fits : (cs : List Component) (i : ℕ) (d : Component) → i < length cs → list_all (λ c. time_fits c.1) cs ≡ true → IsTrue (time_fits (get_or cs i d).1)
+one_fits cs i d lt h = true_from_ne_false _ (λ f. both_ways _ (list_all_at (λ (c : Component). time_fits c.1) cs i d lt f) h)
+
+-- ---- What a value that has a section keeps
+
+pub record Kept (s : Section) : Type 0 where
+  pub adjustment : s.pts_adjustment < 2 ^ 33
+  pub tier : s.tier < 2 ^ 12
+  pub command : IsTrue (command_fits s.command)
+  pub length : section_length s ≤ 4093
+
+pub kept : (s : Section) → has_section s ≡ true → Kept s
+unfolding has_section
+kept s h =
+    let a = and_parts (fits 33 s.pts_adjustment && fits 12 s.tier && command_fits s.command) (nat_le (section_length s) 4093) h in
+    let b = and_parts (fits 33 s.pts_adjustment && fits 12 s.tier) (command_fits s.command) a.0 in
+    let c = and_parts (fits 33 s.pts_adjustment) (fits 12 s.tier) b.0 in
+    record { adjustment = ltb-true _ _ c.0; tier = ltb-true _ _ c.1; command = b.1; length = leb-true _ _ a.1 }
+
+pub adjustment_fits : (s : Section) → has_section s ≡ true → s.pts_adjustment < 2 ^ 33
+adjustment_fits s h = (kept s h).adjustment
+
+pub tier_fits : (s : Section) → has_section s ≡ true → s.tier < 4096
+tier_fits s h = (kept s h).tier
+
+pub command_is_fit : (s : Section) → has_section s ≡ true → command_fits s.command ≡ true
+command_is_fit s h = (kept s h).command

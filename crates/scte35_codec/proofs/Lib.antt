@@ -1,0 +1,13 @@
+pub mod Numbers
+pub mod Loop
+pub mod Fields
+pub mod Takes
+pub mod Times
+pub mod Inserts
+pub mod Sections
+pub mod Whole
+pub mod Lengths
+pub mod Appends
+pub mod Fits
+pub mod Hexadecimals
+pub mod Faults

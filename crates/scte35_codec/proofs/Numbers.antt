@@ -1,0 +1,59 @@
+-- The number of some bytes, the first byte the highest.
+use Rattle.std.proofs.Common.{◌≡◌, ℕ, suc, ◌+◌, ◌*◌, ◌^◌, ◌<◌, ◌≤◌, List, [], ◌∷◌, ◌++◌, length, get_or, take, drop, ap, ◌∙◌, inl, inr, arith}
+use Rattle.std.proofs.Math.Nat.{pow-suc, pow-le-pow_right}
+use Rattle.std.proofs.lemmas.Bool.{cases_lt}
+use Rattle.std.proofs.lemmas.Nat.{pow-add, mul-le}
+use Rattle.std.proofs.lemmas.List.{length-append, length-take, take_all, take_more, get_or-drop, get_or-take, get_or_past}
+use Rattle.scte35_codec.specs.Layout.{IsBytes, number}
+
+pub IsBytes-drop : (n : ℕ) (bytes : List ℕ) → IsBytes bytes → IsBytes (drop n bytes)
+IsBytes-drop n bytes h i = rw get_or-drop (h (n + i))
+
+pub IsBytes-take : (n : ℕ) (bytes : List ℕ) → IsBytes bytes → IsBytes (take n bytes)
+IsBytes-take n bytes h i =
+    elim (cases_lt i n) [
+      | inl lt ↦ rw (get_or-take n bytes i 0 lt) (h i)
+      | inr le ↦ rw (get_or_past (take n bytes) i 0 (omega (arith, length-take n bytes))) (omega arith)
+    ]
+
+pub IsBytes-rest : (b : ℕ) (bytes : List ℕ) → IsBytes (b ∷ bytes) → IsBytes bytes
+IsBytes-rest b bytes h i = h (suc i)
+
+pub number-append : (xs ys : List ℕ) → number (xs ++ ys) ≡ number xs * 256 ^ length ys + number ys
+number-append [] ys = omega arith
+number-append (x ∷ xs) ys =
+    let e : 256 ^ length (xs ++ ys) ≡ 256 ^ length xs * 256 ^ length ys = ap (λ (k : ℕ). 256 ^ k) (length-append xs ys) ∙ pow-add 256 (length xs) (length ys) in
+    rw (e, number-append xs ys) (grind arith)
+
+pub number_below : (xs : List ℕ) → IsBytes xs → number xs < 256 ^ length xs
+number_below [] fits = omega arith
+number_below (x ∷ xs) fits =
+    let p : 256 ^ suc (length xs) ≡ 256 ^ length xs * 256 = pow-suc 256 (length xs) in
+    let below = number_below xs (IsBytes-rest x xs fits) in
+    let first : x < 256 = fits 0 in
+    let most : x * 256 ^ length xs ≤ 255 * 256 ^ length xs = mul-le x (256 ^ length xs) 255 (256 ^ length xs) (omega arith) (omega arith) in
+    omega arith
+
+-- one byte more
+pub number_more : (xs : List ℕ) (i : ℕ) → i < length xs → number (take (i + 1) xs) ≡ number (take i xs) * 256 + get_or xs i 0
+number_more xs i lt = rw (take_more xs i 0 lt) (number-append (take i xs) (get_or xs i 0 ∷ []) ∙ omega arith)
+
+pub number_below_take : (xs : List ℕ) (i : ℕ) → i ≤ length xs → IsBytes xs → number (take i xs) < 256 ^ i
+number_below_take xs i le fits =
+    let len : length (take i xs) ≡ i = omega (arith, length-take i xs) in
+    rw len at (number_below (take i xs) (IsBytes-take i xs fits))
+
+-- a byte more still fits 64 bits
+pub more_fits : (n b i : ℕ) → n < 256 ^ i → b < 256 → i < 8 → n * 256 + b < 2 ^ 64
+more_fits n b i below byte few =
+    let p : 256 ^ suc i ≡ 256 ^ i * 256 = pow-suc 256 i in
+    let base : 0 < 256 = omega arith in
+    let q : 256 ^ suc i ≤ 256 ^ 8 = pow-le-pow_right base few in
+    omega arith
+
+pub product_fits : (n i : ℕ) → n < 256 ^ i → i < 8 → n * 256 < 2 ^ 64
+product_fits n i below few = omega (arith, more_fits n 0 i below (omega arith) few)
+
+-- the whole list is the front of its length
+pub take_whole : (xs : List ℕ) (i : ℕ) → length xs ≤ i → i ≤ length xs → number (take i xs) ≡ number xs
+take_whole xs i le ge = ap number (take_all i xs le)

@@ -1,0 +1,9 @@
+use Rattle.scte35_codec.specs.Section.{splice_insert}
+use Rattle.scte35_codec.proofs.Appends.{Appends-then, cancelled}
+use Rattle.scte35_codec.proofs.writing.put_insert.Goals as goal
+
+pub returns : goal.returns
+unfolding splice_insert
+returns c =
+    let cancel = cancelled c.args.insert.now.body c.is_none.result c.put_u32.new.out.items c.put_cancel.new.out.items c.is_none.ensures c.in_ok-put_cancel.ensures in
+    Appends-then (Appends-then c.in_ok-put_u32.ensures cancel) c.in_ok-put_optional_body.ensures

@@ -1,0 +1,43 @@
+-- A section as hexadecimal text, as the SCTE35-CMD, SCTE35-OUT and SCTE35-IN attributes of RFC 8216,
+-- section 4.3.2.7.1, write it.
+use Rattle.std.specs.Prelude.{ℕ, ◌%◌, Bool, ◌&&◌, ◌||◌, ◌==◌, List, length, drop, slice_index, Result, Ok, Err, if◌then◌else◌}
+use Rattle.std.specs.List.{list_all}
+use Rattle.std.specs.Char.{is_ascii_hexdigit}
+use Rattle.hex.specs.declared.error.FromHexError.{FromHexError}
+use Rattle.hex.specs.Hex.{decode_of}
+use Rattle.scte35_codec.specs.declared.fault.SpliceFault.{SpliceFault}
+use Rattle.scte35_codec.specs.declared.fault.SpliceFault.TheVariants.{NotHex}
+use Rattle.scte35_codec.specs.Section.{Section}
+use Rattle.scte35_codec.specs.Reading.{◌>>=◌, reading}
+
+-- whether a text begins with `0x` or `0X`
+abbrev pub is_marked : List ℕ → Bool
+is_marked text = slice_index text 0 == 48 && (slice_index text 1 == 120 || slice_index text 1 == 88)
+
+-- an even number of digits, in either case
+abbrev pub are_pairs : List ℕ → Bool
+are_pairs digits = length digits % 2 == 0 && list_all is_ascii_hexdigit digits
+
+-- whether a text is hexadecimal: `0x` or `0X`, and an even number of digits
+abbrev pub is_hex_text : List ℕ → Bool
+is_hex_text text = is_marked text && are_pairs (drop 2 text)
+
+-- the digits behind `0x` or `0X`
+abbrev pub digits_of : List ℕ → Result (List ℕ) SpliceFault
+digits_of text = if is_hex_text text then Ok (drop 2 text) else Err NotHex
+
+abbrev pub decoded : Result (List ℕ) FromHexError → Result (List ℕ) SpliceFault
+decoded (Ok bytes) = Ok bytes
+decoded (Err e) = Err NotHex
+
+-- what the bytes of pairs of digits say
+abbrev pub reading_digits : List ℕ → Result Section SpliceFault
+reading_digits digits = decoded (decode_of digits) >>= reading
+
+-- the bytes that a text stands for
+unfoldable pub hex_bytes : List ℕ → Result (List ℕ) SpliceFault
+hex_bytes text = digits_of text >>= λ digits. decoded (decode_of digits)
+
+-- what a text says, or its first fault
+unfoldable pub reading_hex : List ℕ → Result Section SpliceFault
+reading_hex text = hex_bytes text >>= reading

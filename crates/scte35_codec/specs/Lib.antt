@@ -1,0 +1,6 @@
+pub mod Fault
+pub mod Layout
+pub mod Section
+pub mod Reading
+pub mod Writing
+pub mod Hexadecimal

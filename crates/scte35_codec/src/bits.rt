@@ -1,0 +1,59 @@
+//! Numbers of some bytes, the first byte the highest, and their bits.
+
+ghost use Rattle.std.specs.Prelude.{◌≡◌, ◌+◌, ◌^◌, ◌<◌, ◌≤◌, length, IfOk};
+ghost use Rattle.scte35_codec.specs.Layout.{number};
+ghost use Rattle.scte35_codec.specs.Reading.{Gives, number_at, bytes_at, number_in, bit};
+
+use crate::fault::SpliceFault;
+
+// The number of at most eight bytes.
+pub fn number(bytes: &[u8]) -> u64
+    requires { length bytes.now ≤ 8 }
+    ensures value { result ≡ number bytes.now }
+    ensures below { result < 256 ^ length bytes.now }
+{
+    let mut number = 0;
+    for byte in bytes {
+        number = number * 256 + u64::from(*byte);
+    }
+    number
+}
+
+// The number in `count` bytes from `start` on.
+pub fn number_in(bytes: &[u8], start: usize, count: usize) -> u64
+    requires few { count ≤ 8 }
+    requires within { start + count ≤ length bytes.now }
+    ensures value { result ≡ number_in start count bytes.now }
+    ensures below { result < 256 ^ count }
+{
+    number(&bytes[start..start + count])
+}
+
+// The bit at a place, where the lowest is at place 0.
+pub fn bit(number: u64, place: u32) -> bool
+    requires { place < 64 }
+    ensures { result ≡ bit place number }
+{
+    (number >> place) % 2 == 1
+}
+
+// The number in the first `count` bytes, and the bytes after it.
+pub fn take_number(bytes: &[u8], count: usize) -> Result<(u64, &[u8]), SpliceFault>
+    requires { count ≤ 8 }
+    ensures value { Gives (λ x. (x.0, x.1.now)) result (number_at count bytes.now) }
+    ensures below { IfOk result (λ x. x.0 < 256 ^ count) }
+{
+    let (front, rest) = take_bytes(bytes, count)?;
+    Ok((number(front), rest))
+}
+
+// The first `count` bytes, and the bytes after them.
+pub fn take_bytes(bytes: &[u8], count: usize) -> Result<(&[u8], &[u8]), SpliceFault>
+    ensures value { Gives (λ x. (x.0.now, x.1.now)) result (bytes_at count bytes.now) }
+    ensures len { IfOk result (λ x. length x.0.now ≡ count) }
+{
+    if bytes.len() < count {
+        return Err(SpliceFault::CommandLength);
+    }
+    Ok(bytes.split_at(count))
+}

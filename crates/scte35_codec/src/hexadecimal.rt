@@ -1,0 +1,87 @@
+//! Reading sections from hexadecimal text.
+
+ghost use Rattle.std.specs.Prelude.{◌≡◌, ◌≢◌, ◌↔◌, ◌*◌, ℕ, List, IsTrue, false, Ok, Err, IfOk, IfErr, MatchResult, length};
+ghost use Rattle.std.specs.List.{list_all};
+ghost use Rattle.std.specs.Char.{is_ascii_hexdigit};
+ghost use Rattle.hex.specs.Hex.{decode_of};
+ghost use Rattle.scte35_codec.specs.Section.{Section, section_of, IsSection};
+ghost use Rattle.scte35_codec.specs.Reading.{Gives};
+ghost use Rattle.scte35_codec.specs.declared.fault.SpliceFault.TheVariants.{NotHex, TooLarge};
+ghost use Rattle.scte35_codec.specs.Hexadecimal.{are_pairs, is_hex_text, digits_of, reading_digits, hex_bytes, reading_hex};
+
+use crate::fault::SpliceFault;
+use crate::info::SpliceInfo;
+use crate::reading::read;
+use std::alloc::Global;
+
+// One byte more than the longest section has.
+const TOO_MANY: usize = 4099;
+
+fn are_digits(text: &[u8]) -> bool
+    ensures { result ≡ list_all is_ascii_hexdigit text.now }
+{
+    text.iter().all(|c| c.is_ascii_hexdigit())
+}
+
+// The digits behind `0x` or `0X`, where they are pairs.
+fn digits_of(text: &[u8]) -> Result<&[u8], SpliceFault>
+    ensures { MatchResult result (λ digits. digits_of text.now ≡ Ok digits.now) (λ e. digits_of text.now ≡ Err e) }
+{
+    let [b'0', b'x' | b'X', digits @ ..] = text else {
+        return Err(SpliceFault::NotHex);
+    };
+    if digits.len() % 2 != 0 || !are_digits(digits) {
+        return Err(SpliceFault::NotHex);
+    }
+    Ok(digits)
+}
+
+// Fills a buffer with the bytes of pairs of digits.
+fn decode_into(digits: &[u8], out: &mut [u8])
+    requires pairs { IsTrue (are_pairs digits.now) }
+    requires len { length digits.now ≡ 2 * length out.old }
+    ensures { decode_of digits.now ≡ Ok out.new }
+{
+    hex::decode_to_slice(digits, out).unwrap();
+}
+
+// The section of pairs of digits. No more bytes are decoded than show that there are too many.
+fn read_digits(alloc: Global, digits: &[u8]) -> Result<SpliceInfo, SpliceFault>
+    requires { IsTrue (are_pairs digits.now) }
+    ensures { Gives section_of result (reading_digits digits.now) }
+{
+    let count = (digits.len() / 2).min(TOO_MANY);
+    let mut buffer = [0u8; TOO_MANY];
+    let bytes = &mut buffer[..count];
+    decode_into(&digits[..2 * count], bytes);
+    read(alloc, bytes)
+}
+
+#[tactic(auto, unfolding(crate::specs::Hexadecimal::reading_hex, crate::specs::Hexadecimal::hex_bytes))]
+fn section_of_text(alloc: Global, text: &str) -> Result<SpliceInfo, SpliceFault>
+    ensures exact { Gives section_of result (reading_hex text.now) }
+    ensures not_hex { is_hex_text text.now ≡ false → result ≡ Err NotHex }
+{
+    let digits = digits_of(text.as_bytes())?;
+    read_digits(alloc, digits)
+}
+
+/// Reads a splice_info_section from hexadecimal text, as the SCTE35 attributes of EXT-X-DATERANGE in
+/// RFC 8216, section 4.3.2.7.1, write it: `0x` or `0X`, and two digits in either case for each byte.
+///
+/// A text that is not of this form is `NotHex`; else the answer is that of [`read`] for the bytes. No
+/// memory is taken but what the value owns.
+pub fn read_hex(alloc: Global, text: &str) -> Result<SpliceInfo, SpliceFault>
+    // What is read is what the text's bytes say.
+    ensures found { IfOk result (λ info. (bytes : List ℕ) × (hex_bytes text.now ≡ Ok bytes) × IsSection (section_of info) bytes) }
+
+    // What the text's bytes say is read, unless memory runs out.
+    ensures only { (bytes : List ℕ) (s : Section) → hex_bytes text.now ≡ Ok bytes → IsSection s bytes → Gives section_of result (Ok s) }
+
+    // Which fault it is.
+    ensures exact { Gives section_of result (reading_hex text.now) }
+    ensures not_hex { (result ≡ Err NotHex) ↔ (is_hex_text text.now ≡ false) }
+    ensures fault { IfErr result (λ e. e ≢ TooLarge) }
+{
+    section_of_text(alloc, text)
+}

@@ -1,0 +1,320 @@
+//! Reading sections.
+
+ghost use Rattle.std.specs.Prelude.{◌≡◌, ◌≢◌, ◌≤◌, ◌↔◌, ℕ, List, length, IfOk, IfErr, Ok};
+ghost use Rattle.scte35_codec.specs.declared.fault.SpliceFault.TheVariants.{NotHex, TooLarge};
+ghost use Rattle.scte35_codec.specs.Layout.{IsBytes};
+ghost use Rattle.scte35_codec.specs.Section.{Section, Event, target_of, body_of, bodies_of, event_of, command_of, section_of, IsSection};
+ghost use Rattle.scte35_codec.specs.Reading.{Gives, time_at, optional_time_at, component_at, components_at, target_at, optional_duration_at, body_at, optional_body_at, insert_at, whole_insert_at, unmeasured_at, measured_of, command_at, ending_at, tail_at, contents_of, reading};
+
+use crate::bits::{bit, number, number_in, take_bytes, take_number};
+use crate::fault::SpliceFault;
+use crate::info::{
+    BreakDuration, InsertBody, SPLICE_INSERT, SpliceCommand, SpliceInfo, SpliceInsert,
+    SpliceTarget, SpliceTime, TICKS,
+};
+use std::alloc::Global;
+
+const TABLE_ID: u64 = 0xFC;
+
+// A section's bytes without its command, descriptors and stuffing.
+const SHORTEST: usize = 20;
+
+// splice_command_length where the length of a splice_insert is not stated.
+const UNSTATED: u64 = 0xFFF;
+
+#[tactic(auto, unfolding(crate::specs::Reading::time_at, crate::specs::Reading::specified_time_at))]
+fn take_time(bytes: &[u8]) -> Result<(SpliceTime, &[u8]), SpliceFault>
+    ensures { Gives (λ x. (x.0, x.1.now)) result (time_at bytes.now) }
+{
+    let (flags, rest) = take_number(bytes, 1)?;
+    if !bit(flags, 7) {
+        return Ok((SpliceTime { pts: None }, rest));
+    }
+    let (time, rest) = take_number(bytes, 5)?;
+    let pts = Some(time % TICKS);
+    Ok((SpliceTime { pts }, rest))
+}
+
+// The time of a splice that is not immediate.
+#[tactic(auto, unfolding(crate::specs::Reading::optional_time_at))]
+fn take_optional_time(
+    immediate: bool,
+    bytes: &[u8],
+) -> Result<(Option<SpliceTime>, &[u8]), SpliceFault>
+    ensures { Gives (λ x. (x.0, x.1.now)) result (optional_time_at immediate bytes.now) }
+{
+    if immediate {
+        return Ok((None, bytes));
+    }
+    let (time, rest) = take_time(bytes)?;
+    Ok((Some(time), rest))
+}
+
+#[tactic(auto, unfolding(crate::specs::Reading::component_at))]
+fn take_component(
+    immediate: bool,
+    bytes: &[u8],
+) -> Result<((u8, Option<SpliceTime>), &[u8]), SpliceFault>
+    ensures { Gives (λ x. (x.0, x.1.now)) result (component_at immediate bytes.now) }
+{
+    let (tag, rest) = take_number(bytes, 1)?;
+    let (time, rest) = take_optional_time(immediate, rest)?;
+    Ok(((tag as u8, time), rest))
+}
+
+#[tactic(auto, unfolding(crate::specs::Reading::optional_duration_at))]
+fn take_optional_duration(
+    stated: bool,
+    bytes: &[u8],
+) -> Result<(Option<BreakDuration>, &[u8]), SpliceFault>
+    ensures { Gives (λ x. (x.0, x.1.now)) result (optional_duration_at stated bytes.now) }
+{
+    if !stated {
+        return Ok((None, bytes));
+    }
+    let (duration, rest) = take_number(bytes, 5)?;
+    let auto_return = bit(duration, 39);
+    let ticks = duration % TICKS;
+    Ok((Some(BreakDuration { auto_return, ticks }), rest))
+}
+
+fn take_components(
+    alloc: Global,
+    immediate: bool,
+    count: u64,
+    bytes: &[u8],
+) -> Result<(Vec<(u8, Option<SpliceTime>)>, &[u8]), SpliceFault>
+    ensures { Gives (λ x. (x.0.items, x.1.now)) result (components_at immediate count bytes.now) }
+{
+    let mut components = Vec::with_capacity(alloc, count as usize)?;
+    let mut rest = bytes;
+    for _ in 0..count {
+        let (component, after) = take_component(immediate, rest)?;
+        components.push(component)?;
+        rest = after;
+    }
+    Ok((components, rest))
+}
+
+#[tactic(auto, unfolding(crate::specs::Reading::target_at))]
+fn take_target(
+    alloc: Global,
+    is_program: bool,
+    immediate: bool,
+    bytes: &[u8],
+) -> Result<(SpliceTarget, &[u8]), SpliceFault>
+    ensures { Gives (λ x. (target_of x.0, x.1.now)) result (target_at is_program immediate bytes.now) }
+{
+    if is_program {
+        let (time, rest) = take_optional_time(immediate, bytes)?;
+        return Ok((SpliceTarget::Program(time), rest));
+    }
+    let (count, rest) = take_number(bytes, 1)?;
+    let (components, rest) = take_components(alloc, immediate, count, rest)?;
+    Ok((SpliceTarget::Components(components), rest))
+}
+
+#[tactic(auto, unfolding(crate::specs::Reading::body_at))]
+fn take_body(alloc: Global, bytes: &[u8]) -> Result<(InsertBody, &[u8]), SpliceFault>
+    ensures { Gives (λ x. (body_of x.0, x.1.now)) result (body_at bytes.now) }
+{
+    let (flags, rest) = take_number(bytes, 1)?;
+    let immediate = bit(flags, 4);
+    let (target, rest) = take_target(alloc, bit(flags, 6), immediate, rest)?;
+    let (duration, rest) = take_optional_duration(bit(flags, 5), rest)?;
+    let (ids, rest) = take_number(rest, 4)?;
+    let body = InsertBody {
+        out_of_network: bit(flags, 7),
+        immediate,
+        target,
+        duration,
+        unique_program_id: (ids >> 16) as u16,
+        avail_num: ((ids >> 8) % 256) as u8,
+        avails_expected: (ids % 256) as u8,
+    };
+    Ok((body, rest))
+}
+
+#[tactic(auto, unfolding(crate::specs::Reading::optional_body_at))]
+fn take_optional_body(
+    alloc: Global,
+    is_cancelled: bool,
+    bytes: &[u8],
+) -> Result<(Option<InsertBody>, &[u8]), SpliceFault>
+    ensures { Gives (λ x. (bodies_of x.0, x.1.now)) result (optional_body_at is_cancelled bytes.now) }
+{
+    if is_cancelled {
+        return Ok((None, bytes));
+    }
+    let (body, rest) = take_body(alloc, bytes)?;
+    Ok((Some(body), rest))
+}
+
+#[tactic(auto, unfolding(crate::specs::Reading::insert_at))]
+fn take_insert(alloc: Global, bytes: &[u8]) -> Result<(SpliceInsert, &[u8]), SpliceFault>
+    ensures { Gives (λ x. (event_of x.0, x.1.now)) result (insert_at bytes.now) }
+{
+    let (event_id, rest) = take_number(bytes, 4)?;
+    let (flags, rest) = take_number(rest, 1)?;
+    let (body, rest) = take_optional_body(alloc, bit(flags, 7), rest)?;
+    let event_id = event_id as u32;
+    Ok((SpliceInsert { event_id, body }, rest))
+}
+
+// The splice_insert that takes all of the bytes.
+#[tactic(auto, unfolding(crate::specs::Reading::whole_insert_at))]
+fn whole_insert(alloc: Global, bytes: &[u8]) -> Result<SpliceInsert, SpliceFault>
+    ensures { Gives event_of result (whole_insert_at bytes.now) }
+{
+    let (insert, rest) = take_insert(alloc, bytes)?;
+    if !rest.is_empty() {
+        return Err(SpliceFault::CommandLength);
+    }
+    Ok(insert)
+}
+
+// A command of a length that is not stated.
+#[tactic(auto, unfolding(crate::specs::Reading::unmeasured_at))]
+fn take_unmeasured(
+    alloc: Global,
+    kind: u8,
+    bytes: &[u8],
+) -> Result<(SpliceCommand, &[u8]), SpliceFault>
+    ensures { Gives (λ x. (command_of x.0, x.1.now)) result (unmeasured_at kind bytes.now) }
+{
+    if kind != SPLICE_INSERT {
+        return Err(SpliceFault::CommandLength);
+    }
+    let (insert, rest) = take_insert(alloc, bytes)?;
+    Ok((SpliceCommand::Insert(insert), rest))
+}
+
+// The command of these bytes.
+#[tactic(auto, unfolding(crate::specs::Reading::measured_of))]
+fn measured(alloc: Global, kind: u8, bytes: &[u8]) -> Result<SpliceCommand, SpliceFault>
+    ensures { Gives command_of result (measured_of kind bytes.now) }
+{
+    if kind == SPLICE_INSERT {
+        let insert = whole_insert(alloc, bytes)?;
+        return Ok(SpliceCommand::Insert(insert));
+    }
+    let bytes = Vec::from_slice(alloc, bytes)?;
+    Ok(SpliceCommand::Other {
+        command: kind,
+        bytes,
+    })
+}
+
+#[tactic(auto, unfolding(crate::specs::Reading::command_at))]
+fn take_command(
+    alloc: Global,
+    length: u64,
+    kind: u8,
+    bytes: &[u8],
+) -> Result<(SpliceCommand, &[u8]), SpliceFault>
+    ensures { Gives (λ x. (command_of x.0, x.1.now)) result (command_at length kind bytes.now) }
+{
+    if length == UNSTATED {
+        return take_unmeasured(alloc, kind, bytes);
+    }
+    let (front, rest) = take_bytes(bytes, length as usize)?;
+    let command = measured(alloc, kind, front)?;
+    Ok((command, rest))
+}
+
+// The stuffing, and the CRC in the last four bytes.
+#[tactic(auto, unfolding(crate::specs::Reading::ending_at))]
+fn ending(bytes: &[u8]) -> Result<(&[u8], u32), SpliceFault>
+    ensures { Gives (λ x. (x.0.now, x.1)) result (ending_at bytes.now) }
+{
+    if bytes.len() < 4 {
+        return Err(SpliceFault::CommandLength);
+    }
+    let (stuffing, crc) = bytes.split_at(bytes.len() - 4);
+    Ok((stuffing, number(crc) as u32))
+}
+
+// The descriptors, the stuffing and the CRC.
+#[tactic(auto, unfolding(crate::specs::Reading::tail_at))]
+fn tail(alloc: Global, bytes: &[u8]) -> Result<(Vec<u8>, Vec<u8>, u32), SpliceFault>
+    ensures { Gives (λ x. (x.0.items, x.1.items, x.2)) result (tail_at bytes.now) }
+{
+    let (count, rest) = take_number(bytes, 2)?;
+    let (descriptors, rest) = take_bytes(rest, count as usize)?;
+    let (stuffing, crc) = ending(rest)?;
+    let descriptors = Vec::from_slice(alloc, descriptors)?;
+    let stuffing = Vec::from_slice(alloc, stuffing)?;
+    Ok((descriptors, stuffing, crc))
+}
+
+// The section whose first 14 bytes keep the rules.
+#[tactic(auto, unfolding(crate::specs::Reading::contents_of))]
+fn contents(alloc: Global, bytes: &[u8]) -> Result<SpliceInfo, SpliceFault>
+    requires { 20 ≤ length bytes.now }
+    ensures { Gives section_of result (contents_of bytes.now) }
+{
+    let tier = number_in(bytes, 10, 3);
+    let kind = number_in(bytes, 13, 1) as u8;
+    let (command, rest) = take_command(alloc, tier % 4096, kind, &bytes[14..])?;
+    let (descriptors, stuffing, crc) = tail(alloc, rest)?;
+    Ok(SpliceInfo {
+        pts_adjustment: number_in(bytes, 4, 5) % TICKS,
+        cw_index: number_in(bytes, 9, 1) as u8,
+        tier: (tier >> 12) as u16,
+        command,
+        descriptors,
+        stuffing,
+        crc,
+    })
+}
+
+#[tactic(auto, unfolding(crate::specs::Reading::reading))]
+fn section(alloc: Global, bytes: &[u8]) -> Result<SpliceInfo, SpliceFault>
+    ensures { Gives section_of result (reading bytes.now) }
+{
+    if bytes.len() < SHORTEST {
+        return Err(SpliceFault::TooShort);
+    }
+    if number_in(bytes, 0, 1) != TABLE_ID {
+        return Err(SpliceFault::TableId);
+    }
+    let section_length = number_in(bytes, 1, 2) % 4096;
+    if section_length as usize + 3 != bytes.len() {
+        return Err(SpliceFault::Length);
+    }
+    if number_in(bytes, 3, 1) != 0 {
+        return Err(SpliceFault::Protocol);
+    }
+    if bit(number_in(bytes, 4, 5), 39) {
+        return Err(SpliceFault::Encrypted);
+    }
+    contents(alloc, bytes)
+}
+
+/// Reads a splice_info_section of ANSI/SCTE 35, all of the bytes.
+///
+/// The answer is the value whose layout the bytes have, where there is one, else the first fault in the
+/// order of [`SpliceFault`]. The CRC is not verified, and reserved bits are ignored.
+pub fn read(alloc: Global, bytes: &[u8]) -> Result<SpliceInfo, SpliceFault>
+    // What is read is laid out so, field by field.
+    ensures found { IfOk result (λ info. IsSection (section_of info) bytes.now) }
+
+    // What is laid out so is read, unless memory runs out.
+    ensures only { (s : Section) → IsSection s bytes.now → Gives section_of result (Ok s) }
+
+    // Which fault it is.
+    ensures exact { Gives section_of result (reading bytes.now) }
+    ensures fault { IfErr result (λ e. (e ≢ NotHex) × (e ≢ TooLarge)) }
+{
+    section(alloc, bytes)
+}
+
+/// Reading finds what the layout says, no more and no less.
+pub fn reads_the_layout()
+    ensures { (bytes : List ℕ) (s : Section) → IsBytes bytes → (reading bytes ≡ Ok s) ↔ IsSection s bytes }
+{}
+
+/// No bytes have two values.
+pub fn has_one_value()
+    ensures { (bytes : List ℕ) (s t : Section) → IsBytes bytes → IsSection s bytes → IsSection t bytes → s ≡ t }
+{}

@@ -1,0 +1,316 @@
+//! Writing sections.
+
+ghost use Rattle.std.specs.Prelude.{◌≡◌, ℕ, List, ◌+◌, ◌*◌, ◌^◌, ◌<◌, ◌≤◌, ◌++◌, ◌↔◌, ◌⊎◌, [], ◌∷◌, false, IsTrue, OnOk, IfOk, IfErr, Some, Ok, Err, length};
+ghost use Rattle.std.specs.List.{flat_map, list_all};
+ghost use Rattle.std.specs.Int.{bytes_high_first};
+ghost use Rattle.scte35_codec.specs.Layout.{Is, IsBytes, Reserved, bytes_of, Holds, IsWritten};
+ghost use Rattle.scte35_codec.specs.Section.{flag, optional, splice_time, component, target_of, target_fields, is_program, body_of, bodies_of, body_flags, body_fields, cancel_fields, event_of, splice_insert, command_of, command_fields, command_type, break_duration, start_fields, heading_fields, ending_fields, section_of, IsSection, Section};
+ghost use Rattle.scte35_codec.specs.Writing.{time_fits, place_fits, target_fits, duration_fits, body_fits, command_fits, has_section, TargetFits, Appends, written_fields, section_length as counted_length};
+ghost use Rattle.scte35_codec.specs.Reading.{reading};
+ghost use Rattle.scte35_codec.specs.declared.fault.SpliceFault.TheVariants.{OutOfMemory, TooLarge};
+
+use crate::fault::SpliceFault;
+use crate::fitting::{command_len, has_section, section_length};
+use crate::info::{
+    BreakDuration, InsertBody, SPLICE_INSERT, SpliceCommand, SpliceInfo, SpliceInsert,
+    SpliceTarget, SpliceTime,
+};
+use std::alloc::{AllocError, Global};
+
+// The reserved bits and flags in front of a time of 33 bits, and of a time that is not specified.
+const SPECIFIED: u64 = 0xFE_0000_0000;
+
+const UNSPECIFIED: u64 = 0x7F;
+
+// The reserved bits in front of a duration of 33 bits.
+const DURATION: u64 = 0x7E_0000_0000;
+
+// The reserved bits after the flags of a body, and after the flag of a cancelled event.
+const FLAGS_RESERVED: u64 = 0xF;
+
+const CANCEL_RESERVED: u64 = 0x7F;
+
+// table_id and section_length, in bytes.
+const START_LEN: usize = 3;
+
+// table_id, and the reserved bits in front of section_length.
+const START: u64 = 0xFC_3000;
+
+// Adds the lowest `count` bytes of a number, the highest of them first.
+#[tactic(auto, using(crate::proofs::Appends::lowest_bytes))]
+fn put_number(out: &mut Vec<u8>, number: u64, count: usize) -> Result<(), AllocError>
+    requires { count ≤ 8 }
+    ensures { OnOk result (out.new.items ≡ out.old.items ++ bytes_high_first count number) }
+{
+    let bytes = number.to_be_bytes();
+    out.extend_from_slice(&bytes[8 - count..])
+}
+
+fn put_u8(out: &mut Vec<u8>, number: u8) -> Result<(), AllocError>
+    ensures { OnOk result (Appends ((8, Is number) ∷ []) out.old.items out.new.items) }
+{
+    put_number(out, u64::from(number), 1)
+}
+
+fn put_u16(out: &mut Vec<u8>, number: u16) -> Result<(), AllocError>
+    ensures { OnOk result (Appends ((16, Is number) ∷ []) out.old.items out.new.items) }
+{
+    put_number(out, u64::from(number), 2)
+}
+
+fn put_u32(out: &mut Vec<u8>, number: u32) -> Result<(), AllocError>
+    ensures { OnOk result (Appends ((32, Is number) ∷ []) out.old.items out.new.items) }
+{
+    put_number(out, u64::from(number), 4)
+}
+
+fn put_time(out: &mut Vec<u8>, time: SpliceTime) -> Result<(), AllocError>
+    requires { IsTrue (time_fits (Some time)) }
+    ensures { OnOk result (Appends (splice_time time) out.old.items out.new.items) }
+{
+    match time.pts {
+        None => put_number(out, UNSPECIFIED, 1),
+        Some(pts) => put_number(out, SPECIFIED + pts, 5),
+    }
+}
+
+fn put_optional_time(out: &mut Vec<u8>, time: Option<SpliceTime>) -> Result<(), AllocError>
+    requires { IsTrue (time_fits time) }
+    ensures { OnOk result (Appends (optional splice_time time) out.old.items out.new.items) }
+{
+    match time {
+        None => Ok(()),
+        Some(time) => put_time(out, time),
+    }
+}
+
+fn put_duration(out: &mut Vec<u8>, duration: Option<BreakDuration>) -> Result<(), AllocError>
+    requires { IsTrue (duration_fits duration) }
+    ensures { OnOk result (Appends (optional break_duration duration) out.old.items out.new.items) }
+{
+    match duration {
+        None => Ok(()),
+        Some(duration) => {
+            let auto_return = flag(duration.auto_return, 39);
+            put_number(out, auto_return + DURATION + duration.ticks, 5)
+        }
+    }
+}
+
+// A flag at a place, where the lowest bit is at place 0.
+fn flag(set: bool, place: u32) -> u64
+    requires { place < 64 }
+    ensures { result ≡ flag set * 2 ^ place }
+{
+    if set { 1 << place } else { 0 }
+}
+
+fn put_bytes(out: &mut Vec<u8>, bytes: &[u8]) -> Result<(), AllocError>
+    ensures { OnOk result (Appends (bytes_of bytes.now) out.old.items out.new.items) }
+{
+    out.extend_from_slice(bytes)
+}
+
+fn put_components(
+    out: &mut Vec<u8>,
+    components: &[(u8, Option<SpliceTime>)],
+) -> Result<(), AllocError>
+    requires { IsTrue (list_all (λ c. time_fits c.1) components.now) }
+    ensures { OnOk result (Appends (flat_map component components.now) out.old.items out.new.items) }
+{
+    for component in components {
+        put_u8(out, component.0)?;
+        put_optional_time(out, component.1)?;
+    }
+    Ok(())
+}
+
+fn put_target(out: &mut Vec<u8>, target: &SpliceTarget) -> Result<(), AllocError>
+    requires { TargetFits (target_of target.now) }
+    ensures { OnOk result (Appends (target_fields (target_of target.now)) out.old.items out.new.items) }
+{
+    match target {
+        SpliceTarget::Program(time) => put_optional_time(out, *time),
+        SpliceTarget::Components(components) => {
+            put_u8(out, components.len() as u8)?;
+            put_components(out, components)
+        }
+    }
+}
+
+fn is_program(target: &SpliceTarget) -> bool
+    ensures { result ≡ is_program (target_of target.now) }
+{
+    matches!(target, SpliceTarget::Program(_))
+}
+
+fn put_flags(out: &mut Vec<u8>, body: &InsertBody) -> Result<(), AllocError>
+    ensures { OnOk result (Appends (body_flags (body_of body.now)) out.old.items out.new.items) }
+{
+    let flags = flag(body.out_of_network, 7)
+        + flag(is_program(&body.target), 6)
+        + flag(body.duration.is_some(), 5)
+        + flag(body.immediate, 4);
+    put_number(out, flags + FLAGS_RESERVED, 1)
+}
+
+#[tactic(auto, using(crate::proofs::Fits::target_needs), unfolding(crate::specs::Section::body_fields))]
+fn put_body(out: &mut Vec<u8>, body: &InsertBody) -> Result<(), AllocError>
+    requires { IsTrue (body_fits (Some (body_of body.now))) }
+    ensures { OnOk result (Appends (body_fields (body_of body.now)) out.old.items out.new.items) }
+{
+    put_flags(out, body)?;
+    put_target(out, &body.target)?;
+    put_duration(out, body.duration)?;
+    put_u16(out, body.unique_program_id)?;
+    put_u8(out, body.avail_num)?;
+    put_u8(out, body.avails_expected)?;
+    Ok(())
+}
+
+fn put_optional_body(out: &mut Vec<u8>, body: &Option<InsertBody>) -> Result<(), AllocError>
+    requires { IsTrue (body_fits (bodies_of body.now)) }
+    ensures { OnOk result (Appends (optional body_fields (bodies_of body.now)) out.old.items out.new.items) }
+{
+    match body {
+        None => Ok(()),
+        Some(body) => put_body(out, body),
+    }
+}
+
+fn put_cancel(out: &mut Vec<u8>, is_cancelled: bool) -> Result<(), AllocError>
+    ensures { OnOk result (Appends (cancel_fields is_cancelled) out.old.items out.new.items) }
+{
+    put_number(out, flag(is_cancelled, 7) + CANCEL_RESERVED, 1)
+}
+
+fn put_insert(out: &mut Vec<u8>, insert: &SpliceInsert) -> Result<(), AllocError>
+    requires { IsTrue (body_fits (bodies_of insert.now.body)) }
+    ensures { OnOk result (Appends (splice_insert (event_of insert.now)) out.old.items out.new.items) }
+{
+    put_u32(out, insert.event_id)?;
+    put_cancel(out, insert.body.is_none())?;
+    put_optional_body(out, &insert.body)?;
+    Ok(())
+}
+
+fn put_command(out: &mut Vec<u8>, command: &SpliceCommand) -> Result<(), AllocError>
+    requires { IsTrue (command_fits (command_of command.now)) }
+    ensures { OnOk result (Appends (command_fields (command_of command.now)) out.old.items out.new.items) }
+{
+    match command {
+        SpliceCommand::Insert(insert) => put_insert(out, insert),
+        SpliceCommand::Other { bytes, .. } => put_bytes(out, bytes),
+    }
+}
+
+fn put_start(out: &mut Vec<u8>, section_length: usize) -> Result<(), AllocError>
+    requires { section_length ≤ 4093 }
+    ensures { OnOk result (Appends (start_fields section_length) out.old.items out.new.items) }
+{
+    put_number(out, START + section_length as u64, 3)
+}
+
+fn put_adjustment(out: &mut Vec<u8>, pts_adjustment: u64) -> Result<(), AllocError>
+    requires { pts_adjustment < 2 ^ 33 }
+    ensures { OnOk result (Appends ((8, Is 0) ∷ (1, Is 0) ∷ (6, Reserved 0) ∷ (33, Is pts_adjustment) ∷ []) out.old.items out.new.items) }
+{
+    put_number(out, pts_adjustment, 6)
+}
+
+fn put_tier(out: &mut Vec<u8>, tier: u16, command_length: usize) -> Result<(), AllocError>
+    requires tier { tier < 4096 }
+    requires command { command_length < 4096 }
+    ensures { OnOk result (Appends ((12, Is tier) ∷ (12, Is command_length) ∷ []) out.old.items out.new.items) }
+{
+    put_number(out, u64::from(tier) * 4096 + command_length as u64, 3)
+}
+
+fn command_type(command: &SpliceCommand) -> u8
+    ensures { result ≡ command_type (command_of command.now) }
+{
+    match command {
+        SpliceCommand::Insert(_) => SPLICE_INSERT,
+        SpliceCommand::Other { command, .. } => *command,
+    }
+}
+
+fn put_heading(
+    out: &mut Vec<u8>,
+    info: &SpliceInfo,
+    command_length: usize,
+) -> Result<(), AllocError>
+    requires adjustment { info.now.pts_adjustment < 2 ^ 33 }
+    requires tier { info.now.tier < 4096 }
+    requires command { command_length < 4096 }
+    ensures { OnOk result (Appends (heading_fields (section_of info.now) command_length) out.old.items out.new.items) }
+{
+    put_adjustment(out, info.pts_adjustment)?;
+    put_u8(out, info.cw_index)?;
+    put_tier(out, info.tier, command_length)?;
+    put_u8(out, command_type(&info.command))?;
+    Ok(())
+}
+
+fn put_ending(out: &mut Vec<u8>, info: &SpliceInfo) -> Result<(), AllocError>
+    requires { length info.now.descriptors.items < 2 ^ 16 }
+    ensures { OnOk result (Appends (ending_fields (section_of info.now)) out.old.items out.new.items) }
+{
+    put_u16(out, info.descriptors.len() as u16)?;
+    put_bytes(out, &info.descriptors)?;
+    put_bytes(out, &info.stuffing)?;
+    put_u32(out, info.crc)?;
+    Ok(())
+}
+
+#[tactic(auto, using(crate::proofs::Fits::adjustment_fits, crate::proofs::Fits::tier_fits, crate::proofs::Fits::command_is_fit))]
+fn put_section(
+    out: &mut Vec<u8>,
+    info: &SpliceInfo,
+    section_length: usize,
+) -> Result<(), AllocError>
+    requires fits { IsTrue (has_section (section_of info.now)) }
+    requires counted { section_length ≡ counted_length (section_of info.now) }
+    ensures { OnOk result (Appends (written_fields (section_of info.now)) out.old.items out.new.items) }
+{
+    put_start(out, section_length)?;
+    put_heading(out, info, command_len(&info.command))?;
+    put_command(out, &info.command)?;
+    put_ending(out, info)?;
+    Ok(())
+}
+
+/// Writes a value as a splice_info_section, with its lengths counted.
+///
+/// Reserved bits are ones, section_syntax_indicator, private_indicator and encryption_algorithm are 0,
+/// and the CRC is written as it is given. `TooLarge` is answered exactly where a number does not fit its
+/// field, a time is there where the splice is immediate or is not there where it isn't, a command of
+/// another type has the type of splice_insert, there are more than 255 components, or section_length
+/// would pass 4093.
+pub fn write(alloc: Global, info: &SpliceInfo) -> Result<Vec<u8>, SpliceFault>
+    // A value is refused exactly where it has no section that may be written.
+    ensures refused { (result ≡ Err TooLarge) ↔ (has_section (section_of info.now) ≡ false) }
+    ensures fault { IfErr result (λ e. (e ≡ OutOfMemory) ⊎ (e ≡ TooLarge)) }
+
+    // What is written is the value's section, with each reserved bit as the layout has it.
+    ensures written { IfOk result (λ bytes. Holds IsWritten (written_fields (section_of info.now)) bytes.items) }
+    ensures section { IfOk result (λ bytes. IsSection (section_of info.now) bytes.items) }
+
+    // It is read as the same value.
+    ensures again { IfOk result (λ bytes. reading bytes.items ≡ Ok (section_of info.now)) }
+{
+    if !has_section(info) {
+        return Err(SpliceFault::TooLarge);
+    }
+    let section_length = section_length(info);
+    let mut out = Vec::with_capacity(alloc, START_LEN + section_length)?;
+    put_section(&mut out, info, section_length)?;
+    Ok(out)
+}
+
+/// A value is refused only where no section of at most 4,096 bytes says it, so that section_length is at
+/// most 4093.
+pub fn refuses_what_has_no_section()
+    ensures { (s : Section) (bytes : List ℕ) → IsBytes bytes → length bytes ≤ 4096 → IsSection s bytes
+        → IsTrue (has_section s) }
+{}
