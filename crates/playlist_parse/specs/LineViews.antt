@@ -1,5 +1,5 @@
 -- What lines say, whatever holds their texts.
-use Rattle.std.specs.Prelude.{ℕ, Bool, List, map}
+use Rattle.std.specs.Prelude.{ℕ, List, map}
 use Rattle.std.specs.Str.Lines.{lines}
 use Rattle.playlist_meaning.specs.Lines.{Kind, ignored, uri, tag, kind_of}
 use Rattle.playlist_meaning.specs.Said.{Name, version_tag, target_tag, sequence_tag, discontinuity_sequence_tag, type_tag, ended_tag, independent_tag, frames_tag, master_tag, duration_tag, range_tag, discontinuity_tag, key_tag, map_tag, time_tag, date_range_tag, unknown_tag}

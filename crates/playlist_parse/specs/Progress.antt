@@ -1,5 +1,5 @@
 -- How far a playlist has been read.
-use Rattle.std.specs.Prelude.{◌≡◌, ℕ, Bool, List, [], ◌∷◌, Option, None, Some, Result, Ok, Err, IsOk, MatchResult}
+use Rattle.std.specs.Prelude.{◌≡◌, ℕ, Bool, List, Option, None, Some, Result, IsOk, MatchResult}
 use Rattle.url.specs.Parts.{Parts}
 use Rattle.playlist_meaning.specs.declared.FaultKind.{FaultKind}
 use Rattle.playlist_meaning.specs.declared.PlaylistKind.{PlaylistKind}
@@ -8,7 +8,7 @@ use Rattle.playlist_meaning.specs.declared.Segment.{Segment}
 use Rattle.playlist_meaning.specs.declared.Playlist.{Playlist}
 use Rattle.playlist_meaning.specs.Refusals.{Refuses}
 use Rattle.playlist_meaning.specs.Said.{Said, Outcome}
-use Rattle.playlist_meaning.specs.LookBack.{Standing, standing_at, latest, the_version, the_target, the_sequence, the_discontinuity_sequence, the_type, is_media, is_discontinuity, is_independent, is_ended, segments_of, date_ranges_of, with_said}
+use Rattle.playlist_meaning.specs.LookBack.{Standing, standing_at, latest, the_version, the_target, the_sequence, the_discontinuity_sequence, the_type, is_media, is_independent, is_ended, segments_of, date_ranges_of, with_said}
 use Rattle.playlist_meaning.specs.Reading.{is_set, has, whole_fault, playlist_of}
 
 -- what the header's tags have said, and whether the tags stood that they may not follow

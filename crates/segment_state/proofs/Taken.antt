@@ -1,17 +1,16 @@
 -- What a URI line says, from what stands before it.
-use Rattle.std.proofs.Common.{◌≡◌, ℕ, ◌+◌, ◌^◌, ◌<◌, Bool, true, false, cond, List, [], ◌∷◌, map, refl, ap, sym, ◌∙◌, arith, Ok, Err, Some, None}
-use Rattle.std.specs.Prelude.{ℤ, Option, is_none, nat_lt, nat_le, unwrap_or}
+use Rattle.std.proofs.Common.{◌≡◌, ℕ, ◌+◌, ◌^◌, ◌<◌, false, List, ◌∷◌, map, refl, ap, sym, ◌∙◌, arith, Ok, Some}
+use Rattle.std.specs.Prelude.{ℤ, Option, nat_lt}
 use Rattle.std.proofs.lemmas.Bool.Decides.{nat_tests}
-use Rattle.std.specs.Result.{result_unwrap_or}
 use Rattle.url.specs.Parts.{Parts}
 use Rattle.playlist_meaning.specs.declared.Key.{Key}
 use Rattle.playlist_meaning.specs.declared.ByteRange.{ByteRange}
 use Rattle.playlist_meaning.specs.declared.Segment.{Segment}
 use Rattle.playlist_meaning.specs.declared.InitSection.{InitSection}
-use Rattle.playlist_meaning.specs.Said.{Said, media, uri_of, Outcome}
-use Rattle.playlist_meaning.specs.LookBack.{Standing, standing_at, number_at, discontinuity_at, steps_at, own_duration, own_time, keys_at, section_at, effective_key, range_at, range_from, count, is_media, segment_at, extent_with, last_extent}
+use Rattle.playlist_meaning.specs.Said.{Said, media, uri_of}
+use Rattle.playlist_meaning.specs.LookBack.{Standing, standing_at, number_at, own_duration, effective_key, range_at, range_from, count, is_media, segment_at, extent_with}
 use Rattle.playlist_meaning.specs.Reading.{said_by_uri, limited, passes}
-use Rattle.segment_state.specs.Running.{every_tag, Running, running_at, behind_segment}
+use Rattle.segment_state.specs.Running.{every_tag, running_at, behind_segment}
 
 not_past : (n : ℕ) → n < 2 ^ 64 → passes n ≡ false
 not_past n h = grind (arith, nat_tests)

@@ -1,5 +1,5 @@
 -- A state, and what a line does to it.
-use Rattle.std.specs.Prelude.{◌≡◌, ℕ, Bool, false, ◌+◌, Option, None, List, [], ◌∷◌, Result, Ok, MatchResult, IsOk}
+use Rattle.std.specs.Prelude.{◌≡◌, Bool, false, ◌+◌, Option, None, List, ◌∷◌, Result, Ok, MatchResult, IsOk}
 use Rattle.url.specs.Parts.{Parts}
 use Rattle.playlist_meaning.specs.declared.FaultKind.{FaultKind}
 use Rattle.playlist_meaning.specs.declared.Segment.{Segment}

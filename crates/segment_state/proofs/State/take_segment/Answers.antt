@@ -1,10 +1,9 @@
-use Rattle.std.proofs.Common.{◌≡◌, ◌+◌, map, ◌∙◌, ap, sym, arith, rules}
-use Rattle.std.proofs.lemmas.Grind.{common_steps}
+use Rattle.std.proofs.Common.{◌≡◌, ◌+◌, map, ◌∙◌, ap, sym, rules}
 use Rattle.playlist_meaning.specs.LookBack.{effective_key, extent_with}
 use Rattle.std.specs.Prelude.{option_map}
 use Rattle.segment_state.specs.Views.{extent_of}
 use Rattle.segment_state.specs.Running.{Running, behind_segment}
-use Rattle.segment_state.proofs.Taken.{Taken, taken, built, segment_from}
+use Rattle.segment_state.proofs.Taken.{Taken, taken, built}
 use Rattle.segment_state.proofs.State.take_segment.Goals as goal
 
 pub returns : goal.returns

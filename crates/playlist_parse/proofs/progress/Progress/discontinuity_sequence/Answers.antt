@@ -1,5 +1,4 @@
-use Rattle.std.proofs.Common.{rules, arith, ap, sym, ◌∙◌}
-use Rattle.std.proofs.lemmas.Grind.{common_steps}
+use Rattle.std.proofs.Common.{rules}
 use Rattle.playlist_meaning.specs.LookBack.{is_discontinuity}
 use Rattle.playlist_parse.proofs.HasCount.{has_count}
 use Rattle.playlist_parse.proofs.progress.Progress.discontinuity_sequence.Goals as goal
