@@ -177,7 +177,7 @@ fn the_longest_playlist(rt: HostRuntime) -> Result<(), Fail> {
     let base = Base::new(rt.alloc(), BASE)?;
     let mut text = playlist_of(rt.alloc(), 1)?;
     text.push_str("#")?;
-    while text.len() < MOST_BYTES {
+    for _ in text.len()..MOST_BYTES {
         text.push_str("-")?;
     }
     read(rt.alloc(), text.as_bytes(), &base)?;
