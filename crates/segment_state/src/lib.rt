@@ -317,6 +317,3 @@ fn range_after(
         Some(_) => Ok(Some(ByteRange { length, offset })),
     }
 }
-
-#[cfg(test)]
-mod tests;
