@@ -4,14 +4,14 @@ use Rattle.playlist_meaning.specs.declared.Playlist.{Playlist}
 use Rattle.playlist_meaning.specs.declared.Segment.{Segment}
 use Rattle.playlist_meaning.specs.Uri.{base_of}
 use Rattle.playlist_meaning.specs.Reading.{Fault, reading}
-use Rattle.playlist_parse.specs.Later.{this_reader}
+use Rattle.playlist_meaning.specs.Reading.{limited}
 use Rattle.stitcher.specs.declared.OutSegment.{OutSegment}
 use Rattle.playlist_write.specs.declared.OutPlaylist.{OutPlaylist}
 use Rattle.playlist_write.specs.Owed.{text_of}
 
 -- what is read of an input under the base that a text says, if it says one
 abbrev pub read_under : List ℕ → List ℕ → Option (Result Playlist Fault)
-read_under base input = option_map (λ b. reading this_reader b input) (base_of base)
+read_under base input = option_map (λ b. reading limited b input) (base_of base)
 
 -- each segment keeps its numbers; none states a time, since no tag of a time is read yet
 abbrev pub owed_segment : Segment → OutSegment

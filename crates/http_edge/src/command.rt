@@ -6,7 +6,7 @@ ghost use Rattle.playlist_meaning.specs.Devices.{HasRisen, CalledAll};
 ghost use Rattle.playlist_meaning.specs.Uri.{base_of};
 ghost use Rattle.http_edge.specs.Owed.{owed_text};
 ghost use Rattle.playlist_meaning.specs.Reading.{reading, Fault};
-ghost use Rattle.playlist_parse.specs.Later.{this_reader};
+ghost use Rattle.playlist_meaning.specs.Reading.{limited};
 ghost use Rattle.http_edge.specs.Vod.{RefusesInput, HasRead, Writes, WritesFront};
 
 use crate::fault::VodFault;
@@ -30,8 +30,8 @@ fn base_said(alloc: Global, base: &str) -> Result<Base, VodFault>
 }
 
 fn playlist_read(alloc: Global, input: &[u8], base: &Base) -> Result<Playlist, VodFault>
-    ensures ok { IfOk result (λ playlist. reading this_reader base.now input.now ≡ Ok playlist) }
-    ensures err { IfErr result (λ e. RefusesInput e (reading this_reader base.now input.now)) }
+    ensures ok { IfOk result (λ playlist. reading limited base.now input.now ≡ Ok playlist) }
+    ensures err { IfErr result (λ e. RefusesInput e (reading limited base.now input.now)) }
 {
     match read(alloc, input, base) {
         Ok(playlist) => Ok(playlist),

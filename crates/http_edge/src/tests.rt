@@ -153,10 +153,10 @@ fn command_run(
 fn printed_faults(rt: HostRuntime) -> Result<(), Fail> {
     let alloc = rt.alloc();
     let key: &[u8] =
-        b"#EXTM3U\n#EXT-X-TARGETDURATION:10\n#EXT-X-KEY:METHOD=NONE\n#EXTINF:10,\ns0.ts\n";
+        b"#EXTM3U\n#EXT-X-TARGETDURATION:10\n#EXT-X-KEY:METHOD=\"NONE\"\n#EXTINF:10,\ns0.ts\n";
     let (status, faults) = command_run(alloc, BASE, Pieces::new(key, ROOM, 0, 0), 0)?;
     assert_eq!(rt; status, 1);
-    assert_eq!(rt; faults.bytes(), b"P26 NotYet line 3\n".as_slice());
+    assert_eq!(rt; faults.bytes(), b"P11 BadAttributes line 3\n".as_slice());
     let (status, faults) = command_run(alloc, BASE, Pieces::new(PLAIN, ROOM, 0, 0), 0)?;
     assert_eq!(rt; status, 0);
     assert_eq!(rt; faults.bytes().len(), 0);

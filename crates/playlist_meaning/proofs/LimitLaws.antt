@@ -39,10 +39,6 @@ module _ {A : Type 0} where
   same_refused true e o p g x h = cc
   same_refused false e o p g x h = g x h
 
-  through : (o p q : Outcome A) → Grants o p → Grants p q → Grants o q
-  unfolding Grants
-  through o p q f g x h = g x (f x h)
-
 bound : {A B : Type 0} (o p : Outcome A) (f g : A → Outcome B) → Grants o p → ((x : A) → Grants (f x) (g x)) → Grants (o >>= f) (p >>= g)
 unfolding Grants
 bound (Ok x) p f g s t y h = let e : p ≡ Ok x = s x refl in rw e (t x y h)
@@ -96,8 +92,7 @@ by_kind : (reader : Reader) (base : Parts) (before : List Said) (kind : Kind)
 by_kind reader base before ignored = itself _
 by_kind reader base before (uri reference) =
     refused (over reader.segments (count is_media before + 1)) fault.TooMany (said_by_uri unlimited base before reference)
-by_kind reader base before (tag name rest colon) =
-    through _ (said_by_tag reader base before (name_of name colon) rest) _ (refused (reader.later (name_of name colon)) fault.NotYet _) (by_tag reader base before (name_of name colon) rest)
+by_kind reader base before (tag name rest colon) = by_tag reader base before (name_of name colon) rest
 
 by_line : (reader : Reader) (base : Parts) (before : List Said) (line : List ℕ) → Grants (said_by reader base before line) (said_by unlimited base before line)
 by_line reader base before line = same_refused (has_control line) fault.Control _ _ (by_kind reader base before (kind_of line))

@@ -30,7 +30,6 @@ kind_text fault.MixedMaps = codes "P22 MixedMaps"
 kind_text fault.MapWithoutIv = codes "P23 MapWithoutIv"
 kind_text fault.TooMany = codes "P24 TooMany"
 kind_text fault.OutOfMemory = codes "P25 OutOfMemory"
-kind_text fault.NotYet = codes "P26 NotYet"
 
 abbrev pub fault_text : PlaylistFault → List ℕ
 fault_text fault = if fault.line == 0 then kind_text fault.kind else kind_text fault.kind ++ (codes " line " ++ decimal fault.line)

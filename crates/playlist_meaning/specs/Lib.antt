@@ -2,6 +2,8 @@ pub mod Devices
 pub mod Lines
 pub mod Uri
 pub mod Instant
+pub mod Digits
+pub mod Times
 pub mod Said
 pub mod LookBack
 pub mod Reading
@@ -10,3 +12,8 @@ pub mod Refusals
 pub mod Laws
 pub mod FaultTexts
 pub mod TestDevices
+pub mod Same
+pub mod Pods
+pub mod Marks
+pub mod Stitched
+pub mod StitchedRows

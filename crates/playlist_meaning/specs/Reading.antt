@@ -108,8 +108,7 @@ said_by_uri reader base before reference =
 abbrev pub said_by_kind : Reader → Parts → List Said → Kind → Outcome Said
 said_by_kind reader base before ignored = Ok nothing
 said_by_kind reader base before (uri reference) = said_by_uri reader base before reference
-said_by_kind reader base before (tag name rest colon) =
-    refuse_if (reader.later (name_of name colon)) fault.NotYet (said_by_tag reader base before (name_of name colon) rest)
+said_by_kind reader base before (tag name rest colon) = said_by_tag reader base before (name_of name colon) rest
 
 abbrev pub said_by : Reader → Parts → List Said → List ℕ → Outcome Said
 said_by reader base before line =
@@ -180,11 +179,11 @@ reading reader base bytes =
 
 -- no limits: the denotation
 abbrev pub unlimited : Reader
-unlimited = record { bytes = None; attributes = None; formats = None; segments = None; later = λ _. false }
+unlimited = record { bytes = None; attributes = None; formats = None; segments = None }
 
 -- the limits of this reader
-abbrev pub limited : (Name → Bool) → Reader
-limited later = record { bytes = Some 4194304; attributes = Some 64; formats = Some 16; segments = Some 10000; later = later }
+abbrev pub limited : Reader
+limited = record { bytes = Some 4194304; attributes = Some 64; formats = Some 16; segments = Some 10000 }
 
 -- the bytes denote this playlist under the base
 abbrev pub Denotes : Parts → List ℕ → Playlist → Type 0

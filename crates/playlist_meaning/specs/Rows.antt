@@ -1,11 +1,10 @@
 -- What the worked rows read.
-use Rattle.std.specs.Prelude.{ℕ, Bool, true, false, List, [], ◌∷◌, ◌++◌, codes, Option, Some, None, option_map, Result, Ok, Err}
+use Rattle.std.specs.Prelude.{ℕ, List, [], ◌∷◌, ◌++◌, codes, Option, Some, None, option_map, Result, Ok, Err}
 use Rattle.playlist_meaning.specs.declared.Playlist.{Playlist}
 use Rattle.playlist_meaning.specs.declared.Segment.{Segment}
 use Rattle.playlist_meaning.specs.declared.InitSection.{InitSection}
 use Rattle.playlist_meaning.specs.declared.Key.{Key}
 use Rattle.playlist_meaning.specs.Uri.{base_of, resolved}
-use Rattle.playlist_meaning.specs.Said.{Name, key_tag}
 use Rattle.playlist_meaning.specs.Reading.{reading, limited, Fault}
 
 -- each line with a line feed
@@ -15,7 +14,7 @@ text (line ∷ lines) = line ++ (10 ∷ text lines)
 
 abbrev pub read_text : List ℕ → Option (Result Playlist Fault)
 read_text bytes =
-    option_map (λ base. reading (limited (λ _. false)) base bytes) (base_of (codes "http://origin.example/ch/index.m3u8"))
+    option_map (λ base. reading limited base bytes) (base_of (codes "http://origin.example/ch/index.m3u8"))
 
 abbrev pub read_lines : List (List ℕ) → Option (Result Playlist Fault)
 read_lines lines = read_text (text lines)
@@ -23,15 +22,6 @@ read_lines lines = read_text (text lines)
 -- these lines after a header and a target
 abbrev pub read_after_target : List (List ℕ) → Option (Result Playlist Fault)
 read_after_target lines = read_lines (codes "#EXTM3U" ∷ codes "#EXT-X-TARGETDURATION:10" ∷ lines)
-
-abbrev pub is_key_tag : Name → Bool
-is_key_tag key_tag = true
-is_key_tag _ = false
-
--- by a reader that doesn't read these tags yet
-abbrev pub read_without : (Name → Bool) → List (List ℕ) → Option (Result Playlist Fault)
-read_without later lines =
-    option_map (λ base. reading (limited later) base (text lines)) (base_of (codes "http://origin.example/ch/index.m3u8"))
 
 abbrev pub segments_read : Option (Result Playlist Fault) → List Segment
 segments_read (Some (Ok playlist)) = playlist.segments

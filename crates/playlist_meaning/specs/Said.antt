@@ -37,14 +37,13 @@ pub data Name : Type 0 where
   date_range_tag : Name
   unknown_tag : Name
 
--- what a reader keeps to: how many attributes, key formats in force and segments it takes, and the
--- tags that it doesn't read yet. The denotation keeps to nothing
+-- what a reader keeps to: how many bytes, attributes in a tag, key formats in force and segments it
+-- takes. The denotation keeps to nothing
 pub record Reader : Type 0 where
   pub bytes : Option ℕ
   pub attributes : Option ℕ
   pub formats : Option ℕ
   pub segments : Option ℕ
-  pub later : Name → Bool
 
 -- what a line says
 pub data Said : Type 0 where

@@ -37,7 +37,6 @@ impl fmt::Display for FaultKind {
             FaultKind::MapWithoutIv => write!(f, "P23 MapWithoutIv"),
             FaultKind::TooMany => write!(f, "P24 TooMany"),
             FaultKind::OutOfMemory => write!(f, "P25 OutOfMemory"),
-            FaultKind::NotYet => write!(f, "P26 NotYet"),
         }
     }
 }

@@ -17,11 +17,17 @@ pub mod device;
 mod fault;
 mod items;
 pub mod pieces;
+mod read_time;
+mod same;
+mod write_time;
 
 pub use base::{Base, BaseFault, same_resource};
 pub use device::{Counted, Sink, Source};
 pub use items::{Items, Text};
 pub use pieces::{Pieces, Taken};
+pub use read_time::{TimeFault, read_instant};
+pub use same::{is_same_key, is_same_section, same_segment};
+pub use write_time::write_instant;
 
 /// Why a text is no playlist that can be read.
 #[derive(Clone, Copy, PartialEq, Eq, Debug)]
@@ -51,7 +57,6 @@ pub enum FaultKind {
     MapWithoutIv,
     TooMany,
     OutOfMemory,
-    NotYet,
 }
 
 /// The first fault of a playlist.
@@ -90,7 +95,7 @@ pub enum PlaylistKind {
 }
 
 /// An instant in nanoseconds from 1970 in UTC.
-#[derive(Clone, Copy, PartialEq, Eq, PartialOrd, Ord)]
+#[derive(Clone, Copy, PartialEq, Eq, PartialOrd, Ord, Debug)]
 pub struct Instant(pub i64);
 
 impl Model for Instant {
@@ -180,6 +185,7 @@ pub struct Playlist {
 }
 
 mod rows;
+mod stitched_rows;
 #[cfg(test)]
 mod tests;
 

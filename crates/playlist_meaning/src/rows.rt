@@ -4,7 +4,7 @@ ghost use Rattle.std.specs.Prelude.{◌≡◌, ℕ, [], ◌∷◌, ◌++◌, cod
 ghost use Rattle.playlist_meaning.specs.Instant.{instant_of};
 ghost use Rattle.playlist_meaning.specs.Lines.{placed_lines};
 ghost use Rattle.playlist_meaning.specs.Uri.{base_of};
-ghost use Rattle.playlist_meaning.specs.Rows.{read_lines, read_text, read_after_target, read_without, is_key_tag, segments_read, keys_and_section, resolved_here};
+ghost use Rattle.playlist_meaning.specs.Rows.{read_lines, read_text, read_after_target, segments_read, keys_and_section, resolved_here};
 
 use crate::FaultKind;
 
@@ -115,12 +115,6 @@ fn instant_rows()
     ensures too_late { instant_of (codes "2199-12-31T23:59:59-00:01") ≡ None }
     ensures first { instant_of (codes "1900-01-01T00:00:00Z") ≡ Some (negsuc 2208988799999999999) }
     ensures epoch { instant_of (codes "1970-01-01T01:00:00+0100") ≡ Some (pos 0) }
-{}
-
-/// A tag that isn't read yet.
-fn later_row()
-    ensures { read_without is_key_tag (codes "#EXTM3U" ∷ codes "#EXT-X-TARGETDURATION:10" ∷ codes "#EXT-X-KEY:METHOD=NONE" ∷ codes "#EXTINF:10," ∷ codes "s0.ts" ∷ [])
-        ≡ Some (Err (record { kind = FaultKind.NotYet; line = 3 })) }
 {}
 
 /// Lines with a carriage return.

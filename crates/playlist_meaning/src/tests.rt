@@ -1,8 +1,8 @@
 //! Each public call once, and what no clause says.
 use crate::device::READ_ROOM;
 use crate::{
-    Base, BaseFault, Counted, FaultKind, Items, Pieces, PlaylistFault, Sink, Source, Taken, Text,
-    has_control, same_resource, text_of,
+    Base, BaseFault, Counted, FaultKind, Instant, Items, Pieces, PlaylistFault, Sink, Source,
+    Taken, Text, TimeFault, has_control, read_instant, same_resource, text_of, write_instant,
 };
 use std::test::Fail;
 
@@ -52,6 +52,70 @@ fn references(rt: HostRuntime) -> Result<(), Fail> {
 }
 
 #[test]
+fn instants(rt: HostRuntime) -> Result<(), Fail> {
+    let table = [
+        ("2024-05-01T14:00:10.25+02:00", 1_714_564_810_250_000_000),
+        ("2024-05-01T12:00:10.1000001", 1_714_564_810_100_000_100),
+        (
+            "2024-05-01T07:30:10.000000001-0430",
+            1_714_564_810_000_000_001,
+        ),
+        ("1900-01-01T00:00:00Z", -2_208_988_800_000_000_000),
+        ("1900-01-01T00:59:00+00:59", -2_208_988_800_000_000_000),
+        ("1899-12-31T23:00:00-01", -2_208_988_800_000_000_000),
+        ("2199-12-31T23:59:59.999999999", 7_258_118_399_999_999_999),
+        ("2200-01-01T00:00:00+00:01", 7_258_118_340_000_000_000),
+        ("2000-02-29T00:00:00Z", 951_782_400_000_000_000),
+        ("1969-12-31T23:59:59.5Z", -500_000_000),
+    ];
+    for (text, nanos) in table {
+        match read_instant(text) {
+            Ok(instant) => assert_eq!(rt; instant.0, nanos, "{text}"),
+            Err(_) => assert!(rt; false, "{text}"),
+        }
+    }
+    for text in [
+        "2024-02-30T00:00:00Z",
+        "1900-02-29T00:00:00Z",
+        "2199-12-31T23:59:59-00:01",
+        "1899-12-31T23:59:59Z",
+        "1900-01-01T00:00:00+00:01",
+        "2024-05-01T12:00:60Z",
+        "2024-05-01T24:00:00Z",
+        "2024-05-01T12:00:10.1234567890Z",
+        "2024-05-01T12:00:10.Z",
+        "2024-05-01t12:00:10Z",
+        "2024-05-01T12:00:10z",
+        "2024-05-01T12:00:10+2",
+        "2024-05-01T12:00:10+02:60",
+        "2024-05-01 12:00:10Z",
+        "2024-05-01T12:00",
+        "",
+    ] {
+        assert_eq!(rt; read_instant(text), Err(TimeFault::BadTime), "{text}");
+    }
+    Ok(())
+}
+
+#[test]
+fn written_instants(rt: HostRuntime) -> Result<(), Fail> {
+    let table = [
+        (1_714_564_810_250_000_000, "2024-05-01T12:00:10.250Z"),
+        (1_714_564_810_100_000_100, "2024-05-01T12:00:10.100000100Z"),
+        (-2_208_988_800_000_000_000, "1900-01-01T00:00:00.000Z"),
+        (7_258_118_399_999_999_999, "2199-12-31T23:59:59.999999999Z"),
+        (951_782_400_000_000_000, "2000-02-29T00:00:00.000Z"),
+        (-1, "1969-12-31T23:59:59.999999999Z"),
+    ];
+    for (nanos, want) in table {
+        let mut text = String::new(rt.alloc());
+        write_instant(Instant(nanos), &mut text)?;
+        assert_eq!(rt; text.as_str(), want);
+    }
+    Ok(())
+}
+
+#[test]
 fn texts_and_lists(rt: HostRuntime) -> Result<(), Fail> {
     let text = Text::copy_of(rt.alloc(), "s0.ts")?;
     let copy = text.clone()?;
@@ -85,7 +149,6 @@ fn printed_faults(rt: HostRuntime) -> Result<(), Fail> {
         (FaultKind::NotUtf8, 0, "P1 NotUtf8"),
         (FaultKind::NoHeader, 1, "P3 NoHeader line 1"),
         (FaultKind::MapWithoutIv, 14, "P23 MapWithoutIv line 14"),
-        (FaultKind::NotYet, 3, "P26 NotYet line 3"),
     ];
     for (kind, line, want) in table {
         let fault = PlaylistFault { kind, line };

@@ -1,3 +1,6 @@
 pub mod HasCount
+pub mod Kept
 pub mod LineLemmas
+pub mod Places
 pub mod Reached
+pub mod DateRangeLemmas

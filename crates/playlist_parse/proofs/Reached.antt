@@ -9,12 +9,12 @@ use Rattle.playlist_meaning.specs.Refusals.{Refuses}
 use Rattle.playlist_meaning.specs.Said.{Said, nothing, Outcome}
 use Rattle.playlist_meaning.specs.LookBack.{with_said}
 use Rattle.playlist_meaning.specs.Reading.{said_by, said_from, at_line, and_whole, whole, whole_fault, playlist_of, Fault}
-use Rattle.playlist_parse.specs.Later.{this_reader}
+use Rattle.playlist_meaning.specs.Reading.{limited}
 use Rattle.playlist_parse.specs.Answers.{Answers, fault_at, line_of}
 use Rattle.playlist_parse.specs.Progress.{Progress, progress_at, Ends}
 
 abbrev read_from : Parts → List Said → List (List ℕ) → Result (List Said) Fault
-read_from base before lines = said_from (said_by this_reader base) before lines
+read_from base before lines = said_from (said_by limited base) before lines
 
 -- some lines after the header are read: they say `before`, and what is still to come leads to the
 -- same as all lines
@@ -22,7 +22,7 @@ pub record Reached (base : Parts) (progress : Progress) (i : ℕ) (lines : List 
   pub before : List Said
   pub progress_is : progress ≡ progress_at base before
   pub count : length before ≡ i + 1
-  pub rest : said_from (said_by this_reader base) before (drop i lines) ≡ said_from (said_by this_reader base) (nothing ∷ []) lines
+  pub rest : said_from (said_by limited base) before (drop i lines) ≡ said_from (said_by limited base) (nothing ∷ []) lines
 
 own_base : (base : Parts) (progress : Progress) (before : List Said) → progress ≡ progress_at base before → progress ≡ progress_at progress.base before
 own_base base progress before e = e ∙ ap (λ b. progress_at b before) (sym (ap (λ (p : Progress). p.base) e))
@@ -40,30 +40,30 @@ same_base base progress before e = ap (λ (p : Progress). p.base) e
 
 -- one line more
 pub next : {base : Parts} {progress new : Progress} {i : ℕ} {lines : List (List ℕ)} {line : List ℕ} (r : Reached base progress i lines) → drop i lines ≡ line ∷ drop (i + 1) lines
-    → IsOk (said_by this_reader base r.before line) × (new ≡ progress_at base (with_said r.before (said_by this_reader base r.before line))) → Reached base new (i + 1) lines
+    → IsOk (said_by limited base r.before line) × (new ≡ progress_at base (with_said r.before (said_by limited base r.before line))) → Reached base new (i + 1) lines
 next {base = base} {i = i} {lines = lines} {line = line} r e h =
-    let n = next_ok r.before (said_by this_reader base r.before line) (length r.before + 1) (λ before. said_from (said_by this_reader base) before (drop (i + 1) lines)) h.0 in
+    let n = next_ok r.before (said_by limited base r.before line) (length r.before + 1) (λ before. said_from (said_by limited base) before (drop (i + 1) lines)) h.0 in
     record {
-      before = with_said r.before (said_by this_reader base r.before line);
+      before = with_said r.before (said_by limited base r.before line);
       progress_is = h.1;
       count = n.1 ∙ ap (λ k. k + 1) r.count;
-      rest = sym n.0 ∙ sym (ap (said_from (said_by this_reader base) r.before) e) ∙ r.rest;
+      rest = sym n.0 ∙ sym (ap (said_from (said_by limited base) r.before) e) ∙ r.rest;
     }
 
 -- what a line ensures, at what is reached
 pub taken_ok : {base : Parts} {progress : Progress} {i : ℕ} {lines : List (List ℕ)} (line : List ℕ) (new : Progress) (r : Reached base progress i lines)
     → ((before : List Said) → progress ≡ progress_at progress.base before
-    → IsOk (said_by this_reader progress.base before line) × (new ≡ progress_at progress.base (with_said before (said_by this_reader progress.base before line))))
-    → IsOk (said_by this_reader base r.before line) × (new ≡ progress_at base (with_said r.before (said_by this_reader base r.before line)))
+    → IsOk (said_by limited progress.base before line) × (new ≡ progress_at progress.base (with_said before (said_by limited progress.base before line))))
+    → IsOk (said_by limited base r.before line) × (new ≡ progress_at base (with_said r.before (said_by limited base r.before line)))
 taken_ok {base = base} {progress = progress} line new r takes =
-    subst (λ b. IsOk (said_by this_reader b r.before line) × (new ≡ progress_at b (with_said r.before (said_by this_reader b r.before line))))
+    subst (λ b. IsOk (said_by limited b r.before line) × (new ≡ progress_at b (with_said r.before (said_by limited b r.before line))))
     (same_base base progress r.before r.progress_is) (takes r.before (own_base base progress r.before r.progress_is))
 
 pub taken_err : {base : Parts} {progress : Progress} {i : ℕ} {lines : List (List ℕ)} (line : List ℕ) (e : FaultKind) (r : Reached base progress i lines)
-    → ((before : List Said) → progress ≡ progress_at progress.base before → Refuses e (said_by this_reader progress.base before line))
-    → Refuses e (said_by this_reader base r.before line)
+    → ((before : List Said) → progress ≡ progress_at progress.base before → Refuses e (said_by limited progress.base before line))
+    → Refuses e (said_by limited base r.before line)
 taken_err {base = base} {progress = progress} line e r takes =
-    subst (λ b. Refuses e (said_by this_reader b r.before line)) (same_base base progress r.before r.progress_is) (takes r.before (own_base base progress r.before r.progress_is))
+    subst (λ b. Refuses e (said_by limited b r.before line)) (same_base base progress r.before r.progress_is) (takes r.before (own_base base progress r.before r.progress_is))
 
 kept_line : (e : FaultKind) (n : ℕ) → e ≢ OutOfMemory → line_of e n ≡ n
 kept_line OutOfMemory n h = absurd (h refl)
@@ -77,19 +77,19 @@ failed e n outcome h = (λ some. h some ∙ ap (λ k. Err (record { kind = e; li
 
 -- a line that is refused
 pub refused : {base : Parts} {progress : Progress} {i : ℕ} {line : List ℕ} {lines : List (List ℕ)} (e : FaultKind) (r : Reached base progress i lines)
-    → drop i lines ≡ line ∷ drop (i + 1) lines → Refuses e (said_by this_reader base r.before line)
-    → Answers (Err (fault_at e (i + 2))) (and_whole (said_from (said_by this_reader base) (nothing ∷ []) lines))
+    → drop i lines ≡ line ∷ drop (i + 1) lines → Refuses e (said_by limited base r.before line)
+    → Answers (Err (fault_at e (i + 2))) (and_whole (said_from (said_by limited base) (nothing ∷ []) lines))
 refused {base = base} {i = i} {line = line} {lines = lines} e r d h =
     failed e (i + 2) _ (λ some.
-    let at : said_from (said_by this_reader base) r.before (drop i lines) ≡ Err (record { kind = e; line = i + 2 }) =
-    ap (said_from (said_by this_reader base) r.before) d
-    ∙ ap (λ o. at_line (length r.before + 1) o (λ said. said_from (said_by this_reader base) (said ∷ r.before) (drop (i + 1) lines))) (h some)
+    let at : said_from (said_by limited base) r.before (drop i lines) ≡ Err (record { kind = e; line = i + 2 }) =
+    ap (said_from (said_by limited base) r.before) d
+    ∙ ap (λ o. at_line (length r.before + 1) o (λ said. said_from (said_by limited base) (said ∷ r.before) (drop (i + 1) lines))) (h some)
     ∙ ap (λ k. Err (record { kind = e; line = k + 1 })) r.count ∙ ap (λ k. Err (record { kind = e; line = k })) (omega arith) in
     ap and_whole (sym r.rest ∙ at))
 
 all_said : {base : Parts} {progress : Progress} {i : ℕ} {lines : List (List ℕ)} (r : Reached base progress i lines) → drop i lines ≡ []
-    → said_from (said_by this_reader base) (nothing ∷ []) lines ≡ Ok r.before
-all_said {base = base} r e = sym r.rest ∙ ap (said_from (said_by this_reader base) r.before) e
+    → said_from (said_by limited base) (nothing ∷ []) lines ≡ Ok r.before
+all_said {base = base} r e = sym r.rest ∙ ap (said_from (said_by limited base) r.before) e
 
 ended_ok : (before : List Said) (playlist : Playlist) → whole_fault before ≡ None → playlist ≡ playlist_of before → and_whole (Ok before) ≡ Ok playlist
 ended_ok before playlist none is = ap (λ w. whole w before) none ∙ ap Ok (sym is)
@@ -99,11 +99,11 @@ ended_err before e some = ap (λ w. whole w before) some
 
 -- the end of the text
 pub whole_ok : {base : Parts} {progress : Progress} {i : ℕ} {lines : List (List ℕ)} (playlist : Playlist) (r : Reached base progress i lines) → drop i lines ≡ []
-    → (whole_fault r.before ≡ None) × (playlist ≡ playlist_of r.before) → and_whole (said_from (said_by this_reader base) (nothing ∷ []) lines) ≡ Ok playlist
+    → (whole_fault r.before ≡ None) × (playlist ≡ playlist_of r.before) → and_whole (said_from (said_by limited base) (nothing ∷ []) lines) ≡ Ok playlist
 whole_ok playlist r d h = ap and_whole (all_said r d) ∙ ended_ok r.before playlist h.0 h.1
 
 pub whole_err : {base : Parts} {progress : Progress} {i : ℕ} {lines : List (List ℕ)} (e : FaultKind) (r : Reached base progress i lines) → drop i lines ≡ []
-    → whole_fault r.before ≡ Some e → Answers (Err (fault_at e 0)) (and_whole (said_from (said_by this_reader base) (nothing ∷ []) lines))
+    → whole_fault r.before ≡ Some e → Answers (Err (fault_at e 0)) (and_whole (said_from (said_by limited base) (nothing ∷ []) lines))
 whole_err e r d h = failed e 0 _ (λ some. ap and_whole (all_said r d) ∙ ended_err r.before e h)
 
 pub ends : {base : Parts} {progress : Progress} {i : ℕ} {lines : List (List ℕ)} (result : Result Playlist FaultKind) (r : Reached base progress i lines) → Ends progress result

@@ -1,10 +1,11 @@
 -- What lines say, whatever holds their texts.
-use Rattle.std.specs.Prelude.{ℕ, List, map}
-use Rattle.std.specs.Str.Lines.{lines}
-use Rattle.playlist_meaning.specs.Lines.{Kind, ignored, uri, tag, kind_of}
+use Rattle.std.specs.Prelude.{ℕ, ◌+◌, List, map, length}
+use Rattle.attr_list.specs.declared.attr.Span.{Span}
+use Rattle.playlist_meaning.specs.Lines.{Kind, ignored, uri, tag, kind_of, placed_lines}
 use Rattle.playlist_meaning.specs.Said.{Name, version_tag, target_tag, sequence_tag, discontinuity_sequence_tag, type_tag, ended_tag, independent_tag, frames_tag, master_tag, duration_tag, range_tag, discontinuity_tag, key_tag, map_tag, time_tag, date_range_tag, unknown_tag}
 use Rattle.playlist_parse.specs.declared.line.Line.{Line}
 use Rattle.playlist_parse.specs.declared.line.Line.TheVariants as line
+use Rattle.playlist_parse.specs.declared.line.Placed.{Placed}
 use Rattle.playlist_parse.specs.declared.line.Slices.{Slices}
 use Rattle.playlist_parse.specs.declared.line.Slices.TheVariants as slices
 use Rattle.playlist_parse.specs.declared.tag.Tag.{Tag}
@@ -26,14 +27,37 @@ shown_kind ignored = blank_or_comment
 shown_kind (uri text) = resource text
 shown_kind (tag name rest colon) = named name rest
 
-abbrev pub shown_line : Line → Shown
-shown_line line.Ignored = blank_or_comment
-shown_line (line.Uri text) = resource text
-shown_line (line.Tag name rest) = named name rest
+-- a line of a text: where it begins and ends, and what it is
+pub record LineView : Type 0 where
+  pub start : ℕ
+  pub end : ℕ
+  pub shown : Shown
 
--- the lines of a text, each with its kind
-abbrev pub shown_lines : List ℕ → List Shown
-shown_lines text = map (λ line. shown_kind (kind_of line)) (lines text)
+abbrev pub shown_at : Span → Shown → LineView
+shown_at span shown = record { start = span.start; end = span.end; shown = shown }
+
+abbrev pub line_view : Line → LineView
+line_view (line.Ignored span) = shown_at span blank_or_comment
+line_view (line.Uri text span) = shown_at span (resource text)
+line_view (line.Tag name rest span) = shown_at span (named name rest)
+
+abbrev pub line_span : Line → ℕ × ℕ
+line_span line = ((line_view line).start, (line_view line).end)
+
+-- a line's place and text, from where it begins
+abbrev pub with_end : ℕ × List ℕ → (ℕ × ℕ) × List ℕ
+with_end placed = ((placed.0, placed.0 + length placed.1), placed.1)
+
+-- a line at its place
+abbrev pub placed_line : (ℕ × ℕ) × List ℕ → LineView
+placed_line placed = record { start = placed.0.0; end = placed.0.1; shown = shown_kind (kind_of placed.1) }
+
+-- the lines of a text, each with its place and its kind
+abbrev pub lines_view : List ℕ → List LineView
+lines_view text = map placed_line (map with_end (placed_lines text))
+
+abbrev pub placed_view : Placed → (ℕ × ℕ) × List ℕ
+placed_view placed = ((placed.span.start, placed.span.end), placed.text.now)
 
 abbrev pub tag_view : Tag → Name
 tag_view tag_name.Version = version_tag

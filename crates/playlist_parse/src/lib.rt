@@ -1,6 +1,7 @@
 //! From the bytes of a media playlist to the playlist that they denote, or their first fault.
 #![tactic(auto)]
 
+mod date_range;
 mod line;
 mod progress;
 mod reader;

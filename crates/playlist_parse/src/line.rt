@@ -1,10 +1,12 @@
 //! The lines of a playlist and their kinds (RFC 8216, section 4.1).
-ghost use Rattle.std.specs.Prelude.{◌≡◌, ℕ, List, [], ◌∷◌, ◌++◌, map, codes, Ok, Err, IfOk, nat_eq, IsTrue, ◌==◌};
+ghost use Rattle.std.specs.Prelude.{◌≡◌, ℕ, List, [], ◌∷◌, ◌++◌, map, codes, Ok, Err, IfOk, nat_eq, IsTrue, ◌==◌, ◌+◌, ◌^◌, ◌<◌, length};
 ghost use Rattle.std.specs.List.{list_all, list_any, before_first, after_first};
-ghost use Rattle.std.specs.Str.Lines.{lines};
-ghost use Rattle.playlist_meaning.specs.Lines.{kind_of, is_blank, is_colon, is_tag, is_comment};
-ghost use Rattle.playlist_parse.specs.LineViews.{slices_view, shown_kind, shown_line, shown_lines};
+ghost use Rattle.std.specs.Str.Lines.{lines, strip_carriage_return};
+ghost use Rattle.attr_list.specs.Attributes.{slices_at};
+ghost use Rattle.playlist_meaning.specs.Lines.{kind_of, is_blank, is_colon, is_tag, is_comment, placed_lines};
+ghost use Rattle.playlist_parse.specs.LineViews.{slices_view, line_view, line_span, placed_line, placed_view, with_end, lines_view};
 
+use attr_list::Span;
 use playlist_meaning::Text;
 use std::alloc::{AllocError, Global};
 
@@ -21,14 +23,22 @@ pub enum Slices<'a> {
     },
 }
 
-/// A line of a playlist.
+/// A line of a playlist. Its span is its place in the text, without the line feed that ends it and a
+/// carriage return before that.
 #[derive(Drop)]
 pub enum Line {
     /// A blank line or a comment.
-    Ignored,
-    Uri { text: Text },
+    Ignored { span: Span },
+    Uri { text: Text, span: Span },
     /// A tag: its name runs from behind `#` to the first `:`, its rest is what follows.
-    Tag { name: Text, rest: Text },
+    Tag { name: Text, rest: Text, span: Span },
+}
+
+// A line, and its place in the text.
+#[derive(Clone, Copy)]
+struct Placed<'a> {
+    span: Span,
+    text: &'a str,
 }
 
 fn is_blank(line: &str) -> bool
@@ -74,29 +84,72 @@ pub fn texts(alloc: Global, text: &str) -> Result<Vec<&str>, AllocError>
     text.lines().collect(alloc)
 }
 
-fn owned(alloc: Global, slices: Slices<'_>) -> Result<Line, AllocError>
-    ensures { IfOk result (λ line. shown_line line ≡ shown_kind (slices_view slices.entry)) }
+#[tactic(auto, using(crate::proofs::Places::stripped))]
+// The carriage return goes only with the line feed after it.
+fn without_carriage_return(piece: &str) -> &str
+    ensures { result.now ≡ strip_carriage_return piece.now }
 {
-    match slices {
-        Slices::Ignored => Ok(Line::Ignored),
+    piece.strip_suffix("\r").unwrap_or(piece)
+}
+
+// A line that begins at a place.
+fn line_at(start: usize, text: &str) -> Placed<'_>
+    requires { start + length text.now < 2 ^ 64 }
+    ensures { placed_view result ≡ with_end (start, text.now) }
+{
+    let end = start + text.len();
+    let span = Span { start, end };
+    Placed { span, text }
+}
+
+// The lines of a text, each with its place.
+fn placed_lines(alloc: Global, text: &str) -> Result<Vec<Placed<'_>>, AllocError>
+    ensures { IfOk result (λ v. map placed_view v.items ≡ map with_end (placed_lines text.now)) }
+{
+    let mut found = Vec::new(alloc);
+    let mut start: usize = 0;
+    let mut rest = text;
+    while let Some((piece, later)) = rest.split_once('\n') {
+        found.push(line_at(start, without_carriage_return(piece)))?;
+        start += piece.len() + 1;
+        rest = later;
+    }
+    if rest.is_empty() {
+        return Ok(found);
+    }
+    found.push(line_at(start, rest))?;
+    Ok(found)
+}
+
+fn owned(alloc: Global, placed: Placed<'_>) -> Result<Line, AllocError>
+    ensures { IfOk result (λ line. line_view line ≡ placed_line (placed_view placed.entry)) }
+{
+    let span = placed.span;
+    match slices_of(placed.text) {
+        Slices::Ignored => Ok(Line::Ignored { span }),
         Slices::Uri(text) => Ok(Line::Uri {
             text: Text::copy_of(alloc, text)?,
+            span,
         }),
         Slices::Tag { name, rest, .. } => Ok(Line::Tag {
             name: Text::copy_of(alloc, name)?,
             rest: Text::copy_of(alloc, rest)?,
+            span,
         }),
     }
 }
 
-/// The lines of a playlist's text, each with its kind.
+/// The lines of a playlist's text, each with its kind and its place (RFC 8216, section 4.1).
 pub fn lines(alloc: Global, text: &str) -> Result<Vec<Line>, AllocError>
-    ensures { IfOk result (λ v. map shown_line v.items ≡ shown_lines text.now) }
+    ensures lines { IfOk result (λ v. map line_view v.items ≡ lines_view text.now) }
+
+    // Each line is the slice of the text at its place.
+    ensures slices { IfOk result (λ v. slices_at text.now (map line_span v.items) ≡ lines text.now) }
 {
-    let texts = texts(alloc, text)?;
-    let mut found = Vec::with_capacity(alloc, texts.len())?;
-    for line in &texts {
-        found.push(owned(alloc, slices_of(line))?)?;
+    let placed = placed_lines(alloc, text)?;
+    let mut found = Vec::with_capacity(alloc, placed.len())?;
+    for line in &placed {
+        found.push(owned(alloc, *line)?)?;
     }
     Ok(found)
 }

@@ -5,10 +5,11 @@ ghost use Rattle.playlist_meaning.specs.Reading.{said_by, said_by_kind, said_by_
 ghost use Rattle.playlist_meaning.specs.Lines as kinds;
 ghost use Rattle.playlist_meaning.specs.Said as said;
 ghost use Rattle.playlist_meaning.specs.Said.{number, version_of, playlist_type_of};
-ghost use Rattle.playlist_parse.specs.Later.{this_reader};
+ghost use Rattle.playlist_meaning.specs.Reading.{limited};
 ghost use Rattle.playlist_parse.specs.LineViews.{slices_view, tag_view};
 ghost use Rattle.playlist_parse.specs.Progress.{progress_at, Takes, Ends};
 
+use crate::date_range::date_range_of;
 use crate::line::{Slices, slices_of};
 use crate::tag::{Tag, tag_of};
 use attr_list::read_decimal;
@@ -22,6 +23,7 @@ use std::marker::Model;
 /// A playlist as far as it has been read.
 #[derive(Drop)]
 pub struct Progress<'a> {
+    alloc: Global,
     version: Option<u64>,
     target: Option<u64>,
     kind: Option<PlaylistKind>,
@@ -50,6 +52,7 @@ impl<'a> Progress<'a> {
         ensures { result ≡ progress_at base.now (said.nothing ∷ []) }
     {
         Progress {
+            alloc,
             version: None,
             target: None,
             kind: None,
@@ -66,7 +69,7 @@ impl<'a> Progress<'a> {
 
     /// What one line adds.
     pub fn line(&mut self, line: &str) -> Result<(), FaultKind>
-        ensures { Takes (λ base before. said_by this_reader base before line.now) self.old self.new result }
+        ensures { Takes (λ base before. said_by limited base before line.now) self.old self.new result }
     {
         if has_control(line) {
             return Err(FaultKind::Control);
@@ -79,7 +82,7 @@ impl<'a> Progress<'a> {
     }
 
     fn uri(&mut self, reference: &str) -> Result<(), FaultKind>
-        ensures { Takes (λ base before. said_by_uri this_reader base before reference.now) self.old self.new result }
+        ensures { Takes (λ base before. said_by_uri limited base before reference.now) self.old self.new result }
     {
         let segment = self.state.take_segment(reference)?;
         self.has_media = true;
@@ -88,7 +91,7 @@ impl<'a> Progress<'a> {
     }
 
     fn tag(&mut self, name: &str, rest: &str, colon: bool) -> Result<(), FaultKind>
-        ensures { Takes (λ base before. said_by_kind this_reader base before (kinds.tag name.now rest.now colon)) self.old self.new result }
+        ensures { Takes (λ base before. said_by_kind limited base before (kinds.tag name.now rest.now colon)) self.old self.new result }
     {
         match tag_of(name, colon) {
             Tag::Inf => self.duration(rest),
@@ -105,30 +108,67 @@ impl<'a> Progress<'a> {
             }
             Tag::IFramesOnly => Err(FaultKind::IFramesOnly),
             Tag::Master => Err(FaultKind::MasterPlaylist),
-            Tag::ByteRange => Err(FaultKind::NotYet),
-            Tag::Key => Err(FaultKind::NotYet),
-            Tag::Map => Err(FaultKind::NotYet),
-            Tag::ProgramDateTime => Err(FaultKind::NotYet),
-            Tag::DateRange => Err(FaultKind::NotYet),
+            Tag::ByteRange => self.range(rest),
+            Tag::Key => self.key(rest),
+            Tag::Map => self.section(rest),
+            Tag::ProgramDateTime => self.time(rest),
+            Tag::DateRange => self.date_range(rest),
             Tag::Unknown => Ok(()),
         }
     }
 
     fn duration(&mut self, rest: &str) -> Result<(), FaultKind>
-        ensures { Takes (λ base before. said_by_tag this_reader base before said.duration_tag rest.now) self.old self.new result }
+        ensures { Takes (λ base before. said_by_tag limited base before said.duration_tag rest.now) self.old self.new result }
     {
         self.state.duration_tag(rest)
     }
 
     fn discontinuity(&mut self) -> Result<(), FaultKind>
-        ensures { Takes (λ base before. said_by_tag this_reader base before said.discontinuity_tag []) self.old self.new result }
+        ensures { Takes (λ base before. said_by_tag limited base before said.discontinuity_tag []) self.old self.new result }
     {
         self.state.discontinuity()
     }
 
+    // EXT-X-BYTERANGE (4.3.2.2)
+    fn range(&mut self, rest: &str) -> Result<(), FaultKind>
+        ensures { Takes (λ base before. said_by_tag limited base before said.range_tag rest.now) self.old self.new result }
+    {
+        self.state.range_tag(rest)
+    }
+
+    // EXT-X-KEY (4.3.2.4)
+    fn key(&mut self, rest: &str) -> Result<(), FaultKind>
+        ensures { Takes (λ base before. said_by_tag limited base before said.key_tag rest.now) self.old self.new result }
+    {
+        self.state.key_tag(rest)
+    }
+
+    // EXT-X-MAP (4.3.2.5)
+    fn section(&mut self, rest: &str) -> Result<(), FaultKind>
+        ensures { Takes (λ base before. said_by_tag limited base before said.map_tag rest.now) self.old self.new result }
+    {
+        self.state.map_tag(rest)
+    }
+
+    // EXT-X-PROGRAM-DATE-TIME (4.3.2.6)
+    fn time(&mut self, rest: &str) -> Result<(), FaultKind>
+        ensures { Takes (λ base before. said_by_tag limited base before said.time_tag rest.now) self.old self.new result }
+    {
+        self.state.time_tag(rest)
+    }
+
+    // EXT-X-DATERANGE (4.3.2.7)
+    fn date_range(&mut self, rest: &str) -> Result<(), FaultKind>
+        ensures { Takes (λ base before. said_by_tag limited base before said.date_range_tag rest.now) self.old self.new result }
+    {
+        let range = date_range_of(self.alloc, rest)?;
+        self.ranges.push(range)?;
+        Ok(())
+    }
+
     // EXT-X-VERSION (4.3.1.2)
     fn version(&mut self, rest: &str) -> Result<(), FaultKind>
-        ensures { Takes (λ base before. said_by_tag this_reader base before said.version_tag rest.now) self.old self.new result }
+        ensures { Takes (λ base before. said_by_tag limited base before said.version_tag rest.now) self.old self.new result }
     {
         if self.version.is_some() {
             return Err(FaultKind::Repeated);
@@ -139,7 +179,7 @@ impl<'a> Progress<'a> {
 
     // EXT-X-TARGETDURATION (4.3.3.1)
     fn target(&mut self, rest: &str) -> Result<(), FaultKind>
-        ensures { Takes (λ base before. said_by_tag this_reader base before said.target_tag rest.now) self.old self.new result }
+        ensures { Takes (λ base before. said_by_tag limited base before said.target_tag rest.now) self.old self.new result }
     {
         if self.target.is_some() {
             return Err(FaultKind::Repeated);
@@ -150,7 +190,7 @@ impl<'a> Progress<'a> {
 
     // EXT-X-MEDIA-SEQUENCE (4.3.3.2)
     fn sequence(&mut self, rest: &str) -> Result<(), FaultKind>
-        ensures { Takes (λ base before. said_by_tag this_reader base before said.sequence_tag rest.now) self.old self.new result }
+        ensures { Takes (λ base before. said_by_tag limited base before said.sequence_tag rest.now) self.old self.new result }
     {
         if self.has_sequence {
             return Err(FaultKind::Repeated);
@@ -165,7 +205,7 @@ impl<'a> Progress<'a> {
 
     // EXT-X-DISCONTINUITY-SEQUENCE (4.3.3.3)
     fn discontinuity_sequence(&mut self, rest: &str) -> Result<(), FaultKind>
-        ensures { Takes (λ base before. said_by_tag this_reader base before said.discontinuity_sequence_tag rest.now) self.old self.new result }
+        ensures { Takes (λ base before. said_by_tag limited base before said.discontinuity_sequence_tag rest.now) self.old self.new result }
     {
         if self.has_discontinuity_sequence {
             return Err(FaultKind::Repeated);
@@ -180,7 +220,7 @@ impl<'a> Progress<'a> {
 
     // EXT-X-PLAYLIST-TYPE (4.3.3.5)
     fn playlist_type(&mut self, rest: &str) -> Result<(), FaultKind>
-        ensures { Takes (λ base before. said_by_tag this_reader base before said.type_tag rest.now) self.old self.new result }
+        ensures { Takes (λ base before. said_by_tag limited base before said.type_tag rest.now) self.old self.new result }
     {
         if self.kind.is_some() {
             return Err(FaultKind::Repeated);
@@ -191,7 +231,7 @@ impl<'a> Progress<'a> {
 
     // EXT-X-ENDLIST (4.3.3.4)
     fn end(&mut self) -> Result<(), FaultKind>
-        ensures { Takes (λ base before. said_by_tag this_reader base before said.ended_tag []) self.old self.new result }
+        ensures { Takes (λ base before. said_by_tag limited base before said.ended_tag []) self.old self.new result }
     {
         if self.ended {
             return Err(FaultKind::Repeated);

@@ -2,7 +2,7 @@
 ghost use Rattle.std.specs.Prelude.{◌≡◌, ◌≢◌, ℕ, ◌+◌, ◌<◌, [], ◌∷◌, map, Ok, Err, IfOk, IfErr, MatchResult, length};
 ghost use Rattle.playlist_meaning.specs.Said.{nothing};
 ghost use Rattle.playlist_meaning.specs.Reading.{reading, said_by, said_from, and_whole, Denotes};
-ghost use Rattle.playlist_parse.specs.Later.{this_reader};
+ghost use Rattle.playlist_meaning.specs.Reading.{limited};
 ghost use Rattle.playlist_parse.specs.Answers.{Answers, fault_at};
 
 use crate::line::texts;
@@ -27,7 +27,7 @@ fn fault_at(kind: FaultKind, line: u64) -> PlaylistFault
 
 // Reads the lines after the header.
 fn read_lines(alloc: Global, later: &[&str], base: &Base) -> Result<Playlist, PlaylistFault>
-    ensures { Answers result (and_whole (said_from (said_by this_reader base.now) (nothing ∷ []) (map (λ x. x.now) later.now))) }
+    ensures { Answers result (and_whole (said_from (said_by limited base.now) (nothing ∷ []) (map (λ x. x.now) later.now))) }
 {
     let mut progress = Progress::new(alloc, base);
     for (i, line) in later.iter().enumerate() {
@@ -45,7 +45,7 @@ fn read_lines(alloc: Global, later: &[&str], base: &Base) -> Result<Playlist, Pl
 /// The playlist that bytes denote under a base, of at most 4,194,304 bytes, 10,000 segments, 64
 /// attributes in a tag and 16 key formats in force; or its first fault and the line of that.
 pub fn read(alloc: Global, bytes: &[u8], base: &Base) -> Result<Playlist, PlaylistFault>
-    ensures { Answers result (reading this_reader base.now bytes.now) }
+    ensures { Answers result (reading limited base.now bytes.now) }
 {
     let text = match text_of(bytes) {
         Ok(text) => text,

@@ -1,6 +1,7 @@
 //! Faults with their lines, and limits on both sides.
 use crate::{Line, MOST_BYTES, lines, read};
-use playlist_meaning::{Base, FaultKind, Playlist, PlaylistFault, PlaylistKind};
+use fixed_duration::Nanos;
+use playlist_meaning::{Base, FaultKind, Instant, Playlist, PlaylistFault, PlaylistKind};
 use std::alloc::Global;
 use std::test::Fail;
 
@@ -40,6 +41,70 @@ fn header_tags(rt: HostRuntime) -> Result<(), Fail> {
     };
     assert_eq!(rt; segment.number, 8);
     assert_eq!(rt; segment.discontinuity, 2);
+    Ok(())
+}
+
+#[test]
+fn times_and_date_ranges(rt: HostRuntime) -> Result<(), Fail> {
+    let base = Base::new(rt.alloc(), BASE)?;
+    let text =
+        b"#EXTM3U\n#EXT-X-TARGETDURATION:10\n#EXT-X-DATERANGE:ID=\"b1\",START-DATE=\"2024-05-01T12:00:10Z\",END-DATE=\"2024-05-01T12:00:20Z\",DURATION=10,PLANNED-DURATION=9.5,SCTE35-OUT=0xFC,SCTE35-IN=0xFD\n#EXT-X-PROGRAM-DATE-TIME:1970-01-01T00:00:00Z\n#EXT-X-PROGRAM-DATE-TIME:2024-05-01T14:00:10.25+02:00\n#EXTINF:10,\ns0.ts\n#EXT-X-DATERANGE:ID=\"b2\"\n";
+    let playlist = read(rt.alloc(), text, &base)?;
+    let [segment] = playlist.segments.as_slice() else {
+        return Err(Fail::from("one segment"));
+    };
+    assert_eq!(rt; segment.time, Some(Instant(1_714_564_810_250_000_000)));
+    let [first, second] = playlist.ranges.as_slice() else {
+        return Err(Fail::from("two date ranges"));
+    };
+    assert_eq!(rt; first.id.as_str(), "b1");
+    assert_eq!(rt; first.start, Some(Instant(1_714_564_810_000_000_000)));
+    assert_eq!(rt; first.end, Some(Instant(1_714_564_820_000_000_000)));
+    assert_eq!(rt; first.duration, Some(Nanos(10_000_000_000)));
+    assert_eq!(rt; first.planned, Some(Nanos(9_500_000_000)));
+    assert_eq!(rt; first.out.as_ref().map(|t| t.as_str()), Some("0xFC"));
+    assert_eq!(rt; first.back.as_ref().map(|t| t.as_str()), Some("0xFD"));
+    assert_eq!(rt; second.text.as_str(), "ID=\"b2\"");
+    assert_eq!(rt; second.start, None);
+    Ok(())
+}
+
+#[test]
+fn faults_of_date_ranges(rt: HostRuntime) -> Result<(), Fail> {
+    let base = Base::new(rt.alloc(), BASE)?;
+    let table: [(&[u8], FaultKind); 7] = [
+        (
+            b"#EXTM3U\n#EXT-X-PROGRAM-DATE-TIME:2024-02-30T00:00:00Z\n",
+            FaultKind::BadTime,
+        ),
+        (b"#EXTM3U\n#EXT-X-DATERANGE:\n", FaultKind::BadAttributes),
+        (
+            b"#EXTM3U\n#EXT-X-DATERANGE:START-DATE=x\n",
+            FaultKind::MissingAttribute,
+        ),
+        (
+            b"#EXTM3U\n#EXT-X-DATERANGE:ID=b,START-DATE=x\n",
+            FaultKind::BadAttributes,
+        ),
+        (
+            b"#EXTM3U\n#EXT-X-DATERANGE:DURATION=x,END-DATE=x,ID=\"b\"\n",
+            FaultKind::BadTime,
+        ),
+        (
+            b"#EXTM3U\n#EXT-X-DATERANGE:DURATION=1,PLANNED-DURATION=x,ID=\"b\"\n",
+            FaultKind::BadDuration,
+        ),
+        (
+            b"#EXTM3U\n#EXT-X-DATERANGE:DURATION=x,ID=\"b\",ID=\"b\"\n",
+            FaultKind::BadAttributes,
+        ),
+    ];
+    for (text, kind) in table {
+        assert_eq!(rt;
+            fault_of(rt.alloc(), text, &base),
+            Some(PlaylistFault { kind, line: 2 })
+        );
+    }
     Ok(())
 }
 
@@ -111,8 +176,8 @@ fn faults(rt: HostRuntime) -> Result<(), Fail> {
         (b"#EXTM3U\na.ts\n", FaultKind::NoDuration, 2),
         (b"#EXTM3U\n#EXTINF:1,\n//[/a\n", FaultKind::BadUri, 3),
         (
-            b"#EXTM3U\n#EXT-X-TARGETDURATION:10\n#EXT-X-KEY:METHOD=NONE\n",
-            FaultKind::NotYet,
+            b"#EXTM3U\n#EXT-X-TARGETDURATION:10\n#EXT-X-KEY:METHOD=AES-128\n",
+            FaultKind::MissingAttribute,
             3,
         ),
     ];
@@ -197,9 +262,9 @@ fn kinds_of_lines(rt: HostRuntime) -> Result<(), Fail> {
     let mut shown = String::new(rt.alloc());
     for line in &lines {
         match line {
-            Line::Ignored => shown.push_str("-")?,
-            Line::Uri { text } => shown.push_str(text.as_str())?,
-            Line::Tag { name, rest } => {
+            Line::Ignored { .. } => shown.push_str("-")?,
+            Line::Uri { text, .. } => shown.push_str(text.as_str())?,
+            Line::Tag { name, rest, .. } => {
                 shown.push_str(name.as_str())?;
                 shown.push_str("|")?;
                 shown.push_str(rest.as_str())?;

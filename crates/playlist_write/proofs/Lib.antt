@@ -1,5 +1,13 @@
 pub mod Fronts
-pub mod FixedDigits
 pub mod Chains
 pub mod TagLines
-pub mod WalkedDates
+pub mod EachRest
+pub mod WrittenNumbers
+pub mod CleanTexts
+pub mod TagFields
+pub mod WrittenTimes
+pub mod DateRangeReads
+pub mod SaidLines
+pub mod Machine
+pub mod Groups
+pub mod Whole

@@ -1,5 +1,8 @@
-pub mod Digits
-pub mod Times
 pub mod Spelling
 pub mod Owed
+pub mod Fitting
+pub mod DateRangeParts
+pub mod WellFormed
+pub mod Denoted
+pub mod Laws
 pub mod Handed

@@ -11,7 +11,7 @@ use Rattle.playlist_meaning.specs.Said.{Said, version, target, sequence, discont
 use Rattle.stitcher.specs.declared.KeyTag.{KeyTag}
 use Rattle.stitcher.specs.declared.KeyTag.TheVariants.{End, Set}
 use Rattle.stitcher.specs.declared.OutSegment.{OutSegment}
-use Rattle.stitcher.specs.Same.{same_option, same_section}
+use Rattle.playlist_meaning.specs.Same.{same_option, same_section}
 use Rattle.stitcher.specs.KeyTags.{transition}
 use Rattle.playlist_write.specs.declared.OutPlaylist.{OutPlaylist}
 use Rattle.playlist_write.specs.Spelling.{spelled, date_range_line}

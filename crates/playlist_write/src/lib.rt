@@ -1,10 +1,14 @@
 //! Writes media playlists (RFC 8216, section 4.3).
 #![tactic(auto)]
 
-ghost use Rattle.std.specs.Prelude.{◌≡◌, OnOk, OnErr, IfOk, IsErrOf, string_bytes};
+ghost use Rattle.std.specs.Prelude.{◌≡◌, true, OnOk, OnErr, IfOk, IsErrOf, string_bytes};
 ghost use Rattle.std.specs.Io.KnownBytes.{Appends, Keeps};
+ghost use Rattle.url.specs.Parts.{Parts};
 ghost use Rattle.playlist_meaning.specs.Devices.{HasRisen};
+ghost use Rattle.playlist_meaning.specs.Reading.{Denotes};
 ghost use Rattle.playlist_write.specs.Owed.{text_of};
+ghost use Rattle.playlist_write.specs.WellFormed.{well_formed};
+ghost use Rattle.playlist_write.specs.Denoted.{denoted};
 ghost use Rattle.playlist_write.specs.Handed.{TookFront};
 
 use crate::hand_out::hand_out;
@@ -15,13 +19,17 @@ use playlist_meaning::{Items, PlaylistKind, Sink, Text};
 use std::alloc::{AllocError, Global};
 use stitcher::OutSegment;
 
+mod date_ranges;
 mod digits;
 mod hand_out;
 mod header;
+mod key_rules;
 mod keys;
+pub mod laws;
 mod lines;
 mod segments;
-mod time;
+mod texts;
+mod well_formed;
 
 /// A playlist as it is written.
 #[derive(Clone, PartialEq, Drop)]
@@ -86,10 +94,15 @@ fn make_text(alloc: Global, playlist: &OutPlaylist) -> Result<String, AllocError
     Ok(text)
 }
 
+#[tactic(auto, using(crate::proofs::Whole::text_denotes))]
 /// Writes a playlist: its whole text, or a front of it where the sink fails.
 pub fn write<S: Sink>(alloc: Global, playlist: &OutPlaylist, sink: &mut S) -> Result<(), WriteFault>
     ensures ok { OnOk result (Appends (S.contents sink.old) (S.contents sink.new) (text_of playlist.now)) }
     ensures err { OnErr result (TookFront (S.contents sink.old) (S.contents sink.new) (text_of playlist.now)) }
+
+    // The text of a playlist that is well formed is read as that playlist, whatever the base.
+    ensures denotes { well_formed playlist.now ≡ true
+        → (base : Parts) → Denotes base (text_of playlist.now) (denoted playlist.now) }
 
     // The sink is blamed only where it failed or took nothing.
     ensures io { IsErrOf result WriteFault.Io → HasRisen (S.failed sink.old) (S.failed sink.new) }
@@ -100,3 +113,6 @@ pub fn write<S: Sink>(alloc: Global, playlist: &OutPlaylist, sink: &mut S) -> Re
     let text = make_text(alloc, playlist)?;
     hand_out(text.as_bytes(), sink)
 }
+
+#[cfg(test)]
+mod tests;

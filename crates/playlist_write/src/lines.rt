@@ -28,8 +28,7 @@ pub fn push_line(out: &mut String, line: &str) -> Result<(), AllocError>
     ensures { OnOk result (string_bytes out.new ≡ string_bytes out.old ++ with_feed line.now) }
 {
     out.push_str(line)?;
-    out.push('\n')?;
-    Ok(())
+    push_feed(out)
 }
 
 // Appends a line of two parts.
@@ -46,8 +45,7 @@ pub fn push_number_line(out: &mut String, tag: &str, number: u64) -> Result<(), 
 {
     out.push_str(tag)?;
     push_number(out, number)?;
-    out.push('\n')?;
-    Ok(())
+    push_feed(out)
 }
 
 // Appends a range as `n@o`.

@@ -2,16 +2,17 @@
 ghost use Rattle.std.specs.Prelude.{◌≡◌, ◌++◌, ℕ, ℤ, [], ◌∷◌, OnOk, string_bytes, replicate, Some};
 ghost use Rattle.std.specs.Option.{option_copied};
 ghost use Rattle.playlist_meaning.specs.Said as Said;
-ghost use Rattle.stitcher.specs.Same.{same_option, same_section};
+ghost use Rattle.playlist_meaning.specs.Same.{same_option, same_section};
 ghost use Rattle.playlist_write.specs.Owed.{Current, none_yet, line_of, said_text, changed_section, section_owed, keys_then, time_owed, range_owed, media_owed, segment_owed, segments_owed};
 
 use crate::keys::{push_key_tags, push_section};
 use crate::lines::{push_feed, push_line, push_range};
-use crate::time::push_time;
 use fixed_duration::Nanos;
-use playlist_meaning::{ByteRange, InitSection, Instant, Key, Segment};
+use playlist_meaning::{
+    ByteRange, InitSection, Instant, Key, Segment, is_same_section, write_instant,
+};
 use std::alloc::AllocError;
-use stitcher::{OutSegment, is_same_section};
+use stitcher::OutSegment;
 
 #[tactic(auto, unfolding(crate::specs::Owed::line_of))]
 fn push_discontinuity(out: &mut String) -> Result<(), AllocError>
@@ -86,7 +87,7 @@ fn push_instant(out: &mut String, time: Instant) -> Result<(), AllocError>
     ensures { OnOk result (string_bytes out.new ≡ string_bytes out.old ++ line_of (Said.time time)) }
 {
     out.push_str("#EXT-X-PROGRAM-DATE-TIME:")?;
-    push_time(time, out)?;
+    write_instant(time, out)?;
     push_feed(out)?;
     Ok(())
 }

@@ -1,1 +1,4 @@
+pub mod KeyLemmas
+pub mod Ranges
 pub mod Taken
+pub mod Timed

@@ -10,7 +10,7 @@ use Rattle.playlist_meaning.specs.declared.InitSection.{InitSection}
 use Rattle.playlist_meaning.specs.Said.{Said, media, uri_of}
 use Rattle.playlist_meaning.specs.LookBack.{Standing, standing_at, number_at, own_duration, effective_key, range_at, range_from, count, is_media, segment_at, extent_with}
 use Rattle.playlist_meaning.specs.Reading.{said_by_uri, limited, passes}
-use Rattle.segment_state.specs.Running.{every_tag, running_at, behind_segment}
+use Rattle.segment_state.specs.Running.{running_at, behind_segment}
 
 not_past : (n : ℕ) → n < 2 ^ 64 → passes n ≡ false
 not_past n h = grind (arith, nat_tests)
@@ -44,7 +44,7 @@ pub record Taken (s : Standing) (base : Parts) (reference uri : List ℕ) (range
   pub part : range_from s.range uri s.extent ≡ Ok range
 
 said_by : (base : Parts) (before : List Said) (reference uri : List ℕ) (range : Option ByteRange) (own : ℕ × List ℕ) → nat_lt 10000 (count is_media before + 1) ≡ false → own_duration before ≡ Some own → passes (number_at before) ≡ false
-    → uri_of base reference ≡ Ok uri → range_at before uri ≡ Ok range → said_by_uri (limited every_tag) base before reference ≡ Ok (media uri)
+    → uri_of base reference ≡ Ok uri → range_at before uri ≡ Ok range → said_by_uri limited base before reference ≡ Ok (media uri)
 said_by base before reference uri range own room is number resource part = rw (room, is, number, resource, part) refl
 
 segment_is : (before : List Said) (uri : List ℕ) (range : Option ByteRange) (own : ℕ × List ℕ) → own_duration before ≡ Some own → range_at before uri ≡ Ok range
@@ -57,7 +57,7 @@ behind_is base before uri range part = rw part refl
 
 -- then it says its resource, its segment is the one that stands there, and so is what stands behind it
 pub taken : (s : Standing) (base : Parts) (before : List Said) (reference uri : List ℕ) (range : Option ByteRange) (own : ℕ × List ℕ) → Taken s base reference uri range own → s ≡ standing_at before
-    → (said_by_uri (limited every_tag) base before reference ≡ Ok (media uri)) × (segment_from s uri range own ≡ segment_at before uri)
+    → (said_by_uri limited base before reference ≡ Ok (media uri)) × (segment_from s uri range own ≡ segment_at before uri)
     × (behind_segment (record { base = base; standing = s }) (extent_with uri range) ≡ running_at base (media uri ∷ before))
 taken s base before reference uri range own t e =
     let room = ap (λ (x : Standing). nat_lt 10000 (x.media_count + 1)) (sym e) ∙ t.room in

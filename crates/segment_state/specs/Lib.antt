@@ -1,2 +1,3 @@
 pub mod Running
 pub mod Views
+pub mod Tags

@@ -1,15 +1,11 @@
 -- A state, and what a line does to it.
-use Rattle.std.specs.Prelude.{◌≡◌, Bool, false, ◌+◌, Option, None, List, ◌∷◌, Result, Ok, MatchResult, IsOk}
+use Rattle.std.specs.Prelude.{◌≡◌, ◌+◌, Option, None, List, ◌∷◌, Result, Ok, MatchResult, IsOk}
 use Rattle.url.specs.Parts.{Parts}
 use Rattle.playlist_meaning.specs.declared.FaultKind.{FaultKind}
 use Rattle.playlist_meaning.specs.declared.Segment.{Segment}
-use Rattle.playlist_meaning.specs.Said.{Name, Said, media, Outcome}
+use Rattle.playlist_meaning.specs.Said.{Said, media, Outcome}
 use Rattle.playlist_meaning.specs.LookBack.{Standing, Extent, standing_at, with_said, segment_at}
 use Rattle.playlist_meaning.specs.Refusals.{Refuses}
-
--- a state reads every tag
-abbrev pub every_tag : Name → Bool
-every_tag name = false
 
 -- the base of the playlist's references, and what stands at a line
 pub record Running : Type 0 where

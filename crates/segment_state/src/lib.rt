@@ -10,15 +10,21 @@ ghost use Rattle.playlist_meaning.specs.Reading.{limited, said_by_tag, said_by_u
 ghost use Rattle.playlist_meaning.specs.Said as said;
 ghost use Rattle.playlist_meaning.specs.Said.{uri_of, duration_said};
 ghost use Rattle.playlist_meaning.specs.Refusals.{Refuses};
-ghost use Rattle.segment_state.specs.Running.{every_tag, running_at, behind_segment, Follows, Takes, TakesSegment};
+ghost use Rattle.segment_state.specs.Running.{running_at, behind_segment, Follows, Takes, TakesSegment};
 ghost use Rattle.segment_state.specs.Views.{extent_of};
 
+use crate::keys::{copied_keys, effective_keys, is_iv_needed, put_key};
+use crate::tags::{KeyTag, key_said, range_of, section_said, uri_of};
 use fixed_duration::Nanos;
 use playlist_meaning::{
-    Base, BaseFault, ByteRange, FaultKind, InitSection, Instant, Items, Key, Keys, Segment, Text,
+    Base, ByteRange, FaultKind, InitSection, Instant, Items, Key, Keys, Segment, Text,
 };
 use std::alloc::{AllocError, Global};
 use std::marker::Model;
+
+mod keys;
+mod tags;
+mod times;
 
 /// How many segments a playlist may have.
 const MOST_SEGMENTS: u64 = 10_000;
@@ -106,7 +112,7 @@ impl<'a> State<'a> {
 
     /// A discontinuity before the next segment (4.3.2.3). `BadValue` where its number passes 2^64 - 1.
     pub fn discontinuity(&mut self) -> Result<(), FaultKind>
-        ensures { Takes (λ base before. said_by_tag (limited every_tag) base before said.discontinuity_tag []) self.old self.new result }
+        ensures { Takes (λ base before. said_by_tag limited base before said.discontinuity_tag []) self.old self.new result }
     {
         let Some(total) = self.discontinuities.checked_add(1) else {
             return Err(FaultKind::BadValue);
@@ -121,7 +127,7 @@ impl<'a> State<'a> {
 
     /// The duration and the title of the next segment (4.3.2.1). `BadDuration` where it states none.
     pub fn duration_tag(&mut self, rest: &str) -> Result<(), FaultKind>
-        ensures { Takes (λ base before. said_by_tag (limited every_tag) base before said.duration_tag rest.now) self.old self.new result }
+        ensures { Takes (λ base before. said_by_tag limited base before said.duration_tag rest.now) self.old self.new result }
     {
         let (seconds, title) = parts_at_comma(rest);
         let Ok(nanos) = Nanos::read(seconds) else {
@@ -129,6 +135,47 @@ impl<'a> State<'a> {
         };
         let title = Text::copy_of(self.alloc, title)?;
         self.duration = Some((nanos, title));
+        Ok(())
+    }
+
+    /// A key tag (4.3.2.4). The faults, in this order: `BadAttributes` for the list,
+    /// `MissingAttribute` or `BadAttributes` for METHOD, URI, IV and KEYFORMAT, `BadUri`, `TooMany`
+    /// where 17 formats would be in force. METHOD=NONE ends the keys of every format.
+    pub fn key_tag(&mut self, rest: &str) -> Result<(), FaultKind>
+        ensures { Takes (λ base before. said_by_tag limited base before said.key_tag rest.now) self.old self.new result }
+    {
+        match key_said(self.alloc, self.base, rest)? {
+            KeyTag::End => self.keys.clear(),
+            KeyTag::Set(key) => put_key(&mut self.keys, key)?,
+        }
+        Ok(())
+    }
+
+    /// A map tag (4.3.2.5), whose keys are those in force at its own line. The faults, in this order:
+    /// `BadAttributes` for the list, `MissingAttribute` or `BadAttributes` for URI, `BadAttributes` or
+    /// `BadRange` for BYTERANGE, `BadUri`, `MapWithoutIv` where a key of METHOD AES-128 has no IV.
+    pub fn map_tag(&mut self, rest: &str) -> Result<(), FaultKind>
+        ensures { Takes (λ base before. said_by_tag limited base before said.map_tag rest.now) self.old self.new result }
+    {
+        let tag = section_said(self.alloc, self.base, rest)?;
+        if is_iv_needed(self.keys.as_slice()) {
+            return Err(FaultKind::MapWithoutIv);
+        }
+        let keys = copied_keys(self.alloc, self.keys.as_slice())?;
+        self.section = Some(InitSection {
+            uri: tag.uri,
+            range: tag.range,
+            keys: Items::from_vec(keys),
+        });
+        Ok(())
+    }
+
+    /// The byte range of the next segment (4.3.2.2). `BadRange` where it states none, or its end
+    /// passes 2^64 - 1. Takes no memory.
+    pub fn range_tag(&mut self, rest: &str) -> Result<(), FaultKind>
+        ensures { Takes (λ base before. said_by_tag limited base before said.range_tag rest.now) self.old self.new result }
+    {
+        self.range = Some(range_of(rest)?);
         Ok(())
     }
 
@@ -143,16 +190,6 @@ impl<'a> State<'a> {
         ensures { SomeIff result (self.now.standing.sequence + self.now.standing.media_count < 2 ^ 64) (self.now.standing.sequence + self.now.standing.media_count) }
     {
         self.sequence.checked_add(self.media)
-    }
-
-    fn resolved(&self, reference: &str) -> Result<Text, FaultKind>
-        ensures { MatchResult result (λ uri. uri_of self.now.base reference.now ≡ Ok uri) (λ e. Refuses e (uri_of self.now.base reference.now)) }
-    {
-        match self.base.resolve(reference) {
-            Ok(uri) => Ok(Text::from_string(uri)),
-            Err(BaseFault::OutOfMemory) => Err(FaultKind::OutOfMemory),
-            Err(_) => Err(FaultKind::BadUri),
-        }
     }
 
     // The range of a segment of this resource here.
@@ -196,7 +233,7 @@ impl<'a> State<'a> {
     /// this order: `TooMany` past 10,000 segments, `NoDuration`, `BadValue` where its media number
     /// passes 2^64 - 1, `BadUri`, `RangeNoStart`, `BadRange`.
     pub fn take_segment(&mut self, reference: &str) -> Result<Segment, FaultKind>
-        ensures { TakesSegment (λ base before. said_by_uri (limited every_tag) base before reference.now) self.old self.new result }
+        ensures { TakesSegment (λ base before. said_by_uri limited base before reference.now) self.old self.new result }
     {
         if self.is_full() {
             return Err(FaultKind::TooMany);
@@ -207,7 +244,7 @@ impl<'a> State<'a> {
         let Some(number) = self.number() else {
             return Err(FaultKind::BadValue);
         };
-        let uri = self.resolved(reference)?;
+        let uri = uri_of(self.base, reference)?;
         let range = self.next_range(uri.as_str())?;
         let last = extent_with(self.alloc, uri.as_str(), range)?;
         let keys = self.effective_keys(number)?;
@@ -259,33 +296,6 @@ fn copied_section(
         range: section.range,
         keys: Items::from_vec(copied_keys(alloc, section.keys.as_slice())?),
     }))
-}
-
-fn copied_keys(alloc: Global, keys: &[Key]) -> Result<Vec<Key>, AllocError>
-    ensures { IfOk result (λ v. v.items ≡ keys.now) }
-{
-    Vec::from_clones(alloc, keys)
-}
-
-// A key with the media number as its IV, where it is of the format `identity` and states none.
-fn effective_key(key: &Key, number: u64) -> Result<Key, AllocError>
-    ensures { IfOk result (λ k. k ≡ effective_key number key.now) }
-{
-    let mut found = key.clone()?;
-    if found.format.as_str() == "identity" && found.iv.is_none() {
-        found.iv = Some(u128::from(number));
-    }
-    Ok(found)
-}
-
-fn effective_keys(alloc: Global, keys: &[Key], number: u64) -> Result<Vec<Key>, AllocError>
-    ensures { IfOk result (λ v. v.items ≡ map (effective_key number) keys.now) }
-{
-    let mut found = Vec::with_capacity(alloc, keys.len())?;
-    for key in keys {
-        found.push(effective_key(key, number)?)?;
-    }
-    Ok(found)
 }
 
 // What stands before the first comma and after it. Without one the whole text stands before it.

@@ -1,1 +1,1 @@
-pub mod Pointwise
+pub mod TagLaws

@@ -5,7 +5,7 @@ use Rattle.playlist_meaning.specs.declared.Key.{Key}
 use Rattle.playlist_meaning.specs.LookBack.{has_format, put_key}
 use Rattle.stitcher.specs.declared.KeyTag.{KeyTag}
 use Rattle.stitcher.specs.declared.KeyTag.TheVariants.{End, Set}
-use Rattle.stitcher.specs.Same.{same_key}
+use Rattle.playlist_meaning.specs.Same.{same_key}
 
 -- one of the keys has the format of this one
 abbrev pub has_its_format : List Key → Key → Bool

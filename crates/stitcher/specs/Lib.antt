@@ -1,2 +1,3 @@
-pub mod Same
 pub mod KeyTags
+pub mod Laws
+pub mod FaultTexts

@@ -1,12 +1,13 @@
 //! The key tags that lead from keys to keys.
-ghost use Rattle.std.specs.Prelude.{◌≡◌};
+ghost use Rattle.std.specs.Prelude.{◌≡◌, ◌∷◌, true, map, filter, IfOk};
 ghost use Rattle.std.specs.List.{list_any};
-ghost use Rattle.playlist_meaning.specs.LookBack.{has_format};
-ghost use Rattle.stitcher.specs.Same.{same_key};
-ghost use Rattle.stitcher.specs.KeyTags.{is_new, keeps_formats};
+ghost use Rattle.playlist_meaning.specs.LookBack.{has_format, are_sorted};
+ghost use Rattle.playlist_meaning.specs.Same.{same_key};
+ghost use Rattle.stitcher.specs.KeyTags.{is_new, keeps_formats, transition, after_tags};
 
-use crate::same::is_same_key;
-use playlist_meaning::Key;
+use crate::{KeyTag, StitchFault};
+use playlist_meaning::{Key, is_same_key};
+use std::alloc::{AllocError, Global};
 
 fn has_format(keys: &[Key], format: &str) -> bool
     ensures { result ≡ list_any (has_format format.now) keys.now }
@@ -32,4 +33,58 @@ pub fn is_new(keys: &[Key], key: &Key) -> bool
     ensures { result ≡ is_new keys.now key.now }
 {
     !is_among(keys, key)
+}
+
+fn tag_of(key: &Key) -> Result<KeyTag, AllocError>
+    ensures { IfOk result (λ tag. tag ≡ KeyTag.Set key.now) }
+{
+    Ok(KeyTag::Set(key.clone()?))
+}
+
+// A tag for each key that is not among the old ones as it is.
+fn tags_of_new(alloc: Global, old: &[Key], new: &[Key]) -> Result<Vec<KeyTag>, AllocError>
+    ensures { IfOk result (λ tags. tags.items ≡ map KeyTag.Set (filter (is_new old.now) new.now)) }
+{
+    let mut tags = Vec::new(alloc);
+    for key in new {
+        if is_new(old, key) {
+            tags.push(tag_of(key)?)?;
+        }
+    }
+    Ok(tags)
+}
+
+// The end of all keys, and a tag for each of these.
+fn tags_after_end(alloc: Global, keys: &[Key]) -> Result<Vec<KeyTag>, AllocError>
+    ensures { IfOk result (λ tags. tags.items ≡ KeyTag.End ∷ map KeyTag.Set keys.now) }
+{
+    let mut tags = Vec::new(alloc);
+    tags.push(KeyTag::End)?;
+    for key in keys {
+        tags.push(tag_of(key)?)?;
+    }
+    Ok(tags)
+}
+
+fn tags_between(alloc: Global, old: &[Key], new: &[Key]) -> Result<Vec<KeyTag>, AllocError>
+    ensures { IfOk result (λ tags. tags.items ≡ transition old.now new.now) }
+{
+    if keeps_formats(old, new) {
+        return tags_of_new(alloc, old, new);
+    }
+    tags_after_end(alloc, new)
+}
+
+/// The key tags that lead from the keys in force to others, each sorted by format with one key for
+/// each (RFC 8216, section 4.3.2.4): where a format ends, METHOD=NONE and every new key, else each new
+/// key that isn't in force as it is.
+pub fn transition(alloc: Global, old: &[Key], new: &[Key]) -> Result<Vec<KeyTag>, StitchFault>
+    ensures tags { IfOk result (λ tags. tags.items ≡ transition old.now new.now) }
+
+    // After these tags exactly the new keys are in force.
+    ensures leads { IfOk result (λ tags.
+        are_sorted old.now ≡ true → are_sorted new.now ≡ true → after_tags old.now tags.items ≡ new.now) }
+{
+    let tags = tags_between(alloc, old, new)?;
+    Ok(tags)
 }

@@ -3,11 +3,12 @@
 
 use playlist_meaning::{Instant, Key, Segment};
 
+mod fault;
 mod key_tags;
-mod same;
+pub mod laws;
 
-pub use key_tags::{is_new, keeps_formats};
-pub use same::{is_same_key, is_same_section};
+pub use fault::StitchFault;
+pub use key_tags::{is_new, keeps_formats, transition};
 
 /// A key tag (RFC 8216, section 4.3.2.4).
 #[derive(Clone, PartialEq, Drop)]
@@ -31,3 +32,6 @@ pub struct OutSegment {
     /// The instant that is written before it, if one is.
     pub time: Option<Instant>,
 }
+
+#[cfg(test)]
+mod tests;

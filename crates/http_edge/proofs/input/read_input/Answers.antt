@@ -1,4 +1,4 @@
-use Rattle.std.proofs.Common.{◌≡◌, ◌+◌, ◌<◌, [], ◌++◌, take, length, sym, ◌∙◌, ap, arith, append-nil, refl, subst}
+use Rattle.std.proofs.Common.{◌<◌, [], take, length, sym, ◌∙◌, arith, append-nil, refl, subst}
 use Rattle.std.proofs.KnownBytes.{Consumes-trans}
 use Rattle.std.specs.Io.KnownBytes.{Consumes}
 use Rattle.http_edge.proofs.input.read_input.Goals as goal

@@ -1,6 +1,6 @@
 use Rattle.std.proofs.Common.{◌∷◌, [], string_bytes}
 use Rattle.std.specs.Prelude.{codes}
-use Rattle.playlist_write.specs.Times.{time_text}
+use Rattle.playlist_meaning.specs.Times.{time_text}
 use Rattle.playlist_write.proofs.Chains.{grown3, as_text}
 use Rattle.playlist_write.proofs.TagLines.{time_parts}
 use Rattle.playlist_write.proofs.segments.push_instant.Goals as goal
@@ -9,4 +9,4 @@ pub returns : goal.returns
 returns c =
     let s = string_bytes c.args.out.now in
     as_text s (grown3 s (codes "#EXT-X-PROGRAM-DATE-TIME:") (time_text c.args.time) (10 ∷ [])
-    c.in_ok-push_str.ensures.bytes c.in_ok-push_time.ensures c.in_ok-push_feed.ensures) (time_parts c.args.time)
+    c.in_ok-push_str.ensures.bytes c.in_ok-write_instant.ensures.text c.in_ok-push_feed.ensures) (time_parts c.args.time)

@@ -1,5 +1,6 @@
 use Rattle.std.proofs.Common.{◌≡◌, ◌+◌, map, ◌∙◌, ap, sym, rules}
 use Rattle.playlist_meaning.specs.LookBack.{effective_key, extent_with}
+use Rattle.playlist_meaning.specs.Said.{uri_of}
 use Rattle.std.specs.Prelude.{option_map}
 use Rattle.segment_state.specs.Views.{extent_of}
 use Rattle.segment_state.specs.Running.{Running, behind_segment}
@@ -12,7 +13,7 @@ returns c = λ before e.
       room = sym c.is_full.ensures ∙ c.if-is_full.false;
       own_is = search rules;
       number = search rules;
-      resource = c.in_ok-uri.ensures;
+      resource = ap (λ (r : Running). uri_of r.base c.args.reference.now) (sym c.self.view_is) ∙ c.in_ok-uri.ensures;
       part = search rules;
     } in
     let all = taken _ _ before _ _ _ _ t e in

@@ -1,0 +1,51 @@
+-- Whether two keys, or two initialisation sections, are the same in all their parts.
+use Rattle.std.specs.Prelude.{ℕ, Bool, true, false, not, [], ◌&&◌, ◌==◌, Option, Some, None, bytes_eq}
+use Rattle.std.specs.Cmp.Lexicographic.{pointwise}
+use Rattle.playlist_meaning.specs.declared.Key.{Key}
+use Rattle.playlist_meaning.specs.declared.KeyAttr.{KeyAttr}
+use Rattle.playlist_meaning.specs.declared.ByteRange.{ByteRange}
+use Rattle.playlist_meaning.specs.declared.InitSection.{InitSection}
+use Rattle.playlist_meaning.specs.declared.Segment.{Segment}
+
+abbrev pub same_option : {A : Type 0} → (A → A → Bool) → Option A → Option A → Bool
+same_option same None None = true
+same_option same None (Some y) = false
+same_option same (Some x) None = false
+same_option same (Some x) (Some y) = same x y
+
+abbrev pub same_flag : Bool → Bool → Bool
+same_flag true b = b
+same_flag false b = not b
+
+abbrev pub same_number : ℕ → ℕ → Bool
+same_number a b = a == b
+
+abbrev pub same_attr : KeyAttr → KeyAttr → Bool
+same_attr a b = bytes_eq a.name b.name && bytes_eq a.value b.value && same_flag a.quoted b.quoted
+
+abbrev pub same_key : Key → Key → Bool
+same_key j k =
+    bytes_eq j.format k.format && bytes_eq j.method k.method && bytes_eq j.uri k.uri && same_option same_number j.iv k.iv && pointwise same_attr j.other k.other
+
+abbrev pub same_range : ByteRange → ByteRange → Bool
+same_range a b = a.length == b.length && a.offset == b.offset
+
+abbrev pub same_section : InitSection → InitSection → Bool
+same_section a b = bytes_eq a.uri b.uri && same_option same_range a.range b.range && pointwise same_key a.keys b.keys
+
+-- a segment without its title, its time and its steps
+abbrev pub kept_parts : Segment → Segment
+kept_parts s = record s { steps = 0; title = []; time = None }
+
+abbrev pub same_numbers : Segment → Segment → Bool
+same_numbers a b = a.number == b.number && a.discontinuity == b.discontinuity
+
+abbrev pub same_media : Segment → Segment → Bool
+same_media a b = bytes_eq a.uri b.uri && same_option same_range a.range b.range && a.duration == b.duration
+
+abbrev pub same_protection : Segment → Segment → Bool
+same_protection a b = pointwise same_key a.keys b.keys && same_option same_section a.section b.section
+
+-- the same in all but title, time and steps
+abbrev pub same_segment : Segment → Segment → Bool
+same_segment a b = same_numbers a b && same_media a b && same_protection a b

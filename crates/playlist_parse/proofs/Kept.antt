@@ -1,0 +1,99 @@
+-- A tag that changes what stands and nothing else of a reading.
+use Rattle.std.proofs.Common.{◌≡◌, ℕ, Bool, true, false, List, ◌∷◌, refl, ap, sym, ◌∙◌, subst}
+use Rattle.std.specs.Prelude.{Result, Ok, Err, IsOk, MatchResult, codes, bytes_eq, if◌then◌else◌}
+use Rattle.url.specs.Parts.{Parts}
+use Rattle.attr_list.specs.Attributes.{Pair, attribute}
+use Rattle.playlist_meaning.specs.declared.FaultKind.{FaultKind}
+use Rattle.playlist_meaning.specs.Said.{Reader, key_tag, map_tag, time_tag, Said, no_keys, Outcome, ◌>>=◌, refuse_if, attributes, required, optional, set_key, key_said, section_said, section_range, iv_of, quoted_of, uri_of, or_fault}
+use Rattle.playlist_meaning.specs.Instant.{instant_of}
+use Rattle.playlist_meaning.specs.declared.FaultKind.TheVariants as fault
+use Rattle.playlist_meaning.specs.LookBack.{Standing, standing_at, with_said}
+use Rattle.playlist_meaning.specs.Reading.{said_by_tag, within_formats, with_ivs}
+use Rattle.segment_state.specs.Running.{Running, running_at, Takes as StateTakes}
+use Rattle.playlist_parse.specs.Progress.{Progress, progress_at, Takes}
+
+abbrev with_standing : Progress → Standing → Progress
+with_standing p standing = record p { standing = standing }
+
+-- a line that says this changes what stands alone
+abbrev Keeps : Said → Type 0
+Keeps said = (base : Parts) (before : List Said) → progress_at base (said ∷ before) ≡ with_standing (progress_at base before) (standing_at (said ∷ before))
+
+abbrev pub Says : Outcome Said → Type 0
+Says (Ok said) = Keeps said
+Says (Err e) = Unit {0}
+
+says_then : {A : Type 0} (o : Outcome A) (f : A → Outcome Said) → ((x : A) → Says (f x)) → Says (o >>= f)
+says_then (Ok x) f h = h x
+says_then (Err e) f h = record {}
+
+says_behind : (o : Outcome Said) (f : Said → Outcome Said) → Says o → ((said : Said) → Keeps said → Says (f said)) → Says (o >>= f)
+says_behind (Ok said) f o_says h = h said o_says
+says_behind (Err e) f o_says h = record {}
+
+says_either : (b : Bool) (x y : Outcome Said) → Says x → Says y → Says (if b then x else y)
+says_either true x y h k = h
+says_either false x y h k = k
+
+says_unless : (b : Bool) (e : FaultKind) (o : Outcome Said) → Says o → Says (refuse_if b e o)
+says_unless true e o h = record {}
+says_unless false e o h = h
+
+says_set : (base : Parts) (pairs : List Pair) (method : List ℕ) → Says (set_key base pairs method)
+says_set base pairs method =
+    says_then (required true (attribute pairs (codes "URI"))) _ (λ reference.
+    says_then (optional iv_of (attribute pairs (codes "IV"))) _ (λ iv.
+    says_then (optional quoted_of (attribute pairs (codes "KEYFORMAT"))) _ (λ format.
+    says_then (uri_of base reference) _ (λ resource. λ b before. refl))))
+
+says_key : (reader : Reader) (base : Parts) (rest : List ℕ) → Says (key_said reader base rest)
+says_key reader base rest =
+    says_then (attributes reader rest) _ (λ pairs.
+    says_then (required false (attribute pairs (codes "METHOD"))) _ (λ method.
+    says_either (bytes_eq method (codes "NONE")) (Ok no_keys) (set_key base pairs method) (λ b before. refl) (says_set base pairs method)))
+
+says_section : (reader : Reader) (base : Parts) (rest : List ℕ) → Says (section_said reader base rest)
+says_section reader base rest =
+    says_then (attributes reader rest) _ (λ pairs.
+    says_then (required true (attribute pairs (codes "URI"))) _ (λ reference.
+    says_then (optional section_range (attribute pairs (codes "BYTERANGE"))) _ (λ range.
+    says_then (uri_of base reference) _ (λ resource. λ b before. refl))))
+
+pub key_tag_says : (reader : Reader) (base : Parts) (before : List Said) (rest : List ℕ) → Says (said_by_tag reader base before key_tag rest)
+key_tag_says reader base before rest =
+    says_behind (key_said reader base rest) (within_formats reader before) (says_key reader base rest) (λ said h. says_unless _ _ (Ok said) h)
+
+pub map_tag_says : (reader : Reader) (base : Parts) (before : List Said) (rest : List ℕ) → Says (said_by_tag reader base before map_tag rest)
+map_tag_says reader base before rest =
+    says_behind (section_said reader base rest) (with_ivs before) (says_section reader base rest) (λ said h. says_unless _ _ (Ok said) h)
+
+pub time_tag_says : (reader : Reader) (base : Parts) (before : List Said) (rest : List ℕ) → Says (said_by_tag reader base before time_tag rest)
+time_tag_says reader base before rest = says_then (or_fault fault.BadTime (instant_of rest)) _ (λ t. λ b lines. refl)
+
+goes : (base : Parts) (before : List Said) (o : Outcome Said) → Says o → progress_at base (with_said before o) ≡ with_standing (progress_at base before) (standing_at (with_said before o))
+goes base before (Ok said) h = h base before
+goes base before (Err e) h = refl
+
+abbrev running_of : Progress → Running
+running_of p = record { base = p.base; standing = p.standing }
+
+abbrev with_running : Progress → Running → Progress
+with_running p r = record p { base = r.base; standing = r.standing }
+
+finish : (p : Progress) (new : Running) (before : List Said) (o : Outcome Said) → p ≡ progress_at p.base before → Says o → new ≡ running_at p.base (with_said before o)
+    → with_running p new ≡ progress_at p.base (with_said before o)
+finish p new before o e says is =
+    ap (with_running p) is ∙ ap (λ q. with_standing q (standing_at (with_said before o))) e ∙ sym (goes p.base before o says)
+
+takes_of : (p : Progress) (new : Running) (result : Result (Unit {0}) FaultKind) (before : List Said) (o : Outcome Said) (refuses : FaultKind → Type 0) (kept : FaultKind → Type 0) → p ≡ progress_at p.base before → Says o
+    → MatchResult result (λ _. IsOk o × (new ≡ running_at p.base (with_said before o))) (λ e. refuses e × kept e)
+    → MatchResult result (λ _. IsOk o × (with_running p new ≡ progress_at p.base (with_said before o))) refuses
+takes_of p new (Ok x) before o refuses kept e says h = (h.0, finish p new before o e says h.1)
+takes_of p new (Err fault) before o refuses kept e says h = h.0
+
+-- what the state takes, the reading takes
+pub takes_tag : (outcome : Parts → List Said → Outcome Said) (p q : Progress) (new : Running) (result : Result (Unit {0}) FaultKind) → p ≡ q
+    → ((base : Parts) (before : List Said) → Says (outcome base before)) → StateTakes outcome (running_of p) new result → Takes outcome q (with_running p new) result
+takes_tag outcome p q new result is says takes =
+    subst (λ (x : Progress). Takes outcome x (with_running p new) result) is
+    (λ before e. takes_of p new result before (outcome p.base before) _ _ e (says p.base before) (takes before (ap (λ (x : Progress). x.standing) e)))

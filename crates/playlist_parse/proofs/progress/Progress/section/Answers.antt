@@ -1,0 +1,11 @@
+use Rattle.playlist_meaning.specs.Said as said
+use Rattle.playlist_meaning.specs.Reading.{said_by_tag}
+use Rattle.playlist_meaning.specs.Reading.{limited}
+use Rattle.playlist_parse.specs.Views.{progress_of}
+use Rattle.playlist_parse.proofs.Kept.{takes_tag, map_tag_says}
+use Rattle.playlist_parse.proofs.progress.Progress.section.Goals as goal
+
+pub returns : goal.returns
+returns c =
+    takes_tag (λ base before. said_by_tag limited base before said.map_tag c.args.rest.now) (progress_of c.self.inside) c.args.self.now _ _ c.self.view_is
+    (λ base before. map_tag_says limited base before c.args.rest.now) c.map_tag.ensures

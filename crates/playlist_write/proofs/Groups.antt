@@ -1,0 +1,309 @@
+-- Where groups of lines lead.
+use Rattle.std.proofs.Common.{◌≡◌, ℕ, zero, suc, ◌+◌, ◌^◌, ◌<◌, Bool, true, false, cond, List, [], ◌∷◌, ◌++◌, map, length, replicate, refl, ap, sym, ◌∙◌, subst, arith, Some, None}
+use Rattle.std.specs.Prelude.{◌&&◌, ◌==◌, ℤ, Option, is_some, is_none, unwrap_or, filter}
+use Rattle.std.specs.List.{list_any, list_all}
+use Rattle.std.proofs.lemmas.Bool.{and_parts, not-true, ltb-true, lt-leb, cond-false, eqb-true}
+use Rattle.std.proofs.lemmas.List.{append-nil, append_assoc}
+use Rattle.playlist_meaning.specs.declared.Key.{Key}
+use Rattle.playlist_meaning.specs.declared.ByteRange.{ByteRange}
+use Rattle.playlist_meaning.specs.declared.InitSection.{InitSection}
+use Rattle.playlist_meaning.specs.declared.Segment.{Segment}
+use Rattle.playlist_meaning.specs.Said.{Said, discontinuity, no_keys, key, duration, media}
+use Rattle.playlist_meaning.specs.LookBack.{or_earlier, put_key, Extent, extent_with, effective_key, are_sorted}
+use Rattle.playlist_meaning.specs.Reading.{passes, needs_iv}
+use Rattle.playlist_meaning.specs.Instant.{in_range}
+use Rattle.playlist_meaning.proofs.ListTests.{all_filter}
+use Rattle.stitcher.specs.declared.KeyTag.{KeyTag}
+use Rattle.stitcher.specs.declared.KeyTag.TheVariants.{End, Set}
+use Rattle.stitcher.specs.declared.OutSegment.{OutSegment}
+use Rattle.playlist_meaning.specs.Same.{same_section, same_option}
+use Rattle.stitcher.specs.KeyTags.{transition, is_new, keeps_formats, after_tags}
+use Rattle.playlist_meaning.proofs.SameParts.{section_is}
+use Rattle.stitcher.proofs.TagLaws.{transition_leads}
+use Rattle.playlist_write.specs.Owed.{Current, tag_said, keys_owed, changed_section, section_owed, keys_then, time_owed, range_owed, segment_owed, after_segment, segments_owed}
+use Rattle.playlist_write.specs.Fitting.{is_clean, uri_fits, quoted_uri_fits, range_fits, if_some, key_fits, keys_fit, states_iv, section_fits}
+use Rattle.playlist_write.specs.WellFormed.{is_word, numbers_are_words, resource_fits, segment_fits}
+use Rattle.playlist_write.specs.Denoted.{denoted_segment}
+use Rattle.playlist_write.proofs.Machine.{Known, step, run, Allowed, number_known, discontinuity_known}
+
+-- numbers that go on from these: media numbers by one, discontinuity numbers by the steps
+abbrev pub numbers_go_on : ℕ → ℕ → List OutSegment → Bool
+numbers_go_on number steps [] = true
+numbers_go_on number steps (out ∷ later) =
+    out.media == number && out.discontinuity == steps + out.steps && numbers_go_on (number + 1) out.discontinuity later
+
+-- as one segment has a section or none, so have all
+abbrev pub sections_alike : Bool → List OutSegment → Bool
+sections_alike mapped [] = true
+sections_alike mapped (out ∷ later) = cond mapped (is_some out.segment.section) (is_none out.segment.section) && sections_alike mapped later
+
+-- the lines fit and can stand here, and lead there
+pub record Goes (from : Known) (lines : List Said) (to : Known) : Type 0 where
+  pub allowed : Allowed from lines
+  pub leads : run from lines ≡ to
+
+run-append : (xs ys : List Said) (k : Known) → run k (xs ++ ys) ≡ run (run k xs) ys
+run-append [] ys k = refl
+run-append (x ∷ xs) ys k = run-append xs ys (step k x)
+
+allowed-append : (xs ys : List Said) (k : Known) → Allowed k xs → Allowed (run k xs) ys → Allowed k (xs ++ ys)
+allowed-append [] ys k h g = g
+allowed-append (x ∷ xs) ys k h g = (h.0, h.1, allowed-append xs ys (step k x) h.2 g)
+
+pub goes-append : (xs ys : List Said) (a b c : Known) → Goes a xs b → Goes b ys c → Goes a (xs ++ ys) c
+goes-append xs ys a b c h g = record {
+  allowed = allowed-append xs ys a h.allowed (subst (λ k. Allowed k ys) (sym h.leads) g.allowed);
+  leads = run-append xs ys a ∙ ap (λ k. run k ys) h.leads ∙ g.leads;
+}
+
+-- ---- discontinuities
+
+goes_steps : (n : ℕ) (k : Known) → discontinuity_known k + n < 2 ^ 64 → Goes k (replicate n discontinuity) (record k { discontinuities = k.discontinuities + n; steps = k.steps + n })
+goes_steps zero k h = record { allowed = tt; leads = same k (k.discontinuities + 0) (k.steps + 0) (omega arith) (omega arith) }
+  where
+    same : (k : Known) (d s : ℕ) → d ≡ k.discontinuities → s ≡ k.steps → k ≡ record k { discontinuities = d; steps = s }
+    same k d s e g = ap (λ x. record k { discontinuities = x }) (sym e) ∙ ap (λ x. record k { discontinuities = d; steps = x }) (sym g)
+goes_steps (suc n) k h =
+    let below : discontinuity_known k + 1 < 2 ^ 64 = omega (arith, h) in
+    let next = goes_steps n (step k discontinuity) (omega (arith, h)) in record {
+      allowed = (tt, lt-leb _ _ below, next.allowed);
+      leads = next.leads ∙ ap (λ d. record k { discontinuities = d; steps = k.steps + 1 + n }) (omega arith) ∙ ap (λ s. record k { discontinuities = k.discontinuities + suc n; steps = s }) (omega arith);
+    }
+
+-- ---- keys
+
+run_tags : (tags : List KeyTag) (k : Known) → run k (map tag_said tags) ≡ record k { keys = after_tags k.keys tags }
+run_tags [] k = refl
+run_tags (End ∷ tags) k = run_tags tags (record k { keys = [] })
+run_tags (Set j ∷ tags) k = run_tags tags (record k { keys = put_key j k.keys })
+
+sets_allowed : (keys : List Key) (k : Known) → list_all key_fits keys ≡ true → Allowed k (map tag_said (map Set keys))
+sets_allowed [] k h = tt
+sets_allowed (j ∷ keys) k h = let a = and_parts _ _ h in (a.0, tt, sets_allowed keys (step k (key j)) a.1)
+
+tags_allowed : (b : Bool) (old new : List Key) (k : Known) → list_all key_fits new ≡ true → Allowed k (map tag_said (cond b (map Set (filter (is_new old) new)) (End ∷ map Set new)))
+tags_allowed true old new k h = sets_allowed (filter (is_new old) new) k (all_filter key_fits (is_new old) new h)
+tags_allowed false old new k h = (tt, tt, sets_allowed new (step k no_keys) h)
+
+goes_keys : (old new : List Key) (k : Known) → k.keys ≡ old → keys_fit old ≡ true → keys_fit new ≡ true → Goes k (keys_owed old new) (record k { keys = new })
+goes_keys old new k e h g =
+    let a : (list_all key_fits old ≡ true) × (are_sorted old ≡ true) = and_parts _ _ h in
+    let b : (list_all key_fits new ≡ true) × (are_sorted new ≡ true) = and_parts _ _ g in record {
+      allowed = tags_allowed (keeps_formats old new) old new k b.0;
+      leads = run_tags (transition old new) k ∙ ap (λ ks. record k { keys = ks }) (ap (λ ks. after_tags ks (transition old new)) e ∙ transition_leads old new a.1 b.1);
+    }
+
+-- ---- the section
+
+with_both : (k : Known) (ks : List Key) (s : Option InitSection) → k.keys ≡ ks → k.section ≡ s → k ≡ record k { keys = ks; section = s }
+with_both k ks s e g = ap (λ x. record k { keys = x }) e ∙ ap (λ x. record k { keys = ks; section = x }) g
+
+record SectionParts (s : InitSection) : Type 0 where
+  uri : quoted_uri_fits s.uri ≡ true
+  range : if_some range_fits s.range ≡ true
+  keys : keys_fit s.keys ≡ true
+  ivs : list_any needs_iv s.keys ≡ false
+
+section_parts : (s : InitSection) → section_fits s ≡ true → SectionParts s
+section_parts s h =
+    let a = and_parts _ _ h in let b = and_parts _ _ a.0 in let c : (quoted_uri_fits s.uri ≡ true) × (if_some range_fits s.range ≡ true) = and_parts _ _ b.0 in
+    record { uri = c.0; range = c.1; keys = b.1; ivs = not-true _ a.1 }
+
+-- the section that is written: none where it is the same
+abbrev written : Bool → InitSection → Option InitSection
+written same new = cond same None (Some new)
+
+section_step : (same : Bool) (cur : Current) (new : InitSection) (k : Known) → same_option same_section (Some new) cur.section ≡ same → k.keys ≡ cur.keys → k.section ≡ cur.section → keys_fit cur.keys ≡ true → section_fits new ≡ true
+    → Goes k (section_owed cur.keys (written same new)) (record k { keys = keys_then cur.keys (written same new); section = Some new })
+section_step true cur new k e ke se h f = record { allowed = tt; leads = with_both k cur.keys (Some new) ke (se ∙ section_is new cur.section e) }
+section_step false cur new k e ke se h f =
+    let p = section_parts new f in
+    goes-append _ _ k (record k { keys = new.keys }) _ (goes_keys cur.keys new.keys k ke h p.keys) (record { allowed = ((p.uri, p.range), p.ivs, tt); leads = refl })
+
+goes_section : (cur : Current) (sec : Option InitSection) (k : Known) → k.keys ≡ cur.keys → k.section ≡ cur.section → keys_fit cur.keys ≡ true → if_some section_fits sec ≡ true
+    → Goes k (section_owed cur.keys (changed_section cur.section sec)) (record k { keys = keys_then cur.keys (changed_section cur.section sec); section = or_earlier sec cur.section })
+goes_section cur None k ke se h f = record { allowed = tt; leads = with_both k cur.keys cur.section ke se }
+goes_section cur (Some new) k ke se h f = section_step _ cur new k refl ke se h f
+
+then_step : (same : Bool) (cur : Current) (new : InitSection) → keys_fit cur.keys ≡ true → keys_fit new.keys ≡ true → keys_fit (keys_then cur.keys (written same new)) ≡ true
+then_step true cur new h g = h
+then_step false cur new h g = g
+
+then_fit : (cur : Current) (sec : Option InitSection) → keys_fit cur.keys ≡ true → if_some section_fits sec ≡ true → keys_fit (keys_then cur.keys (changed_section cur.section sec)) ≡ true
+then_fit cur None h f = h
+then_fit cur (Some new) h f = then_step (same_option same_section (Some new) cur.section) cur new h (section_parts new f).keys
+
+-- ---- the rest of a segment's lines
+
+abbrev segment_with : Known → OutSegment → Segment
+segment_with k out = record {
+  number = number_known k;
+  discontinuity = discontinuity_known k;
+  steps = k.steps;
+  uri = out.segment.uri;
+  range = out.segment.range;
+  keys = map (effective_key (number_known k)) k.keys;
+  section = k.section;
+  duration = out.segment.duration;
+  title = out.segment.title;
+  time = out.time;
+}
+
+abbrev ended_segment : Known → OutSegment → Known
+ended_segment k out = record k {
+  count = k.count + 1;
+  steps = 0;
+  duration = None;
+  range = None;
+  time = None;
+  extent = extent_with out.segment.uri out.segment.range;
+  segments = k.segments ++ segment_with k out ∷ [];
+}
+
+abbrev fresh : Known → Known
+fresh k = record k { duration = None; range = None; time = None }
+
+-- one segment's own parts, apart from its keys and its section
+record TailFits (out : OutSegment) : Type 0 where
+  uri : uri_fits out.segment.uri ≡ true
+  range : if_some range_fits out.segment.range ≡ true
+  duration : out.segment.duration < 10 ^ 15
+  title : is_clean out.segment.title ≡ true
+  time : if_some in_range out.time ≡ true
+
+tail : (out : OutSegment) (t : Option ℤ) (r : Option ByteRange) → List Said
+tail out t r = time_owed t ++ (duration out.segment.duration out.segment.title ∷ (range_owed r ++ media out.segment.uri ∷ []))
+
+goes_tail : (out : OutSegment) (t : Option ℤ) (r : Option ByteRange) → out.time ≡ t → out.segment.range ≡ r → (k : Known) → TailFits out → passes (number_known k) ≡ false
+    → Goes (fresh k) (tail out t r) (ended_segment (fresh k) out)
+unfolding tail
+goes_tail out None None te re k f n = rw (te, re) (record { allowed = ((f.duration, f.title), tt, (f.uri, (refl, n, None, refl), tt)); leads = refl })
+goes_tail out None (Some r) te re k f n =
+    let fits : range_fits r ≡ true = subst (λ x. if_some range_fits x ≡ true) re f.range in
+    rw (te, re) (record { allowed = ((f.duration, f.title), tt, (ltb-true _ _ fits, tt, (f.uri, (refl, n, Some r, refl), tt))); leads = refl })
+goes_tail out (Some t) None te re k f n =
+    let fits : in_range t ≡ true = subst (λ x. if_some in_range x ≡ true) te f.time in
+    rw (te, re) (record { allowed = (fits, tt, ((f.duration, f.title), tt, (f.uri, (refl, n, None, refl), tt))); leads = refl })
+goes_tail out (Some t) (Some r) te re k f n =
+    let fits : range_fits r ≡ true = subst (λ x. if_some range_fits x ≡ true) re f.range in
+    let stands : in_range t ≡ true = subst (λ x. if_some in_range x ≡ true) te f.time in
+    rw (te, re) (record { allowed = (stands, tt, ((f.duration, f.title), tt, (ltb-true _ _ fits, tt, (f.uri, (refl, n, Some r, refl), tt)))); leads = refl })
+
+-- ---- one segment
+
+-- between two segments
+abbrev pub ready : Known → Current → ℕ → ℕ → Option Extent → List Segment → Known
+ready h cur n d extent segments = record h {
+  count = n;
+  discontinuities = d;
+  steps = 0;
+  duration = None;
+  range = None;
+  time = None;
+  keys = cur.keys;
+  section = cur.section;
+  extent = extent;
+  segments = segments;
+}
+
+effective_step : (n : ℕ) (k : Key) → states_iv k ≡ true → effective_key n k ≡ k
+effective_step n k h = cond-false _ _ _ (not-true _ h)
+
+effective : (n : ℕ) (keys : List Key) → list_all states_iv keys ≡ true → map (effective_key n) keys ≡ keys
+effective n [] h = refl
+effective n (k ∷ keys) h = let a = and_parts _ _ h in let e = effective_step n k a.0 in let t = effective n keys a.1 in cc
+
+segment_ext : (out : OutSegment) (n d s : ℕ) (ks : List Key) (sec : Option InitSection) → n ≡ out.media → d ≡ out.discontinuity → s ≡ out.steps → ks ≡ out.segment.keys → sec ≡ out.segment.section
+    → ◌≡◌ {A = Segment} (record { number = n; discontinuity = d; steps = s; uri = out.segment.uri; range = out.segment.range; keys = ks; section = sec; duration = out.segment.duration; title = out.segment.title; time = out.time }) (denoted_segment out)
+segment_ext out n d s ks sec a b c e f = rw (a, b, c, e, f) refl
+
+pub record SegmentFits (out : OutSegment) : Type 0 where
+  pub media : out.media < 2 ^ 64
+  pub discontinuity : out.discontinuity < 2 ^ 64
+  tail : TailFits out
+  keys : keys_fit out.segment.keys ≡ true
+  ivs : list_all states_iv out.segment.keys ≡ true
+  section : if_some section_fits out.segment.section ≡ true
+
+pub segment_parts : (out : OutSegment) → segment_fits out ≡ true → SegmentFits out
+segment_parts out h =
+    let a = and_parts _ _ h in let b = and_parts _ _ a.0 in let c = and_parts _ _ b.0 in let d = and_parts _ _ c.0 in let e = and_parts _ _ d.0 in
+    let f : (numbers_are_words out ≡ true) × (resource_fits out.segment ≡ true) = and_parts _ _ e.0 in
+    let n : (is_word out.media ≡ true) × (is_word out.discontinuity ≡ true) = and_parts _ _ f.0 in
+    let r : (uri_fits out.segment.uri ≡ true) × (if_some range_fits out.segment.range ≡ true) = and_parts _ _ f.1 in
+    let k : (keys_fit out.segment.keys ≡ true) × (list_all states_iv out.segment.keys ≡ true) = and_parts _ _ e.1 in
+    record {
+      media = ltb-true _ _ n.0;
+      discontinuity = ltb-true _ _ n.1;
+      tail = record { uri = r.0; range = r.1; duration = ltb-true _ _ c.1; title = b.1; time = a.1 };
+      keys = k.0;
+      ivs = k.1;
+      section = d.1;
+    }
+
+extent_of : OutSegment → Option Extent
+extent_of out = extent_with out.segment.uri out.segment.range
+
+module _ (h : Known) where
+  goes_segment : (cur : Current) (n d : ℕ) (extent : Option Extent) (segments : List Segment) (out : OutSegment) → SegmentFits out → keys_fit cur.keys ≡ true
+      → or_earlier out.segment.section cur.section ≡ out.segment.section → unwrap_or h.sequence 0 + n ≡ out.media → unwrap_or h.dseq 0 + d + out.steps ≡ out.discontinuity
+      → Goes (ready h cur n d extent segments) (segment_owed cur out) (ready h (after_segment cur out) (n + 1) (d + out.steps) (extent_of out) (segments ++ denoted_segment out ∷ []))
+  unfolding extent_of tail
+  goes_segment cur n d extent segments out f kf se media_is disc_is =
+      let k0 = ready h cur n d extent segments in
+      let k1 : Known = record k0 { discontinuities = d + out.steps; steps = 0 + out.steps } in
+      let changed = changed_section cur.section out.segment.section in
+      let ms = f.media in let ds = f.discontinuity in
+      let k2 : Known = record k1 { keys = keys_then cur.keys changed; section = or_earlier out.segment.section cur.section } in
+      let k3 : Known = record k2 { keys = out.segment.keys } in
+      let one = goes_steps out.steps k0 (omega arith) in
+      let two = goes_section cur out.segment.section k1 refl refl kf f.section in
+      let three = goes_keys (keys_then cur.keys changed) out.segment.keys k2 refl (then_fit cur out.segment.section kf f.section) f.keys in
+      let four = goes_tail out out.time out.segment.range refl refl k3 f.tail (lt-leb _ _ (omega arith)) in
+      let same = segment_ext out (unwrap_or h.sequence 0 + n) (unwrap_or h.dseq 0 + (d + out.steps)) (0 + out.steps) (map (effective_key (unwrap_or h.sequence 0 + n)) out.segment.keys) (or_earlier out.segment.section cur.section)
+      media_is (omega arith) (omega arith) (effective (unwrap_or h.sequence 0 + n) out.segment.keys f.ivs) se in
+      let all = goes-append _ _ k0 k1 _ one (goes-append _ _ k1 k2 _ two (goes-append _ _ k2 k3 _ three four)) in
+      record { allowed = all.allowed; leads = all.leads ∙ ap (λ s. ready h (after_segment cur out) (n + 1) (d + out.steps) (extent_of out) (segments ++ s ∷ [])) same }
+
+  -- ---- all segments
+
+  pub record After (cur : Current) (n d : ℕ) (extent : Option Extent) (segments : List Segment) (outs : List OutSegment) : Type 0 where
+    pub current : Current
+    pub count : ℕ
+    pub discontinuities : ℕ
+    pub last : Option Extent
+    pub counted : count ≡ n + length outs
+    pub goes : Goes (ready h cur n d extent segments) (segments_owed cur outs) (ready h current count discontinuities last (segments ++ map denoted_segment outs))
+
+  kept : (mapped : Bool) (sec cur : Option InitSection) → cond mapped (is_some sec) (is_none sec) ≡ true → (mapped ≡ false → cur ≡ None) → or_earlier sec cur ≡ sec
+  kept mapped (Some s) cur e f = refl
+  kept true None cur e f = cc
+  kept false None cur e f = f refl
+
+  still_none : (mapped : Bool) (sec cur : Option InitSection) → cond mapped (is_some sec) (is_none sec) ≡ true → or_earlier sec cur ≡ sec → mapped ≡ false → or_earlier sec cur ≡ None
+  still_none true sec cur e g m = cc
+  still_none false None cur e g m = g
+  still_none false (Some s) cur e g m = cc
+
+  pub goes_segments : (mapped : Bool) (outs : List OutSegment) (cur : Current) (n d number disc : ℕ) (extent : Option Extent) (segments : List Segment) → list_all segment_fits outs ≡ true → sections_alike mapped outs ≡ true
+      → numbers_go_on number disc outs ≡ true → number ≡ unwrap_or h.sequence 0 + n → disc ≡ unwrap_or h.dseq 0 + d → keys_fit cur.keys ≡ true → (mapped ≡ false → cur.section ≡ None) → After cur n d extent segments outs
+  goes_segments mapped [] cur n d number disc extent segments f a g ne de kf sn =
+      record { current = cur; count = n; discontinuities = d; last = extent; counted = omega arith; goes = record { allowed = tt; leads = ap (ready h cur n d extent) (sym (append-nil segments)) } }
+  goes_segments mapped (out ∷ outs) cur n d number disc extent segments f a g ne de kf sn =
+      let fs = and_parts _ _ f in let al = and_parts _ _ a in
+      let g1 = and_parts _ _ g in let g4 : ((out.media == number) ≡ true) × ((out.discontinuity == disc + out.steps) ≡ true) = and_parts _ _ g1.0 in
+      let m : out.media ≡ number = eqb-true _ _ g4.0 in let c : out.discontinuity ≡ disc + out.steps = eqb-true _ _ g4.1 in
+      let parts = segment_parts out fs.0 in
+      let se = kept mapped out.segment.section cur.section al.0 sn in
+      let one = goes_segment cur n d extent segments out parts kf se (omega arith) (omega arith) in
+      let rest = goes_segments mapped outs (after_segment cur out) (n + 1) (d + out.steps) (number + 1) out.discontinuity (extent_of out) (segments ++ denoted_segment out ∷ []) fs.1 al.1 g1.1 (omega arith) (omega arith) parts.keys
+      (still_none mapped out.segment.section cur.section al.0 se) in
+      let all = goes-append _ _ _ _ _ one rest.goes in
+      record {
+        current = rest.current;
+        count = rest.count;
+        discontinuities = rest.discontinuities;
+        last = rest.last;
+        counted = omega (arith, rest.counted);
+        goes = record { allowed = all.allowed; leads = all.leads ∙ ap (ready h rest.current rest.count rest.discontinuities rest.last) (append_assoc segments (denoted_segment out ∷ []) (map denoted_segment outs)) };
+      }

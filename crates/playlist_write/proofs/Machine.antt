@@ -1,0 +1,220 @@
+-- All that a reading has come to, line by line.
+use Rattle.std.proofs.Common.{◌≡◌, ℕ, ◌+◌, ◌^◌, ◌<◌, Bool, true, false, cond, List, [], ◌∷◌, ◌++◌, map, length, refl, ap, sym, ◌∙◌, subst, arith, Ok, Some, None}
+use Rattle.std.specs.Prelude.{◌||◌, ◌==◌, ℤ, Option, is_some, is_none, unwrap_or}
+use Rattle.std.specs.List.{list_any}
+use Rattle.std.specs.Result.{result_unwrap_or}
+use Rattle.url.specs.Parts.{Parts}
+use Rattle.playlist_meaning.specs.declared.PlaylistKind.{PlaylistKind}
+use Rattle.playlist_meaning.specs.declared.Key.{Key}
+use Rattle.playlist_meaning.specs.declared.ByteRange.{ByteRange}
+use Rattle.playlist_meaning.specs.declared.InitSection.{InitSection}
+use Rattle.playlist_meaning.specs.declared.Segment.{Segment}
+use Rattle.playlist_meaning.specs.declared.DateRange.{DateRange}
+use Rattle.playlist_meaning.specs.Instant.{in_range}
+use Rattle.playlist_meaning.specs.Said.{Said, nothing, version, target, sequence, discontinuity_sequence, playlist_type, ended, independent, duration, range, discontinuity, no_keys, key, section, time, date_range, media, Outcome, date_range_said}
+use Rattle.playlist_meaning.specs.LookBack.{latest, the_version, the_target, the_sequence, the_discontinuity_sequence, the_type, is_media, is_discontinuity, is_ended, is_independent, count, own_duration, own_range, own_time, steps_at, keys_at, put_key, effective_key, section_at, Extent, extent_with, range_from, last_extent, segments_of, date_ranges_of}
+use Rattle.playlist_meaning.specs.Reading.{said_by, said_from, at_line, unlimited, passes, needs_iv, has}
+use Rattle.playlist_write.specs.Spelling.{spelled}
+use Rattle.playlist_write.specs.Fitting.{is_clean, uri_fits, quoted_uri_fits, if_some, range_fits, key_fits}
+use Rattle.playlist_write.proofs.CleanTexts.{Clean, AllClean}
+use Rattle.playlist_write.proofs.SaidLines as lines
+
+pub record Known : Type 0 where
+  pub version : Option ℕ
+  pub target : Option ℕ
+  pub sequence : Option ℕ
+  pub dseq : Option ℕ
+  pub kind : Option PlaylistKind
+  pub independent : Bool
+  pub ended : Bool
+  pub count : ℕ
+  pub discontinuities : ℕ
+  pub steps : ℕ
+  pub duration : Option (ℕ × List ℕ)
+  pub range : Option (ℕ × Option ℕ)
+  pub time : Option ℤ
+  pub keys : List Key
+  pub section : Option InitSection
+  pub extent : Option Extent
+  pub ranges : List DateRange
+  pub segments : List Segment
+
+abbrev pub known_at : List Said → Known
+known_at before = record {
+  version = latest the_version before;
+  target = latest the_target before;
+  sequence = latest the_sequence before;
+  dseq = latest the_discontinuity_sequence before;
+  kind = latest the_type before;
+  independent = has is_independent before;
+  ended = has is_ended before;
+  count = count is_media before;
+  discontinuities = count is_discontinuity before;
+  steps = steps_at before;
+  duration = own_duration before;
+  range = own_range before;
+  time = own_time before;
+  keys = keys_at before;
+  section = section_at before;
+  extent = last_extent before;
+  ranges = date_ranges_of before;
+  segments = segments_of before;
+}
+
+abbrev pub number_known : Known → ℕ
+number_known k = unwrap_or k.sequence 0 + k.count
+
+abbrev pub discontinuity_known : Known → ℕ
+discontinuity_known k = unwrap_or k.dseq 0 + k.discontinuities
+
+abbrev pub range_known : Known → List ℕ → Outcome (Option ByteRange)
+range_known k uri = range_from k.range uri k.extent
+
+abbrev pub segment_known : Known → List ℕ → Segment
+segment_known k uri = record {
+  number = number_known k;
+  discontinuity = discontinuity_known k;
+  steps = k.steps;
+  uri = uri;
+  range = result_unwrap_or (range_known k uri) None;
+  keys = map (effective_key (number_known k)) k.keys;
+  section = k.section;
+  duration = (unwrap_or k.duration (0, [])).0;
+  title = (unwrap_or k.duration (0, [])).1;
+  time = k.time;
+}
+
+-- after one more line
+abbrev pub step : Known → Said → Known
+step k nothing = k
+step k (version n) = record k { version = Some n }
+step k (target n) = record k { target = Some n }
+step k (sequence n) = record k { sequence = Some n }
+step k (discontinuity_sequence n) = record k { dseq = Some n }
+step k (playlist_type kind) = record k { kind = Some kind }
+step k ended = record k { ended = true }
+step k independent = record k { independent = true }
+step k (duration n title) = record k { duration = Some (n, title) }
+step k (range n o) = record k { range = Some (n, o) }
+step k discontinuity = record k { discontinuities = k.discontinuities + 1; steps = k.steps + 1 }
+step k no_keys = record k { keys = [] }
+step k (key j) = record k { keys = put_key j k.keys }
+step k (section uri part) = record k { section = Some (record { uri = uri; range = part; keys = k.keys }) }
+step k (time t) = record k { time = Some t }
+step k (date_range r) = record k { ranges = k.ranges ++ r ∷ [] }
+step k (media uri) = record k {
+  count = k.count + 1;
+  steps = 0;
+  duration = None;
+  range = None;
+  time = None;
+  extent = extent_with uri (result_unwrap_or (range_known k uri) None);
+  segments = k.segments ++ segment_known k uri ∷ [];
+}
+
+-- the look-back definitions say the same
+known-step : (s : Said) (before : List Said) → known_at (s ∷ before) ≡ step (known_at before) s
+known-step nothing before = refl
+known-step (version n) before = refl
+known-step (target n) before = refl
+known-step (sequence n) before = refl
+known-step (discontinuity_sequence n) before = refl
+known-step (playlist_type kind) before = refl
+known-step ended before = refl
+known-step independent before = refl
+known-step (duration n title) before = refl
+known-step (range n o) before = refl
+known-step discontinuity before = refl
+known-step no_keys before = refl
+known-step (key j) before = refl
+known-step (section uri part) before = refl
+known-step (time t) before = refl
+known-step (date_range r) before = refl
+known-step (media uri) before = refl
+
+-- ---- some lines
+
+abbrev pub onto : List Said → List Said → List Said
+onto before [] = before
+onto before (s ∷ later) = onto (s ∷ before) later
+
+abbrev pub run : Known → List Said → Known
+run k [] = k
+run k (s ∷ later) = run (step k s) later
+
+pub known_onto : (later before : List Said) → known_at (onto before later) ≡ run (known_at before) later
+known_onto [] before = refl
+known_onto (s ∷ later) before = known_onto later (s ∷ before) ∙ ap (λ k. run k later) (known-step s before)
+
+-- ---- when a line can stand, and what it can say
+
+abbrev pub Allows : Known → Said → Type 0
+Allows k (version n) = is_some k.version ≡ false
+Allows k (target n) = is_some k.target ≡ false
+Allows k (sequence n) = (is_some k.sequence ≡ false) × (k.count ≡ 0)
+Allows k (discontinuity_sequence n) = (is_some k.dseq ≡ false) × (k.count ≡ 0) × (k.discontinuities ≡ 0)
+Allows k (playlist_type kind) = is_some k.kind ≡ false
+Allows k ended = k.ended ≡ false
+Allows k discontinuity = passes (discontinuity_known k + 1) ≡ false
+Allows k (section uri part) = list_any needs_iv k.keys ≡ false
+Allows k (media uri) = (is_none k.duration ≡ false) × (passes (number_known k) ≡ false) × (r : Option ByteRange) × (range_known k uri ≡ Ok r)
+Allows k _ = Unit {0}
+
+abbrev pub Fits : Said → Type 0
+Fits nothing = ⊥
+Fits (version n) = (n == 6 || n == 7) ≡ true
+Fits (target n) = n < 2 ^ 64
+Fits (sequence n) = n < 2 ^ 64
+Fits (discontinuity_sequence n) = n < 2 ^ 64
+Fits (duration n title) = (n < 10 ^ 15) × (is_clean title ≡ true)
+Fits (range n None) = ⊥
+Fits (range n (Some o)) = n + o < 2 ^ 64
+Fits (key k) = key_fits k ≡ true
+Fits (section uri part) = (quoted_uri_fits uri ≡ true) × (if_some range_fits part ≡ true)
+Fits (time t) = in_range t ≡ true
+Fits (date_range r) = (is_clean r.text ≡ true) × (date_range_said unlimited r.text ≡ Ok (date_range r))
+Fits (media uri) = uri_fits uri ≡ true
+Fits _ = Unit {0}
+
+-- lines that fit and can stand
+abbrev pub Allowed : Known → List Said → Type 0
+Allowed k [] = Unit {0}
+Allowed k (s ∷ later) = Fits s × Allows k s × Allowed (step k s) later
+
+none_counted_step : (test : Said → Bool) (n : ℕ) (any b : Bool) → (n ≡ 0 → any ≡ false) → cond b (n + 1) n ≡ 0 → (b || any) ≡ false
+none_counted_step test n any true ih h = absurd (omega (arith, h))
+none_counted_step test n any false ih h = ih h
+
+none_counted : (test : Said → Bool) (before : List Said) → count test before ≡ 0 → list_any test before ≡ false
+none_counted test [] h = refl
+none_counted test (s ∷ before) h = none_counted_step test (count test before) _ (test s) (none_counted test before) h
+
+module _ (base : Parts) where
+  line_reads : (s : Said) (before : List Said) → Fits s → Allows (known_at before) s → Clean (spelled s) × (said_by unlimited base before (spelled s) ≡ Ok s)
+  line_reads nothing before f a = absurd f
+  line_reads (version n) before f a = lines.version_line base before n f a
+  line_reads (target n) before f a = lines.target_line base before n f a
+  line_reads (sequence n) before f a = lines.sequence_line base before n f a.0 (none_counted is_media before a.1)
+  line_reads (discontinuity_sequence n) before f a = lines.discontinuity_sequence_line base before n f a.0 (none_counted is_media before a.1) (none_counted is_discontinuity before a.2)
+  line_reads (playlist_type kind) before f a = lines.type_line base before kind a
+  line_reads ended before f a = lines.ended_line base before a
+  line_reads independent before f a = lines.independent_line base before
+  line_reads (duration n title) before f a = lines.duration_line base before n title f.0 (lines.clean_is title f.1)
+  line_reads (range n None) before f a = absurd f
+  line_reads (range n (Some o)) before f a = lines.range_line base before n o f
+  line_reads discontinuity before f a = lines.discontinuity_line base before a
+  line_reads no_keys before f a = lines.no_keys_line base before
+  line_reads (key k) before f a = lines.key_line base before k f
+  line_reads (section uri part) before f a = lines.section_line base before uri part f.0 f.1 a
+  line_reads (time t) before f a = lines.time_line base before t f
+  line_reads (date_range r) before f a = lines.date_range_line base before r f.0 f.1
+  line_reads (media uri) before f a = lines.media_line base before uri a.2 f a.0 a.1 a.3
+
+  pub said_onto : (later before : List Said) → Allowed (known_at before) later → AllClean (map (spelled) later) × (said_from (said_by unlimited base) before (map (spelled) later) ≡ Ok (onto before later))
+  said_onto [] before h = (tt, refl)
+  said_onto (s ∷ later) before h =
+      let here = line_reads s before h.0 h.1 in
+      let rest = said_onto later (s ∷ before) (subst (λ k. Allowed k later) (sym (known-step s before)) h.2) in (
+        (here.0, rest.0),
+        ap (λ o. at_line (length before + 1) o (λ said. said_from (said_by unlimited base) (said ∷ before) (map (spelled) later))) here.1 ∙ rest.1,
+      )

@@ -1,0 +1,283 @@
+-- The text that is written denotes the playlist.
+use Rattle.std.proofs.Common.{◌≡◌, ℕ, ◌+◌, ◌-◌, ◌^◌, ◌<◌, ◌≤◌, Bool, true, false, cond, List, [], ◌∷◌, ◌++◌, map, length, refl, ap, sym, ◌∙◌, subst, arith, Ok, Some, None, inl, inr}
+use Rattle.std.specs.Prelude.{◌||◌, ◌==◌, Option, is_some, is_none, unwrap_or, nat_le, codes}
+use Rattle.std.specs.List.{list_any, list_all, flat_map}
+use Rattle.std.proofs.lemmas.Bool.{and_parts, and_from, or_parts, or_cases, not-true, ltb-true, eqb-true, not_from_true, cond-false, and_left, and_right, leb-true, eq-eqb}
+use Rattle.std.proofs.lemmas.List.{append-nil, append_assoc}
+use Rattle.std.proofs.lemmas.Str.{is_utf8-from_IsUtf8}
+use Rattle.url.specs.Parts.{Parts}
+use Rattle.playlist_meaning.specs.declared.PlaylistKind.{PlaylistKind}
+use Rattle.playlist_meaning.specs.declared.DateRange.{DateRange}
+use Rattle.playlist_meaning.specs.declared.Playlist.{Playlist}
+use Rattle.playlist_meaning.specs.declared.InitSection.{InitSection}
+use Rattle.playlist_meaning.specs.Said.{Said, nothing, date_range, date_range_said}
+use Rattle.playlist_meaning.specs.LookBack.{latest, the_target, is_media, count, segments_of}
+use Rattle.playlist_meaning.specs.Reading.{unlimited, whole, whole_fault, and_whole, of_lines, reading, are_mixed, has_section, Denotes, has}
+use Rattle.stitcher.specs.declared.OutSegment.{OutSegment}
+use Rattle.playlist_write.specs.declared.OutPlaylist.{OutPlaylist}
+use Rattle.playlist_write.specs.Spelling.{spelled, date_range_line}
+use Rattle.playlist_write.specs.Owed.{none_yet, header_owed, type_owed, independent_owed, ended_owed, segments_owed, first_number, first_discontinuity, line_of, said_text, range_line, ranges_text, text_of}
+use Rattle.playlist_write.specs.Fitting.{is_clean, says_date_range, date_range_fits}
+use Rattle.playlist_write.specs.WellFormed.{is_word, version_fits, segment_fits, follows, all_follow, numbers_fit, is_mapped, sections_agree, well_formed}
+use Rattle.playlist_write.specs.Denoted.{denoted, denoted_segment, denoted_range, range_said}
+use Rattle.playlist_write.specs.Laws.{TextDenotes}
+use Rattle.playlist_write.proofs.CleanTexts.{text, AllClean, clean_printable, lines_of_text, utf8_text}
+use Rattle.playlist_write.proofs.DateRangeReads.{few, one_range, is_kept}
+use Rattle.playlist_write.proofs.Machine.{Known, known_at, onto, known_onto, said_onto}
+use Rattle.playlist_write.proofs.Groups.{numbers_go_on, sections_alike, Goes, goes-append, ready, goes_segments, segment_parts}
+
+-- what the lines of the date ranges say, and what all lines say
+abbrev ranges_owed : List (List ℕ) → List Said
+ranges_owed texts = map date_range (flat_map denoted_range texts)
+
+abbrev owed : OutPlaylist → List Said
+owed p = header_owed p ++ (ranges_owed p.ranges ++ (segments_owed none_yet p.segments ++ ended_owed p.ended))
+
+-- ---- date ranges
+
+ranges_step : (text : List ℕ) (ranges : List DateRange) (r : DateRange) → ranges ≡ r ∷ [] → r.text ≡ text → is_clean text ≡ true → date_range_said unlimited text ≡ Ok (date_range r) → (k : Known) (rest : List Said) (to : Known)
+    → Goes (record k { ranges = k.ranges ++ ranges }) rest to → Goes k (map date_range ranges ++ rest) to
+ranges_step text ranges r e t c says k rest to next =
+    let fits : (is_clean r.text ≡ true) × (date_range_said unlimited r.text ≡ Ok (date_range r)) = (ap is_clean t ∙ c, ap (date_range_said unlimited) t ∙ says) in
+    let here : Goes (record k { ranges = k.ranges ++ r ∷ [] }) rest to = subst (λ x. Goes (record k { ranges = k.ranges ++ x }) rest to) e next in
+    rw e (record { allowed = (fits, tt, here.allowed); leads = here.leads })
+
+map_joined : (xs ys : List DateRange) → map date_range (xs ++ ys) ≡ map date_range xs ++ map date_range ys
+map_joined [] ys = refl
+map_joined (x ∷ xs) ys = ap (λ l. date_range x ∷ l) (map_joined xs ys)
+
+goes_ranges : (texts : List (List ℕ)) (k : Known) → list_all date_range_fits texts ≡ true → Goes k (ranges_owed texts) (record k { ranges = k.ranges ++ flat_map denoted_range texts })
+goes_ranges [] k h = record { allowed = tt; leads = ap (λ rs. record k { ranges = rs }) (sym (append-nil k.ranges)) }
+goes_ranges (text ∷ texts) k h =
+    let a = and_parts _ _ h in let b : (is_clean text ≡ true) × (says_date_range (date_range_said few text) ≡ true) = and_parts _ _ a.0 in
+    let one = one_range text a.0 in
+    let next = goes_ranges texts (record k { ranges = k.ranges ++ denoted_range text }) a.1 in
+    subst (λ l. Goes k l (record k { ranges = k.ranges ++ (denoted_range text ++ flat_map denoted_range texts) })) (sym (map_joined (denoted_range text) (flat_map denoted_range texts)))
+    (ranges_step text (denoted_range text) one.range (ap range_said one.says) (is_kept text one.range one.says) b.0 one.says k (ranges_owed texts) _
+    (record { allowed = next.allowed; leads = next.leads ∙ ap (λ rs. record k { ranges = rs }) (append_assoc k.ranges (denoted_range text) (flat_map denoted_range texts)) }))
+
+-- ---- the header
+
+start : Known
+start = known_at (nothing ∷ [])
+
+header_known : OutPlaylist → Known
+unfolding start
+header_known p = record start {
+  version = Some p.version;
+  target = Some p.target;
+  sequence = Some (first_number p.segments);
+  dseq = Some (first_discontinuity p.segments);
+  kind = p.kind;
+  independent = p.independent;
+}
+
+goes_type : (kind : Option PlaylistKind) (k : Known) → k.kind ≡ None → Goes k (type_owed kind) (record k { kind = kind })
+goes_type None k e = record { allowed = tt; leads = ap (λ x. record k { kind = x }) e }
+goes_type (Some kind) k e = record { allowed = (tt, ap is_some e, tt); leads = refl }
+
+goes_independent : (b : Bool) (k : Known) → k.independent ≡ false → Goes k (independent_owed b) (record k { independent = b })
+goes_independent false k e = record { allowed = tt; leads = ap (λ x. record k { independent = x }) e }
+goes_independent true k e = record { allowed = (tt, tt, tt); leads = refl }
+
+goes_ended : (b : Bool) (k : Known) → k.ended ≡ false → Goes k (ended_owed b) (record k { ended = b })
+goes_ended false k e = record { allowed = tt; leads = ap (λ x. record k { ended = x }) e }
+goes_ended true k e = record { allowed = (tt, e, tt); leads = refl }
+
+goes_header : (p : OutPlaylist) → (p.version == 6 || p.version == 7) ≡ true → p.target < 2 ^ 64 → first_number p.segments < 2 ^ 64 → first_discontinuity p.segments < 2 ^ 64 → Goes start (header_owed p) (header_known p)
+unfolding start header_known
+goes_header p v t s d =
+    let numbers : Known = record start { version = Some p.version; target = Some p.target; sequence = Some (first_number p.segments); dseq = Some (first_discontinuity p.segments) } in
+    let rest = goes-append _ _ numbers _ _ (goes_type p.kind numbers refl) (goes_independent p.independent (record numbers { kind = p.kind }) refl) in
+    record { allowed = (v, refl, (t, refl, (s, (refl, refl), (d, (refl, refl, refl), rest.allowed)))); leads = rest.leads }
+
+-- ---- the whole
+
+section_alike : (mapped : Bool) (out : OutSegment) → cond mapped (is_some out.segment.section) (is_none out.segment.section) ≡ true → has_section (denoted_segment out) ≡ mapped
+section_alike true out h = h
+section_alike false out h = by out.segment.section h
+  where
+    by : (s : Option InitSection) → is_none s ≡ true → is_some s ≡ false
+    by None h = refl
+    by (Some s) h = cc
+
+alike_any : (outs : List OutSegment) → sections_alike false outs ≡ true → list_any has_section (map denoted_segment outs) ≡ false
+alike_any [] h = refl
+alike_any (out ∷ outs) h = let a = and_parts _ _ h in let e = section_alike false out a.0 in rw e (alike_any outs a.1)
+
+alike_all : (outs : List OutSegment) → sections_alike true outs ≡ true → list_all has_section (map denoted_segment outs) ≡ true
+alike_all [] h = refl
+alike_all (out ∷ outs) h = let a = and_parts _ _ h in and_from _ _ (section_alike true out a.0) (alike_all outs a.1)
+
+unmixed : (mapped : Bool) (outs : List OutSegment) → sections_alike mapped outs ≡ true → are_mixed (map denoted_segment outs) ≡ false
+unmixed true outs h = and_right _ _ (not_from_true _ (alike_all outs h))
+unmixed false outs h = and_left _ _ (alike_any outs h)
+
+-- what a reading that has come to an end is
+playlist_known : Known → Playlist
+playlist_known k = record {
+  version = unwrap_or k.version 1;
+  target = unwrap_or k.target 0;
+  kind = k.kind;
+  independent = k.independent;
+  ended = k.ended;
+  ranges = k.ranges;
+  segments = k.segments;
+}
+
+none_counts_step : (b any : Bool) (n : ℕ) → (any ≡ false → n ≡ 0) → (b || any) ≡ false → cond b (n + 1) n ≡ 0
+none_counts_step true any n ih h = cc
+none_counts_step false any n ih h = ih h
+
+none_counts : (before : List Said) → has is_media before ≡ false → count is_media before ≡ 0
+none_counts [] h = refl
+none_counts (s ∷ before) h = none_counts_step (is_media s) _ _ (none_counts before) h
+
+counts_step : (before : List Said) (b : Bool) → has is_media before ≡ b → 0 < count is_media before → has is_media before ≡ true
+counts_step before true e h = e
+counts_step before false e h = absurd (omega (arith, none_counts before e))
+
+some_counted : (before : List Said) → 0 < count is_media before → has is_media before ≡ true
+some_counted before h = counts_step before _ refl h
+
+whole_reads : (said : List Said) (k : Known) → known_at said ≡ k → is_some k.target ≡ true → 0 < k.count → are_mixed k.segments ≡ false → whole (whole_fault said) said ≡ Ok (playlist_known k)
+unfolding playlist_known
+whole_reads said k e t n m =
+    let a : is_some (latest the_target said) ≡ true = ap (λ x. is_some x.target) e ∙ t in
+    let b : has is_media said ≡ true = some_counted said (subst (λ x. 0 < x.count) (sym e) n) in
+    let c : are_mixed (segments_of said) ≡ false = ap (λ x. are_mixed x.segments) e ∙ m in
+    rw (a, b, c) (ap (λ x. Ok (playlist_known x)) e)
+
+numbers_after : (previous : OutSegment) (outs : List OutSegment) → all_follow previous outs ≡ true → numbers_go_on (previous.media + 1) previous.discontinuity outs ≡ true
+numbers_after previous [] h = refl
+numbers_after previous (out ∷ outs) h =
+    let a : (follows previous out ≡ true) × (all_follow out outs ≡ true) = and_parts _ _ h in
+    let b : ((out.media == previous.media + 1) ≡ true) × ((out.discontinuity == previous.discontinuity + out.steps) ≡ true) = and_parts _ _ a.0 in
+    let m : out.media ≡ previous.media + 1 = eqb-true _ _ b.0 in
+    and_from _ _ a.0 (subst (λ n. numbers_go_on (n + 1) out.discontinuity outs ≡ true) m (numbers_after out outs a.1))
+
+numbers_start : (outs : List OutSegment) → numbers_fit outs ≡ true → numbers_go_on (first_number outs) (first_discontinuity outs) outs ≡ true
+numbers_start [] h = refl
+numbers_start (out ∷ outs) h =
+    let a : (nat_le out.steps out.discontinuity ≡ true) × (all_follow out outs ≡ true) = and_parts _ _ h in
+    let l : out.steps ≤ out.discontinuity = leb-true _ _ a.0 in
+    let d : (out.discontinuity == out.discontinuity - out.steps + out.steps) ≡ true = eq-eqb out.discontinuity (out.discontinuity - out.steps + out.steps) (omega arith) in
+    and_from _ _ (and_from _ _ (eq-eqb out.media out.media refl) d) (numbers_after out outs a.1)
+
+first_fits : (outs : List OutSegment) → list_all segment_fits outs ≡ true → (first_number outs < 2 ^ 64) × (first_discontinuity outs < 2 ^ 64)
+first_fits [] h = (omega arith, omega arith)
+first_fits (out ∷ outs) h =
+    let p = segment_parts out (and_parts _ _ h).0 in let ms = p.media in let ds = p.discontinuity in (ms, omega arith)
+
+some_segments : (outs : List OutSegment) → numbers_fit outs ≡ true → 0 < length outs
+some_segments [] h = cc
+some_segments (out ∷ outs) h = omega arith
+
+abbrev first_is_mapped : List OutSegment → Bool
+first_is_mapped [] = false
+first_is_mapped (out ∷ later) = is_mapped out
+
+all_alike : (outs : List OutSegment) → list_all is_mapped outs ≡ true → sections_alike true outs ≡ true
+all_alike outs h = h
+
+none_alike : (outs : List OutSegment) → list_any is_mapped outs ≡ false → sections_alike false outs ≡ true
+none_alike [] h = refl
+none_alike (out ∷ outs) h = let a = or_parts _ _ h in and_from _ _ (unmapped out.segment.section a.0) (none_alike outs a.1)
+  where
+    unmapped : (s : Option InitSection) → is_some s ≡ false → is_none s ≡ true
+    unmapped None h = refl
+    unmapped (Some s) h = cc
+
+alike : (outs : List OutSegment) → sections_agree outs ≡ true → sections_alike (first_is_mapped outs) outs ≡ true
+alike [] h = refl
+alike (out ∷ outs) h =
+    elim (or_cases _ _ h) [
+      | inl all ↦ let a = and_parts _ _ all in subst (λ m. sections_alike m (out ∷ outs) ≡ true) (sym a.0) all
+      | inr none ↦ let n = not-true _ none in let a = or_parts _ _ n in subst (λ m. sections_alike m (out ∷ outs) ≡ true) (sym a.0) (none_alike (out ∷ outs) n)
+    ]
+
+-- ---- the text in lines
+
+joined_text : (says : List Said) (rest : List (List ℕ)) → said_text says ++ text rest ≡ text (map spelled says ++ rest)
+unfolding line_of
+joined_text [] rest = refl
+joined_text (s ∷ says) rest =
+    append_assoc (spelled s ++ 10 ∷ []) (said_text says) (text rest) ∙ append_assoc (spelled s) (10 ∷ []) (said_text says ++ text rest)
+    ∙ ap (λ t. spelled s ++ 10 ∷ t) (joined_text says rest)
+
+joined_ranges : (texts : List (List ℕ)) (rest : List (List ℕ)) → list_all date_range_fits texts ≡ true → ranges_text texts ++ text rest ≡ text (map spelled (ranges_owed texts) ++ rest)
+unfolding range_line
+joined_ranges [] rest h = refl
+joined_ranges (line ∷ texts) rest h =
+    let a = and_parts _ _ h in let one = one_range line a.0 in
+    append_assoc (date_range_line line ++ 10 ∷ []) (ranges_text texts) (text rest) ∙ append_assoc (date_range_line line) (10 ∷ []) (ranges_text texts ++ text rest)
+    ∙ ap (λ t. date_range_line line ++ 10 ∷ t) (joined_ranges texts rest a.1)
+    ∙ by (denoted_range line) one.range (ap range_said one.says) (is_kept line one.range one.says)
+  where
+    by : (ranges : List DateRange) (r : DateRange) → ranges ≡ r ∷ [] → r.text ≡ line → text (date_range_line line ∷ (map spelled (ranges_owed texts) ++ rest)) ≡ text (map spelled (map date_range (ranges ++ flat_map denoted_range texts)) ++ rest)
+    by ranges r e t = rw e (ap (λ l. text (date_range_line l ∷ (map spelled (ranges_owed texts) ++ rest))) (sym t))
+
+map_spelled : (xs ys : List Said) → map spelled (xs ++ ys) ≡ map spelled xs ++ map spelled ys
+map_spelled [] ys = refl
+map_spelled (x ∷ xs) ys = ap (λ l. spelled x ∷ l) (map_spelled xs ys)
+
+text_in_lines : (p : OutPlaylist) → list_all date_range_fits p.ranges ≡ true → text_of p ≡ text (codes "#EXTM3U" ∷ map spelled (owed p))
+text_in_lines p h =
+    let header = header_owed p in let segments = segments_owed none_yet p.segments in let ends = ended_owed p.ended in
+    let last : said_text ends ≡ text (map spelled ends) = sym (append-nil (said_text ends)) ∙ joined_text ends [] ∙ ap text (append-nil (map spelled ends)) in
+    let four : said_text segments ++ said_text ends ≡ text (map spelled (segments ++ ends)) = ap (λ t. said_text segments ++ t) last ∙ joined_text segments (map spelled ends) ∙ ap text (sym (map_spelled segments ends)) in
+    let three : ranges_text p.ranges ++ (said_text segments ++ said_text ends) ≡ text (map spelled (ranges_owed p.ranges ++ (segments ++ ends)))
+    = ap (λ t. ranges_text p.ranges ++ t) four ∙ joined_ranges p.ranges (map spelled (segments ++ ends)) h ∙ ap text (sym (map_spelled (ranges_owed p.ranges) (segments ++ ends))) in
+    let two : said_text header ++ (ranges_text p.ranges ++ (said_text segments ++ said_text ends)) ≡ text (map spelled (owed p))
+    = ap (λ t. said_text header ++ t) three ∙ joined_text header (map spelled (ranges_owed p.ranges ++ (segments ++ ends))) ∙ ap text (sym (map_spelled header (ranges_owed p.ranges ++ (segments ++ ends)))) in
+    append_assoc (codes "#EXTM3U") (10 ∷ []) (said_text header ++ (ranges_text p.ranges ++ (said_text segments ++ said_text ends))) ∙ ap (λ t. codes "#EXTM3U" ++ 10 ∷ t) two
+
+module _ (base : Parts) (p : OutPlaylist) where
+  -- where all lines lead
+  record Arrives : Type 0 where
+    end : Known
+    goes : Goes start (owed p) end
+    target : is_some end.target ≡ true
+    some : 0 < end.count
+    unmixed : are_mixed end.segments ≡ false
+    playlist : playlist_known end ≡ denoted p
+
+  arrives : well_formed p ≡ true → Arrives
+  unfolding start header_known playlist_known
+  arrives w =
+      let a = and_parts _ _ w in let b = and_parts _ _ a.0 in let c = and_parts _ _ b.0 in let d = and_parts _ _ c.0 in
+      let f : (version_fits p.version ≡ true) × (is_word p.target ≡ true) = and_parts _ _ d.0 in
+      let some = some_segments p.segments d.1 in
+      let numbers = numbers_start p.segments d.1 in let firsts = first_fits p.segments c.1 in
+      let same = alike p.segments b.1 in
+      let h : Known = record (header_known p) { ranges = flat_map denoted_range p.ranges } in
+      let one = goes_header p f.0 (ltb-true _ _ f.1) firsts.0 firsts.1 in
+      let two = goes_ranges p.ranges (header_known p) a.1 in
+      let three = goes_segments h (first_is_mapped p.segments) p.segments none_yet 0 0 (first_number p.segments) (first_discontinuity p.segments) None [] c.1 same numbers (omega arith) (omega arith) refl (λ m. refl) in
+      let between : Known = ready h three.current three.count three.discontinuities three.last (map denoted_segment p.segments) in
+      let four = goes_ended p.ended between refl in
+      let counted : 0 < three.count = omega (arith, three.counted) in
+      record {
+        end = record between { ended = p.ended };
+        goes = goes-append _ _ start (header_known p) _ one (goes-append _ _ (header_known p) h _ two (goes-append _ _ h between _ three.goes four));
+        target = refl;
+        some = counted;
+        unmixed = unmixed (first_is_mapped p.segments) p.segments same;
+        playlist = refl;
+      }
+
+  denotes : list_all date_range_fits p.ranges ≡ true → Arrives → Denotes base (text_of p) (denoted p)
+  unfolding start
+  denotes r h =
+      let said = onto (nothing ∷ []) (owed p) in
+      let known = known_onto (owed p) (nothing ∷ []) ∙ h.goes.leads in
+      let read = said_onto base (owed p) (nothing ∷ []) h.goes.allowed in
+      let texts = codes "#EXTM3U" ∷ map spelled (owed p) in
+      let clean : AllClean texts = (clean_printable (codes "#EXTM3U") refl, read.0) in
+      let utf8 = is_utf8-from_IsUtf8 (text texts) (utf8_text texts clean) in
+      ap (reading unlimited base) (text_in_lines p r) ∙ cond-false _ _ _ (not_from_true _ utf8) ∙ ap (of_lines unlimited base) (lines_of_text texts clean) ∙ ap and_whole read.1
+      ∙ whole_reads said h.end known h.target h.some h.unmixed ∙ ap Ok h.playlist
+
+pub text_denotes : TextDenotes
+text_denotes base p w =
+    let a : (_ ≡ true) × (list_all date_range_fits p.ranges ≡ true) = and_parts _ _ w in denotes base p a.1 (arrives base p w)

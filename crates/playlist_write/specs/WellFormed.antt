@@ -1,0 +1,64 @@
+-- Which playlists can be written so that the text says them.
+use Rattle.std.specs.Prelude.{ℕ, ◌+◌, ◌^◌, Bool, true, false, not, ◌&&◌, ◌||◌, ◌==◌, nat_lt, nat_le, List, [], ◌∷◌, is_some}
+use Rattle.std.specs.List.{list_any, list_all}
+use Rattle.playlist_meaning.specs.Instant.{in_range}
+use Rattle.playlist_meaning.specs.declared.Segment.{Segment}
+use Rattle.stitcher.specs.declared.OutSegment.{OutSegment}
+use Rattle.playlist_write.specs.declared.OutPlaylist.{OutPlaylist}
+use Rattle.playlist_write.specs.Fitting.{if_some, is_clean, uri_fits, range_fits, effective_keys_fit, section_fits, date_range_fits}
+
+-- a number of 64 bits
+abbrev pub is_word : ℕ → Bool
+is_word n = nat_lt n (2 ^ 64)
+
+-- ---- a segment by itself
+
+abbrev pub numbers_are_words : OutSegment → Bool
+numbers_are_words out = is_word out.media && is_word out.discontinuity
+
+abbrev pub resource_fits : Segment → Bool
+resource_fits segment = uri_fits segment.uri && if_some range_fits segment.range
+
+-- below 1,000,000 s
+abbrev pub duration_fits : ℕ → Bool
+duration_fits nanos = nat_lt nanos (10 ^ 15)
+
+abbrev pub segment_fits : OutSegment → Bool
+segment_fits out =
+    numbers_are_words out && resource_fits out.segment && effective_keys_fit out.segment.keys && if_some section_fits out.segment.section
+    && duration_fits out.segment.duration && is_clean out.segment.title && if_some in_range out.time
+
+-- ---- numbers (4.3.3.2, 4.3.3.3)
+
+-- media numbers go up by one, discontinuity numbers by the steps between
+abbrev pub follows : OutSegment → OutSegment → Bool
+follows previous next = next.media == previous.media + 1 && next.discontinuity == previous.discontinuity + next.steps
+
+abbrev pub all_follow : OutSegment → List OutSegment → Bool
+all_follow previous [] = true
+all_follow previous (next ∷ later) = follows previous next && all_follow next later
+
+-- there is a first segment, its discontinuity number is at least its steps, and the others follow
+abbrev pub numbers_fit : List OutSegment → Bool
+numbers_fit [] = false
+numbers_fit (first ∷ later) = nat_le first.steps first.discontinuity && all_follow first later
+
+-- ---- the whole
+
+abbrev pub is_mapped : OutSegment → Bool
+is_mapped out = is_some out.segment.section
+
+-- all have an initialisation section, or none has
+abbrev pub sections_agree : List OutSegment → Bool
+sections_agree segments = list_all is_mapped segments || not (list_any is_mapped segments)
+
+abbrev pub version_fits : ℕ → Bool
+version_fits version = version == 6 || version == 7
+
+abbrev pub fits_without_ranges : OutPlaylist → Bool
+fits_without_ranges p =
+    version_fits p.version && is_word p.target && numbers_fit p.segments && list_all segment_fits p.segments
+    && sections_agree p.segments
+
+abbrev pub well_formed : OutPlaylist → Bool
+well_formed p = fits_without_ranges p && list_all date_range_fits p.ranges

@@ -1,0 +1,110 @@
+//! Which texts are date ranges (RFC 8216, section 4.3.2.7).
+ghost use Rattle.std.specs.Prelude.{◌≡◌, ◌≢◌, map, IfOk, is_some, is_ok, option_map, false};
+ghost use Rattle.std.specs.Option.{option_copied};
+ghost use Rattle.attr_list.specs.Attrs.{attr_pair};
+ghost use Rattle.fixed_duration.specs.Duration.{duration_of};
+ghost use Rattle.playlist_meaning.specs.Instant.{instant_of};
+ghost use Rattle.std.specs.List.{list_all};
+ghost use Rattle.playlist_meaning.specs.Said.{date_range_said};
+ghost use Rattle.playlist_meaning.specs.Reading.{limited};
+ghost use Rattle.playlist_write.specs.Fitting.{if_some, says_date_range, date_range_fits};
+ghost use Rattle.playlist_write.specs.DateRangeParts.{is_id, says_time, says_duration, is_date_range};
+
+use crate::texts::is_clean;
+use attr_list::{Attr, AttrFault, AttrList};
+use fixed_duration::Nanos;
+use playlist_meaning::{Text, read_instant};
+use std::alloc::{AllocError, Global};
+
+fn is_time(text: &str) -> bool
+    ensures { result ≡ is_some (instant_of text.now) }
+{
+    read_instant(text).is_ok()
+}
+
+fn is_duration(text: &str) -> bool
+    ensures { result ≡ is_ok (duration_of text.now) }
+{
+    Nanos::read(text).is_ok()
+}
+
+fn is_id(attr: Option<&Attr>) -> bool
+    ensures { result ≡ is_id (option_map attr_pair (option_copied attr.entry)) }
+{
+    match attr {
+        Some(attr) => attr.quoted,
+        None => false,
+    }
+}
+
+fn says_time(attr: Option<&Attr>) -> bool
+    ensures { result ≡ if_some says_time (option_map attr_pair (option_copied attr.entry)) }
+{
+    match attr {
+        Some(attr) => is_time(attr.value.as_str()),
+        None => true,
+    }
+}
+
+fn says_duration(attr: Option<&Attr>) -> bool
+    ensures { result ≡ if_some says_duration (option_map attr_pair (option_copied attr.entry)) }
+{
+    match attr {
+        Some(attr) => is_duration(attr.value.as_str()),
+        None => true,
+    }
+}
+
+// Whether attributes say a date range: they have an ID in quotes, and what times and durations they
+// state are such.
+fn is_date_range(list: &AttrList) -> bool
+    ensures { result ≡ is_date_range (map attr_pair list.now) }
+{
+    is_id(list.get("ID"))
+        && says_time(list.get("START-DATE"))
+        && says_time(list.get("END-DATE"))
+        && says_duration(list.get("DURATION"))
+        && says_duration(list.get("PLANNED-DURATION"))
+}
+
+// A text that is no attribute list is no date range; of refused memory nothing is said.
+fn no_list(fault: AttrFault) -> Result<bool, AllocError>
+    ensures { IfOk result (λ b. (b ≡ false) × (fault ≢ AttrFault.OutOfMemory)) }
+{
+    if fault == AttrFault::OutOfMemory {
+        return Err(AllocError);
+    }
+    Ok(false)
+}
+
+// Whether a text is an attribute list of at most 64 attributes that says a date range.
+fn reads_as_date_range(alloc: Global, text: &str) -> Result<bool, AllocError>
+    ensures { IfOk result (λ b. b ≡ says_date_range (date_range_said limited text.now)) }
+{
+    match AttrList::read(alloc, text) {
+        Ok(list) => Ok(is_date_range(&list)),
+        Err(fault) => no_list(fault),
+    }
+}
+
+/// Whether a text can be written as that of a date range.
+pub fn date_range_fits(alloc: Global, text: &Text) -> Result<bool, AllocError>
+    ensures { IfOk result (λ b. b ≡ date_range_fits text.now) }
+{
+    if !is_clean(text) {
+        return Ok(false);
+    }
+    reads_as_date_range(alloc, text.as_str())
+}
+
+/// Whether all of these can.
+pub fn date_ranges_fit(alloc: Global, texts: &[Text]) -> Result<bool, AllocError>
+    ensures { IfOk result (λ b. b ≡ list_all date_range_fits texts.now) }
+{
+    for text in texts {
+        if !date_range_fits(alloc, text)? {
+            return Ok(false);
+        }
+    }
+    Ok(true)
+}

@@ -1,0 +1,168 @@
+//! Which keys and initialisation sections can be written (RFC 8216, sections 4.3.2.4 and 4.3.2.5).
+ghost use Rattle.std.specs.Prelude.{◌≡◌, ◌&&◌, not, true, false, bytes_eq};
+ghost use Rattle.std.specs.List.{list_any, list_all};
+ghost use Rattle.playlist_meaning.specs.LookBack.{is_before, are_sorted};
+ghost use Rattle.playlist_meaning.specs.Reading.{needs_iv};
+ghost use Rattle.playlist_write.specs.Fitting.{if_some, range_fits, is_own_name, other_fits, is_apart, have_distinct_names, iv_fits, method_fits, key_fits, keys_fit, states_iv, effective_keys_fit, section_fits};
+
+use crate::texts::{is_name, quoted_uri_fits, value_fits};
+use playlist_meaning::{ByteRange, InitSection, Key, KeyAttr, Text};
+
+/// Whether a range ends below 2^64, where there is one.
+pub fn range_fits(range: Option<ByteRange>) -> bool
+    ensures { result ≡ if_some range_fits range }
+{
+    match range {
+        Some(range) => range.length.checked_add(range.offset).is_some(),
+        None => true,
+    }
+}
+
+fn is_own_name(name: &str) -> bool
+    ensures { result ≡ is_own_name name.now }
+{
+    "METHOD" == name || "URI" == name || "IV" == name || "KEYFORMAT" == name
+}
+
+fn other_fits(attr: &KeyAttr) -> bool
+    ensures { result ≡ other_fits attr.now }
+{
+    let name = attr.name.as_str();
+    is_name(name) && !is_own_name(name) && value_fits(&attr.value, attr.quoted)
+}
+
+fn others_fit(attrs: &[KeyAttr]) -> bool
+    ensures { result ≡ list_all other_fits attrs.now }
+{
+    attrs.iter().all(|attr: &KeyAttr| other_fits(attr))
+}
+
+fn has_name(attrs: &[KeyAttr], name: &str) -> bool
+    ensures { result ≡ list_any (λ other. bytes_eq name.now other.name) attrs.now }
+{
+    attrs
+        .iter()
+        .any(|attr: &KeyAttr| name == attr.name.as_str())
+}
+
+// Whether an attribute's name comes in none of the later ones.
+fn is_apart(attr: &KeyAttr, later: &[KeyAttr]) -> bool
+    ensures { result ≡ is_apart attr.now later.now }
+{
+    !has_name(later, attr.name.as_str())
+}
+
+fn have_distinct_names(attrs: &[KeyAttr]) -> bool
+    ensures { result ≡ have_distinct_names attrs.now }
+{
+    for i in 0..attrs.len() {
+        if !is_apart(&attrs[i], &attrs[i + 1..]) {
+            return false;
+        }
+    }
+    true
+}
+
+fn method_fits(method: &Text) -> bool
+    ensures { result ≡ method_fits method.now }
+{
+    value_fits(method, false) && method.as_str() != "NONE"
+}
+
+// An IV is a number of 128 bits by its type.
+fn iv_fits(iv: Option<u128>) -> bool
+    ensures { result ≡ if_some iv_fits iv }
+{
+    match iv {
+        Some(iv) => iv <= u128::MAX,
+        None => true,
+    }
+}
+
+fn key_fits(key: &Key) -> bool
+    ensures { result ≡ key_fits key.now }
+{
+    value_fits(&key.format, true)
+        && method_fits(&key.method)
+        && quoted_uri_fits(&key.uri)
+        && iv_fits(key.iv)
+        && others_fit(key.other.as_slice())
+        && have_distinct_names(key.other.as_slice())
+}
+
+fn all_fit(keys: &[Key]) -> bool
+    ensures { result ≡ list_all key_fits keys.now }
+{
+    keys.iter().all(|key: &Key| key_fits(key))
+}
+
+fn is_before(key: &Key, other: &Key) -> bool
+    ensures { result ≡ is_before key.now other.now }
+{
+    key.format.as_str() < other.format.as_str()
+}
+
+fn stands_before(key: &Key, later: &[Key]) -> bool
+    ensures { result ≡ list_all (is_before key.now) later.now }
+{
+    later.iter().all(|other: &Key| is_before(key, other))
+}
+
+fn are_sorted(keys: &[Key]) -> bool
+    ensures { result ≡ are_sorted keys.now }
+{
+    for i in 0..keys.len() {
+        if !stands_before(&keys[i], &keys[i + 1..]) {
+            return false;
+        }
+    }
+    true
+}
+
+fn keys_fit(keys: &[Key]) -> bool
+    ensures { result ≡ keys_fit keys.now }
+{
+    all_fit(keys) && are_sorted(keys)
+}
+
+fn states_iv(key: &Key) -> bool
+    ensures { result ≡ states_iv key.now }
+{
+    !(key.format.as_str() == "identity" && key.iv.is_none())
+}
+
+fn all_state_ivs(keys: &[Key]) -> bool
+    ensures { result ≡ list_all states_iv keys.now }
+{
+    keys.iter().all(|key: &Key| states_iv(key))
+}
+
+/// Whether these can be the keys of a segment: those of the format `identity` have an IV.
+pub fn effective_keys_fit(keys: &[Key]) -> bool
+    ensures { result ≡ effective_keys_fit keys.now }
+{
+    keys_fit(keys) && all_state_ivs(keys)
+}
+
+fn needs_iv(key: &Key) -> bool
+    ensures { result ≡ needs_iv key.now }
+{
+    key.method.as_str() == "AES-128" && key.iv.is_none()
+}
+
+fn one_needs_iv(keys: &[Key]) -> bool
+    ensures { result ≡ list_any needs_iv keys.now }
+{
+    keys.iter().any(|key: &Key| needs_iv(key))
+}
+
+/// Whether a section can be written: its AES-128 keys have an IV.
+pub fn section_fits(section: &InitSection) -> bool
+    ensures { result ≡ section_fits section.now }
+{
+    let keys = section.keys.as_slice();
+    quoted_uri_fits(&section.uri)
+        && range_fits(section.range)
+        && keys_fit(keys)
+        && !one_needs_iv(keys)
+}

@@ -1,0 +1,181 @@
+//! Each public call once, and the written text of a playlist with each kind of line.
+use crate::{OutPlaylist, write};
+use fixed_duration::Nanos;
+use playlist_meaning::{
+    ByteRange, InitSection, Instant, Items, Key, KeyAttr, PlaylistKind, Segment, Taken, Text,
+};
+use std::alloc::{AllocError, Global};
+use std::test::Fail;
+use stitcher::OutSegment;
+
+const ROOM: usize = 4096;
+
+const DATE_RANGE: &str = "ID=\"b1\",START-DATE=\"2024-05-01T12:00:10Z\",DURATION=10";
+
+// The lines as RFC 8216 has them, written by hand.
+const WRITTEN: &str = "#EXTM3U
+#EXT-X-VERSION:7
+#EXT-X-TARGETDURATION:10
+#EXT-X-MEDIA-SEQUENCE:7
+#EXT-X-DISCONTINUITY-SEQUENCE:2
+#EXT-X-PLAYLIST-TYPE:EVENT
+#EXT-X-INDEPENDENT-SEGMENTS
+#EXT-X-DATERANGE:ID=\"b1\",START-DATE=\"2024-05-01T12:00:10Z\",DURATION=10
+#EXT-X-DISCONTINUITY
+#EXT-X-KEY:METHOD=AES-128,URI=\"http://origin.example/ch/ka\",IV=0x0000000000000000000000000000000A
+#EXT-X-MAP:URI=\"http://origin.example/ch/init.mp4\"
+#EXT-X-KEY:METHOD=AES-128,URI=\"http://origin.example/ch/kb\",IV=0x00000000000000000000000000000002
+#EXT-X-PROGRAM-DATE-TIME:2024-05-01T12:00:00.000Z
+#EXTINF:10,one
+http://origin.example/ch/s0.m4s
+#EXT-X-DISCONTINUITY
+#EXT-X-KEY:METHOD=NONE
+#EXT-X-MAP:URI=\"http://ads.example/i.mp4\",BYTERANGE=\"100@20\"
+#EXTINF:9.5,
+#EXT-X-BYTERANGE:30@120
+http://ads.example/a0.m4s
+#EXT-X-KEY:METHOD=SAMPLE-AES,URI=\"skd://1\",KEYFORMAT=\"com.example.drm\",KEYFORMATVERSIONS=\"1\",X=2
+#EXTINF:9.5,
+http://ads.example/a1.m4s
+#EXT-X-ENDLIST
+";
+
+fn text(alloc: Global, text: &str) -> Result<Text, AllocError> {
+    Text::copy_of(alloc, text)
+}
+
+fn key(alloc: Global, uri: &str, iv: u128) -> Result<Key, AllocError> {
+    Ok(Key {
+        format: text(alloc, "identity")?,
+        method: text(alloc, "AES-128")?,
+        uri: text(alloc, uri)?,
+        iv: Some(iv),
+        other: Items::from_vec(Vec::new(alloc)),
+    })
+}
+
+fn other(alloc: Global, name: &str, value: &str, quoted: bool) -> Result<KeyAttr, AllocError> {
+    Ok(KeyAttr {
+        name: text(alloc, name)?,
+        value: text(alloc, value)?,
+        quoted,
+    })
+}
+
+fn drm_key(alloc: Global) -> Result<Key, AllocError> {
+    let versions = other(alloc, "KEYFORMATVERSIONS", "1", true)?;
+    Ok(Key {
+        format: text(alloc, "com.example.drm")?,
+        method: text(alloc, "SAMPLE-AES")?,
+        uri: text(alloc, "skd://1")?,
+        iv: None,
+        other: Items::from_vec(vec![in alloc; versions, other(alloc, "X", "2", false)?]?),
+    })
+}
+
+// A segment of 9.5 seconds with the section of an advertisement.
+fn ad_segment(alloc: Global, uri: &str, keys: Vec<Key>) -> Result<Segment, AllocError> {
+    Ok(Segment {
+        number: 0,
+        discontinuity: 0,
+        steps: 0,
+        uri: text(alloc, uri)?,
+        range: None,
+        keys: Items::from_vec(keys),
+        section: Some(InitSection {
+            uri: text(alloc, "http://ads.example/i.mp4")?,
+            range: Some(ByteRange {
+                length: 100,
+                offset: 20,
+            }),
+            keys: Items::from_vec(Vec::new(alloc)),
+        }),
+        duration: Nanos(9_500_000_000),
+        title: text(alloc, "")?,
+        time: None,
+    })
+}
+
+fn origin_segment(alloc: Global) -> Result<Segment, AllocError> {
+    let uri = text(alloc, "http://origin.example/ch/init.mp4")?;
+    let map_key = key(alloc, "http://origin.example/ch/ka", 10)?;
+    let media_key = key(alloc, "http://origin.example/ch/kb", 2)?;
+    let mut segment = ad_segment(
+        alloc,
+        "http://origin.example/ch/s0.m4s",
+        vec![in alloc; media_key]?,
+    )?;
+    segment.section = Some(InitSection {
+        uri,
+        range: None,
+        keys: Items::from_vec(vec![in alloc; map_key]?),
+    });
+    segment.duration = Nanos(10_000_000_000);
+    segment.title = text(alloc, "one")?;
+    Ok(segment)
+}
+
+fn playlist(alloc: Global) -> Result<OutPlaylist, AllocError> {
+    let mut ranged = ad_segment(alloc, "http://ads.example/a0.m4s", Vec::new(alloc))?;
+    ranged.range = Some(ByteRange {
+        length: 30,
+        offset: 120,
+    });
+    let first = OutSegment {
+        segment: origin_segment(alloc)?,
+        media: 7,
+        discontinuity: 3,
+        steps: 1,
+        time: Some(Instant(1_714_564_800_000_000_000)),
+    };
+    let second = OutSegment {
+        segment: ranged,
+        media: 8,
+        discontinuity: 4,
+        steps: 1,
+        time: None,
+    };
+    let third = OutSegment {
+        segment: ad_segment(
+            alloc,
+            "http://ads.example/a1.m4s",
+            vec![in alloc; drm_key(alloc)?]?,
+        )?,
+        media: 9,
+        discontinuity: 4,
+        steps: 0,
+        time: None,
+    };
+    Ok(OutPlaylist {
+        version: 7,
+        target: 10,
+        kind: Some(PlaylistKind::Event),
+        independent: true,
+        ended: true,
+        ranges: Items::from_vec(vec![in alloc; text(alloc, DATE_RANGE)?]?),
+        segments: Items::from_vec(vec![in alloc; first, second, third]?),
+    })
+}
+
+#[test]
+fn well_formed(rt: HostRuntime) -> Result<(), Fail> {
+    let mut playlist = playlist(rt.alloc())?;
+    assert!(rt; playlist.well_formed(rt.alloc())?);
+    playlist.version = 5;
+    assert!(rt; !playlist.well_formed(rt.alloc())?);
+    playlist.version = 6;
+    playlist.ranges = Items::from_vec(vec![in rt.alloc(); text(rt.alloc(), "START-DATE=x")?]?);
+    assert!(rt; !playlist.well_formed(rt.alloc())?);
+    Ok(())
+}
+
+#[test]
+fn written(rt: HostRuntime) -> Result<(), Fail> {
+    let playlist = playlist(rt.alloc())?;
+    let mut sink = Taken::new(rt.alloc(), ROOM, 7, 0)?;
+    match write(rt.alloc(), &playlist, &mut sink) {
+        Ok(()) => assert!(rt; sink.bytes() == WRITTEN.as_bytes()),
+        Err(_) => assert!(rt; false, "it is written"),
+    }
+    Ok(())
+}

@@ -1,0 +1,107 @@
+//! Which texts can be written (RFC 8216, section 4.2).
+ghost use Rattle.std.specs.Prelude.{◌≡◌, ◌==◌, true, false};
+ghost use Rattle.std.specs.List.{prefix_len, list_any, list_all};
+ghost use Rattle.attr_list.specs.Attributes.{is_name, is_name_byte, is_quote, ends_plain, is_value};
+ghost use Rattle.playlist_meaning.specs.Uri.{is_scheme_byte, has_scheme};
+ghost use Rattle.playlist_write.specs.Fitting.{is_clean, value_fits, uri_fits, quoted_uri_fits};
+
+use playlist_meaning::{Text, has_control};
+
+/// Whether a text holds no control character.
+pub fn is_clean(text: &Text) -> bool
+    ensures { result ≡ is_clean text.now }
+{
+    !has_control(text.as_str())
+}
+
+fn are_name_bytes(text: &str) -> bool
+    ensures { result ≡ list_all is_name_byte text.now }
+{
+    text.as_bytes().iter().all(|b| b.is_ascii_uppercase() || b.is_ascii_digit() || *b == b'-')
+}
+
+/// Whether a text is one or more of A to Z, 0 to 9 and `-`.
+pub fn is_name(text: &str) -> bool
+    ensures { result ≡ is_name text.now }
+{
+    !text.is_empty() && are_name_bytes(text)
+}
+
+fn has_quote(text: &str) -> bool
+    ensures { result ≡ list_any is_quote text.now }
+{
+    text.as_bytes().iter().any(|b| *b == b'"')
+}
+
+// Whether a text holds what can't stand in a value without quotes.
+fn ends_plain(text: &str) -> bool
+    ensures { result ≡ list_any ends_plain text.now }
+{
+    text.as_bytes()
+        .iter()
+        .any(|b| *b == b',' || *b == b'"' || *b == b' ')
+}
+
+// Whether a text can stand between quotes.
+fn is_quotable(text: &str) -> bool
+    ensures { result ≡ is_value true text.now }
+{
+    !has_quote(text)
+}
+
+// Whether a text can stand without quotes.
+fn is_plain(text: &str) -> bool
+    ensures { result ≡ is_value false text.now }
+{
+    !text.is_empty() && !ends_plain(text)
+}
+
+/// Whether a text can be the value of an attribute, in quotes or without.
+pub fn value_fits(value: &Text, quoted: bool) -> bool
+    ensures { result ≡ value_fits quoted value.now }
+{
+    let text = value.as_str();
+    let is_value = if quoted {
+        is_quotable(text)
+    } else {
+        is_plain(text)
+    };
+    is_clean(value) && is_value
+}
+
+fn is_scheme_byte(b: u8) -> bool
+    ensures { result ≡ is_scheme_byte b }
+{
+    b.is_ascii_alphanumeric() || b == b'+' || b == b'-' || b == b'.'
+}
+
+fn scheme_len(bytes: &[u8]) -> usize
+    ensures { result ≡ prefix_len is_scheme_byte bytes.now }
+{
+    bytes.iter().take_while(|b| is_scheme_byte(**b)).count()
+}
+
+fn has_scheme(text: &str) -> bool
+    ensures { result ≡ has_scheme text.now }
+{
+    let bytes = text.as_bytes();
+    let len = scheme_len(bytes);
+    if len >= bytes.len() {
+        return false;
+    }
+    bytes[0].is_ascii_alphabetic() && bytes[len] == b':'
+}
+
+/// Whether a text is a whole URI that can stand on a line.
+pub fn uri_fits(uri: &Text) -> bool
+    ensures { result ≡ uri_fits uri.now }
+{
+    is_clean(uri) && has_scheme(uri.as_str())
+}
+
+/// Whether a text is a whole URI that can stand in quotes.
+pub fn quoted_uri_fits(uri: &Text) -> bool
+    ensures { result ≡ quoted_uri_fits uri.now }
+{
+    value_fits(uri, true) && has_scheme(uri.as_str())
+}

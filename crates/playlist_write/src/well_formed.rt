@@ -1,0 +1,180 @@
+//! Which playlists can be written so that the text says them.
+ghost use Rattle.std.specs.Prelude.{◌≡◌, ◌==◌, ◌+◌, IfOk, true, false};
+ghost use Rattle.std.specs.List.{list_all, list_any};
+ghost use Rattle.playlist_meaning.specs.Instant.{in_range};
+ghost use Rattle.playlist_write.specs.Fitting.{if_some, section_fits};
+ghost use Rattle.playlist_write.specs.WellFormed.{well_formed, fits_without_ranges, numbers_are_words, resource_fits, duration_fits, segment_fits, follows, all_follow, numbers_fit, is_mapped, sections_agree, version_fits, is_word};
+
+use crate::OutPlaylist;
+use crate::date_ranges::date_ranges_fit;
+use crate::key_rules::{effective_keys_fit, range_fits, section_fits};
+use crate::texts::{is_clean, uri_fits};
+use fixed_duration::Nanos;
+use playlist_meaning::{InitSection, Instant, Segment};
+use std::alloc::{AllocError, Global};
+use stitcher::OutSegment;
+
+// A number of 64 bits is one by its type.
+fn is_word(number: u64) -> bool
+    ensures { result ≡ is_word number }
+{
+    number <= u64::MAX
+}
+
+fn numbers_are_words(out: &OutSegment) -> bool
+    ensures { result ≡ numbers_are_words out.now }
+{
+    is_word(out.media) && is_word(out.discontinuity)
+}
+
+fn resource_fits(segment: &Segment) -> bool
+    ensures { result ≡ resource_fits segment.now }
+{
+    uri_fits(&segment.uri) && range_fits(segment.range)
+}
+
+fn duration_fits(duration: Nanos) -> bool
+    ensures { result ≡ duration_fits duration }
+{
+    duration.0 < 1_000_000_000_000_000
+}
+
+fn optional_section_fits(section: &Option<InitSection>) -> bool
+    ensures { result ≡ if_some section_fits section.now }
+{
+    match section {
+        Some(section) => section_fits(section),
+        None => true,
+    }
+}
+
+fn is_in_range(time: Instant) -> bool
+    ensures { result ≡ in_range time }
+{
+    time.0 >= -2_208_988_800_000_000_000 && time.0 < 7_258_118_400_000_000_000
+}
+
+fn optional_time_fits(time: Option<Instant>) -> bool
+    ensures { result ≡ if_some in_range time }
+{
+    match time {
+        Some(time) => is_in_range(time),
+        None => true,
+    }
+}
+
+// Whether a segment can be written, apart from how its numbers follow.
+fn segment_fits(out: &OutSegment) -> bool
+    ensures { result ≡ segment_fits out.now }
+{
+    let segment = &out.segment;
+    numbers_are_words(out)
+        && resource_fits(segment)
+        && effective_keys_fit(segment.keys.as_slice())
+        && optional_section_fits(&segment.section)
+        && duration_fits(segment.duration)
+        && is_clean(&segment.title)
+        && optional_time_fits(out.time)
+}
+
+fn segments_fit(segments: &[OutSegment]) -> bool
+    ensures { result ≡ list_all segment_fits segments.now }
+{
+    segments.iter().all(|out: &OutSegment| segment_fits(out))
+}
+
+fn is_sum(sum: u64, one: u64, other: u64) -> bool
+    ensures { result ≡ (sum == one + other) }
+{
+    match one.checked_add(other) {
+        Some(found) => sum == found,
+        None => false,
+    }
+}
+
+// Whether the media number goes up by one, and the discontinuity number by the steps.
+fn follows(previous: &OutSegment, next: &OutSegment) -> bool
+    ensures { result ≡ follows previous.now next.now }
+{
+    is_sum(next.media, previous.media, 1)
+        && is_sum(next.discontinuity, previous.discontinuity, next.steps)
+}
+
+fn all_follow(first: &OutSegment, later: &[OutSegment]) -> bool
+    ensures { result ≡ all_follow first.now later.now }
+{
+    let mut previous = first;
+    for next in later {
+        if !follows(previous, next) {
+            return false;
+        }
+        previous = next;
+    }
+    true
+}
+
+fn numbers_fit(segments: &[OutSegment]) -> bool
+    ensures { result ≡ numbers_fit segments.now }
+{
+    let [first, later @ ..] = segments else {
+        return false;
+    };
+    first.steps <= first.discontinuity && all_follow(first, later)
+}
+
+fn is_mapped(out: &OutSegment) -> bool
+    ensures { result ≡ is_mapped out.now }
+{
+    out.segment.section.is_some()
+}
+
+fn all_are_mapped(segments: &[OutSegment]) -> bool
+    ensures { result ≡ list_all is_mapped segments.now }
+{
+    segments.iter().all(|out: &OutSegment| is_mapped(out))
+}
+
+fn one_is_mapped(segments: &[OutSegment]) -> bool
+    ensures { result ≡ list_any is_mapped segments.now }
+{
+    segments.iter().any(|out: &OutSegment| is_mapped(out))
+}
+
+fn sections_agree(segments: &[OutSegment]) -> bool
+    ensures { result ≡ sections_agree segments.now }
+{
+    all_are_mapped(segments) || !one_is_mapped(segments)
+}
+
+fn version_fits(version: u64) -> bool
+    ensures { result ≡ version_fits version }
+{
+    version == 6 || version == 7
+}
+
+// Whether a playlist can be written, apart from its date ranges.
+fn fits_without_ranges(playlist: &OutPlaylist) -> bool
+    ensures { result ≡ fits_without_ranges playlist.now }
+{
+    let segments = playlist.segments.as_slice();
+    version_fits(playlist.version)
+        && is_word(playlist.target)
+        && numbers_fit(segments)
+        && segments_fit(segments)
+        && sections_agree(segments)
+}
+
+impl OutPlaylist {
+    /// Whether the playlist can be written so that the text says it: then what `write` writes is read
+    /// as this playlist, whatever the base. Only what RFC 8216 and this project's limits ask of each
+    /// text and number, and of how they follow one another; memory is refused only where the
+    /// attributes of a date range are read.
+    pub fn well_formed(&self, alloc: Global) -> Result<bool, AllocError>
+        ensures { IfOk result (λ b. b ≡ well_formed self.now) }
+    {
+        if !fits_without_ranges(self) {
+            return Ok(false);
+        }
+        date_ranges_fit(alloc, self.ranges.as_slice())
+    }
+}

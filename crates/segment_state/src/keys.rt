@@ -1,0 +1,104 @@
+//! The keys in force (RFC 8216, 4.3.2.4 and 5.2).
+ghost use Rattle.std.specs.Prelude.{◌≡◌, ◌≤◌, ℕ, ◌<◌, ◌+◌, not, Ok, IfOk, IfErr, OnOk, length, map, filter, vec_len, vec_capacity};
+ghost use Rattle.std.specs.List.{list_any, position_or_len};
+ghost use Rattle.playlist_meaning.specs.LookBack.{effective_key, is_before, without_format, has_format};
+ghost use Rattle.playlist_meaning.specs.Reading.{needs_iv};
+ghost use Rattle.playlist_meaning.specs.Refusals.{Refuses};
+ghost use Rattle.segment_state.specs.Tags.{with_key};
+
+use playlist_meaning::{FaultKind, Key};
+use std::alloc::{AllocError, Global};
+
+/// How many formats of keys may be in force.
+const MOST_FORMATS: usize = 16;
+
+pub fn copied_keys(alloc: Global, keys: &[Key]) -> Result<Vec<Key>, AllocError>
+    ensures { IfOk result (λ v. v.items ≡ keys.now) }
+{
+    Vec::from_clones(alloc, keys)
+}
+
+// A key with the media number as its IV, where it is of the format `identity` and states none.
+fn effective_key(key: &Key, number: u64) -> Result<Key, AllocError>
+    ensures { IfOk result (λ k. k ≡ effective_key number key.now) }
+{
+    let mut found = key.clone()?;
+    if found.format.as_str() == "identity" && found.iv.is_none() {
+        found.iv = Some(u128::from(number));
+    }
+    Ok(found)
+}
+
+/// The keys, as they decrypt the segment of this media sequence number.
+pub fn effective_keys(alloc: Global, keys: &[Key], number: u64) -> Result<Vec<Key>, AllocError>
+    ensures { IfOk result (λ v. v.items ≡ map (effective_key number) keys.now) }
+{
+    let mut found = Vec::with_capacity(alloc, keys.len())?;
+    for key in keys {
+        found.push(effective_key(key, number)?)?;
+    }
+    Ok(found)
+}
+
+fn needs_iv(key: &Key) -> bool
+    ensures { result ≡ needs_iv key.now }
+{
+    key.method.as_str() == "AES-128" && key.iv.is_none()
+}
+
+/// Whether a key in force can't decrypt an initialisation section, since it states no IV.
+pub fn is_iv_needed(keys: &[Key]) -> bool
+    ensures { result ≡ list_any needs_iv keys.now }
+{
+    keys.iter().any(needs_iv)
+}
+
+fn is_before(key: &Key, other: &Key) -> bool
+    ensures { result ≡ is_before key.now other.now }
+{
+    key.format.as_str() < other.format.as_str()
+}
+
+// The place of the first key of a greater format.
+fn place_of(keys: &[Key], key: &Key) -> usize
+    ensures place { result ≡ position_or_len (is_before key.now) keys.now }
+    ensures within { result ≤ length keys.now }
+{
+    keys.iter()
+        .take_while(|other| !is_before(key, *other))
+        .count()
+}
+
+// How many keys are of another format.
+fn others_count(keys: &[Key], format: &str) -> usize
+    ensures { result ≡ length (without_format format.now keys.now) }
+{
+    keys.iter()
+        .filter(|other| format != other.format.as_str())
+        .count()
+}
+
+fn remove_format(keys: &mut Vec<Key>, format: &str)
+    ensures items { keys.new.items ≡ without_format format.now keys.old.items }
+    ensures room { vec_len keys.old < vec_capacity keys.old → vec_len keys.new < vec_capacity keys.new }
+{
+    keys.retain(|other| format != other.format.as_str());
+}
+
+#[tactic(auto, using(crate::proofs::KeyLemmas::insert_key_at, crate::proofs::KeyLemmas::length_put))]
+/// Puts a key in its place, in place of the one of its format. `TooMany` where 17 formats would be in
+/// force.
+pub fn put_key(keys: &mut Vec<Key>, key: Key) -> Result<(), FaultKind>
+    ensures ok { OnOk result (with_key key keys.old.items ≡ Ok keys.new.items) }
+    ensures err { IfErr result (λ e. Refuses e (with_key key keys.old.items)) }
+    ensures kept { IfErr result (λ e. keys.new.items ≡ keys.old.items) }
+{
+    if others_count(keys.as_slice(), key.format.as_str()) >= MOST_FORMATS {
+        return Err(FaultKind::TooMany);
+    }
+    keys.reserve(1)?;
+    remove_format(keys, key.format.as_str());
+    let place = place_of(keys.as_slice(), &key);
+    keys.insert(place, key)?;
+    Ok(())
+}

@@ -1,0 +1,213 @@
+//! What a key, map or byte range tag says by itself (RFC 8216, 4.3.2.2, 4.3.2.4, 4.3.2.5).
+ghost use Rattle.std.specs.Prelude.{◌≡◌, ℕ, Bool, Option, Some, None, Ok, Err, IfOk, MatchResult, map, option_map, codes};
+ghost use Rattle.std.specs.Option.{option_copied};
+ghost use Rattle.attr_list.specs.Attributes.{attribute};
+ghost use Rattle.attr_list.specs.Attrs.{attr_pair};
+ghost use Rattle.playlist_meaning.specs.Said as said;
+ghost use Rattle.playlist_meaning.specs.Said.{attributes, required, optional, iv_of, quoted_of, uri_of, set_key, key_said, section_said, section_range, range_of, is_key_attribute, key_attr, or_fault};
+ghost use Rattle.attr_list.specs.Numbers.{decimal_of};
+ghost use Rattle.playlist_meaning.specs.Reading.{limited};
+ghost use Rattle.playlist_meaning.specs.Refusals.{Refuses};
+ghost use Rattle.segment_state.specs.Tags.{Gives, pairs_of, others_of, key_tag_said, section_tag_said};
+
+use attr_list::{Attr, AttrFault, AttrList, read_decimal, read_hex_u128};
+use playlist_meaning::{Base, BaseFault, ByteRange, FaultKind, Items, Key, KeyAttr, Text};
+use std::alloc::{AllocError, Global};
+
+/// The format of a key that states none.
+const IDENTITY: &str = "identity";
+
+/// What a key tag says.
+#[derive(Drop)]
+pub enum KeyTag {
+    /// METHOD=NONE: the keys of every format end.
+    End,
+    /// This key is in force, in place of the one of its format.
+    Set(Key),
+}
+
+/// What a map tag says: a resource, and the part of it.
+#[derive(Drop)]
+pub struct SectionTag {
+    pub uri: Text,
+    pub range: Option<ByteRange>,
+}
+
+/// The resource that a reference names.
+pub fn uri_of(base: &Base, reference: &str) -> Result<Text, FaultKind>
+    ensures { Gives (λ uri. uri) result (uri_of base.now reference.now) }
+{
+    match base.resolve(reference) {
+        Ok(uri) => Ok(Text::from_string(uri)),
+        Err(BaseFault::OutOfMemory) => Err(FaultKind::OutOfMemory),
+        Err(_) => Err(FaultKind::BadUri),
+    }
+}
+
+fn attributes_of(alloc: Global, rest: &str) -> Result<AttrList, FaultKind>
+    ensures { Gives pairs_of result (attributes limited rest.now) }
+{
+    match AttrList::read(alloc, rest) {
+        Ok(list) => Ok(list),
+        Err(AttrFault::OutOfMemory) => Err(FaultKind::OutOfMemory),
+        Err(_) => Err(FaultKind::BadAttributes),
+    }
+}
+
+// The value of an attribute that has to be there, in quotes or without.
+fn required<'a>(list: &'a AttrList, name: &str, quoted: bool) -> Result<&'a str, FaultKind>
+    ensures { MatchResult result (λ value. required quoted (attribute (pairs_of list.now) name.now) ≡ Ok value.now)
+        (λ e. required quoted (attribute (pairs_of list.now) name.now) ≡ Err e) }
+{
+    let Some(attr) = list.get(name) else {
+        return Err(FaultKind::MissingAttribute);
+    };
+    if attr.quoted != quoted {
+        return Err(FaultKind::BadAttributes);
+    }
+    Ok(attr.value.as_str())
+}
+
+// The IV of a key tag, where it states one.
+fn iv_of(list: &AttrList) -> Result<Option<u128>, FaultKind>
+    ensures { result ≡ optional iv_of (attribute (pairs_of list.now) (codes "IV")) }
+{
+    let Some(attr) = list.get("IV") else {
+        return Ok(None);
+    };
+    if attr.quoted {
+        return Err(FaultKind::BadAttributes);
+    }
+    match read_hex_u128(attr.value.as_str()) {
+        Ok(iv) => Ok(Some(iv)),
+        Err(_) => Err(FaultKind::BadAttributes),
+    }
+}
+
+// The format of a key tag, where it states one.
+fn format_of(list: &AttrList) -> Result<Option<&str>, FaultKind>
+    ensures { MatchResult result (λ format. optional quoted_of (attribute (pairs_of list.now) (codes "KEYFORMAT")) ≡ Ok (option_map (λ text. text.now) format))
+        (λ e. optional quoted_of (attribute (pairs_of list.now) (codes "KEYFORMAT")) ≡ Err e) }
+{
+    let Some(attr) = list.get("KEYFORMAT") else {
+        return Ok(None);
+    };
+    if !attr.quoted {
+        return Err(FaultKind::BadAttributes);
+    }
+    Ok(Some(attr.value.as_str()))
+}
+
+// Whether an attribute of a key tag has a meaning of its own here.
+fn is_key_attribute(attr: &Attr) -> bool
+    ensures { result ≡ is_key_attribute (attr_pair attr.now) }
+{
+    match attr.name.as_str() {
+        "METHOD" => true,
+        "URI" => true,
+        "IV" => true,
+        "KEYFORMAT" => true,
+        _ => false,
+    }
+}
+
+fn key_attr(alloc: Global, attr: &Attr) -> Result<KeyAttr, AllocError>
+    ensures { IfOk result (λ a. a ≡ key_attr (attr_pair attr.now)) }
+{
+    Ok(KeyAttr {
+        name: Text::copy_of(alloc, attr.name.as_str())?,
+        value: Text::copy_of(alloc, attr.value.as_str())?,
+        quoted: attr.quoted,
+    })
+}
+
+// The attributes that are carried as they stand.
+fn other_attributes(alloc: Global, list: &[Attr]) -> Result<Vec<KeyAttr>, AllocError>
+    ensures { IfOk result (λ v. v.items ≡ others_of list.now) }
+{
+    let mut others = Vec::new(alloc);
+    for attr in list {
+        if !is_key_attribute(attr) {
+            others.push(key_attr(alloc, attr)?)?;
+        }
+    }
+    Ok(others)
+}
+
+fn set_key(alloc: Global, base: &Base, list: &AttrList, method: &str) -> Result<Key, FaultKind>
+    ensures { Gives said.key result (set_key base.now (pairs_of list.now) method.now) }
+{
+    let reference = required(list, "URI", true)?;
+    let iv = iv_of(list)?;
+    let format = format_of(list)?;
+    let uri = uri_of(base, reference)?;
+    Ok(Key {
+        format: Text::copy_of(alloc, format.unwrap_or(IDENTITY))?,
+        method: Text::copy_of(alloc, method)?,
+        uri,
+        iv,
+        other: Items::from_vec(other_attributes(alloc, list.as_slice())?),
+    })
+}
+
+/// What EXT-X-KEY says (4.3.2.4). The faults, in this order: `BadAttributes` for the list,
+/// `MissingAttribute` or `BadAttributes` for METHOD, URI, IV and KEYFORMAT, `BadUri`.
+pub fn key_said(alloc: Global, base: &Base, rest: &str) -> Result<KeyTag, FaultKind>
+    ensures { Gives key_tag_said result (key_said limited base.now rest.now) }
+{
+    let list = attributes_of(alloc, rest)?;
+    let method = required(&list, "METHOD", false)?;
+    if method == "NONE" {
+        return Ok(KeyTag::End);
+    }
+    Ok(KeyTag::Set(set_key(alloc, base, &list, method)?))
+}
+
+fn decimal(text: &str) -> Result<u64, FaultKind>
+    ensures { result ≡ or_fault FaultKind.BadRange (decimal_of text.now) }
+{
+    read_decimal(text).map_err(|_| FaultKind::BadRange)
+}
+
+/// The length that `n[@o]` states, and the offset where it states one (4.3.2.2). `BadRange` where it
+/// is neither, or the range's end passes 2^64 - 1.
+pub fn range_of(text: &str) -> Result<(u64, Option<u64>), FaultKind>
+    ensures { result ≡ range_of text.now }
+{
+    let Some((length, offset)) = text.split_once('@') else {
+        return Ok((decimal(text)?, None));
+    };
+    let length = decimal(length)?;
+    let offset = decimal(offset)?;
+    if length.checked_add(offset).is_none() {
+        return Err(FaultKind::BadRange);
+    }
+    Ok((length, Some(offset)))
+}
+
+// The part of its resource that a section is: it begins at 0 where it states no offset.
+fn section_range(list: &AttrList) -> Result<Option<ByteRange>, FaultKind>
+    ensures { result ≡ optional section_range (attribute (pairs_of list.now) (codes "BYTERANGE")) }
+{
+    let Some(attr) = list.get("BYTERANGE") else {
+        return Ok(None);
+    };
+    if !attr.quoted {
+        return Err(FaultKind::BadAttributes);
+    }
+    let (length, offset) = range_of(attr.value.as_str())?;
+    let offset = offset.unwrap_or(0);
+    Ok(Some(ByteRange { length, offset }))
+}
+
+/// What EXT-X-MAP says (4.3.2.5). The faults, in this order: `BadAttributes` for the list,
+/// `MissingAttribute` or `BadAttributes` for URI, `BadAttributes` or `BadRange` for BYTERANGE, `BadUri`.
+pub fn section_said(alloc: Global, base: &Base, rest: &str) -> Result<SectionTag, FaultKind>
+    ensures { Gives section_tag_said result (section_said limited base.now rest.now) }
+{
+    let list = attributes_of(alloc, rest)?;
+    let reference = required(&list, "URI", true)?;
+    let range = section_range(&list)?;
+    let uri = uri_of(base, reference)?;
+    Ok(SectionTag { uri, range })
+}

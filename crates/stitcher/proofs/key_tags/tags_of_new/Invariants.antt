@@ -1,0 +1,8 @@
+use Rattle.std.proofs.Common.{◌≡◌, map, take}
+use Rattle.std.specs.Prelude.{filter}
+use Rattle.stitcher.specs.declared.KeyTag.TheVariants.{Set}
+use Rattle.stitcher.specs.KeyTags.{is_new}
+use Rattle.stitcher.proofs.key_tags.tags_of_new.Given as goal
+
+abbrev pub invariant-loop-key : goal.invariant-loop-key
+invariant-loop-key l = l.tags.items ≡ map Set (filter (is_new l.old) (take l.key-index l.new))
