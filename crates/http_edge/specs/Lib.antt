@@ -1,5 +1,8 @@
 pub mod Streams
 pub mod Owed
 pub mod Vod
+pub mod Stated
+pub mod Stitching
+pub mod VodStated
 pub mod Arguments
 pub mod FaultTexts

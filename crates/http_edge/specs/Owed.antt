@@ -1,10 +1,12 @@
 -- What is owed for an input: the text of the playlist that is written for it.
-use Rattle.std.specs.Prelude.{ℕ, List, [], map, max, Option, None, option_map, Result}
+use Rattle.std.specs.Prelude.{ℕ, Bool, List, [], map, max, Option, option_map, is_some, Result, if◌then◌else◌}
+use Rattle.std.specs.List.{list_any}
 use Rattle.playlist_meaning.specs.declared.Playlist.{Playlist}
 use Rattle.playlist_meaning.specs.declared.Segment.{Segment}
+use Rattle.playlist_meaning.specs.declared.DateRange.{DateRange}
+use Rattle.timeline.specs.Timed.{timed}
 use Rattle.playlist_meaning.specs.Uri.{base_of}
-use Rattle.playlist_meaning.specs.Reading.{Fault, reading}
-use Rattle.playlist_meaning.specs.Reading.{limited}
+use Rattle.playlist_meaning.specs.Reading.{Fault, reading, limited}
 use Rattle.stitcher.specs.declared.OutSegment.{OutSegment}
 use Rattle.playlist_write.specs.declared.OutPlaylist.{OutPlaylist}
 use Rattle.playlist_write.specs.Owed.{text_of}
@@ -13,21 +15,45 @@ use Rattle.playlist_write.specs.Owed.{text_of}
 abbrev pub read_under : List ℕ → List ℕ → Option (Result Playlist Fault)
 read_under base input = option_map (λ b. reading limited b input) (base_of base)
 
--- each segment keeps its numbers; none states a time, since no tag of a time is read yet
-abbrev pub owed_segment : Segment → OutSegment
-owed_segment s = record { segment = s; media = s.number; discontinuity = s.discontinuity; steps = s.steps; time = None }
+-- ---- the segments
 
--- the version is at least 6; all else is the origin's. No tag of a date range is read yet
-abbrev pub owed_playlist : Playlist → OutPlaylist
-owed_playlist p = record {
+-- each segment keeps its numbers
+abbrev pub owed_segment : Segment → OutSegment
+owed_segment s = record { segment = s; media = s.number; discontinuity = s.discontinuity; steps = s.steps; time = s.time }
+
+-- and states the instant at which it begins, where it has one (4.3.2.6)
+abbrev pub owed_segments : List Segment → List OutSegment
+owed_segments segments = map owed_segment (timed segments)
+
+-- ---- the date ranges
+
+abbrev pub states_time : OutSegment → Bool
+states_time out = is_some out.time
+
+abbrev pub range_text : DateRange → List ℕ
+range_text range = range.text
+
+-- the origin's date ranges as they stand, but none where no written segment states a time: a date range has
+-- its place by the segments' times alone (4.3.2.7)
+abbrev pub ranges_owed : List OutSegment → List DateRange → List (List ℕ)
+ranges_owed segments ranges = if list_any states_time segments then map range_text ranges else []
+
+-- ---- the playlist
+
+-- a playlist with these segments: the version is at least 6; all else is the origin's
+abbrev pub owed_with : Playlist → List OutSegment → OutPlaylist
+owed_with p segments = record {
   version = max p.version 6;
   target = p.target;
   kind = p.kind;
   independent = p.independent;
   ended = p.ended;
-  ranges = [];
-  segments = map owed_segment p.segments;
+  ranges = ranges_owed segments p.ranges;
+  segments = segments;
 }
+
+abbrev pub owed_playlist : Playlist → OutPlaylist
+owed_playlist p = owed_with p (owed_segments p.segments)
 
 abbrev pub owed_text : Playlist → List ℕ
 owed_text p = text_of (owed_playlist p)

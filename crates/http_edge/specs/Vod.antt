@@ -4,7 +4,7 @@ use Rattle.std.specs.Io.KnownBytes.{Appends}
 use Rattle.playlist_meaning.specs.declared.Playlist.{Playlist}
 use Rattle.playlist_meaning.specs.Reading.{Fault}
 use Rattle.http_edge.specs.declared.fault.VodFault.{VodFault}
-use Rattle.http_edge.specs.declared.fault.VodFault.TheVariants.{Playlist as PlaylistOf, OutOfMemory}
+use Rattle.http_edge.specs.declared.fault.VodFault.TheVariants.{BadBase, Playlist as PlaylistOf, Read, TooManyReads, OutOfMemory}
 use Rattle.playlist_write.specs.Handed.{TookFront}
 use Rattle.http_edge.specs.Streams.{GaveAll}
 use Rattle.http_edge.specs.Owed.{read_under, owed_text}
@@ -32,3 +32,12 @@ abbrev pub RefusesInput : VodFault → Result Playlist Fault → Type 0
 RefusesInput (PlaylistOf fault) outcome = outcome ≡ Err fault
 RefusesInput OutOfMemory outcome = Unit {0}
 RefusesInput _ outcome = ⊥
+
+-- a fault of the base, of reading or of what was read
+abbrev pub IsOfInput : VodFault → Type 0
+IsOfInput BadBase = Unit {0}
+IsOfInput (PlaylistOf fault) = Unit {0}
+IsOfInput Read = Unit {0}
+IsOfInput TooManyReads = Unit {0}
+IsOfInput OutOfMemory = Unit {0}
+IsOfInput _ = ⊥

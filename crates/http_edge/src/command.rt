@@ -4,10 +4,10 @@ ghost use Rattle.std.specs.Io.KnownBytes.{Appends, Keeps};
 ghost use Rattle.playlist_write.specs.Handed.{TookFront};
 ghost use Rattle.playlist_meaning.specs.Devices.{HasRisen, CalledAll};
 ghost use Rattle.playlist_meaning.specs.Uri.{base_of};
-ghost use Rattle.http_edge.specs.Owed.{owed_text};
+ghost use Rattle.playlist_write.specs.Owed.{text_of};
 ghost use Rattle.playlist_meaning.specs.Reading.{reading, Fault};
 ghost use Rattle.playlist_meaning.specs.Reading.{limited};
-ghost use Rattle.http_edge.specs.Vod.{RefusesInput, HasRead, Writes, WritesFront};
+ghost use Rattle.http_edge.specs.Vod.{RefusesInput, IsOfInput, HasRead, Writes, WritesFront};
 
 use crate::fault::VodFault;
 use crate::input::{MOST_READS, read_input};
@@ -15,7 +15,7 @@ use crate::output::write_text;
 use crate::shown::owed_playlist;
 use playlist_meaning::{Base, BaseFault, FaultKind, Playlist, Sink, Source};
 use playlist_parse::read;
-use playlist_write::{WriteFault, write};
+use playlist_write::{OutPlaylist, WriteFault, write};
 use std::alloc::Global;
 
 fn base_said(alloc: Global, base: &str) -> Result<Base, VodFault>
@@ -44,14 +44,39 @@ fn playlist_read(alloc: Global, input: &[u8], base: &Base) -> Result<Playlist, V
     }
 }
 
-fn write_owed<K: Sink>(alloc: Global, playlist: Playlist, sink: &mut K) -> Result<(), VodFault>
-    ensures ok { OnOk result (Appends (K.contents sink.old) (K.contents sink.new) (owed_text playlist)) }
-    ensures err { IsErrOf result VodFault.Write → TookFront (K.contents sink.old) (K.contents sink.new) (owed_text playlist) }
+/// The playlist of an input that is read to its end, under the base that a text says. Its faults are
+/// those of the base, of reading and of the playlist, in that order.
+pub fn read_playlist<S: Source>(
+    alloc: Global,
+    source: &mut S,
+    base: &str,
+) -> Result<Playlist, VodFault>
+    ensures ok { IfOk result (λ playlist. HasRead base.now (S.remaining source.old) (S.remaining source.new) (Ok playlist)) }
+    ensures input { IfErr result IsOfInput }
+    ensures bad_base { IsErrOf result VodFault.BadBase → base_of base.now ≡ None }
+    ensures unread { base_of base.now ≡ None → S.called source.new ≡ S.called source.old }
+    ensures playlist { IfErr result (λ e. (fault : Fault) → e ≡ VodFault.Playlist fault → HasRead base.now (S.remaining source.old) (S.remaining source.new) (Err fault)) }
+    ensures read_failed { IsErrOf result VodFault.Read → HasRisen (S.failed source.old) (S.failed source.new) }
+    ensures too_many { IsErrOf result VodFault.TooManyReads → CalledAll (S.called source.old) (S.called source.new) MOST_READS }
+    ensures calls { S.called source.new ≤ S.called source.old + MOST_READS }
+{
+    let base = base_said(alloc, base)?;
+    let input = read_input(alloc, source)?;
+    playlist_read(alloc, input.as_slice(), &base)
+}
+
+/// Writes a playlist, as `playlist_write` does.
+pub fn write_playlist<K: Sink>(
+    alloc: Global,
+    playlist: &OutPlaylist,
+    sink: &mut K,
+) -> Result<(), VodFault>
+    ensures ok { OnOk result (Appends (K.contents sink.old) (K.contents sink.new) (text_of playlist.now)) }
+    ensures err { IsErrOf result VodFault.Write → TookFront (K.contents sink.old) (K.contents sink.new) (text_of playlist.now) }
     ensures memory { IfErr result (λ e. e ≢ VodFault.Write → (e ≡ VodFault.OutOfMemory) × Keeps (K.contents sink.old) (K.contents sink.new)) }
     ensures failed { IsErrOf result VodFault.Write → HasRisen (K.failed sink.old) (K.failed sink.new) }
 {
-    let owed = owed_playlist(alloc, playlist)?;
-    match write(alloc, &owed, sink) {
+    match write(alloc, playlist, sink) {
         Ok(()) => Ok(()),
         Err(WriteFault::Io) => Err(VodFault::Write),
         Err(WriteFault::OutOfMemory) => Err(VodFault::OutOfMemory),
@@ -89,10 +114,9 @@ pub fn vod<S: Source, K: Sink>(
     ensures too_many { IsErrOf result VodFault.TooManyReads → CalledAll (S.called source.old) (S.called source.new) MOST_READS }
     ensures calls { S.called source.new ≤ S.called source.old + MOST_READS }
 {
-    let base = base_said(alloc, base)?;
-    let input = read_input(alloc, source)?;
-    let playlist = playlist_read(alloc, input.as_slice(), &base)?;
-    write_owed(alloc, playlist, sink)
+    let playlist = read_playlist(alloc, source, base)?;
+    let owed = owed_playlist(alloc, playlist)?;
+    write_playlist(alloc, &owed, sink)
 }
 
 // Writes a fault's line, as far as the sink takes it.

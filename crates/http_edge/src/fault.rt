@@ -2,7 +2,7 @@
 ghost use Rattle.std.specs.Prelude.{◌≡◌, Some};
 
 use playlist_meaning::PlaylistFault;
-use std::alloc::AllocError;
+use std::alloc::{AllocError, AllocFailed};
 use std::error::Error;
 use std::fmt;
 
@@ -13,6 +13,10 @@ pub enum VodFault {
     BadBase,
     /// The first fault of the playlist.
     Playlist(PlaylistFault),
+    /// The stated run goes past the last segment.
+    BadRun,
+    /// A media or discontinuity sequence number would pass 2^64 - 1.
+    NumberRange,
     /// A read failed.
     Read,
     /// The 65,536th read still gave bytes.
@@ -33,6 +37,16 @@ impl From<AllocError> for VodFault {
     }
 }
 
+impl<T: Drop> From<AllocFailed<T>> for VodFault {
+    ghost use Rattle.http_edge.specs.declared.fault.VodFault.TheVariants.{OutOfMemory};
+
+    ghost from_gives = { λ _ e. e ≡ OutOfMemory };
+
+    fn from(_: AllocFailed<T>) -> VodFault {
+        VodFault::OutOfMemory
+    }
+}
+
 /// The fault's text, as the program prints it.
 impl fmt::Display for VodFault {
     ghost use Rattle.http_edge.specs.FaultTexts.{vod_fault_text};
@@ -43,6 +57,8 @@ impl fmt::Display for VodFault {
         match self {
             VodFault::BadBase => write!(f, "C1 BadBase"),
             VodFault::Playlist(fault) => write!(f, "{fault}"),
+            VodFault::BadRun => write!(f, "BadRun"),
+            VodFault::NumberRange => write!(f, "N10 NumberRange"),
             VodFault::Read => write!(f, "cannot read input"),
             VodFault::TooManyReads => write!(f, "E3 TooManyReads"),
             VodFault::Write => write!(f, "cannot write output"),

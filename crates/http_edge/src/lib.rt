@@ -7,11 +7,16 @@ mod fault;
 mod input;
 mod output;
 mod shown;
+mod stated;
+mod stitching;
 
 pub use arguments::{Command, read_args};
 pub use command::{command_vod, vod};
 pub use fault::VodFault;
 pub use input::MOST_READS;
+pub use stated::{StatedRun, StatedSegment, vod_stated};
 
+#[cfg(test)]
+mod stated_tests;
 #[cfg(test)]
 mod tests;

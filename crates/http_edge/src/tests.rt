@@ -173,6 +173,8 @@ fn printed_faults(rt: HostRuntime) -> Result<(), Fail> {
     assert_eq!(rt; faults.bytes(), b"P3 NoHeader line 1\n".as_slice());
     let text = format!(in alloc; "{} {}", VodFault::TooManyReads, VodFault::OutOfMemory)?;
     assert_eq!(rt; text.as_str(), "E3 TooManyReads E5 OutOfMemory");
+    let text = format!(in alloc; "{} {}", VodFault::BadRun, VodFault::NumberRange)?;
+    assert_eq!(rt; text.as_str(), "BadRun N10 NumberRange");
     Ok(())
 }
 

@@ -6,6 +6,7 @@ pub mod Digits
 pub mod Times
 pub mod Said
 pub mod LookBack
+pub mod Instants
 pub mod Reading
 pub mod Rows
 pub mod Refusals

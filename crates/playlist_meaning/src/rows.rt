@@ -2,6 +2,8 @@
 
 ghost use Rattle.std.specs.Prelude.{◌≡◌, ℕ, [], ◌∷◌, ◌++◌, codes, Ok, Err, Some, None, true, false, pos, negsuc, map};
 ghost use Rattle.playlist_meaning.specs.Instant.{instant_of};
+ghost use Rattle.playlist_meaning.specs.Instants.{instants_of};
+ghost use Rattle.playlist_meaning.specs.Times.{time_text};
 ghost use Rattle.playlist_meaning.specs.Lines.{placed_lines};
 ghost use Rattle.playlist_meaning.specs.Uri.{base_of};
 ghost use Rattle.playlist_meaning.specs.Rows.{read_lines, read_text, read_after_target, segments_read, keys_and_section, resolved_here};
@@ -115,6 +117,28 @@ fn instant_rows()
     ensures too_late { instant_of (codes "2199-12-31T23:59:59-00:01") ≡ None }
     ensures first { instant_of (codes "1900-01-01T00:00:00Z") ≡ Some (negsuc 2208988799999999999) }
     ensures epoch { instant_of (codes "1970-01-01T01:00:00+0100") ≡ Some (pos 0) }
+{}
+
+/// How instants are written.
+fn written_instant_rows()
+    ensures three_decimals { time_text (pos 1714564810250000000) ≡ codes "2024-05-01T12:00:10.250Z" }
+    ensures nine_decimals { time_text (pos 1714564810100000100) ≡ codes "2024-05-01T12:00:10.100000100Z" }
+    ensures first { time_text (negsuc 2208988799999999999) ≡ codes "1900-01-01T00:00:00.000Z" }
+    ensures last { time_text (pos 7258118399999999999) ≡ codes "2199-12-31T23:59:59.999999999Z" }
+    ensures leap_day { time_text (pos 951782400000000000) ≡ codes "2000-02-29T00:00:00.000Z" }
+{}
+
+/// The instants of segments.
+fn segment_instant_rows()
+    ensures stated_later { instants_of (segments_read (read_after_target (codes "#EXTINF:10," ∷ codes "s0.ts" ∷ codes "#EXTINF:10," ∷ codes "#EXT-X-PROGRAM-DATE-TIME:2024-05-01T12:00:10Z" ∷ codes "s1.ts" ∷ codes "#EXTINF:9.5," ∷ codes "s2.ts" ∷ [])))
+        ≡ Some (pos 1714564800000000000) ∷ Some (pos 1714564810000000000) ∷ Some (pos 1714564820000000000) ∷ [] }
+    ensures stated_anew { instants_of (segments_read (read_after_target (codes "#EXTINF:10," ∷ codes "#EXT-X-PROGRAM-DATE-TIME:2024-05-01T12:00:00Z" ∷ codes "s0.ts" ∷ codes "#EXTINF:10," ∷ codes "#EXT-X-PROGRAM-DATE-TIME:2024-05-01T12:00:11Z" ∷ codes "s1.ts" ∷ [])))
+        ≡ Some (pos 1714564800000000000) ∷ Some (pos 1714564811000000000) ∷ [] }
+    ensures stated_nowhere { instants_of (segments_read (read_after_target (codes "#EXTINF:10," ∷ codes "s0.ts" ∷ []))) ≡ None ∷ [] }
+    ensures past_the_end { instants_of (segments_read (read_after_target (codes "#EXTINF:10," ∷ codes "#EXT-X-PROGRAM-DATE-TIME:2199-12-31T23:59:55Z" ∷ codes "s0.ts" ∷ codes "#EXTINF:10," ∷ codes "s1.ts" ∷ codes "#EXTINF:10," ∷ codes "s2.ts" ∷ codes "#EXTINF:10," ∷ codes "#EXT-X-PROGRAM-DATE-TIME:2024-05-01T12:00:10Z" ∷ codes "s3.ts" ∷ [])))
+        ≡ Some (pos 7258118395000000000) ∷ None ∷ Some (pos 1714564800000000000) ∷ Some (pos 1714564810000000000) ∷ [] }
+    ensures before_the_first { instants_of (segments_read (read_after_target (codes "#EXTINF:10," ∷ codes "s0.ts" ∷ codes "#EXTINF:10," ∷ codes "#EXT-X-PROGRAM-DATE-TIME:1900-01-01T00:00:05Z" ∷ codes "s1.ts" ∷ [])))
+        ≡ None ∷ Some (negsuc 2208988794999999999) ∷ [] }
 {}
 
 /// Lines with a carriage return.

@@ -144,10 +144,6 @@ pairs_are text pairs =
 pub attributes_say : (text : List ℕ) (pairs : List Pair) → attributes_of (Some 64) text ≡ Ok pairs → is_date_range pairs ≡ says_date_range (date_range_said few text)
 attributes_say text pairs h = sym (ap (λ o. says_date_range (said_of text o)) h ∙ pairs_are text pairs)
 
--- what is no attribute list says none
-pub nothing_says : (text : List ℕ) (fault : AttrFault) → attributes_of (Some 64) text ≡ Err fault → false ≡ says_date_range (date_range_said few text)
-nothing_says text fault h = sym (ap (λ o. says_date_range (said_of text o)) h)
-
 -- there is an answer where there is a value
 pub told : {A E : Type 0} (o : Option A) (e : E) → is_ok (ok_or o e) ≡ is_some o
 told None e = refl

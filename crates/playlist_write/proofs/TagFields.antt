@@ -79,11 +79,11 @@ number_is_quoted b h = grind (arith, nat_tests)
 range_is_value : (range : ByteRange) → range_fits range ≡ true → is_value true (range_text range.length range.offset) ≡ true
 range_is_value range h = by range.length range.offset (ltb-true _ _ h)
   where
-    by : (length offset : ℕ) → length + offset < 2 ^ 64 → is_value true (range_text length offset) ≡ true
-    by length offset l =
-        let a = none_from is_number_byte is_quote (decimal length) (decimal_bytes length (omega arith)) number_is_quoted in
-        let b = none_from is_number_byte is_quote (decimal offset) (decimal_bytes offset (omega arith)) number_is_quoted in
-        ap not (list_any-append is_quote (decimal length) (64 ∷ decimal offset) ∙ or_from _ _ a b)
+    by : (n o : ℕ) → n + o < 2 ^ 64 → is_value true (range_text n o) ≡ true
+    by n o l =
+        let a = none_from is_number_byte is_quote (decimal n) (decimal_bytes n (omega arith)) number_is_quoted in
+        let b = none_from is_number_byte is_quote (decimal o) (decimal_bytes o (omega arith)) number_is_quoted in
+        ap not (list_any-append is_quote (decimal n) (64 ∷ decimal o) ∙ or_from _ _ a b)
 
 -- ---- attributes with names apart
 

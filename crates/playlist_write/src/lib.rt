@@ -34,10 +34,15 @@ mod well_formed;
 /// A playlist as it is written.
 #[derive(Clone, PartialEq, Drop)]
 pub struct OutPlaylist {
+    /// EXT-X-VERSION.
     pub version: u64,
+    /// EXT-X-TARGETDURATION, in seconds.
     pub target: u64,
+    /// EXT-X-PLAYLIST-TYPE, where it is stated.
     pub kind: Option<PlaylistKind>,
+    /// Whether EXT-X-INDEPENDENT-SEGMENTS is stated.
     pub independent: bool,
+    /// Whether no segment will follow: EXT-X-ENDLIST.
     pub ended: bool,
     /// What stands behind `#EXT-X-DATERANGE:`, for each date range.
     pub ranges: Items<Text>,

@@ -165,10 +165,16 @@ fn fits_without_ranges(playlist: &OutPlaylist) -> bool
 }
 
 impl OutPlaylist {
-    /// Whether the playlist can be written so that the text says it: then what `write` writes is read
-    /// as this playlist, whatever the base. Only what RFC 8216 and this project's limits ask of each
-    /// text and number, and of how they follow one another; memory is refused only where the
-    /// attributes of a date range are read.
+    /// Whether the playlist can be written so that its text says it: of such a playlist `write` writes
+    /// what is read as this playlist, whatever the base (RFC 8216, section 4).
+    ///
+    /// The version is 6 or 7. There is a segment, and media numbers go up by one, discontinuity numbers
+    /// by the steps. All segments have an initialisation section, or none has. URIs have a scheme.
+    /// Texts hold no control character, between quotes no quote, and without quotes no comma, space or
+    /// quote. Keys are sorted by format, one for each, with no other attribute twice; a segment's
+    /// `identity` key and a section's AES-128 key state their IV. Durations are below 1,000,000 s,
+    /// ranges end below 2^64, times lie in the years 1900 to 2199. Date ranges are read, with at most
+    /// 64 attributes. Memory is refused only where a date range is read.
     pub fn well_formed(&self, alloc: Global) -> Result<bool, AllocError>
         ensures { IfOk result (λ b. b ≡ well_formed self.now) }
     {

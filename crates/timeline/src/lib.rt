@@ -1,0 +1,148 @@
+//! The instants at which a playlist's segments begin (RFC 8216, sections 4.3.2.6 and 6.2.1).
+#![tactic(auto)]
+
+ghost use Rattle.std.specs.Prelude.{◌≡◌, ℤ, IfOk, option_map, pos, ◌-ℤ◌};
+ghost use Rattle.playlist_meaning.specs.Instants.{bounded, ends_at, instants_of};
+ghost use Rattle.playlist_meaning.specs.LookBack.{or_earlier};
+ghost use Rattle.timeline.specs.Reckoned.{clamped, stack_of};
+ghost use Rattle.timeline.specs.Timed.{with_time, timed};
+ghost use Rattle.timeline.specs.Laws.{SaidAreInRange, BegunAreInRange};
+
+use fixed_duration::Nanos;
+use playlist_meaning::{Instant, Segment};
+use std::alloc::{AllocError, Global};
+
+/// The first instant: 1900-01-01T00:00:00Z, in nanoseconds from 1970.
+const FIRST_INSTANT: i128 = -2_208_988_800_000_000_000;
+
+/// The end of all instants: 2200-01-01T00:00:00Z.
+const END_OF_INSTANTS: i128 = 7_258_118_400_000_000_000;
+
+// The instant, unless it lies outside the range.
+fn bounded(nanos: Option<i128>) -> Option<Instant>
+    ensures { result ≡ bounded nanos }
+{
+    let nanos = nanos?;
+    if nanos < FIRST_INSTANT || nanos >= END_OF_INSTANTS {
+        return None;
+    }
+    Some(Instant(nanos as i64))
+}
+
+fn nanos_of(instant: Option<Instant>) -> Option<i128>
+    ensures { result ≡ instant }
+{
+    match instant {
+        Some(instant) => Some(i128::from(instant.0)),
+        None => None,
+    }
+}
+
+// So much earlier, or one before the first instant where that is passed.
+fn earlier(nanos: i128, duration: u64) -> i128
+    ensures { result ≡ clamped (nanos -ℤ pos duration) }
+{
+    let before_all = FIRST_INSTANT - 1;
+    match nanos.checked_sub(i128::from(duration)) {
+        Some(nanos) => nanos.max(before_all),
+        None => before_all,
+    }
+}
+
+// The first time that is stated from this segment on, less the durations before it.
+fn reckoned_here(segment: &Segment, behind: Option<i128>) -> Option<i128>
+    ensures { result ≡ option_map clamped (or_earlier segment.now.time (option_map (λ nanos. nanos -ℤ pos segment.now.duration) behind)) }
+{
+    if let Some(time) = segment.time {
+        return Some(i128::from(time.0).max(FIRST_INSTANT - 1));
+    }
+    match behind {
+        Some(nanos) => Some(earlier(nanos, segment.duration.0)),
+        None => None,
+    }
+}
+
+// Where a segment of this duration ends, if it begins at an instant.
+fn ends_at(begun: &Option<Instant>, duration: Nanos) -> Option<i128>
+    ensures { result ≡ ends_at begun.now duration }
+{
+    match begun {
+        Some(begun) => Some(i128::from(begun.0) + i128::from(duration.0)),
+        None => None,
+    }
+}
+
+// Where a segment begins: at its stated time, else where the one before it ended, else back from the
+// first time that is stated later.
+fn begins_at(ended: Option<i128>, segment: &Segment, reckoned: Option<i128>) -> Option<Instant>
+    ensures { result ≡ bounded (or_earlier segment.now.time (or_earlier ended reckoned)) }
+{
+    bounded(nanos_of(segment.time).or(ended).or(reckoned))
+}
+
+// For each segment the first time that is stated from it on, less the durations before it: the first
+// segment's stands last.
+fn reckoned_stack(alloc: Global, segments: &[Segment]) -> Result<Vec<Option<i128>>, AllocError>
+    ensures { IfOk result (λ v. v.items ≡ stack_of segments.now) }
+{
+    let mut stack = Vec::with_capacity(alloc, segments.len())?;
+    let mut behind: Option<i128> = None;
+    let mut rest = segments;
+    while let Some((segment, before)) = rest.split_last() {
+        behind = reckoned_here(segment, behind);
+        stack.push(behind)?;
+        rest = before;
+    }
+    Ok(stack)
+}
+
+/// The instant at which each of a playlist's segments begins: its stated time; else where the one
+/// before it ended; else back from the first time stated later; none outside the range of instants.
+pub fn instants(alloc: Global, segments: &[Segment]) -> Result<Vec<Option<Instant>>, AllocError>
+    ensures { IfOk result (λ v. v.items ≡ instants_of segments.now) }
+{
+    let mut stack = reckoned_stack(alloc, segments)?;
+    let mut found = Vec::with_capacity(alloc, segments.len())?;
+    let mut ended: Option<i128> = None;
+    let mut rest = segments;
+    while let Some((segment, later)) = rest.split_first() {
+        let reckoned = match stack.pop() {
+            Some(reckoned) => reckoned,
+            None => None,
+        };
+        let begun = begins_at(ended, segment, reckoned);
+        ended = ends_at(&begun, segment.duration);
+        found.push(begun)?;
+        rest = later;
+    }
+    Ok(found)
+}
+
+fn with_time(segment: (Segment, Option<Instant>)) -> Segment
+    ensures { result ≡ with_time segment }
+{
+    let (mut segment, begun) = segment;
+    segment.time = begun;
+    segment
+}
+
+/// The same segments, each of which states the instant at which it begins, where it has one.
+pub fn timed(alloc: Global, segments: Vec<Segment>) -> Result<Vec<Segment>, AllocError>
+    ensures { IfOk result (λ v. v.items ≡ timed segments.items) }
+{
+    let instants = instants(alloc, segments.as_slice())?;
+    segments
+        .into_iter()
+        .zip(instants)
+        .map(with_time)
+        .collect(alloc)
+}
+
+/// The instants that a text says, and those at which segments begin, are in range.
+pub fn instants_law()
+    ensures said { SaidAreInRange }
+    ensures begun { BegunAreInRange }
+{}
+
+#[cfg(test)]
+mod tests;
