@@ -20,6 +20,32 @@ year_more zero year days n h = absurd (n refl)
 year_more (suc turns) year days n h =
     let e : turns ≡ suc turns - 1 = omega arith in cond-false _ _ _ (le-ltb _ _ h) ∙ ap (λ t. year_after t (year + 1) (days - days_in_year year)) e
 
+-- the days of so many years from this one on
+days_of_years : ℕ → ℕ → ℕ
+days_of_years zero year = 0
+days_of_years (suc count) year = days_in_year year + days_of_years count (year + 1)
+
+skipped : (count turns year days : ℕ) → days_of_years count year ≤ days → year_after (count + turns) year days ≡ year_after turns (year + count) (days - days_of_years count year)
+unfolding days_of_years
+skipped zero turns year days h =
+    let y : year ≡ year + 0 = omega arith in let d : days ≡ days - 0 = omega arith in
+    let t : 0 + turns ≡ turns = omega arith in
+    ap (λ n. year_after n year days) t ∙ ap (λ n. year_after turns n days) y ∙ ap (λ n. year_after turns (year + 0) n) d
+skipped (suc count) turns year days h =
+    let here : days_in_year year ≤ days = omega (arith, h) in
+    let rest : days_of_years count (year + 1) ≤ days - days_in_year year = omega (arith, h) in
+    let t : suc count + turns - 1 ≡ count + turns = omega arith in
+    let y : year + 1 + count ≡ year + suc count = omega arith in
+    let d : days - days_in_year year - days_of_years count (year + 1) ≡ days - (days_in_year year + days_of_years count (year + 1)) = omega arith in
+    year_more (suc count + turns) year days (λ e. omega (arith, e)) here ∙ ap (λ n. year_after n (year + 1) (days - days_in_year year)) t
+    ∙ skipped count turns (year + 1) (days - days_in_year year) rest
+    ∙ ap (λ n. year_after turns n (days - days_in_year year - days_of_years count (year + 1))) y ∙ ap (year_after turns (year + suc count)) d
+
+-- the walk may begin with 2020
+pub years_skipped : (days : ℕ) → 43829 ≤ days → year_after 300 1900 days ≡ year_after 180 2020 (days - 43829)
+unfolding days_of_years
+years_skipped days h = skipped 120 180 1900 days h
+
 pub month_none : (turns year month days : ℕ) → turns ≡ 0 → month_after turns year month days ≡ (month, days)
 unfolding month_after
 month_none turns year month days e = rw e refl

@@ -8,6 +8,9 @@ ghost use Rattle.playlist_meaning.specs.Times.{from_1900, days_in_year, year_aft
 use crate::Instant;
 use std::alloc::AllocError;
 
+/// The days from the first of 1900 to the first of 2020.
+const DAYS_TO_2020: u64 = 43_829;
+
 // Appends the last `count` decimal digits of a number.
 fn push_digits(out: &mut String, number: u64, count: u8) -> Result<(), AllocError>
     ensures { OnOk result (string_bytes out.new ≡ string_bytes out.old ++ fixed_digits 10 count number) }
@@ -60,6 +63,19 @@ fn year_after(turns: u16, year: u64, days: u64) -> (u64, u64)
     year_after(turns - 1, year + 1, days - days_in_year(year))
 }
 
+// The year in which a day lies that is so many days after the first of 1900, and which day of it.
+#[tactic(auto, using(crate::proofs::WalkedDates::years_skipped))]
+fn year_of(days: u64) -> (u64, u64)
+    ensures value { result ≡ year_after 300 1900 days }
+    ensures within { result.1 ≤ days }
+{
+    // Most playlists are of these years: the walk begins near them.
+    if days >= DAYS_TO_2020 {
+        return year_after(180, 2020, days - DAYS_TO_2020);
+    }
+    year_after(300, 1900, days)
+}
+
 // The same with months of a year.
 fn month_after(turns: u16, year: u64, month: u64, days: u64) -> (u64, u64)
     requires { month + turns < 2 ^ 64 }
@@ -96,7 +112,7 @@ fn push_date(out: &mut String, days: u64) -> Result<(), AllocError>
     requires { days < 2 ^ 40 }
     ensures { OnOk result (string_bytes out.new ≡ string_bytes out.old ++ date_at days) }
 {
-    let (year, rest) = year_after(300, 1900, days);
+    let (year, rest) = year_of(days);
     let (month, day) = month_after(12, year, 1, rest);
     push_digits(out, year, 4)?;
     out.push_str("-")?;
