@@ -1,18 +1,20 @@
 //! One input, one playlist.
-ghost use Rattle.std.specs.Prelude.{◌≡◌, ◌≢◌, ℕ, ◌+◌, ◌≤◌, Ok, Err, Some, None, OnOk, IfOk, IfErr, IsErrOf, IsNone};
+ghost use Rattle.std.specs.Prelude.{true, ◌≡◌, ◌≢◌, ℕ, ◌+◌, ◌≤◌, Ok, Err, Some, None, OnOk, IfOk, IfErr, IsErrOf, IsNone};
 ghost use Rattle.std.specs.Io.KnownBytes.{Appends, Keeps};
 ghost use Rattle.playlist_write.specs.Handed.{TookFront};
 ghost use Rattle.playlist_meaning.specs.Devices.{HasRisen, CalledAll};
 ghost use Rattle.playlist_meaning.specs.Uri.{base_of};
 ghost use Rattle.playlist_write.specs.Owed.{text_of};
-ghost use Rattle.playlist_meaning.specs.Reading.{reading, Fault};
-ghost use Rattle.playlist_meaning.specs.Reading.{limited};
+ghost use Rattle.playlist_meaning.specs.Reading.{reading, limited, Fault};
+ghost use Rattle.reading_laws.specs.Read.{uris_are_text};
+ghost use Rattle.std.specs.List.{list_all};
 ghost use Rattle.http_edge.specs.Vod.{RefusesInput, IsOfInput, HasRead, Writes, WritesFront};
 
 use crate::fault::VodFault;
 use crate::input::{MOST_READS, read_input};
 use crate::output::write_text;
 use crate::shown::owed_playlist;
+use crate::texts::know_texts;
 use playlist_meaning::{Base, BaseFault, FaultKind, Playlist, Sink, Source};
 use playlist_parse::read;
 use playlist_write::{OutPlaylist, WriteFault, write};
@@ -31,10 +33,14 @@ fn base_said(alloc: Global, base: &str) -> Result<Base, VodFault>
 
 fn playlist_read(alloc: Global, input: &[u8], base: &Base) -> Result<Playlist, VodFault>
     ensures ok { IfOk result (λ playlist. reading limited base.now input.now ≡ Ok playlist) }
+    ensures texts { IfOk result (λ playlist. list_all uris_are_text playlist.segments ≡ true) }
     ensures err { IfErr result (λ e. RefusesInput e (reading limited base.now input.now)) }
 {
     match read(alloc, input, base) {
-        Ok(playlist) => Ok(playlist),
+        Ok(playlist) => {
+            know_texts(playlist.segments.as_slice());
+            Ok(playlist)
+        }
         Err(fault) => {
             if fault.kind == FaultKind::OutOfMemory {
                 return Err(VodFault::OutOfMemory);
@@ -52,6 +58,7 @@ pub fn read_playlist<S: Source>(
     base: &str,
 ) -> Result<Playlist, VodFault>
     ensures ok { IfOk result (λ playlist. HasRead base.now (S.remaining source.old) (S.remaining source.new) (Ok playlist)) }
+    ensures texts { IfOk result (λ playlist. list_all uris_are_text playlist.segments ≡ true) }
     ensures input { IfErr result IsOfInput }
     ensures bad_base { IsErrOf result VodFault.BadBase → base_of base.now ≡ None }
     ensures unread { base_of base.now ≡ None → S.called source.new ≡ S.called source.old }
@@ -83,7 +90,7 @@ pub fn write_playlist<K: Sink>(
     }
 }
 
-#[tactic(auto, using(crate::proofs::Known::known_bytes))]
+#[tactic(auto, using(crate::proofs::Known::known_bytes, crate::proofs::OwedFits::owed_denotes))]
 /// Reads a playlist from an input and writes the controller's playlist, and nothing else. The
 /// decision file's bytes are none until breaks are filled.
 pub fn vod<S: Source, K: Sink>(

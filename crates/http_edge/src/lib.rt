@@ -9,6 +9,7 @@ mod output;
 mod shown;
 mod stated;
 mod stitching;
+mod texts;
 
 pub use arguments::{Command, read_args};
 pub use command::{command_vod, vod};

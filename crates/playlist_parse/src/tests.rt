@@ -256,6 +256,21 @@ fn the_longest_playlist(rt: HostRuntime) -> Result<(), Fail> {
 }
 
 #[test]
+fn each_prefix_is_read_or_refused_at_its_last_line(rt: HostRuntime) -> Result<(), Fail> {
+    let base = Base::new(rt.alloc(), BASE)?;
+    let text: &[u8] =
+        b"#EXTM3U\n#EXT-X-VERSION:3\n#EXT-X-TARGETDURATION:10\n#EXT-X-DATERANGE:ID=\"b1\",START-DATE=\"2024-05-01T12:00:10Z\",SCTE35-OUT=0xFC302000000000000000FFF00F05000000017FFFFE002932E000010000000000000000\n#EXT-X-PROGRAM-DATE-TIME:2024-05-01T12:00:00Z\n#EXTINF:10,\ns0.ts\n#EXTINF:10,\ns1.ts\n#EXTINF:10,\ns2.ts\n#EXTINF:10,\ns3.ts\n#EXTINF:10,\ns4.ts\n#EXT-X-ENDLIST\n";
+    for end in 0..text.len() {
+        let prefix = &text[..end];
+        let last = prefix.iter().filter(|b: &&u8| **b == b'\n').count() as u64 + 1;
+        if let Some(fault) = fault_of(rt.alloc(), prefix, &base) {
+            assert!(rt; fault.line == 0 || fault.line == last);
+        }
+    }
+    Ok(())
+}
+
+#[test]
 fn kinds_of_lines(rt: HostRuntime) -> Result<(), Fail> {
     let text = "#EXTM3U\r\n \n#comment\n#EXT-X-KEY:METHOD=NONE:x\n s.ts\n#EXTINF";
     let lines = lines(rt.alloc(), text)?;
@@ -263,7 +278,11 @@ fn kinds_of_lines(rt: HostRuntime) -> Result<(), Fail> {
     for line in &lines {
         match line {
             Line::Ignored { .. } => shown.push_str("-")?,
-            Line::Uri { text, .. } => shown.push_str(text.as_str())?,
+            Line::Uri { text: uri, span } => {
+                let slice = text.as_bytes().get(span.start..span.end);
+                assert_eq!(rt; slice, Some(uri.as_str().as_bytes()));
+                shown.push_str(uri.as_str())?;
+            }
             Line::Tag { name, rest, .. } => {
                 shown.push_str(name.as_str())?;
                 shown.push_str("|")?;

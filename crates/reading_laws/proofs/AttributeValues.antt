@@ -1,0 +1,142 @@
+-- The attributes of a tag whose line has no control character (RFC 8216, section 4.2).
+use Rattle.std.proofs.Common.{◌≡◌, ℕ, Bool, true, false, not, cond, List, [], ◌∷◌, ◌++◌, map, refl, sym, ◌∙◌, subst, arith}
+use Rattle.std.specs.Prelude.{Ok, Err, Option, Some, None, bytes_eq, ◌||◌, ◌&&◌, filter}
+use Rattle.std.specs.List.{list_any, list_all, find, AllByRecursion}
+use Rattle.std.proofs.lemmas.Bool.{and_from, and_parts, or_parts, or_from, not_from_false, not-true, both_ways, false_from_ne_true}
+use Rattle.std.proofs.lemmas.List.Folds.{list_any-append}
+use Rattle.std.proofs.lemmas.Slice.Eq.{bytes_eq-Decides}
+use Rattle.attr_list.specs.Attributes.{Pair, is_named, is_name, is_value, is_pair, are_apart, attribute, attributes_of, pieces, pair_spelling, value_spelling}
+use Rattle.attr_list.proofs.Grammar.{pairs_are, pieces_joined}
+use Rattle.playlist_meaning.specs.declared.FaultKind.TheVariants as fault
+use Rattle.playlist_meaning.specs.declared.KeyAttr.{KeyAttr}
+use Rattle.playlist_meaning.specs.Said.{Outcome, attributes, required, optional, some_value, value_if, quoted_of, is_key_attribute, key_attr}
+use Rattle.playlist_meaning.specs.Reading.{unlimited}
+use Rattle.playlist_write.specs.Fitting.{if_some, value_fits, is_apart, have_distinct_names, other_fits}
+use Rattle.playlist_write.proofs.CleanTexts.{Clean}
+use Rattle.reading_laws.proofs.Gives.{Gives, answers, fails, told}
+use Rattle.reading_laws.proofs.CleanCuts.{clean_is, clean_cut, clean_parts}
+
+-- a name, and a value that can be written
+abbrev pub pair_fits : Pair → Bool
+pair_fits pair = is_name pair.name && value_fits pair.quoted pair.value
+
+-- such pairs, with names apart
+abbrev pub pairs_fit : List Pair → Bool
+pairs_fit pairs = list_all pair_fits pairs && are_apart [] pairs
+
+spelled_clean : (quoted : Bool) (value : List ℕ) → Clean (value_spelling quoted value) → Clean value
+spelled_clean true value c = (clean_cut value 34 [] (omega arith) (clean_cut [] 34 (value ++ 34 ∷ []) (omega arith) c).1).0
+spelled_clean false value c = c
+
+pair_is_fit : (pair : Pair) → is_pair pair ≡ true → Clean (pair_spelling pair) → pair_fits pair ≡ true
+pair_is_fit pair h c =
+    let a : (is_name pair.name ≡ true) × (is_value pair.quoted pair.value ≡ true) = and_parts _ _ h in
+    let value = spelled_clean pair.quoted pair.value (clean_cut pair.name 61 (value_spelling pair.quoted pair.value) (omega arith) c).1 in
+    and_from _ _ a.0 (and_from _ _ (clean_is pair.value value) a.1)
+
+each_fits : (before new : List Pair) → are_apart before new ≡ true → AllByRecursion Clean (map pair_spelling new) → list_all pair_fits new ≡ true
+each_fits before [] h c = refl
+each_fits before (pair ∷ new) h c =
+    let a : ((is_pair pair && not (list_any (is_named pair.name) before)) ≡ true) × (are_apart (before ++ pair ∷ []) new ≡ true) = and_parts _ _ h in
+    and_from _ _ (pair_is_fit pair (and_parts (is_pair pair) _ a.0).0 c.0) (each_fits (before ++ pair ∷ []) new a.1 c.1)
+
+pairs_are_fit : (rest : List ℕ) (pairs : List Pair) → Clean rest → attributes_of None rest ≡ Ok pairs → pairs_fit pairs ≡ true
+pairs_are_fit rest pairs c h =
+    let r = pairs_are (pieces rest) [] pairs h in
+    let parts : AllByRecursion Clean (pieces rest) = clean_parts 44 (pieces rest) (omega arith) (subst Clean (sym (pieces_joined false rest)) c) in
+    let spelled : AllByRecursion Clean (map pair_spelling r.new) = subst (AllByRecursion Clean) r.spelled parts in
+    let new : pairs_fit r.new ≡ true = and_from _ _ (each_fits [] r.new r.apart spelled) r.apart in
+    subst (λ ps. pairs_fit ps ≡ true) (sym r.whole) new
+
+pub attributes_fit : (rest : List ℕ) → Clean rest → Gives pairs_fit (attributes unlimited rest)
+attributes_fit rest c = told pairs_fit fault.BadAttributes (attributes_of None rest) (λ pairs h. pairs_are_fit rest pairs c h)
+
+-- ---- one attribute
+
+finds : {A : Type 0} (p q : A → Bool) (xs : List A) → list_all p xs ≡ true → if_some p (find q xs) ≡ true
+finds p q [] h = refl
+finds {A = A} p q (x ∷ xs) h = let a = and_parts _ _ h in step (q x) x (find q xs) a.0 (finds p q xs a.1)
+  where
+    step : (b : Bool) (x : A) (o : Option A) → p x ≡ true → if_some p o ≡ true → if_some p (cond b (Some x) o) ≡ true
+    step true x o h g = h
+    step false x o h g = g
+
+pub attribute_fits : (pairs : List Pair) (name : List ℕ) → pairs_fit pairs ≡ true → if_some pair_fits (attribute pairs name) ≡ true
+attribute_fits pairs name h = finds pair_fits (is_named name) pairs (and_parts (list_all pair_fits pairs) (are_apart [] pairs) h).0
+
+pub value_if_fits : (wanted quoted : Bool) (value : List ℕ) → value_fits quoted value ≡ true → Gives (value_fits wanted) (value_if wanted quoted value)
+value_if_fits true true value h = answers (value_fits true) value h
+value_if_fits true false value h = fails (value_fits true) _
+value_if_fits false true value h = fails (value_fits false) _
+value_if_fits false false value h = answers (value_fits false) value h
+
+pub pair_value : (pair : Pair) → pair_fits pair ≡ true → value_fits pair.quoted pair.value ≡ true
+pair_value pair h = (and_parts (is_name pair.name) (value_fits pair.quoted pair.value) h).1
+
+pub required_fits : (wanted : Bool) (o : Option Pair) → if_some pair_fits o ≡ true → Gives (value_fits wanted) (required wanted o)
+required_fits wanted None h = fails (value_fits wanted) _
+required_fits wanted (Some pair) h = value_if_fits wanted pair.quoted pair.value (pair_value pair h)
+
+pub quoted_fits : (pair : Pair) → pair_fits pair ≡ true → Gives (value_fits true) (quoted_of pair)
+quoted_fits pair h = value_if_fits true pair.quoted pair.value (pair_value pair h)
+
+some_fits : {A : Type 0} (p : A → Bool) (o : Outcome A) → Gives p o → Gives (if_some p) (some_value o)
+some_fits p (Ok x) g = answers (if_some p) (Some x) (g.passes x refl)
+some_fits p (Err e) g = fails (if_some p) e
+
+pub optional_fits : {A : Type 0} (p : A → Bool) (read : Pair → Outcome A) (o : Option Pair) → if_some pair_fits o ≡ true → ((pair : Pair) → pair_fits pair ≡ true → Gives p (read pair)) → Gives (if_some p) (optional read o)
+optional_fits p read None h f = answers (if_some p) None refl
+optional_fits p read (Some pair) h f = some_fits p (read pair) (f pair h)
+
+-- ---- a key's other attributes (4.3.2.4)
+
+sames : (a b : List ℕ) → bytes_eq a b ≡ false → bytes_eq b a ≡ false
+sames a b h = false_from_ne_true (bytes_eq b a) (λ e. both_ways _ h ((bytes_eq-Decides a b).1 (sym ((bytes_eq-Decides b a).0 e))))
+
+-- no name among the pairs is that of a pair before them
+apart_from : (x : Pair) (before later : List Pair) → ((name : List ℕ) → list_any (is_named name) before ≡ false → bytes_eq name x.name ≡ false) → are_apart before later ≡ true
+    → list_any (λ (l : Pair). bytes_eq x.name l.name) later ≡ false
+apart_from x before [] f h = refl
+apart_from x before (l ∷ later) f h =
+    let a : ((is_pair l && not (list_any (is_named l.name) before)) ≡ true) × (are_apart (before ++ l ∷ []) later ≡ true) = and_parts _ _ h in
+    let new : list_any (is_named l.name) before ≡ false = not-true _ (and_parts (is_pair l) _ a.0).1 in
+    or_from _ _ (sames l.name x.name (f l.name new))
+    (apart_from x (before ++ l ∷ []) later (λ name g. f name (or_parts _ _ (sym (list_any-append (is_named name) before (l ∷ [])) ∙ g)).0) a.1)
+
+last_apart : (x : Pair) (before : List Pair) (name : List ℕ) → list_any (is_named name) (before ++ x ∷ []) ≡ false → bytes_eq name x.name ≡ false
+last_apart x before name h =
+    let a : (list_any (is_named name) before ≡ false) × ((is_named name x || false) ≡ false) = or_parts _ _ (sym (list_any-append (is_named name) before (x ∷ [])) ∙ h) in (or_parts (is_named name x) false a.1).0
+
+none_kept : (x : Pair) (q : Pair → Bool) (later : List Pair) → list_any (λ (l : Pair). bytes_eq x.name l.name) later ≡ false
+    → list_any (λ (other : KeyAttr). bytes_eq x.name other.name) (map key_attr (filter q later)) ≡ false
+none_kept x q [] h = refl
+none_kept x q (l ∷ later) h =
+    let a : (bytes_eq x.name l.name ≡ false) × (list_any (λ (m : Pair). bytes_eq x.name m.name) later ≡ false) = or_parts _ _ h in
+    step (q l) l (filter q later) a.0 (none_kept x q later a.1)
+  where
+    step : (b : Bool) (l : Pair) (kept : List Pair) → bytes_eq x.name l.name ≡ false → list_any (λ (other : KeyAttr). bytes_eq x.name other.name) (map key_attr kept) ≡ false
+        → list_any (λ (other : KeyAttr). bytes_eq x.name other.name) (map key_attr (cond b (l ∷ kept) kept)) ≡ false
+    step true l kept h g = or_from _ _ h g
+    step false l kept h g = g
+
+pub others_distinct : (q : Pair → Bool) (before pairs : List Pair) → are_apart before pairs ≡ true → have_distinct_names (map key_attr (filter q pairs)) ≡ true
+others_distinct q before [] h = refl
+others_distinct q before (x ∷ later) h =
+    let a : ((is_pair x && not (list_any (is_named x.name) before)) ≡ true) × (are_apart (before ++ x ∷ []) later ≡ true) = and_parts _ _ h in
+    step (q x) x (filter q later) (not_from_false _ (none_kept x q later (apart_from x (before ++ x ∷ []) later (last_apart x before) a.1))) (others_distinct q (before ++ x ∷ []) later a.1)
+  where
+    step : (b : Bool) (x : Pair) (kept : List Pair) → is_apart (key_attr x) (map key_attr kept) ≡ true → have_distinct_names (map key_attr kept) ≡ true → have_distinct_names (map key_attr (cond b (x ∷ kept) kept)) ≡ true
+    step true x kept h g = and_from _ _ h g
+    step false x kept h g = g
+
+pub others_fit : (pairs : List Pair) → list_all pair_fits pairs ≡ true → list_all other_fits (map key_attr (filter (λ pair. not (is_key_attribute pair)) pairs)) ≡ true
+others_fit [] h = refl
+others_fit (pair ∷ pairs) h =
+    let a : (pair_fits pair ≡ true) × (list_all pair_fits pairs ≡ true) = and_parts _ _ h in
+    step (not (is_key_attribute pair)) pair (filter (λ p. not (is_key_attribute p)) pairs) refl a.0 (others_fit pairs a.1)
+  where
+    step : (b : Bool) (pair : Pair) (kept : List Pair) → not (is_key_attribute pair) ≡ b → pair_fits pair ≡ true → list_all other_fits (map key_attr kept) ≡ true
+        → list_all other_fits (map key_attr (cond b (pair ∷ kept) kept)) ≡ true
+    step true pair kept e h g =
+        let a : (is_name pair.name ≡ true) × (value_fits pair.quoted pair.value ≡ true) = and_parts _ _ h in and_from _ _ (and_from _ _ (and_from _ _ a.0 e) a.1) g
+    step false pair kept e h g = g

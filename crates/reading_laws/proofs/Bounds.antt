@@ -1,0 +1,92 @@
+-- How large the numbers can be that a text says.
+use Rattle.std.proofs.Common.{drop, zero, suc, ◌≡◌, ℕ, ◌+◌, ◌*◌, ◌<◌, ◌^◌, Bool, true, false, cond, not, List, [], ◌∷◌, ◌++◌, take, length, replicate, refl, sym, ◌∙◌, arith}
+use Rattle.std.specs.Prelude.{◌==◌, slice_index, Result, Ok, Err, Option, Some, None, ℤ, ◌&&◌, nat_lt, nat_le}
+use Rattle.std.specs.List.{list_all}
+use Rattle.std.specs.Char.{is_ascii_digit}
+use Rattle.std.specs.Str.Parse.{digits_value, AllDigits}
+use Rattle.std.proofs.lemmas.Bool.{and_parts, and_from, lt-ltb, leb-false}
+use Rattle.std.proofs.lemmas.Int.Digits.{digits_value-lt}
+use Rattle.fixed_duration.specs.Duration.{duration_of, seconds_of, fraction_of}
+use Rattle.fixed_duration.specs.declared.DurationFault.{DurationFault}
+use Rattle.std.specs.Char.{digit_value}
+use Rattle.std.proofs.lemmas.Bool.{not-false}
+use Rattle.std.proofs.lemmas.Bool.Decides.{nat_tests}
+use Rattle.std.proofs.lemmas.List.Folds.{list_all-append}
+use Rattle.fixed_duration.specs.Text.{is_empty, is_decimal, fraction_part, nine_digits}
+use Rattle.fixed_duration.proofs.Digits.{length-filled}
+use Rattle.attr_list.specs.Numbers.{decimal_of, has_up_to}
+use Rattle.playlist_meaning.specs.Instant.{seconds_at, fraction_nanos, fraction_len, zone_offset, is_date, is_clock, is_fraction, in_range, instant_of, instant_at, nanos_from_1970}
+use Rattle.playlist_write.specs.WellFormed.{is_word, duration_fits}
+
+-- what is answered only where a test holds
+pub where_some : {A : Type 0} (b : Bool) (x y : A) → cond b (Some x) None ≡ Some y → (b ≡ true) × (x ≡ y)
+where_some true x y h = (refl, cc)
+where_some false x y h = cc
+
+pub not_refused : {A E : Type 0} (b : Bool) (e : E) (o : Result A E) (x : A) → cond b (Err e) o ≡ Ok x → (b ≡ false) × (o ≡ Ok x)
+not_refused true e o x h = cc
+not_refused false e o x h = (refl, h)
+
+-- a decimal is below 2 ^ 64
+pub decimal_is_word : (text : List ℕ) (n : ℕ) → decimal_of text ≡ Some n → is_word n ≡ true
+decimal_is_word text n h =
+    let w = where_some (has_up_to 20 text && list_all is_ascii_digit text && nat_lt (digits_value 10 text) (2 ^ 64)) (digits_value 10 text) n h in
+    let small : nat_lt (digits_value 10 text) (2 ^ 64) ≡ true = (and_parts _ _ w.0).1 in rw (← w.1) small
+
+picked : {A : Type 0} (b : Bool) (o : Option A) (x : A) → cond b o None ≡ Some x → o ≡ Some x
+picked true o x h = h
+picked false o x h = cc
+
+-- an instant is in range
+pub instant_is_in_range : (text : List ℕ) (t : ℤ) → instant_of text ≡ Some t → in_range t ≡ true
+instant_is_in_range text t h =
+    at (seconds_at text) (fraction_nanos (drop 1 (take (fraction_len (drop 19 text)) (drop 19 text)))) (zone_offset (drop (fraction_len (drop 19 text)) (drop 19 text)))
+    (picked (is_date text && slice_index text 10 == 84 && is_clock text && is_fraction (fraction_len (drop 19 text))) _ t h)
+  where
+    at : (seconds nanos : ℕ) (offset : Option ℤ) → instant_at seconds nanos offset ≡ Some t → in_range t ≡ true
+    at seconds nanos None h = cc
+    at seconds nanos (Some offset) h =
+        let w = where_some (in_range (nanos_from_1970 seconds nanos offset)) (nanos_from_1970 seconds nanos offset) t h in
+        let inside : in_range (nanos_from_1970 seconds nanos offset) ≡ true = w.0 in rw (← w.1) inside
+
+-- ---- durations
+
+all_digits : (ds : List ℕ) → list_all is_ascii_digit ds ≡ true → AllDigits 10 ds
+all_digits [] h = tt
+all_digits (d ∷ ds) h = let a = and_parts _ _ h in (small d a.0, all_digits ds a.1)
+  where
+    small : (d : ℕ) → is_ascii_digit d ≡ true → digit_value d < 10
+    small d h = grind (arith, nat_tests)
+
+zeros : (n : ℕ) → list_all is_ascii_digit (replicate n 48) ≡ true
+zeros zero = refl
+zeros (suc n) = zeros n
+
+fraction_is_small : (digits : List ℕ) → list_all is_ascii_digit digits ≡ true → digits_value 10 (nine_digits digits) < 10 ^ 9
+fraction_is_small digits h =
+    let l : length (nine_digits digits) ≡ 9 = length-filled 9 digits in
+    let all : list_all is_ascii_digit (digits ++ replicate 9 48) ≡ true = list_all-append is_ascii_digit digits (replicate 9 48) ∙ and_from _ _ h refl in
+    let below = digits_value-lt 10 (nine_digits digits) (all_digits (nine_digits digits) (all_taken 9 (digits ++ replicate 9 48) all)) in
+    rw l at below
+  where
+    all_taken : (n : ℕ) (xs : List ℕ) → list_all is_ascii_digit xs ≡ true → list_all is_ascii_digit (take n xs) ≡ true
+    all_taken zero xs h = refl
+    all_taken (suc n) [] h = refl
+    all_taken (suc n) (x ∷ xs) h = let a = and_parts _ _ h in and_from _ _ a.0 (all_taken n xs a.1)
+
+ok_same : (o : Result ℕ DurationFault) (x y : ℕ) → o ≡ Ok x → o ≡ Ok y → x ≡ y
+ok_same o x y g h = let e : Ok x ≡ o = sym g in cc
+
+-- a duration is below 1,000,000 s
+pub duration_is_small : (text : List ℕ) (n : ℕ) → duration_of text ≡ Ok n → duration_fits n ≡ true
+duration_is_small text n h =
+    let a = not_refused (is_empty text) _ _ n h in
+    let b = not_refused (not (is_decimal text)) _ _ n a.1 in
+    let c = not_refused (nat_le (10 ^ 6) (seconds_of text)) _ _ n b.1 in
+    let s : seconds_of text < 10 ^ 6 = leb-false _ _ c.0 in
+    let digits = and_parts _ _ (and_parts _ _ (not-false _ b.0)).0 in
+    let f : fraction_of text < 10 ^ 9 = fraction_is_small (fraction_part text) digits.1 in
+    sized n (seconds_of text) (fraction_of text) s f (ok_same (Ok (seconds_of text * 10 ^ 9 + fraction_of text)) (seconds_of text * 10 ^ 9 + fraction_of text) n refl c.1)
+  where
+    sized : (n s f : ℕ) → s < 10 ^ 6 → f < 10 ^ 9 → s * 10 ^ 9 + f ≡ n → duration_fits n ≡ true
+    sized n s f h g e = lt-ltb _ _ (omega arith)

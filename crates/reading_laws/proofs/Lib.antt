@@ -1,0 +1,15 @@
+pub mod Gives
+pub mod CleanCuts
+pub mod Bounds
+pub mod AttributeValues
+pub mod Values
+pub mod Lines
+pub mod Keys
+pub mod Numbers
+pub mod Segments
+pub mod DateRanges
+pub mod Whole
+pub mod Texts
+pub mod OwnKinds
+pub mod LineLimits
+pub mod WithinLimits

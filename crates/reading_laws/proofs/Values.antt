@@ -1,0 +1,107 @@
+-- What the values of keys, sections, ranges and URIs are that are read.
+use Rattle.std.proofs.Common.{◌≡◌, ℕ, ◌<◌, ◌≤◌, ◌^◌, Bool, true, false, not, cond, List, [], ◌∷◌, map, drop, length, refl, ap, sym, ◌∙◌, arith}
+use Rattle.std.specs.Prelude.{Ok, Err, Option, Some, None, unwrap_or, codes, ◌&&◌, ◌==◌, filter}
+use Rattle.std.specs.List.{list_any, list_all, before_first, after_first}
+use Rattle.std.specs.Char.{is_ascii_hexdigit, digit_value}
+use Rattle.std.specs.Str.Parse.{digits_value, AllDigits}
+use Rattle.std.proofs.lemmas.Bool.{and_from, and_parts, lt-ltb, leb-true, not_from_false, not-false}
+use Rattle.std.proofs.lemmas.Bool.Decides.{nat_tests}
+use Rattle.std.proofs.lemmas.Int.Digits.{digits_value-lt}
+use Rattle.std.proofs.Math.Nat.{pow-le-pow_right}
+use Rattle.url.specs.Parts.{Parts, serialize}
+use Rattle.url.specs.Parser.{Parsed, parse_url}
+use Rattle.attr_list.specs.Attributes.{Pair, is_value}
+use Rattle.attr_list.specs.Numbers.{decimal_of, hex_of, has_up_to, has_hex_prefix}
+use Rattle.playlist_meaning.specs.declared.FaultKind.TheVariants as fault
+use Rattle.playlist_meaning.specs.Uri.{has_scheme, can_be_written, joined, resolved}
+use Rattle.playlist_meaning.specs.Said.{or_fault, value_if, iv_of, quoted_of, uri_of, range_of, section_range, range_end_fits, key_attr, is_key_attribute}
+use Rattle.playlist_write.specs.Fitting.{if_some, is_clean, value_fits, method_fits, iv_fits, range_fits}
+use Rattle.reading_laws.specs.Read.{uri_reads, quoted_uri_reads, key_reads}
+use Rattle.playlist_write.proofs.CleanTexts.{Clean, clean_printable}
+use Rattle.reading_laws.proofs.Gives.{Gives, answers, guarded, chosen, found, after}
+use Rattle.reading_laws.proofs.Bounds.{where_some}
+use Rattle.reading_laws.proofs.CleanCuts.{clean_is, is_is_clean}
+use Rattle.reading_laws.proofs.AttributeValues.{pair_fits, pairs_fit, others_fit, others_distinct}
+
+-- ---- hexadecimal sequences
+
+hex_digits : (ds : List ℕ) → list_all is_ascii_hexdigit ds ≡ true → AllDigits 16 ds
+hex_digits [] h = tt
+hex_digits (d ∷ ds) h = let a = and_parts _ _ h in (small d a.0, hex_digits ds a.1)
+  where
+    small : (d : ℕ) → is_ascii_hexdigit d ≡ true → digit_value d < 16
+    small d h = grind (arith, nat_tests)
+
+hex_power : (n : ℕ) → n ≤ 32 → 16 ^ n ≤ 2 ^ 128
+hex_power n h = let positive : 0 < 16 = omega arith in pow-le-pow_right positive h
+
+pub hex_is_iv : (text : List ℕ) (n : ℕ) → hex_of text ≡ Some n → iv_fits n ≡ true
+hex_is_iv text n h =
+    let w = where_some (has_hex_prefix text && has_up_to 32 (drop 2 text) && list_all is_ascii_hexdigit (drop 2 text)) (digits_value 16 (drop 2 text)) n h in
+    let a : ((has_hex_prefix text && has_up_to 32 (drop 2 text)) ≡ true) × (list_all is_ascii_hexdigit (drop 2 text) ≡ true) = and_parts _ _ w.0 in
+    let size : length (drop 2 text) ≤ 32 = leb-true _ _ (and_parts _ _ (and_parts (has_hex_prefix text) (has_up_to 32 (drop 2 text)) a.0).1).1 in
+    let below = digits_value-lt 16 (drop 2 text) (hex_digits (drop 2 text) a.1) in
+    small (digits_value 16 (drop 2 text)) n (16 ^ length (drop 2 text)) w.1 below (hex_power (length (drop 2 text)) size)
+  where
+    small : (v n most : ℕ) → v ≡ n → v < most → most ≤ 2 ^ 128 → iv_fits n ≡ true
+    small v n most e h g = lt-ltb n (2 ^ 128) (omega arith)
+
+pub iv_is_fit : (pair : Pair) → pair_fits pair ≡ true → Gives iv_fits (iv_of pair)
+iv_is_fit pair h = after iv_fits (value_if false pair.quoted pair.value) _ (λ value. found iv_fits fault.BadAttributes (hex_of value) (λ n e. hex_is_iv value n e))
+
+-- ---- ranges (4.3.2.2)
+
+abbrev pub range_is_fit : ℕ × Option ℕ → Bool
+range_is_fit r = if_some (range_end_fits r.0) r.1
+
+pub range_of_fits : (rest : List ℕ) → Gives range_is_fit (range_of rest)
+range_of_fits rest =
+    after range_is_fit (or_fault fault.BadRange (decimal_of (before_first (λ b. b == 64) rest))) _ (λ length.
+    chosen range_is_fit (list_any (λ b. b == 64) rest) _ _
+    (λ _. after range_is_fit (or_fault fault.BadRange (decimal_of (after_first (λ b. b == 64) rest))) _ (λ offset.
+    guarded range_is_fit (not (range_end_fits length offset)) _ _ (λ h. answers range_is_fit (length, Some offset) (not-false _ h))))
+    (λ _. answers range_is_fit (length, None) refl))
+
+pub section_range_fits : (pair : Pair) → Gives range_fits (section_range pair)
+section_range_fits pair =
+    after range_fits (quoted_of pair) _ (λ value. after range_fits (range_of value) _ (λ r.
+    guarded range_fits (not (range_end_fits r.0 (unwrap_or r.1 0))) _ _ (λ h. answers range_fits (record { length = r.0; offset = unwrap_or r.1 0 }) (not-false _ h))))
+
+-- ---- URIs
+
+joined_fits : (p : List ℕ → Bool) (url : Parsed Parts) (text : List ℕ) → ((t : List ℕ) → can_be_written t ≡ true → p t ≡ true) → joined url ≡ Some text → p text ≡ true
+joined_fits p (Ok url) text f h =
+    let w = where_some (can_be_written (serialize url)) (serialize url) text h in ap p (sym w.1) ∙ f (serialize url) w.0
+joined_fits p (Err e) text f h = cc
+
+resolved_fits : (p : List ℕ → Bool) (base : Parts) (reference text : List ℕ) → (has_scheme reference ≡ true → p reference ≡ true) → ((t : List ℕ) → can_be_written t ≡ true → p t ≡ true)
+    → resolved base reference ≡ Some text → p text ≡ true
+resolved_fits p base reference text g f h = by (has_scheme reference) (parse_url (Some base) reference) g h
+  where
+    by : (b : Bool) (url : Parsed Parts) → (b ≡ true → p reference ≡ true) → cond b (Some reference) (joined url) ≡ Some text → p text ≡ true
+    by true url g h = let e : reference ≡ text = cc in ap p (sym e) ∙ g refl
+    by false url g h = joined_fits p url text f h
+
+pub plain_uri : (base : Parts) (reference : List ℕ) → Clean reference → Gives uri_reads (uri_of base reference)
+plain_uri base reference c =
+    found uri_reads fault.BadUri (resolved base reference) (λ text h.
+    resolved_fits uri_reads base reference text (λ s. and_from _ _ s (not_from_false _ c.free)) (λ t w. (and_parts (uri_reads t) _ w).0) h)
+
+pub quoted_uri : (base : Parts) (reference : List ℕ) → value_fits true reference ≡ true → Gives quoted_uri_reads (uri_of base reference)
+quoted_uri base reference v =
+    let a : (is_clean reference ≡ true) × (is_value true reference ≡ true) = and_parts _ _ v in
+    found quoted_uri_reads fault.BadUri (resolved base reference) (λ text h.
+    resolved_fits quoted_uri_reads base reference text (λ s. and_from _ _ (and_from _ _ s (not_from_false _ (is_is_clean reference a.0).free)) a.1) (λ t w. w) h)
+
+-- ---- keys (4.3.2.4)
+
+pub or_identity : (format : Option (List ℕ)) → if_some (value_fits true) format ≡ true → value_fits true (unwrap_or format (codes "identity")) ≡ true
+or_identity None h = and_from _ _ (clean_is (codes "identity") (clean_printable (codes "identity") refl)) refl
+or_identity (Some f) h = h
+
+pub key_from : (format method resource : List ℕ) (iv : Option ℕ) (pairs : List Pair) → value_fits true format ≡ true → method_fits method ≡ true → quoted_uri_reads resource ≡ true
+    → if_some iv_fits iv ≡ true → pairs_fit pairs ≡ true
+    → key_reads (record { format = format; method = method; uri = resource; iv = iv; other = map key_attr (filter (λ pair. not (is_key_attribute pair)) pairs) }) ≡ true
+key_from format method resource iv pairs f m u i h =
+    let a = and_parts _ _ h in
+    and_from _ _ (and_from _ _ (and_from _ _ (and_from _ _ (and_from _ _ f m) u) i) (others_fit pairs a.0)) (others_distinct (λ pair. not (is_key_attribute pair)) [] pairs a.1)

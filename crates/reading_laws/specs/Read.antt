@@ -1,0 +1,120 @@
+-- What holds of each playlist that is read, in the terms in which one can be written (RFC 8216, section 4.3).
+use Rattle.std.specs.Prelude.{◌≡◌, ℕ, ◌+◌, Bool, true, false, not, ◌&&◌, ◌||◌, ◌==◌, nat_le, List, [], ◌∷◌, Ok}
+use Rattle.std.specs.List.{list_any, list_all, AllByRecursion}
+use Rattle.std.specs.Str.{is_utf8}
+use Rattle.playlist_meaning.specs.declared.Segment.{Segment}
+use Rattle.playlist_meaning.specs.declared.DateRange.{DateRange}
+use Rattle.playlist_meaning.specs.declared.Playlist.{Playlist}
+use Rattle.playlist_meaning.specs.Instant.{in_range}
+use Rattle.playlist_meaning.specs.Said.{Reader, date_range, date_range_said}
+use Rattle.playlist_meaning.specs.Reading.{has_section, needs_iv}
+use Rattle.playlist_meaning.specs.LookBack.{are_sorted}
+use Rattle.playlist_meaning.specs.Lines.{has_control}
+use Rattle.playlist_meaning.specs.Uri.{has_scheme}
+use Rattle.attr_list.specs.Attributes.{is_value}
+use Rattle.playlist_meaning.specs.declared.Key.{Key}
+use Rattle.playlist_meaning.specs.declared.InitSection.{InitSection}
+use Rattle.playlist_write.specs.Fitting.{if_some, is_clean, value_fits, method_fits, iv_fits, other_fits, have_distinct_names, range_fits, states_iv, effective_keys_fit, section_fits}
+use Rattle.playlist_write.specs.WellFormed.{is_word, duration_fits, resource_fits}
+
+-- a version that is supported
+abbrev pub version_reads : ℕ → Bool
+version_reads version = nat_le 1 version && nat_le version 7
+
+-- ---- resources
+
+-- a URI with a scheme and no control character
+abbrev pub uri_reads : List ℕ → Bool
+uri_reads uri = has_scheme uri && not (has_control uri)
+
+-- such a URI that can stand in quotes
+abbrev pub quoted_uri_reads : List ℕ → Bool
+quoted_uri_reads uri = uri_reads uri && is_value true uri
+
+-- ---- keys (4.3.2.4)
+
+abbrev pub key_reads : Key → Bool
+key_reads k =
+    value_fits true k.format && method_fits k.method && quoted_uri_reads k.uri && if_some iv_fits k.iv && list_all other_fits k.other
+    && have_distinct_names k.other
+
+-- sorted by format, with one key for each
+abbrev pub keys_read : List Key → Bool
+keys_read keys = list_all key_reads keys && are_sorted keys
+
+-- ---- initialisation sections (4.3.2.5)
+
+-- a key of the section that asks for an IV states it
+abbrev pub section_reads : InitSection → Bool
+section_reads s = quoted_uri_reads s.uri && if_some range_fits s.range && keys_read s.keys && not (list_any needs_iv s.keys)
+
+-- ---- a segment by itself
+
+abbrev pub numbers_are_words : Segment → Bool
+numbers_are_words s = is_word s.number && is_word s.discontinuity
+
+abbrev pub resource_reads : Segment → Bool
+resource_reads s = uri_reads s.uri && if_some range_fits s.range
+
+-- the keys are those that take effect, so that of the format `identity` has an IV (5.2)
+abbrev pub effective_keys_read : List Key → Bool
+effective_keys_read keys = keys_read keys && list_all states_iv keys
+
+abbrev pub segment_reads : Segment → Bool
+segment_reads s =
+    numbers_are_words s && resource_reads s && effective_keys_read s.keys && if_some section_reads s.section && duration_fits s.duration
+    && is_clean s.title && if_some in_range s.time
+
+-- ---- the same where each URI is UTF-8
+
+abbrev pub key_is_text : Key → Bool
+key_is_text k = is_utf8 k.uri
+
+abbrev pub section_is_text : InitSection → Bool
+section_is_text s = is_utf8 s.uri && list_all key_is_text s.keys
+
+abbrev pub uris_are_text : Segment → Bool
+uris_are_text s = is_utf8 s.uri && list_all key_is_text s.keys && if_some section_is_text s.section
+
+-- it can be written with its own numbers and time
+abbrev pub segment_can_be_written : Segment → Bool
+segment_can_be_written s =
+    numbers_are_words s && resource_fits s && effective_keys_fit s.keys && if_some section_fits s.section && duration_fits s.duration
+    && is_clean s.title && if_some in_range s.time
+
+-- ---- numbers (4.3.3.2, 4.3.3.3)
+
+-- media numbers go up by one, discontinuity numbers by the segment's own steps
+abbrev pub follows : Segment → Segment → Bool
+follows previous next = next.number == previous.number + 1 && next.discontinuity == previous.discontinuity + next.steps
+
+abbrev pub all_follow : Segment → List Segment → Bool
+all_follow previous [] = true
+all_follow previous (next ∷ later) = follows previous next && all_follow next later
+
+-- there is a first segment, its discontinuity number is at least its steps, and the others follow
+abbrev pub numbers_read : List Segment → Bool
+numbers_read [] = false
+numbers_read (first ∷ later) = nat_le first.steps first.discontinuity && all_follow first later
+
+-- ---- the whole
+
+-- all have an initialisation section, or none has
+abbrev pub sections_agree : List Segment → Bool
+sections_agree segments = list_all has_section segments || not (list_any has_section segments)
+
+-- a date range that its own text says
+abbrev pub IsSaid : Reader → DateRange → Type 0
+IsSaid reader r = date_range_said reader r.text ≡ Ok (date_range r)
+
+abbrev pub text_is_clean : DateRange → Bool
+text_is_clean r = is_clean r.text
+
+pub record AreRead (reader : Reader) (p : Playlist) : Type 0 where
+  pub version : version_reads p.version ≡ true
+  pub target : is_word p.target ≡ true
+  pub numbers : numbers_read p.segments ≡ true
+  pub segments : list_all segment_reads p.segments ≡ true
+  pub sections : sections_agree p.segments ≡ true
+  pub ranges : AllByRecursion (IsSaid reader) p.ranges
+  pub range_texts : list_all text_is_clean p.ranges ≡ true
