@@ -2,16 +2,14 @@
 use Rattle.std.proofs.Common.{drop, zero, suc, ◌≡◌, ℕ, ◌+◌, ◌*◌, ◌<◌, ◌^◌, Bool, true, false, cond, not, List, [], ◌∷◌, ◌++◌, take, length, replicate, refl, sym, ◌∙◌, arith}
 use Rattle.std.specs.Prelude.{◌==◌, slice_index, Result, Ok, Err, Option, Some, None, ℤ, ◌&&◌, nat_lt, nat_le}
 use Rattle.std.specs.List.{list_all}
-use Rattle.std.specs.Char.{is_ascii_digit}
+use Rattle.std.specs.Char.{is_ascii_digit, digit_value}
 use Rattle.std.specs.Str.Parse.{digits_value, AllDigits}
-use Rattle.std.proofs.lemmas.Bool.{and_parts, and_from, lt-ltb, leb-false}
+use Rattle.std.proofs.lemmas.Bool.{and_parts, and_from, lt-ltb, leb-false, not-false}
 use Rattle.std.proofs.lemmas.Int.Digits.{digits_value-lt}
-use Rattle.fixed_duration.specs.Duration.{duration_of, seconds_of, fraction_of}
-use Rattle.fixed_duration.specs.declared.DurationFault.{DurationFault}
-use Rattle.std.specs.Char.{digit_value}
-use Rattle.std.proofs.lemmas.Bool.{not-false}
 use Rattle.std.proofs.lemmas.Bool.Decides.{nat_tests}
 use Rattle.std.proofs.lemmas.List.Folds.{list_all-append}
+use Rattle.fixed_duration.specs.Duration.{duration_of, seconds_of, fraction_of}
+use Rattle.fixed_duration.specs.declared.DurationFault.{DurationFault}
 use Rattle.fixed_duration.specs.Text.{is_empty, is_decimal, fraction_part, nine_digits}
 use Rattle.fixed_duration.proofs.Digits.{length-filled}
 use Rattle.attr_list.specs.Numbers.{decimal_of, has_up_to}

@@ -15,23 +15,27 @@ use Rattle.playlist_write.specs.WellFormed.{is_word}
 use Rattle.reading_laws.specs.Read.{key_reads, keys_read, quoted_uri_reads, section_reads, effective_keys_read}
 use Rattle.reading_laws.proofs.Lines.{is_fit, all_good, all_parts, good_parts, all_fit}
 
-inserted : (k : Key) (keys : List Key) → key_reads k ≡ true → list_all key_reads keys ≡ true → list_all key_reads (insert_key k keys) ≡ true
-inserted k [] h g = and_from _ _ h refl
-inserted k (j ∷ keys) h g =
-    let a = and_parts (key_reads j) (list_all key_reads keys) g in step (is_before k j) j keys (insert_key k keys) a.0 a.1 (inserted k keys h a.1)
-  where
-    step : (b : Bool) (j : Key) (keys with : List Key) → key_reads j ≡ true → list_all key_reads keys ≡ true → list_all key_reads with ≡ true
-        → list_all key_reads (cond b (k ∷ j ∷ keys) (j ∷ with)) ≡ true
-    step true j keys with x y z = and_from _ _ h (and_from _ _ x y)
-    step false j keys with x y z = and_from _ _ x z
+module _ (p : Key → Bool) where
+  inserted : (k : Key) (keys : List Key) → p k ≡ true → list_all p keys ≡ true → list_all p (insert_key k keys) ≡ true
+  inserted k [] h g = and_from _ _ h refl
+  inserted k (j ∷ keys) h g =
+      let a = and_parts (p j) (list_all p keys) g in step (is_before k j) j keys (insert_key k keys) a.0 a.1 (inserted k keys h a.1)
+    where
+      step : (b : Bool) (j : Key) (keys with : List Key) → p j ≡ true → list_all p keys ≡ true → list_all p with ≡ true → list_all p (cond b (k ∷ j ∷ keys) (j ∷ with)) ≡ true
+      step true j keys with x y z = and_from _ _ h (and_from _ _ x y)
+      step false j keys with x y z = and_from _ _ x z
 
-pub keys_fit : (said : List Said) → list_all is_fit said ≡ true → list_all key_reads (keys_at said) ≡ true
-keys_fit [] h = refl
-keys_fit (no_keys ∷ before) h = refl
-keys_fit (key k ∷ before) h =
-    let a = and_parts (key_reads k) (list_all is_fit before) h in
-    inserted k (without_format k.format (keys_at before)) a.0 (all_filter key_reads _ (keys_at before) (keys_fit before a.1))
-keys_fit (said ∷ before) h = keys_fit before (and_parts (is_fit said) (list_all is_fit before) h).1
+  -- the keys in force pass a test that each key passes that is said
+  pub keys_pass : (q : Said → Bool) (said : List Said) → ((k : Key) → q (key k) ≡ true → p k ≡ true) → list_all q said ≡ true → list_all p (keys_at said) ≡ true
+  keys_pass q [] f h = refl
+  keys_pass q (no_keys ∷ before) f h = refl
+  keys_pass q (key k ∷ before) f h =
+      let a = and_parts (q (key k)) (list_all q before) h in
+      inserted k (without_format k.format (keys_at before)) (f k a.0) (all_filter p _ (keys_at before) (keys_pass q before f a.1))
+  keys_pass q (said ∷ before) f h = keys_pass q before f (and_parts (q said) (list_all q before) h).1
+
+keys_fit : (said : List Said) → list_all is_fit said ≡ true → list_all key_reads (keys_at said) ≡ true
+keys_fit said h = keys_pass key_reads is_fit said (λ k g. g) h
 
 pub keys_are : (said : List Said) → list_all is_fit said ≡ true → keys_read (keys_at said) ≡ true
 keys_are said h = and_from _ _ (keys_fit said h) (keys_are_sorted said)

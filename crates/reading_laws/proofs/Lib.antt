@@ -4,12 +4,13 @@ pub mod Bounds
 pub mod AttributeValues
 pub mod Values
 pub mod Lines
+pub mod OwnKinds
 pub mod Keys
 pub mod Numbers
 pub mod Segments
 pub mod DateRanges
-pub mod Whole
+pub mod UriTexts
 pub mod Texts
-pub mod OwnKinds
+pub mod Whole
 pub mod LineLimits
 pub mod WithinLimits

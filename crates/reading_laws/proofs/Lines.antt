@@ -1,36 +1,26 @@
 -- What a line says, and where it may stand.
-use Rattle.std.proofs.Common.{◌≡◌, ℕ, ◌≢◌, ◌<◌, ◌≤◌, ◌+◌, ◌^◌, Bool, true, false, not, List, [], ◌∷◌, length, refl, ap, sym, ◌∙◌, arith}
-use Rattle.std.specs.Prelude.{Result, Ok, Err, codes, bytes_eq, ◌||◌, ◌&&◌, ◌==◌, nat_lt, is_none}
-use Rattle.std.specs.List.{list_any, before_first, after_first}
-use Rattle.std.proofs.lemmas.Bool.{and_parts, and_from, or_parts, not_from_false, le-leb, lt-ltb, ltb-false, leb-false, eqb-false}
+use Rattle.std.proofs.Common.{◌≡◌, ℕ, ◌≢◌, ◌<◌, ◌≤◌, ◌+◌, ◌^◌, Bool, true, false, not, List, [], ◌∷◌, length, refl, ap, sym, ◌∙◌, arith, cond}
+use Rattle.std.specs.Prelude.{Result, Ok, Err, codes, bytes_eq, ◌||◌, ◌&&◌, ◌==◌, nat_lt, is_none, unwrap_or, drop}
+use Rattle.std.specs.List.{list_any, before_first, after_first, AllByRecursion, list_all}
+use Rattle.std.proofs.lemmas.Bool.{and_parts, and_from, or_parts, not_from_false, le-leb, lt-ltb, ltb-false, leb-false, eqb-false, eqb-true}
+use Rattle.std.specs.Str.{IsUtf8}
 use Rattle.url.specs.Parts.{Parts}
 use Rattle.fixed_duration.specs.Duration.{duration_of}
-use Rattle.attr_list.specs.Attributes.{attribute}
+use Rattle.attr_list.specs.Attributes.{attribute, Pair}
 use Rattle.attr_list.specs.Numbers.{decimal_of}
 use Rattle.playlist_meaning.specs.Instant.{instant_of, in_range}
 use Rattle.playlist_meaning.specs.declared.FaultKind.TheVariants as fault
-use Rattle.playlist_meaning.specs.Lines.{Kind, ignored, uri, tag, kind_of, has_control}
-use Rattle.playlist_meaning.specs.Said.{Name, sequence_tag, version_tag, target_tag, discontinuity_sequence_tag, type_tag, ended_tag, independent_tag, frames_tag, master_tag, duration_tag, range_tag, discontinuity_tag, key_tag, map_tag, time_tag, date_range_tag, unknown_tag, Said, nothing, version, target, sequence, discontinuity_sequence, playlist_type, ended, independent, duration, range, discontinuity, no_keys, section, time, media, Outcome, or_fault, mended, number, version_of, playlist_type_of, range_of, duration_said, key_said, section_said, date_range_said, attributes, required, optional, iv_of, quoted_of, uri_of, section_range, time_of, length_of}
+use Rattle.playlist_meaning.specs.Lines.{Kind, ignored, uri, tag, kind_of, has_control, is_blank, is_tag, is_comment, is_colon}
+use Rattle.playlist_meaning.specs.Said.{Name, sequence_tag, version_tag, target_tag, discontinuity_sequence_tag, type_tag, ended_tag, independent_tag, frames_tag, master_tag, duration_tag, range_tag, discontinuity_tag, key_tag, map_tag, time_tag, date_range_tag, unknown_tag, Said, nothing, version, target, sequence, discontinuity_sequence, playlist_type, ended, independent, duration, range, discontinuity, no_keys, section, time, media, Outcome, or_fault, mended, number, version_of, playlist_type_of, range_of, duration_said, key_said, section_said, date_range_said, attributes, required, optional, iv_of, quoted_of, uri_of, section_range, time_of, length_of, set_key, range_end_fits, key, date_range}
 use Rattle.playlist_meaning.specs.LookBack.{the_version, the_target, the_sequence, the_discontinuity_sequence, the_type, is_media, is_discontinuity, is_ended, own_duration, range_at, keys_at, discontinuity_at, number_at}
 use Rattle.playlist_meaning.specs.Reading.{name_of, has, is_set, passes, needs_iv, said_by_tag, said_by_kind, said_by, said_from, at_line, Fault, unlimited}
 use Rattle.playlist_write.specs.WellFormed.{is_word, duration_fits}
-use Rattle.reading_laws.specs.Read.{version_reads}
-use Rattle.std.specs.Str.{IsUtf8}
-use Rattle.attr_list.specs.Attributes.{Pair}
-use Rattle.playlist_meaning.specs.Lines.{is_blank, is_tag, is_comment, is_colon}
-use Rattle.reading_laws.specs.Read.{uri_reads, quoted_uri_reads, key_reads}
 use Rattle.playlist_write.specs.Fitting.{if_some, is_clean, value_fits, method_fits, iv_fits, range_fits}
-use Rattle.playlist_meaning.specs.Said.{set_key, range_end_fits}
+use Rattle.playlist_write.proofs.CleanTexts.{Clean}
+use Rattle.reading_laws.specs.Read.{version_reads, uri_reads, quoted_uri_reads, key_reads}
 use Rattle.reading_laws.proofs.CleanCuts.{clean_is, clean_after, clean_after_first}
 use Rattle.reading_laws.proofs.AttributeValues.{pairs_fit, attributes_fit, attribute_fits, required_fits, optional_fits, quoted_fits}
 use Rattle.reading_laws.proofs.Values.{iv_is_fit, range_is_fit, range_of_fits, section_range_fits, plain_uri, quoted_uri, or_identity, key_from}
-use Rattle.std.specs.Prelude.{unwrap_or, drop}
-use Rattle.std.specs.List.{AllByRecursion, list_all}
-use Rattle.std.proofs.lemmas.Bool.{eqb-true}
-use Rattle.playlist_write.proofs.CleanTexts.{Clean}
-use Rattle.playlist_meaning.specs.Said.{key}
-use Rattle.std.proofs.Common.{cond}
-use Rattle.playlist_meaning.specs.Said.{date_range}
 use Rattle.reading_laws.proofs.Gives.{Gives, answers, fails, guarded, refused, chosen, found, told, bound, after}
 use Rattle.reading_laws.proofs.Bounds.{decimal_is_word, instant_is_in_range, duration_is_small}
 
@@ -96,13 +86,12 @@ is_fit_section : Said → Bool
 is_fit_section said = is_section said && is_fit said
 
 -- a line's reference, or what stands behind its tag, has no control character
-KindClean : Kind → Type 0
+abbrev pub KindClean : Kind → Type 0
 KindClean ignored = Unit {0}
 KindClean (uri reference) = Clean reference
 KindClean (tag name rest colon) = Clean rest
 
-kind_clean : (line : List ℕ) → Clean line → KindClean (kind_of line)
-unfolding KindClean
+pub kind_clean : (line : List ℕ) → Clean line → KindClean (kind_of line)
 kind_clean line c = by (is_blank line) (is_tag line) (is_comment line) (before_first is_colon (drop 1 line)) (after_first is_colon (drop 1 line)) (list_any is_colon (drop 1 line))
     (clean_after_first is_colon line (is_low 58 (omega arith)) c)
   where
@@ -176,7 +165,6 @@ module _ (before : List Said) where
   by_tag base unknown_tag rest c = good before nothing refl refl
 
   by_kind : (base : Parts) (kind : Kind) → KindClean kind → Gives (is_good before) (said_by_kind unlimited base before kind)
-  unfolding KindClean
   by_kind base ignored c = good before nothing refl refl
   by_kind base (uri reference) c =
       refused _ (is_none (own_duration before)) _ _ (guarded _ (passes (number_at before)) _ _ (λ h.

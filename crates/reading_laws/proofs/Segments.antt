@@ -1,21 +1,16 @@
 -- What each segment is that is read.
 use Rattle.std.proofs.Common.{◌≡◌, ℕ, Bool, true, false, cond, List, [], ◌∷◌, refl, ◌∙◌}
-use Rattle.std.specs.Prelude.{Option, Some, None, unwrap_or}
-use Rattle.std.specs.Prelude.{◌&&◌, ◌+◌}
+use Rattle.std.specs.Prelude.{Option, Some, None, unwrap_or, ◌&&◌, ◌+◌, Ok, not, bytes_eq}
 use Rattle.std.specs.List.{list_all}
 use Rattle.std.proofs.lemmas.Bool.{and_parts, and_from}
 use Rattle.std.proofs.lemmas.List.Folds.{list_all-append}
-use Rattle.playlist_meaning.specs.Instant.{in_range}
-use Rattle.playlist_meaning.specs.Said.{Said, duration, time, media}
-use Rattle.playlist_meaning.specs.LookBack.{or_earlier, latest, the_duration, the_time, is_media, since_media, own_duration, segments_of, segment_at}
-use Rattle.playlist_write.specs.Fitting.{if_some}
-use Rattle.playlist_write.specs.WellFormed.{duration_fits}
-use Rattle.std.specs.Prelude.{Ok, not, bytes_eq}
 use Rattle.std.specs.Result.{result_unwrap_or}
+use Rattle.playlist_meaning.specs.Instant.{in_range}
+use Rattle.playlist_meaning.specs.Said.{Said, duration, time, media, range, date_range, refuse_if, range_end_fits}
+use Rattle.playlist_meaning.specs.LookBack.{or_earlier, latest, the_duration, the_time, is_media, since_media, own_duration, segments_of, segment_at, the_range, own_range, Extent, range_here, range_from, last_extent, number_at, date_ranges_of}
 use Rattle.playlist_meaning.specs.declared.FaultKind.TheVariants as fault
-use Rattle.playlist_meaning.specs.Said.{range, date_range, refuse_if, range_end_fits}
-use Rattle.playlist_meaning.specs.LookBack.{the_range, own_range, Extent, range_here, range_from, last_extent, number_at, date_ranges_of}
-use Rattle.playlist_write.specs.Fitting.{is_clean, range_fits}
+use Rattle.playlist_write.specs.Fitting.{if_some, is_clean, range_fits}
+use Rattle.playlist_write.specs.WellFormed.{duration_fits}
 use Rattle.reading_laws.specs.Read.{segment_reads, text_is_clean}
 use Rattle.reading_laws.proofs.CleanCuts.{clean_is, clean_nil}
 use Rattle.reading_laws.proofs.Values.{range_is_fit}

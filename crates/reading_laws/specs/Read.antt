@@ -1,7 +1,10 @@
 -- What holds of each playlist that is read, in the terms in which one can be written (RFC 8216, section 4.3).
-use Rattle.std.specs.Prelude.{◌≡◌, ℕ, ◌+◌, Bool, true, false, not, ◌&&◌, ◌||◌, ◌==◌, nat_le, List, [], ◌∷◌, Ok}
+use Rattle.std.specs.Prelude.{◌≡◌, ℕ, ◌+◌, Bool, true, false, not, ◌&&◌, ◌||◌, ◌==◌, nat_le, List, [], ◌∷◌, Ok, Some}
 use Rattle.std.specs.List.{list_any, list_all, AllByRecursion}
 use Rattle.std.specs.Str.{is_utf8}
+use Rattle.url.specs.Parts.{Parts, serialize}
+use Rattle.url.specs.Parser.{parse_url}
+use Rattle.attr_list.specs.Attributes.{is_value}
 use Rattle.playlist_meaning.specs.declared.Segment.{Segment}
 use Rattle.playlist_meaning.specs.declared.DateRange.{DateRange}
 use Rattle.playlist_meaning.specs.declared.Playlist.{Playlist}
@@ -11,7 +14,6 @@ use Rattle.playlist_meaning.specs.Reading.{has_section, needs_iv}
 use Rattle.playlist_meaning.specs.LookBack.{are_sorted}
 use Rattle.playlist_meaning.specs.Lines.{has_control}
 use Rattle.playlist_meaning.specs.Uri.{has_scheme}
-use Rattle.attr_list.specs.Attributes.{is_value}
 use Rattle.playlist_meaning.specs.declared.Key.{Key}
 use Rattle.playlist_meaning.specs.declared.InitSection.{InitSection}
 use Rattle.playlist_write.specs.Fitting.{if_some, is_clean, value_fits, method_fits, iv_fits, other_fits, have_distinct_names, range_fits, states_iv, effective_keys_fit, section_fits}
@@ -75,6 +77,10 @@ section_is_text s = is_utf8 s.uri && list_all key_is_text s.keys
 
 abbrev pub uris_are_text : Segment → Bool
 uris_are_text s = is_utf8 s.uri && list_all key_is_text s.keys && if_some section_is_text s.section
+
+-- what a reference is joined to is UTF-8
+abbrev pub JoinsToText : Parts → Type 0
+JoinsToText base = (reference : List ℕ) (url : Parts) → parse_url (Some base) reference ≡ Ok url → is_utf8 (serialize url) ≡ true
 
 -- it can be written with its own numbers and time
 abbrev pub segment_can_be_written : Segment → Bool
