@@ -26,7 +26,7 @@ use Rattle.reading_laws.proofs.Texts.{segment_is_written}
 use Rattle.reading_laws.proofs.Whole.{can_be_written}
 use Rattle.http_edge.specs.Owed.{read_under, owed_segment, owed_playlist, owed_text, range_text, states_time}
 
-version_owed : (v : ℕ) → version_reads v ≡ true → version_fits (max v 6) ≡ true
+pub version_owed : (v : ℕ) → version_reads v ≡ true → version_fits (max v 6) ≡ true
 version_owed v h = grind (arith, nat_tests)
 
 -- the segments as they are written, after one that ended there
@@ -67,12 +67,12 @@ any_mapped ended (s ∷ later) = ap (λ b. has_section s || b) (any_mapped (ends
 sections_owed : (segments : List Segment) → read.sections_agree segments ≡ true → written.sections_agree (owed_after None segments) ≡ true
 sections_owed segments h = ap (λ b. b || not (list_any is_mapped (owed_after None segments))) (all_mapped None segments) ∙ ap (λ b. list_all has_section segments || not b) (any_mapped None segments) ∙ h
 
-ranges_fit : (ranges : List DateRange) → AllByRecursion (IsSaid limited) ranges → list_all text_is_clean ranges ≡ true → list_all date_range_fits (map range_text ranges) ≡ true
+pub ranges_fit : (ranges : List DateRange) → AllByRecursion (IsSaid limited) ranges → list_all text_is_clean ranges ≡ true → list_all date_range_fits (map range_text ranges) ≡ true
 ranges_fit [] said clean = refl
 ranges_fit (r ∷ later) (here, rest) clean =
     let c = and_parts _ _ clean in and_from _ _ (and_from _ _ c.0 (ap says_date_range here)) (ranges_fit later rest c.1)
 
-some_ranges : (b : Bool) (ranges : List DateRange) → list_all date_range_fits (map range_text ranges) ≡ true → list_all date_range_fits (cond b (map range_text ranges) []) ≡ true
+pub some_ranges : (b : Bool) (ranges : List DateRange) → list_all date_range_fits (map range_text ranges) ≡ true → list_all date_range_fits (cond b (map range_text ranges) []) ≡ true
 some_ranges true ranges h = h
 some_ranges false ranges h = refl
 
@@ -83,7 +83,7 @@ owed_is_well_formed p r t =
     (and_from _ _ (and_from _ _ (and_from _ _ (and_from _ _ (version_owed p.version r.version) r.target) (numbers_owed p.segments r.numbers)) (segments_owed None p.segments r.segments t)) (sections_owed p.segments r.sections))
     (some_ranges (list_any states_time out) p.ranges (ranges_fit p.ranges r.ranges r.range_texts))
 
-under : (o : Option Parts) (input : List ℕ) (p : Playlist) → option_map (λ base. reading limited base input) o ≡ Some (Ok p) → AreRead limited p
+pub under : (o : Option Parts) (input : List ℕ) (p : Playlist) → option_map (λ base. reading limited base input) o ≡ Some (Ok p) → AreRead limited p
 under None input p h = cc
 under (Some base) input p h = let e : reading limited base input ≡ Ok p = cc in can_be_written limited base input p e
 

@@ -24,7 +24,7 @@ later_rise : (n : ℕ) (ended : Option ℤ) (segments : List Segment) → AllByR
 later_rise n ended [] h = h
 later_rise n ended (s ∷ later) (here, rest) = (here, later_rise n (ends_at (begins_at ended s later) s.duration) later rest)
 
-timed_rise : (segments : List Segment) → RiseFromFirst segments → RiseFromFirst (timed segments)
+pub timed_rise : (segments : List Segment) → RiseFromFirst segments → RiseFromFirst (timed segments)
 timed_rise [] h = h
 timed_rise (s ∷ later) h = later_rise s.number (ends_at (begins_at None s later) s.duration) later h
 

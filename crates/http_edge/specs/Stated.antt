@@ -1,6 +1,7 @@
 -- What is owed for a playlist of which one run of segments is stated, and the pod that stands in its place.
 use Rattle.std.specs.Prelude.{ℕ, ◌+◌, ◌<◌, ◌^◌, ◌*◌, Bool, not, ◌&&◌, nat_le, nat_lt, List, [], ◌∷◌, map, reverse, length, Option, Some, None, Result, Ok, Err, if◌then◌else◌}
 use Rattle.std.specs.List.{list_all}
+use Rattle.std.specs.Str.{is_utf8}
 use Rattle.playlist_meaning.specs.Lines.{has_control}
 use Rattle.playlist_meaning.specs.Uri.{has_scheme}
 use Rattle.playlist_meaning.specs.declared.Playlist.{Playlist}
@@ -22,6 +23,10 @@ use Rattle.http_edge.specs.Owed.{owed_with}
 -- what a playlist can state: a URI with a scheme and no control character, and less than 1,000,000 s
 abbrev pub can_be_stated : StatedSegment → Bool
 can_be_stated s = has_scheme s.uri && not (has_control s.uri) && nat_lt s.duration (1000000 * 10 ^ 9)
+
+-- its URI is a text
+abbrev pub uri_is_text : StatedSegment → Bool
+uri_is_text s = is_utf8 s.uri
 
 -- a run of one segment or more, and a pod of one or more
 pub record IsRun (run : StatedRun) : Type 0 where

@@ -1,8 +1,12 @@
 -- What a run from an input to an output did, where a run of segments and its pod were stated.
-use Rattle.std.specs.Prelude.{◌≡◌, ℕ, List, Option, Result, Ok}
+use Rattle.std.specs.Prelude.{◌≡◌, ℕ, false, List, Option, Result, Ok}
+use Rattle.std.specs.List.{list_any}
 use Rattle.std.specs.Io.KnownBytes.{Appends}
+use Rattle.url.specs.Parts.{Parts}
 use Rattle.playlist_meaning.specs.declared.Playlist.{Playlist}
+use Rattle.playlist_meaning.specs.Reading.{has_section, Denotes}
 use Rattle.playlist_write.specs.declared.OutPlaylist.{OutPlaylist}
+use Rattle.playlist_write.specs.Denoted.{denoted}
 use Rattle.playlist_write.specs.Handed.{TookFront}
 use Rattle.playlist_write.specs.Owed.{text_of}
 use Rattle.http_edge.specs.declared.fault.VodFault.{VodFault}
@@ -16,11 +20,13 @@ pub record HasOwed (run : StatedRun) (base : List ℕ) (old new : Option (List �
   pub read : HasRead base old new (Ok playlist)
   pub owed : owed_with_run run playlist ≡ outcome
 
--- the sink took the text of the owed playlist
+-- the sink took the text of the owed playlist, which denotes what is owed, whatever the base, if the origin's
+-- segments have no initialisation section: a stated pod has none, and no reader takes a playlist that mixes both
 pub record WritesStated (run : StatedRun) (base : List ℕ) (source_old source_new sink_old sink_new : Option (List ℕ)) : Type 0 where
   pub out : OutPlaylist
   pub owed : HasOwed run base source_old source_new (Ok out)
   pub written : Appends sink_old sink_new (text_of out)
+  pub denotes : list_any has_section owed.playlist.segments ≡ false → (other : Parts) → Denotes other (text_of out) (denoted out)
 
 -- the sink took a front of the text of the owed playlist
 pub record WritesStatedFront (run : StatedRun) (base : List ℕ) (source_old source_new sink_old sink_new : Option (List ℕ)) : Type 0 where

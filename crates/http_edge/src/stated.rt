@@ -13,6 +13,7 @@ use crate::command::{read_playlist, write_playlist};
 use crate::fault::VodFault;
 use crate::input::MOST_READS;
 use crate::shown::owed_with_run;
+use crate::texts::know_pod;
 use fixed_duration::Nanos;
 use playlist_meaning::{Items, Sink, Source, Text};
 use std::alloc::Global;
@@ -85,6 +86,7 @@ pub fn vod_stated<S: Source, K: Sink>(
     ensures too_many { IsErrOf result VodFault.TooManyReads → CalledAll (S.called source.old) (S.called source.new) MOST_READS }
     ensures calls { S.called source.new ≤ S.called source.old + MOST_READS }
 {
+    know_pod(run.pod.as_slice());
     let playlist = read_playlist(alloc, source, base)?;
     let owed = owed_with_run(alloc, playlist, run)?;
     write_playlist(alloc, &owed, sink)
