@@ -21,7 +21,7 @@ mod read_time;
 mod same;
 mod write_time;
 
-pub use base::{Base, BaseFault, same_resource};
+pub use base::{Base, BaseFault, has_scheme, same_resource};
 pub use device::{Counted, Sink, Source};
 pub use items::{Items, Text};
 pub use pieces::{Pieces, Taken};

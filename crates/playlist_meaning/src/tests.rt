@@ -2,7 +2,8 @@
 use crate::device::READ_ROOM;
 use crate::{
     Base, BaseFault, Counted, FaultKind, Instant, Items, Pieces, PlaylistFault, Sink, Source,
-    Taken, Text, TimeFault, has_control, read_instant, same_resource, text_of, write_instant,
+    Taken, Text, TimeFault, has_control, has_scheme, read_instant, same_resource, text_of,
+    write_instant,
 };
 use std::test::Fail;
 
@@ -48,6 +49,17 @@ fn references(rt: HostRuntime) -> Result<(), Fail> {
     }
     assert!(rt; same_resource("http://a/", "http://a/"));
     assert!(rt; !same_resource("http://a/", "http://a"));
+    Ok(())
+}
+
+#[test]
+fn schemes(rt: HostRuntime) -> Result<(), Fail> {
+    for text in ["SKD://k", "http:", "a1+-.:b"] {
+        assert!(rt; has_scheme(text), "{text}");
+    }
+    for text in ["", ":", "1a:b", "a_b:c", "x.ts", "a/b:c", " foo:a"] {
+        assert!(rt; !has_scheme(text), "{text}");
+    }
     Ok(())
 }
 

@@ -1,11 +1,10 @@
 //! Which texts can be written (RFC 8216, section 4.2).
 ghost use Rattle.std.specs.Prelude.{◌≡◌, ◌==◌, true, false};
-ghost use Rattle.std.specs.List.{prefix_len, list_any, list_all};
+ghost use Rattle.std.specs.List.{list_any, list_all};
 ghost use Rattle.attr_list.specs.Attributes.{is_name, is_name_byte, is_quote, ends_plain, is_value};
-ghost use Rattle.playlist_meaning.specs.Uri.{is_scheme_byte, has_scheme};
 ghost use Rattle.playlist_write.specs.Fitting.{is_clean, value_fits, uri_fits, quoted_uri_fits};
 
-use playlist_meaning::{Text, has_control};
+use playlist_meaning::{Text, has_control, has_scheme};
 
 /// Whether a text holds no control character.
 pub fn is_clean(text: &Text) -> bool
@@ -67,29 +66,6 @@ pub fn value_fits(value: &Text, quoted: bool) -> bool
         is_plain(text)
     };
     is_clean(value) && is_value
-}
-
-fn is_scheme_byte(b: u8) -> bool
-    ensures { result ≡ is_scheme_byte b }
-{
-    b.is_ascii_alphanumeric() || b == b'+' || b == b'-' || b == b'.'
-}
-
-fn scheme_len(bytes: &[u8]) -> usize
-    ensures { result ≡ prefix_len is_scheme_byte bytes.now }
-{
-    bytes.iter().take_while(|b| is_scheme_byte(**b)).count()
-}
-
-fn has_scheme(text: &str) -> bool
-    ensures { result ≡ has_scheme text.now }
-{
-    let bytes = text.as_bytes();
-    let len = scheme_len(bytes);
-    if len >= bytes.len() {
-        return false;
-    }
-    bytes[0].is_ascii_alphabetic() && bytes[len] == b':'
 }
 
 /// Whether a text is a whole URI that can stand on a line.
