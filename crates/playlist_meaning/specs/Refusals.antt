@@ -1,5 +1,5 @@
 -- What a fault says. Want of memory says nothing of the rest.
-use Rattle.std.specs.Prelude.{◌≡◌, ◌≢◌, ℕ, List, Option, None, Err}
+use Rattle.std.specs.Prelude.{◌≡◌, ◌≢◌, ℕ, List, Option, None, Result, Ok, Err, MatchResult}
 use Rattle.url.specs.Parts.{Parts}
 use Rattle.playlist_meaning.specs.declared.FaultKind.{FaultKind}
 use Rattle.playlist_meaning.specs.declared.FaultKind.TheVariants as fault
@@ -10,6 +10,14 @@ use Rattle.playlist_meaning.specs.Said.{Outcome}
 -- the fault is the outcome's, want of memory apart
 abbrev pub Refuses : {A : Type 0} → FaultKind → Outcome A → Type 0
 Refuses e outcome = e ≢ fault.OutOfMemory → outcome ≡ Err e
+
+-- the value means what is owed, or the fault is the one owed, want of memory apart
+abbrev pub Gives : {A B : Type 0} → (A → B) → Result A FaultKind → Outcome B → Type 0
+Gives means result outcome = MatchResult result (λ x. outcome ≡ Ok (means x)) (λ e. Refuses e outcome)
+
+-- the value means what is owed, or the fault is the one owed
+abbrev pub GivesExactly : {A B : Type 0} → (A → B) → Result A FaultKind → Outcome B → Type 0
+GivesExactly means result outcome = MatchResult result (λ x. outcome ≡ Ok (means x)) (λ e. outcome ≡ Err e)
 
 abbrev pub RefusesUri : BaseFault → Option (List ℕ) → Type 0
 RefusesUri BadBase expected = ⊥

@@ -2,6 +2,7 @@
 use crate::{Line, MOST_BYTES, lines, read};
 use fixed_duration::Nanos;
 use playlist_meaning::{Base, FaultKind, Instant, Playlist, PlaylistFault, PlaylistKind};
+use segment_state::attributes::{attributes_of, optional, required};
 use std::alloc::Global;
 use std::test::Fail;
 
@@ -41,6 +42,19 @@ fn header_tags(rt: HostRuntime) -> Result<(), Fail> {
     };
     assert_eq!(rt; segment.number, 8);
     assert_eq!(rt; segment.discontinuity, 2);
+    Ok(())
+}
+
+#[test]
+fn attributes_of_a_tag(rt: HostRuntime) -> Result<(), Fail> {
+    let list = attributes_of(rt.alloc(), "METHOD=AES-128,URI=\"k\"")?;
+    assert_eq!(rt; required(&list, "METHOD", false)?, "AES-128");
+    assert_eq!(rt; required(&list, "METHOD", true), Err(FaultKind::BadAttributes));
+    assert_eq!(rt; required(&list, "IV", false), Err(FaultKind::MissingAttribute));
+    assert_eq!(rt; optional(&list, "URI", true)?, Some("k"));
+    assert_eq!(rt; optional(&list, "URI", false), Err(FaultKind::BadAttributes));
+    assert_eq!(rt; optional(&list, "IV", false)?, None);
+    assert_eq!(rt; attributes_of(rt.alloc(), "METHOD").err(), Some(FaultKind::BadAttributes));
     Ok(())
 }
 

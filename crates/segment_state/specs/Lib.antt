@@ -1,3 +1,4 @@
+pub mod Attributes
 pub mod Running
 pub mod Views
 pub mod Tags

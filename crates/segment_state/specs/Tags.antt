@@ -1,15 +1,13 @@
 -- What a key tag or a map tag says, as the reader of one tag answers it.
-use Rattle.std.specs.Prelude.{◌≡◌, not, List, map, filter, length, Some, Result, Ok, MatchResult}
+use Rattle.std.specs.Prelude.{not, List, map, filter, length, Some, Ok}
 use Rattle.attr_list.specs.declared.attr.Attr.{Attr}
-use Rattle.attr_list.specs.Attributes.{Pair}
-use Rattle.attr_list.specs.Attrs.{attr_pair}
 use Rattle.playlist_meaning.specs.declared.FaultKind.{FaultKind}
 use Rattle.playlist_meaning.specs.declared.FaultKind.TheVariants as fault
 use Rattle.playlist_meaning.specs.declared.Key.{Key}
 use Rattle.playlist_meaning.specs.declared.KeyAttr.{KeyAttr}
 use Rattle.playlist_meaning.specs.Said.{Said, no_keys, key, section, Outcome, refuse_if, over, is_key_attribute, key_attr}
 use Rattle.playlist_meaning.specs.LookBack.{put_key}
-use Rattle.playlist_meaning.specs.Refusals.{Refuses}
+use Rattle.segment_state.specs.Attributes.{pairs_of}
 use Rattle.segment_state.specs.declared.tags.KeyTag.{KeyTag}
 use Rattle.segment_state.specs.declared.tags.KeyTag.TheVariants.{End, Set}
 use Rattle.segment_state.specs.declared.tags.SectionTag.{SectionTag}
@@ -20,13 +18,6 @@ key_tag_said (Set k) = key k
 
 abbrev pub section_tag_said : SectionTag → Said
 section_tag_said tag = section tag.uri tag.range
-
--- the value means what is owed, or the fault is the one owed, want of memory apart
-abbrev pub Gives : {A B : Type 0} → (A → B) → Result A FaultKind → Outcome B → Type 0
-Gives means result outcome = MatchResult result (λ x. outcome ≡ Ok (means x)) (λ e. Refuses e outcome)
-
-abbrev pub pairs_of : List Attr → List Pair
-pairs_of attrs = map attr_pair attrs
 
 -- the attributes of a key tag that are carried as they stand
 abbrev pub others_of : List Attr → List KeyAttr

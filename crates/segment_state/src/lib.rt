@@ -22,6 +22,7 @@ use playlist_meaning::{
 use std::alloc::{AllocError, Global};
 use std::marker::Model;
 
+pub mod attributes;
 mod keys;
 mod tags;
 mod times;

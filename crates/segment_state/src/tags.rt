@@ -4,13 +4,15 @@ ghost use Rattle.std.specs.Option.{option_copied};
 ghost use Rattle.attr_list.specs.Attributes.{attribute};
 ghost use Rattle.attr_list.specs.Attrs.{attr_pair};
 ghost use Rattle.playlist_meaning.specs.Said as said;
-ghost use Rattle.playlist_meaning.specs.Said.{attributes, required, optional, iv_of, quoted_of, uri_of, set_key, key_said, section_said, section_range, range_of, is_key_attribute, key_attr, or_fault};
+ghost use Rattle.playlist_meaning.specs.Said.{iv_of, uri_of, set_key, key_said, section_said, section_range, range_of, is_key_attribute, key_attr, or_fault};
 ghost use Rattle.attr_list.specs.Numbers.{decimal_of};
 ghost use Rattle.playlist_meaning.specs.Reading.{limited};
-ghost use Rattle.playlist_meaning.specs.Refusals.{Refuses};
-ghost use Rattle.segment_state.specs.Tags.{Gives, pairs_of, others_of, key_tag_said, section_tag_said};
+ghost use Rattle.playlist_meaning.specs.Refusals.{Gives};
+ghost use Rattle.segment_state.specs.Attributes.{pairs_of};
+ghost use Rattle.segment_state.specs.Tags.{others_of, key_tag_said, section_tag_said};
 
-use attr_list::{Attr, AttrFault, AttrList, read_decimal, read_hex_u128};
+use crate::attributes::{attributes_of, optional, required};
+use attr_list::{Attr, AttrList, read_decimal, read_hex_u128};
 use playlist_meaning::{Base, BaseFault, ByteRange, FaultKind, Items, Key, KeyAttr, Text};
 use std::alloc::{AllocError, Global};
 
@@ -44,58 +46,17 @@ pub fn uri_of(base: &Base, reference: &str) -> Result<Text, FaultKind>
     }
 }
 
-fn attributes_of(alloc: Global, rest: &str) -> Result<AttrList, FaultKind>
-    ensures { Gives pairs_of result (attributes limited rest.now) }
-{
-    match AttrList::read(alloc, rest) {
-        Ok(list) => Ok(list),
-        Err(AttrFault::OutOfMemory) => Err(FaultKind::OutOfMemory),
-        Err(_) => Err(FaultKind::BadAttributes),
-    }
-}
-
-// The value of an attribute that has to be there, in quotes or without.
-fn required<'a>(list: &'a AttrList, name: &str, quoted: bool) -> Result<&'a str, FaultKind>
-    ensures { MatchResult result (λ value. required quoted (attribute (pairs_of list.now) name.now) ≡ Ok value.now)
-        (λ e. required quoted (attribute (pairs_of list.now) name.now) ≡ Err e) }
-{
-    let Some(attr) = list.get(name) else {
-        return Err(FaultKind::MissingAttribute);
-    };
-    if attr.quoted != quoted {
-        return Err(FaultKind::BadAttributes);
-    }
-    Ok(attr.value.as_str())
-}
-
 // The IV of a key tag, where it states one.
 fn iv_of(list: &AttrList) -> Result<Option<u128>, FaultKind>
-    ensures { result ≡ optional iv_of (attribute (pairs_of list.now) (codes "IV")) }
+    ensures { result ≡ said.optional iv_of (attribute (pairs_of list.now) (codes "IV")) }
 {
-    let Some(attr) = list.get("IV") else {
+    let Some(value) = optional(list, "IV", false)? else {
         return Ok(None);
     };
-    if attr.quoted {
-        return Err(FaultKind::BadAttributes);
-    }
-    match read_hex_u128(attr.value.as_str()) {
+    match read_hex_u128(value) {
         Ok(iv) => Ok(Some(iv)),
         Err(_) => Err(FaultKind::BadAttributes),
     }
-}
-
-// The format of a key tag, where it states one.
-fn format_of(list: &AttrList) -> Result<Option<&str>, FaultKind>
-    ensures { MatchResult result (λ format. optional quoted_of (attribute (pairs_of list.now) (codes "KEYFORMAT")) ≡ Ok (option_map (λ text. text.now) format))
-        (λ e. optional quoted_of (attribute (pairs_of list.now) (codes "KEYFORMAT")) ≡ Err e) }
-{
-    let Some(attr) = list.get("KEYFORMAT") else {
-        return Ok(None);
-    };
-    if !attr.quoted {
-        return Err(FaultKind::BadAttributes);
-    }
-    Ok(Some(attr.value.as_str()))
 }
 
 // Whether an attribute of a key tag has a meaning of its own here.
@@ -139,7 +100,7 @@ fn set_key(alloc: Global, base: &Base, list: &AttrList, method: &str) -> Result<
 {
     let reference = required(list, "URI", true)?;
     let iv = iv_of(list)?;
-    let format = format_of(list)?;
+    let format = optional(list, "KEYFORMAT", true)?;
     let uri = uri_of(base, reference)?;
     Ok(Key {
         format: Text::copy_of(alloc, format.unwrap_or(IDENTITY))?,
@@ -187,15 +148,12 @@ pub fn range_of(text: &str) -> Result<(u64, Option<u64>), FaultKind>
 
 // The part of its resource that a section is: it begins at 0 where it states no offset.
 fn section_range(list: &AttrList) -> Result<Option<ByteRange>, FaultKind>
-    ensures { result ≡ optional section_range (attribute (pairs_of list.now) (codes "BYTERANGE")) }
+    ensures { result ≡ said.optional section_range (attribute (pairs_of list.now) (codes "BYTERANGE")) }
 {
-    let Some(attr) = list.get("BYTERANGE") else {
+    let Some(value) = optional(list, "BYTERANGE", true)? else {
         return Ok(None);
     };
-    if !attr.quoted {
-        return Err(FaultKind::BadAttributes);
-    }
-    let (length, offset) = range_of(attr.value.as_str())?;
+    let (length, offset) = range_of(value)?;
     let offset = offset.unwrap_or(0);
     Ok(Some(ByteRange { length, offset }))
 }

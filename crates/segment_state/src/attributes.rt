@@ -1,0 +1,50 @@
+//! The attributes of a tag (RFC 8216, section 4.2), as the tags of 4.3 read them.
+ghost use Rattle.std.specs.Prelude.{option_map};
+ghost use Rattle.attr_list.specs.Attributes.{attribute};
+ghost use Rattle.playlist_meaning.specs.Said.{attributes, required};
+ghost use Rattle.playlist_meaning.specs.Reading.{limited};
+ghost use Rattle.playlist_meaning.specs.Refusals.{Gives, GivesExactly};
+ghost use Rattle.segment_state.specs.Attributes.{pairs_of, optional};
+
+use attr_list::{AttrFault, AttrList};
+use playlist_meaning::FaultKind;
+use std::alloc::Global;
+
+/// The attributes that stand behind a tag's colon. `BadAttributes` exactly where that text is no
+/// attribute list of at most 64 attributes; want of memory apart.
+pub fn attributes_of(alloc: Global, rest: &str) -> Result<AttrList, FaultKind>
+    ensures { Gives pairs_of result (attributes limited rest.now) }
+{
+    match AttrList::read(alloc, rest) {
+        Ok(list) => Ok(list),
+        Err(AttrFault::OutOfMemory) => Err(FaultKind::OutOfMemory),
+        Err(_) => Err(FaultKind::BadAttributes),
+    }
+}
+
+/// The value of an attribute that may be left out. `BadAttributes` exactly where it is there, and in
+/// quotes though it has to stand without, or without though it has to stand in quotes.
+pub fn optional<'a>(
+    list: &'a AttrList,
+    name: &str,
+    quoted: bool,
+) -> Result<Option<&'a str>, FaultKind>
+    ensures { GivesExactly (option_map (λ value. value.now)) result (optional quoted (attribute (pairs_of list.now) name.now)) }
+{
+    let Some(attr) = list.get(name) else {
+        return Ok(None);
+    };
+    if attr.quoted != quoted {
+        return Err(FaultKind::BadAttributes);
+    }
+    Ok(Some(attr.value.as_str()))
+}
+
+/// The value of an attribute that has to be there. `MissingAttribute` exactly where it is not;
+/// `BadAttributes` exactly where it is, and in quotes though it has to stand without, or without though
+/// it has to stand in quotes.
+pub fn required<'a>(list: &'a AttrList, name: &str, quoted: bool) -> Result<&'a str, FaultKind>
+    ensures { GivesExactly (λ value. value.now) result (required quoted (attribute (pairs_of list.now) name.now)) }
+{
+    optional(list, name, quoted)?.ok_or(FaultKind::MissingAttribute)
+}
