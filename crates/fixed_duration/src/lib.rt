@@ -78,7 +78,8 @@ impl Nanos {
         let Some(seconds) = seconds_of(whole.as_bytes()) else {
             return Err(DurationFault::TooLarge);
         };
-        Ok(Nanos(seconds * NANOS_PER_SECOND + nanos_of_fraction(fraction.as_bytes())))
+        let nanos = nanos_of_fraction(fraction.as_bytes());
+        Ok(Nanos(seconds * NANOS_PER_SECOND + u64::from(nanos)))
     }
 
     #[tactic(auto, using(crate::proofs::Again::read_again))]
@@ -155,20 +156,21 @@ fn seconds_of(digits: &[u8]) -> Option<u64>
     Some(value)
 }
 
-// The nanoseconds that the digits behind a point stand for.
-fn nanos_of_fraction(digits: &[u8]) -> u64
+/// The nanoseconds that the digits behind the point of a number of seconds stand for. Digits after the
+/// ninth are dropped.
+pub fn nanos_of_fraction(digits: &[u8]) -> u32
     requires { IsTrue (are_digits digits.now) }
     ensures value { result ≡ number_of (nine_digits digits.now) }
     ensures below { result < 10 ^ 9 }
 {
-    let mut value: u64 = 0;
+    let mut value: u32 = 0;
     for i in 0..9 {
         let digit = if i < digits.len() {
             digits[i] - b'0'
         } else {
             0
         };
-        value = value * 10 + u64::from(digit);
+        value = value * 10 + u32::from(digit);
     }
     value
 }

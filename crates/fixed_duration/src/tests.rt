@@ -30,6 +30,14 @@ fn reads(rt: HostRuntime) -> Result<(), Fail> {
 }
 
 #[test]
+fn fractions(rt: HostRuntime) -> Result<(), Fail> {
+    assert_eq!(rt; nanos_of_fraction(b""), 0);
+    assert_eq!(rt; nanos_of_fraction(b"25"), 250_000_000);
+    assert_eq!(rt; nanos_of_fraction(b"0000000019"), 1);
+    Ok(())
+}
+
+#[test]
 fn writes(rt: HostRuntime) -> Result<(), Fail> {
     let table = [
         (0, "0"),

@@ -10,10 +10,11 @@ use Rattle.std.proofs.lemmas.Cmp.{nat_list_cmp_total}
 use Rattle.std.proofs.lemmas.Map.Text.{is_eq-slice_cmp}
 use Rattle.std.proofs.lemmas.Bool.{and_parts, and_from, or_from, or_parts}
 use Rattle.std.proofs.lemmas.Slice.Eq.{bytes_eq-Decides}
+use Rattle.attr_list.proofs.Elements.{all_from}
 use Rattle.playlist_meaning.specs.declared.Key.{Key}
 use Rattle.playlist_meaning.specs.Said.{Said, no_keys, key}
 use Rattle.playlist_meaning.specs.LookBack.{keys_at, has_format, put_key, insert_key, without_format, is_before, are_sorted}
-use Rattle.playlist_meaning.proofs.ListTests.{all_from, all_filter}
+use Rattle.playlist_meaning.proofs.ListTests.{all_filter}
 
 -- ---- two keys
 

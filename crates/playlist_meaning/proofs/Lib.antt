@@ -1,5 +1,6 @@
 pub mod Printable
 pub mod ListTests
+pub mod SaidCounts
 pub mod KeyOrder
 pub mod KeyLaws
 pub mod LimitLaws
@@ -11,6 +12,7 @@ pub mod Dates
 pub mod TimeLaws
 pub mod CivilDays
 pub mod TimeForms
+pub mod TimeRange
 pub mod Pointwise
 pub mod SameParts
 pub mod SameSegments

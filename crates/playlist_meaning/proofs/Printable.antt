@@ -6,8 +6,8 @@ use Rattle.std.specs.Str.{IsAscii}
 use Rattle.std.proofs.lemmas.Bool.{and_parts}
 use Rattle.std.proofs.lemmas.Bool.Decides.{nat_tests}
 use Rattle.std.proofs.lemmas.Str.{chars-IsAscii}
+use Rattle.attr_list.proofs.Elements.{none_from}
 use Rattle.playlist_meaning.specs.Lines.{has_control, is_printable}
-use Rattle.playlist_meaning.proofs.ListTests.{none_from}
 
 below : (b : ℕ) → is_printable b ≡ true → b < 128
 below b h = grind (arith, nat_tests)
@@ -15,7 +15,7 @@ below b h = grind (arith, nat_tests)
 no_control : (b : ℕ) → is_printable b ≡ true → is_control b ≡ false
 no_control b h = grind (arith, nat_tests)
 
-ascii : (bs : List ℕ) → list_all is_printable bs ≡ true → IsAscii bs
+pub ascii : (bs : List ℕ) → list_all is_printable bs ≡ true → IsAscii bs
 ascii [] h i = omega arith
 ascii (b ∷ bs) h zero = let a = and_parts _ _ h in below b a.0
 ascii (b ∷ bs) h (suc i) = let a = and_parts _ _ h in ascii bs a.1 i

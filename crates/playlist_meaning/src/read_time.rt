@@ -5,9 +5,10 @@ ghost use Rattle.jiff_core.specs.Calendar.{IsEpochDay, IsWithin};
 ghost use Rattle.std.specs.List.{list_all, prefix_len};
 ghost use Rattle.std.specs.Char.{is_ascii_digit};
 ghost use Rattle.std.specs.Str.Parse.{digits_value};
-ghost use Rattle.playlist_meaning.specs.Instant.{field, are_digits, has_date_form, is_day, is_date, day_number, has_clock_form, is_clock, fraction_len, is_fraction, fraction_nanos, offset_seconds, zone_offset, if_in_range, instant_of};
+ghost use Rattle.playlist_meaning.specs.Instant.{field, are_digits, has_date_form, is_day, is_date, day_number, has_clock_form, is_clock, fraction_len, is_fraction, offset_seconds, zone_offset, if_in_range, instant_of};
 
 use crate::Instant;
+use fixed_duration::nanos_of_fraction;
 use jiff_core::civil::Date;
 
 /// Why a text says no instant.
@@ -51,7 +52,7 @@ fn instant_of(text: &[u8]) -> Option<Instant>
         return None;
     }
     let (fraction, zone) = rest.split_at(len);
-    let nanos = fraction_nanos(behind_first(fraction));
+    let nanos = nanos_of_fraction(behind_first(fraction));
     let offset = zone_offset(zone)?;
     instant_at(seconds_from_1970(day, clock, offset), nanos)
 }
@@ -209,24 +210,6 @@ fn behind_first(bytes: &[u8]) -> &[u8]
         [_, later @ ..] => later,
         [] => bytes,
     }
-}
-
-// The nanoseconds that the digits behind a point say.
-fn fraction_nanos(digits: &[u8]) -> u32
-    requires { IsTrue (list_all is_ascii_digit digits.now) }
-    ensures value { result ≡ fraction_nanos digits.now }
-    ensures below { result < 10 ^ 9 }
-{
-    let mut value: u32 = 0;
-    for i in 0..9 {
-        let digit = if i < digits.len() {
-            digits[i] - b'0'
-        } else {
-            0
-        };
-        value = value * 10 + u32::from(digit);
-    }
-    value
 }
 
 // The seconds of an offset behind its sign.

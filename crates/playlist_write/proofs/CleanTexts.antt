@@ -13,7 +13,7 @@ use Rattle.std.proofs.lemmas.List.Folds.{list_any-append}
 use Rattle.std.proofs.lemmas.Str.{IsUtf8-append, IsUtf8-from_ascii, chars-append, chars-IsAscii, encodes-chars, NoCharPasses-byte, IsUtf8-nil}
 use Rattle.std.proofs.lemmas.Str.Ascii.{IsAscii-nil, IsAscii-cons}
 use Rattle.playlist_meaning.specs.Lines.{has_control, is_printable}
-use Rattle.playlist_meaning.proofs.ListTests.{none_from}
+use Rattle.playlist_meaning.proofs.Printable.{ascii, printable_has_no_control}
 
 pub record Clean (bytes : List ℕ) : Type 0 where
   pub utf8 : IsUtf8 bytes
@@ -25,20 +25,10 @@ clean-append xs ys a b = record {
   free = ap (list_any is_control) (chars-append xs ys a.utf8) ∙ list_any-append is_control (chars xs) (chars ys) ∙ or_from _ _ a.free b.free;
 }
 
-printable_is : (b : ℕ) → is_printable b ≡ true → b < 127
-printable_is b h = ltb-true _ _ (and_parts _ _ h).1
-
-printable_free : (b : ℕ) → is_printable b ≡ true → is_control b ≡ false
-printable_free b h = grind (arith, nat_tests)
-
-ascii : (bs : List ℕ) → list_all is_printable bs ≡ true → IsAscii bs
-ascii [] h = IsAscii-nil
-ascii (b ∷ bs) h = let a = and_parts _ _ h in let s = printable_is b a.0 in IsAscii-cons b bs (omega arith) (ascii bs a.1)
-
 pub clean_printable : (bs : List ℕ) → list_all is_printable bs ≡ true → Clean bs
 clean_printable bs h = record {
   utf8 = IsUtf8-from_ascii bs (ascii bs h);
-  free = ap (list_any is_control) (chars-IsAscii bs (ascii bs h)) ∙ none_from is_printable is_control bs h printable_free;
+  free = printable_has_no_control bs h;
 }
 
 -- ---- lines

@@ -1,5 +1,4 @@
 pub mod Fronts
-pub mod Chains
 pub mod TagLines
 pub mod EachRest
 pub mod WrittenNumbers

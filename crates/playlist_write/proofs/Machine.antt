@@ -14,6 +14,7 @@ use Rattle.playlist_meaning.specs.Instant.{in_range}
 use Rattle.playlist_meaning.specs.Said.{Said, nothing, version, target, sequence, discontinuity_sequence, playlist_type, ended, independent, duration, range, discontinuity, no_keys, key, section, time, date_range, media, Outcome, date_range_said}
 use Rattle.playlist_meaning.specs.LookBack.{latest, the_version, the_target, the_sequence, the_discontinuity_sequence, the_type, is_media, is_discontinuity, is_ended, is_independent, count, own_duration, own_range, own_time, steps_at, keys_at, put_key, effective_key, section_at, Extent, extent_with, range_from, last_extent, segments_of, date_ranges_of}
 use Rattle.playlist_meaning.specs.Reading.{said_by, said_from, at_line, unlimited, passes, needs_iv, has}
+use Rattle.playlist_meaning.proofs.SaidCounts.{counted_none}
 use Rattle.playlist_write.specs.Spelling.{spelled}
 use Rattle.playlist_write.specs.Fitting.{is_clean, uri_fits, quoted_uri_fits, if_some, range_fits, key_fits}
 use Rattle.playlist_write.proofs.CleanTexts.{Clean, AllClean}
@@ -181,21 +182,13 @@ abbrev pub Allowed : Known → List Said → Type 0
 Allowed k [] = Unit {0}
 Allowed k (s ∷ later) = Fits s × Allows k s × Allowed (step k s) later
 
-none_counted_step : (test : Said → Bool) (n : ℕ) (any b : Bool) → (n ≡ 0 → any ≡ false) → cond b (n + 1) n ≡ 0 → (b || any) ≡ false
-none_counted_step test n any true ih h = absurd (omega (arith, h))
-none_counted_step test n any false ih h = ih h
-
-none_counted : (test : Said → Bool) (before : List Said) → count test before ≡ 0 → list_any test before ≡ false
-none_counted test [] h = refl
-none_counted test (s ∷ before) h = none_counted_step test (count test before) _ (test s) (none_counted test before) h
-
 module _ (base : Parts) where
   line_reads : (s : Said) (before : List Said) → Fits s → Allows (known_at before) s → Clean (spelled s) × (said_by unlimited base before (spelled s) ≡ Ok s)
   line_reads nothing before f a = absurd f
   line_reads (version n) before f a = lines.version_line base before n f a
   line_reads (target n) before f a = lines.target_line base before n f a
-  line_reads (sequence n) before f a = lines.sequence_line base before n f a.0 (none_counted is_media before a.1)
-  line_reads (discontinuity_sequence n) before f a = lines.discontinuity_sequence_line base before n f a.0 (none_counted is_media before a.1) (none_counted is_discontinuity before a.2)
+  line_reads (sequence n) before f a = lines.sequence_line base before n f a.0 (counted_none is_media before a.1)
+  line_reads (discontinuity_sequence n) before f a = lines.discontinuity_sequence_line base before n f a.0 (counted_none is_media before a.1) (counted_none is_discontinuity before a.2)
   line_reads (playlist_type kind) before f a = lines.type_line base before kind a
   line_reads ended before f a = lines.ended_line base before a
   line_reads independent before f a = lines.independent_line base before

@@ -17,6 +17,7 @@ use Rattle.attr_list.specs.Numbers.{decimal_of}
 use Rattle.attr_list.proofs.Cuts.{before_at, after_at, any_at}
 use Rattle.attr_list.proofs.Grammar.{written_is_read}
 use Rattle.attr_list.proofs.NumberLemmas.{written_decimal}
+use Rattle.attr_list.proofs.Elements.{all_from, none_from}
 use Rattle.playlist_meaning.specs.declared.FaultKind.{FaultKind}
 use Rattle.playlist_meaning.specs.declared.FaultKind.TheVariants as fault
 use Rattle.playlist_meaning.specs.declared.Key.{Key}
@@ -31,7 +32,6 @@ use Rattle.playlist_meaning.specs.Instant.{in_range, instant_of}
 use Rattle.playlist_meaning.specs.Said.{Said, version, target, sequence, discontinuity_sequence, playlist_type, ended, independent, duration, range, discontinuity, no_keys, key, section, time, date_range, media, Outcome, ◌>>=◌, refuse_if, or_fault, duration_said, range_of, range_end_fits, uri_of, some_value, iv_of, optional, required, quoted_of, key_attr, is_key_attribute, set_key, key_said, section_said, section_range, number, version_of, date_range_said}
 use Rattle.playlist_meaning.specs.Reading.{said_by, unlimited, passes, said_by_kind, within_formats, needs_iv, with_ivs, is_set, has}
 use Rattle.playlist_meaning.specs.LookBack.{discontinuity_at, own_duration, number_at, range_at, keys_at, the_version, the_target, the_sequence, the_discontinuity_sequence, the_type, is_media, is_discontinuity, is_ended}
-use Rattle.playlist_meaning.proofs.ListTests.{all_from, none_from}
 use Rattle.playlist_meaning.proofs.SameParts.{key_ext}
 use Rattle.playlist_meaning.specs.Digits.{fixed_digits}
 use Rattle.playlist_meaning.specs.Times.{time_text}
@@ -40,7 +40,8 @@ use Rattle.playlist_write.specs.Fitting.{is_clean, value_fits, uri_fits, quoted_
 use Rattle.playlist_write.proofs.CleanTexts.{Clean, clean-append, clean_printable}
 use Rattle.playlist_write.proofs.WrittenNumbers.{is_number_byte, decimal_bytes, duration_bytes, hex_bytes, hex_read}
 use Rattle.playlist_write.proofs.TagFields.{KeyParts, key_parts, other_parts, is_other, key_attributes, section_attributes}
-use Rattle.playlist_write.proofs.WrittenTimes.{times_are_read, times_are_clean}
+use Rattle.playlist_meaning.proofs.TimeLaws.{time_reads}
+use Rattle.playlist_write.proofs.WrittenTimes.{times_are_clean}
 
 pub clean_is : (bs : List ℕ) → is_clean bs ≡ true → Clean bs
 clean_is bs h = let a = and_parts _ _ h in record { utf8 = IsUtf8-from_is_utf8 bs a.0; free = not-true _ a.1 }
@@ -390,7 +391,7 @@ module _ (base : Parts) (before : List Said) where
   pub time_line : (t : ℤ) → in_range t ≡ true → IsRead (time t)
   time_line t h =
       as_written _ (or_fault fault.BadTime (instant_of (time_text t)) >>= λ x. Ok (time x)) _ (clean_line (codes "#EXT-X-PROGRAM-DATE-TIME:") (time_text t) refl (times_are_clean t))
-      (ap (λ o. or_fault fault.BadTime o >>= λ x. Ok (time x)) (times_are_read t h))
+      (ap (λ o. or_fault fault.BadTime o >>= λ x. Ok (time x)) (time_reads t h))
 
   pub date_range_line : (r : DateRange) → is_clean r.text ≡ true → date_range_said unlimited r.text ≡ Ok (date_range r) → IsRead (date_range r)
   date_range_line r h e =

@@ -8,10 +8,11 @@ use Rattle.std.proofs.lemmas.Bool.Decides.{nat_tests}
 use Rattle.std.proofs.lemmas.List.Folds.{list_any-append}
 use Rattle.std.proofs.lemmas.Slice.Eq.{bytes_eq-Decides}
 use Rattle.attr_list.specs.Attributes.{Pair, is_name, is_value, is_quote, ends_plain, is_named, is_pair, are_apart, are_attributes}
+use Rattle.attr_list.proofs.Elements.{all_from, none_from}
 use Rattle.playlist_meaning.specs.declared.Key.{Key}
 use Rattle.playlist_meaning.specs.declared.KeyAttr.{KeyAttr}
 use Rattle.playlist_meaning.specs.declared.ByteRange.{ByteRange}
-use Rattle.playlist_meaning.proofs.ListTests.{all_with, all_from, none_from}
+use Rattle.playlist_meaning.proofs.ListTests.{all_with}
 use Rattle.playlist_meaning.specs.Digits.{fixed_digits}
 use Rattle.playlist_write.specs.Spelling.{plain, in_quotes, iv_text, iv_pairs, format_pairs, attr_pair, key_pairs, part_pairs, section_pairs, range_text}
 use Rattle.playlist_write.specs.Fitting.{if_some, is_clean, value_fits, quoted_uri_fits, range_fits, is_own_name, other_fits, have_distinct_names, iv_fits, method_fits, key_fits}

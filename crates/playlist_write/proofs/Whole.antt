@@ -13,6 +13,7 @@ use Rattle.playlist_meaning.specs.declared.InitSection.{InitSection}
 use Rattle.playlist_meaning.specs.Said.{Said, nothing, date_range, date_range_said}
 use Rattle.playlist_meaning.specs.LookBack.{latest, the_target, is_media, count, segments_of}
 use Rattle.playlist_meaning.specs.Reading.{unlimited, whole, whole_fault, and_whole, of_lines, reading, are_mixed, has_section, Denotes, has}
+use Rattle.playlist_meaning.proofs.SaidCounts.{counted_some}
 use Rattle.stitcher.specs.declared.OutSegment.{OutSegment}
 use Rattle.playlist_write.specs.declared.OutPlaylist.{OutPlaylist}
 use Rattle.playlist_write.specs.Spelling.{spelled, date_range_line}
@@ -125,26 +126,11 @@ playlist_known k = record {
   segments = k.segments;
 }
 
-none_counts_step : (b any : Bool) (n : ℕ) → (any ≡ false → n ≡ 0) → (b || any) ≡ false → cond b (n + 1) n ≡ 0
-none_counts_step true any n ih h = cc
-none_counts_step false any n ih h = ih h
-
-none_counts : (before : List Said) → has is_media before ≡ false → count is_media before ≡ 0
-none_counts [] h = refl
-none_counts (s ∷ before) h = none_counts_step (is_media s) _ _ (none_counts before) h
-
-counts_step : (before : List Said) (b : Bool) → has is_media before ≡ b → 0 < count is_media before → has is_media before ≡ true
-counts_step before true e h = e
-counts_step before false e h = absurd (omega (arith, none_counts before e))
-
-some_counted : (before : List Said) → 0 < count is_media before → has is_media before ≡ true
-some_counted before h = counts_step before _ refl h
-
 whole_reads : (said : List Said) (k : Known) → known_at said ≡ k → is_some k.target ≡ true → 0 < k.count → are_mixed k.segments ≡ false → whole (whole_fault said) said ≡ Ok (playlist_known k)
 unfolding playlist_known
 whole_reads said k e t n m =
     let a : is_some (latest the_target said) ≡ true = ap (λ x. is_some x.target) e ∙ t in
-    let b : has is_media said ≡ true = some_counted said (subst (λ x. 0 < x.count) (sym e) n) in
+    let b : has is_media said ≡ true = counted_some is_media said (subst (λ x. 0 < x.count) (sym e) n) in
     let c : are_mixed (segments_of said) ≡ false = ap (λ x. are_mixed x.segments) e ∙ m in
     rw (a, b, c) (ap (λ x. Ok (playlist_known x)) e)
 

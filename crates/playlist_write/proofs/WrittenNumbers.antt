@@ -14,7 +14,7 @@ use Rattle.fixed_duration.specs.Text.{fraction_digits}
 use Rattle.fixed_duration.specs.Duration.{fraction_text, duration_text}
 use Rattle.fixed_duration.proofs.Again.{Digits, digits_fraction}
 use Rattle.attr_list.specs.Numbers.{hex_of, has_up_to, has_hex_prefix}
-use Rattle.playlist_meaning.proofs.ListTests.{all_from}
+use Rattle.attr_list.proofs.Elements.{all_from}
 use Rattle.playlist_meaning.proofs.FixedDigits.{fixed}
 use Rattle.playlist_meaning.specs.Digits.{fixed_digits}
 

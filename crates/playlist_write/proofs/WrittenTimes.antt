@@ -1,4 +1,4 @@
--- An instant that is written is read, and its text stands on a line.
+-- The text of an instant stands on a line.
 use Rattle.std.proofs.Common.{◌≡◌, ℕ, zero, suc, ◌+◌, ◌/◌, ◌%◌, ◌<◌, Bool, true, false, cond, List, [], ◌∷◌, ◌++◌, refl, ◌∙◌, arith, Some}
 use Rattle.std.specs.Prelude.{◌==◌, ℤ}
 use Rattle.std.specs.List.{list_all}
@@ -7,14 +7,9 @@ use Rattle.std.proofs.lemmas.Bool.{and_from}
 use Rattle.std.proofs.lemmas.Bool.Decides.{nat_tests}
 use Rattle.std.proofs.lemmas.List.Folds.{list_all-append}
 use Rattle.playlist_meaning.specs.Lines.{is_printable}
-use Rattle.playlist_meaning.specs.Instant.{in_range, instant_of}
 use Rattle.playlist_meaning.specs.Digits.{fixed_digits}
 use Rattle.playlist_meaning.specs.Times.{from_1900, year_after, month_after, date_text, decimals, time_text}
-use Rattle.playlist_meaning.proofs.TimeLaws.{time_reads}
 use Rattle.playlist_write.proofs.CleanTexts.{Clean, clean_printable}
-
-pub times_are_read : (t : ℤ) → in_range t ≡ true → instant_of (time_text t) ≡ Some t
-times_are_read t h = time_reads t h
 
 glyph_printable : (d : ℕ) → d < 10 → is_printable (digit_glyph true d) ≡ true
 glyph_printable d h = grind (arith, nat_tests)

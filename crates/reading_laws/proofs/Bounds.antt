@@ -13,7 +13,6 @@ use Rattle.fixed_duration.specs.declared.DurationFault.{DurationFault}
 use Rattle.fixed_duration.specs.Text.{is_empty, is_decimal, fraction_part, nine_digits}
 use Rattle.fixed_duration.proofs.Digits.{length-filled}
 use Rattle.attr_list.specs.Numbers.{decimal_of, has_up_to}
-use Rattle.playlist_meaning.specs.Instant.{seconds_at, fraction_nanos, fraction_len, zone_offset, is_date, is_clock, is_fraction, in_range, instant_of, instant_at, nanos_from_1970}
 use Rattle.playlist_write.specs.WellFormed.{is_word, duration_fits}
 
 -- what is answered only where a test holds
@@ -30,22 +29,6 @@ pub decimal_is_word : (text : List ℕ) (n : ℕ) → decimal_of text ≡ Some n
 decimal_is_word text n h =
     let w = where_some (has_up_to 20 text && list_all is_ascii_digit text && nat_lt (digits_value 10 text) (2 ^ 64)) (digits_value 10 text) n h in
     let small : nat_lt (digits_value 10 text) (2 ^ 64) ≡ true = (and_parts _ _ w.0).1 in rw (← w.1) small
-
-picked : {A : Type 0} (b : Bool) (o : Option A) (x : A) → cond b o None ≡ Some x → o ≡ Some x
-picked true o x h = h
-picked false o x h = cc
-
--- an instant is in range
-pub instant_is_in_range : (text : List ℕ) (t : ℤ) → instant_of text ≡ Some t → in_range t ≡ true
-instant_is_in_range text t h =
-    at (seconds_at text) (fraction_nanos (drop 1 (take (fraction_len (drop 19 text)) (drop 19 text)))) (zone_offset (drop (fraction_len (drop 19 text)) (drop 19 text)))
-    (picked (is_date text && slice_index text 10 == 84 && is_clock text && is_fraction (fraction_len (drop 19 text))) _ t h)
-  where
-    at : (seconds nanos : ℕ) (offset : Option ℤ) → instant_at seconds nanos offset ≡ Some t → in_range t ≡ true
-    at seconds nanos None h = cc
-    at seconds nanos (Some offset) h =
-        let w = where_some (in_range (nanos_from_1970 seconds nanos offset)) (nanos_from_1970 seconds nanos offset) t h in
-        let inside : in_range (nanos_from_1970 seconds nanos offset) ≡ true = w.0 in rw (← w.1) inside
 
 -- ---- durations
 

@@ -22,7 +22,8 @@ use Rattle.reading_laws.proofs.CleanCuts.{clean_is, clean_after, clean_after_fir
 use Rattle.reading_laws.proofs.AttributeValues.{pairs_fit, attributes_fit, attribute_fits, required_fits, optional_fits, quoted_fits}
 use Rattle.reading_laws.proofs.Values.{iv_is_fit, range_is_fit, range_of_fits, section_range_fits, plain_uri, quoted_uri, or_identity, key_from}
 use Rattle.reading_laws.proofs.Gives.{Gives, answers, fails, guarded, refused, chosen, found, told, bound, after}
-use Rattle.reading_laws.proofs.Bounds.{decimal_is_word, instant_is_in_range, duration_is_small}
+use Rattle.playlist_meaning.proofs.TimeRange.{said_in_range}
+use Rattle.reading_laws.proofs.Bounds.{decimal_is_word, duration_is_small}
 
 -- what is said fits by itself
 abbrev pub is_fit : Said → Bool
@@ -160,7 +161,7 @@ module _ (before : List Said) where
   by_tag base discontinuity_tag rest c = guarded _ (passes (discontinuity_at before + 1)) _ _ (λ h. good before discontinuity refl (word_below _ h))
   by_tag base key_tag rest c = bound (is_good before) _ (key_said unlimited base rest) _ (key_good base rest c) (λ x h. answers _ x h)
   by_tag base map_tag rest c = bound is_fit_section _ (section_said unlimited base rest) _ (section_fits base rest c) (λ x s. guarded _ (list_any needs_iv (keys_at before)) _ _ (λ h. answers _ x (placed_section x s h)))
-  by_tag base time_tag rest c = bound in_range _ (or_fault fault.BadTime (instant_of rest)) _ (found in_range fault.BadTime _ (λ t e. instant_is_in_range rest t e)) (λ t h. good before (time t) h refl)
+  by_tag base time_tag rest c = bound in_range _ (or_fault fault.BadTime (instant_of rest)) _ (found in_range fault.BadTime _ (λ t e. said_in_range rest t e)) (λ t h. good before (time t) h refl)
   by_tag base date_range_tag rest c = date_range_good rest c
   by_tag base unknown_tag rest c = good before nothing refl refl
 

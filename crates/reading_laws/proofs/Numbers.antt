@@ -6,6 +6,7 @@ use Rattle.playlist_meaning.specs.declared.Segment.{Segment}
 use Rattle.playlist_meaning.specs.Said.{Said, sequence, discontinuity_sequence, discontinuity, media}
 use Rattle.playlist_meaning.specs.LookBack.{latest, the_sequence, the_discontinuity_sequence, is_media, is_discontinuity, count, segments_of, segment_at, discontinuity_at, steps_at}
 use Rattle.playlist_meaning.specs.Reading.{has}
+use Rattle.playlist_meaning.proofs.SaidCounts.{none_counted, some_counted}
 use Rattle.playlist_write.specs.WellFormed.{is_word}
 use Rattle.reading_laws.specs.Read.{all_follow, numbers_read}
 use Rattle.reading_laws.proofs.Lines.{is_good, all_good}
@@ -42,14 +43,6 @@ pub record Numbered (said : List Said) : Type 0 where
   pub runs : Runs (first_number said) (first_discontinuity said) (segments_of said) last
   pub stands : discontinuity_at said ≡ last + steps_at said
   pub counted : length (segments_of said) ≡ count is_media said
-
-counts_none : (b test : Bool) (n : ℕ) → (b || test) ≡ false → (test ≡ false → n ≡ 0) → cond b (n + 1) n ≡ 0
-counts_none true test n h f = cc
-counts_none false test n h f = f h
-
-none_counted : (test : Said → Bool) (before : List Said) → has test before ≡ false → count test before ≡ 0
-none_counted test [] h = refl
-none_counted test (said ∷ before) h = counts_none (test said) (has test before) (count test before) h (none_counted test before)
 
 moved : (first last count steps k : ℕ) → first + count ≡ last + steps → first ≡ last → k + count ≡ k + steps
 moved first last count steps k h e = omega arith
@@ -97,19 +90,11 @@ unfolding Runs
 rise number before [] last some r = absurd (omega arith)
 rise number before (s ∷ later) last some (a, b, rest) = and_from _ _ (le-leb _ _ (omega (arith, b))) (all_rise (number + 1) s later last (omega (arith, a)) rest)
 
-counts_some : (b test : Bool) (n : ℕ) → (b || test) ≡ true → (test ≡ true → 0 < n) → 0 < cond b (n + 1) n
-counts_some true test n h f = omega arith
-counts_some false test n h f = f h
-
-some_counted : (before : List Said) → has is_media before ≡ true → 0 < count is_media before
-some_counted [] h = cc
-some_counted (said ∷ before) h = counts_some (is_media said) (has is_media before) (count is_media before) h (some_counted before)
-
 -- the numbers of what is said rise
 pub numbers_rise : (said : List Said) → all_good said ≡ true → has is_media said ≡ true → numbers_read (segments_of said) ≡ true
 numbers_rise said h some =
     let n = numbered said h in
-    rise (first_number said) (first_discontinuity said) (segments_of said) n.last (omega (arith, n.counted, some_counted said some)) n.runs
+    rise (first_number said) (first_discontinuity said) (segments_of said) n.last (omega (arith, n.counted, some_counted is_media said some)) n.runs
 
 -- ---- words
 

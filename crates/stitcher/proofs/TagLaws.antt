@@ -4,9 +4,10 @@ use Rattle.std.specs.Prelude.{filter, bytes_eq, ◌⊎◌}
 use Rattle.std.specs.List.{list_any, list_all}
 use Rattle.std.proofs.lemmas.Bool.{and_parts, and_from, or_cases}
 use Rattle.std.proofs.lemmas.Slice.Eq.{bytes_eq-Decides}
+use Rattle.attr_list.proofs.Elements.{all_from, none_from}
 use Rattle.playlist_meaning.specs.declared.Key.{Key}
 use Rattle.playlist_meaning.specs.LookBack.{put_key, insert_key, is_before, are_sorted}
-use Rattle.playlist_meaning.proofs.ListTests.{all_with, all_from, none_from, all_filter, filter_like, filter_all}
+use Rattle.playlist_meaning.proofs.ListTests.{all_with, all_filter, filter_like, filter_all}
 use Rattle.playlist_meaning.proofs.KeyOrder.{not_back, differ_back, differ, like, like_behind, chained}
 use Rattle.stitcher.specs.declared.KeyTag.TheVariants.{End, Set}
 use Rattle.playlist_meaning.specs.Same.{same_key}

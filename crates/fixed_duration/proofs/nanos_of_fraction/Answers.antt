@@ -1,7 +1,7 @@
 use Rattle.std.proofs.Common.{◌≡◌, ◌∙◌, ap, arith}
 use Rattle.std.specs.Str.Parse.{digits_value}
 use Rattle.fixed_duration.specs.Text.{nine_digits}
-use Rattle.fixed_duration.proofs.Digits.{digit_in, value_more, length-filled, filled_given, filled_zero, filled_whole, next_power}
+use Rattle.fixed_duration.proofs.Digits.{digit_in, value_more, length-filled, filled_given, filled_zero, filled_whole, next_power, small_power}
 use Rattle.fixed_duration.proofs.nanos_of_fraction.Goals as goal
 use Rattle.fixed_duration.proofs.nanos_of_fraction.Goals.{then-i-digits, else-i-digits}
 
@@ -28,3 +28,14 @@ returns-clause-value c =
     let i : c.loop-i.i ≡ 9 = omega arith in
     let value = rw i at c.loop-i.invariant.value in
     value ∙ ap (digits_value 10) (filled_whole 9 c.args.digits.now)
+
+pub overflow_mul-value : goal.overflow_mul-value
+overflow_mul-value c = let power = small_power c.loop-i.i (omega arith) in omega (arith, power)
+
+pub overflow_add-value : goal.overflow_add-value
+overflow_add-value c =
+    let power = small_power c.loop-i.i (omega arith) in
+    elim c.if-i-digits.branch [
+      | then-i-digits w ↦ let digit = digit_in c.args.digits.now c.loop-i.i c.requires (omega arith) in omega (arith, power, digit.1)
+      | else-i-digits w ↦ omega (arith, power)
+    ]

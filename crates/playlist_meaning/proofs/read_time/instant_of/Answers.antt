@@ -16,8 +16,8 @@ returns-then-not-is_fraction c =
     let rest = c.in_ok-rest.ensures.lookup.0.2 ∙ rest_is text in
     sym (no_fraction text (ap (λ r. is_fraction (fraction_len r)) (sym rest) ∙ ap is_fraction (sym c.fraction_len-len.ensures.value) ∙ sym c.if-not-is_fraction.ensures))
 
-pub fraction_nanos-nanos-requires : goal.fraction_nanos-nanos-requires
-fraction_nanos-nanos-requires c =
+pub nanos_of_fraction-nanos-requires : goal.nanos_of_fraction-nanos-requires
+nanos_of_fraction-nanos-requires c =
     ap (list_all is_ascii_digit) (c.behind_first.ensures ∙ ap (drop 1) (c.split_at.ensures.front ∙ ap (λ n. take n c.in_ok-rest.rest.now) c.fraction_len-len.ensures.value))
     ∙ fraction_digits c.in_ok-rest.rest.now
 
@@ -37,7 +37,7 @@ returns c =
     let fraction = ap (λ r. is_fraction (fraction_len r)) (sym rest) ∙ ap is_fraction (sym c.fraction_len-len.ensures.value) ∙ sym c.if-not-is_fraction.ensures in
     let zone = c.in_ok-offset.ensures.value ∙ ap zone_offset (c.split_at.ensures.back ∙ ap (λ n. drop n c.in_ok-rest.rest.now) c.fraction_len-len.ensures.value) in
     let digits = c.behind_first.ensures ∙ ap (drop 1) (c.split_at.ensures.front ∙ ap (λ n. take n c.in_ok-rest.rest.now) c.fraction_len-len.ensures.value) in
-    let nanos = c.fraction_nanos-nanos.ensures.value ∙ ap fraction_nanos digits in
+    let nanos = c.nanos_of_fraction-nanos.ensures.value ∙ ap fraction_nanos digits in
     let day = c.in_ok-day.ensures.bound in
     let offset = c.in_ok-offset.ensures.bound in
     let day_is : to_z w64 (of_z w64 c.in_ok-day.day) ≡ c.in_ok-day.day = to_z-of_z w64 c.in_ok-day.day (omega (arith, signed_arith, day)) in
@@ -47,6 +47,6 @@ returns c =
     let fits : FitsSigned w64 c.seconds_from_1970.result = omega (arith, signed_arith, seconds, day, offset, clock) in
     let same = to_z-of_z w64 c.seconds_from_1970.result fits in
     c.instant_at.ensures
-    ∙ zone_found text c.in_ok-rest.rest.now c.in_ok-clock.clock c.fraction_nanos-nanos.result c.in_ok-day.day c.in_ok-offset.offset _ c.in_ok-day.ensures.value.1 c.in_ok-clock.ensures.value.1 nanos zone (same ∙ seconds)
+    ∙ zone_found text c.in_ok-rest.rest.now c.in_ok-clock.clock c.nanos_of_fraction-nanos.result c.in_ok-day.day c.in_ok-offset.offset _ c.in_ok-day.ensures.value.1 c.in_ok-clock.ensures.value.1 nanos zone (same ∙ seconds)
     ∙ ap (λ r. zoned r (seconds_at text)) rest
     ∙ sym (read_parts text c.in_ok-day.ensures.value.0 (sym c.if-not-is_at.ensures) c.in_ok-clock.ensures.value.0 fraction)
