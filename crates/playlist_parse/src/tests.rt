@@ -49,12 +49,24 @@ fn header_tags(rt: HostRuntime) -> Result<(), Fail> {
 fn attributes_of_a_tag(rt: HostRuntime) -> Result<(), Fail> {
     let list = attributes_of(rt.alloc(), "METHOD=AES-128,URI=\"k\"")?;
     assert_eq!(rt; required(&list, "METHOD", false)?, "AES-128");
-    assert_eq!(rt; required(&list, "METHOD", true), Err(FaultKind::BadAttributes));
-    assert_eq!(rt; required(&list, "IV", false), Err(FaultKind::MissingAttribute));
+    assert_eq!(rt;
+        required(&list, "METHOD", true),
+        Err(FaultKind::BadAttributes)
+    );
+    assert_eq!(rt;
+        required(&list, "IV", false),
+        Err(FaultKind::MissingAttribute)
+    );
     assert_eq!(rt; optional(&list, "URI", true)?, Some("k"));
-    assert_eq!(rt; optional(&list, "URI", false), Err(FaultKind::BadAttributes));
+    assert_eq!(rt;
+        optional(&list, "URI", false),
+        Err(FaultKind::BadAttributes)
+    );
     assert_eq!(rt; optional(&list, "IV", false)?, None);
-    assert_eq!(rt; attributes_of(rt.alloc(), "METHOD").err(), Some(FaultKind::BadAttributes));
+    assert_eq!(rt;
+        attributes_of(rt.alloc(), "METHOD").err(),
+        Some(FaultKind::BadAttributes)
+    );
     Ok(())
 }
 

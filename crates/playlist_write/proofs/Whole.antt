@@ -11,7 +11,7 @@ use Rattle.playlist_meaning.specs.declared.DateRange.{DateRange}
 use Rattle.playlist_meaning.specs.declared.Playlist.{Playlist}
 use Rattle.playlist_meaning.specs.declared.InitSection.{InitSection}
 use Rattle.playlist_meaning.specs.Said.{Said, nothing, date_range, date_range_said}
-use Rattle.playlist_meaning.specs.LookBack.{latest, the_target, is_media, count, segments_of}
+use Rattle.playlist_meaning.specs.LookBack.{latest, the_target, is_media, segments_of}
 use Rattle.playlist_meaning.specs.Reading.{unlimited, whole, whole_fault, and_whole, of_lines, reading, are_mixed, has_section, Denotes, has}
 use Rattle.playlist_meaning.proofs.SaidCounts.{counted_some}
 use Rattle.stitcher.specs.declared.OutSegment.{OutSegment}

@@ -1,6 +1,6 @@
 -- How large the numbers can be that a text says.
-use Rattle.std.proofs.Common.{drop, zero, suc, ◌≡◌, ℕ, ◌+◌, ◌*◌, ◌<◌, ◌^◌, Bool, true, false, cond, not, List, [], ◌∷◌, ◌++◌, take, length, replicate, refl, sym, ◌∙◌, arith}
-use Rattle.std.specs.Prelude.{◌==◌, slice_index, Result, Ok, Err, Option, Some, None, ℤ, ◌&&◌, nat_lt, nat_le}
+use Rattle.std.proofs.Common.{zero, suc, ◌≡◌, ℕ, ◌+◌, ◌*◌, ◌<◌, ◌^◌, Bool, true, false, cond, not, List, [], ◌∷◌, ◌++◌, take, length, replicate, refl, sym, ◌∙◌, arith}
+use Rattle.std.specs.Prelude.{Result, Ok, Err, Some, None, ◌&&◌, nat_lt, nat_le}
 use Rattle.std.specs.List.{list_all}
 use Rattle.std.specs.Char.{is_ascii_digit, digit_value}
 use Rattle.std.specs.Str.Parse.{digits_value, AllDigits}

@@ -1,6 +1,5 @@
 //! What a key, map or byte range tag says by itself (RFC 8216, 4.3.2.2, 4.3.2.4, 4.3.2.5).
-ghost use Rattle.std.specs.Prelude.{◌≡◌, ℕ, Bool, Option, Some, None, Ok, Err, IfOk, MatchResult, map, option_map, codes};
-ghost use Rattle.std.specs.Option.{option_copied};
+ghost use Rattle.std.specs.Prelude.{◌≡◌, IfOk, codes};
 ghost use Rattle.attr_list.specs.Attributes.{attribute};
 ghost use Rattle.attr_list.specs.Attrs.{attr_pair};
 ghost use Rattle.playlist_meaning.specs.Said as said;
