@@ -1,21 +1,20 @@
 -- What is owed for a playlist and a run, from its stitched segments.
 use Rattle.std.proofs.Common.{◌≡◌, ℕ, ◌<◌, ℤ, [], ◌∷◌, Bool, true, false, not, cond, List, map, ap, sym, ◌∙◌}
-use Rattle.std.specs.Prelude.{Ok, Err, Option, Some, None, option_map}
+use Rattle.std.specs.Prelude.{Ok, Err, Option, Some, None}
 use Rattle.std.specs.List.{list_all, zip, AllByRecursion}
 use Rattle.playlist_meaning.specs.declared.Segment.{Segment}
 use Rattle.playlist_meaning.specs.Instants.{begins_at, ends_at, instants_after}
 use Rattle.timeline.specs.Timed.{timed, with_time}
-use Rattle.url.specs.Parts.{Parts}
 use Rattle.playlist_meaning.specs.declared.Playlist.{Playlist}
 use Rattle.playlist_meaning.specs.Uri.{base_of}
-use Rattle.playlist_meaning.specs.Reading.{reading, limited}
 use Rattle.stitcher.specs.declared.OutSegment.{OutSegment}
 use Rattle.http_edge.specs.declared.fault.VodFault.TheVariants.{BadRun, NumberRange}
 use Rattle.http_edge.specs.declared.stated.StatedRun.{StatedRun}
 use Rattle.http_edge.specs.Owed.{read_under, owed_with}
 use Rattle.http_edge.specs.Stated.{all_fit, goes_past, owed_with_run, stated_window, written_item}
 use Rattle.http_edge.specs.Stitching.{item_fits, stitched_segments, RiseFromFirst}
-use Rattle.http_edge.proofs.Rising.{read_rises}
+use Rattle.http_edge.proofs.OwedFits.{under}
+use Rattle.http_edge.proofs.Rising.{rise_from_first}
 use Rattle.http_edge.proofs.WholeWindow.{window_is_whole, fit_as_written}
 
 -- segments that state where they begin have the same numbers
@@ -44,10 +43,6 @@ module _ (run : StatedRun) (p : Playlist) (within : goes_past run p.segments ≡
   pub owes_range : list_all item_fits (stitched_segments run (timed p.segments)) ≡ false → owed_with_run run p ≡ Err NumberRange
   owes_range h = judged false (fit_as_written run (timed p.segments) ∙ h)
 
-rises_under : (o : Option Parts) (input : List ℕ) (p : Playlist) → option_map (λ base. reading limited base input) o ≡ Some (Ok p) → RiseFromFirst p.segments
-rises_under None input p h = cc
-rises_under (Some base) input p h = let e : reading limited base input ≡ Ok p = cc in read_rises limited base input p e
-
 -- the first segment's number is the least, in what is read under a base
 pub rises : (base input : List ℕ) (p : Playlist) → read_under base input ≡ Some (Ok p) → RiseFromFirst p.segments
-rises base input p h = rises_under (base_of base) input p h
+rises base input p h = rise_from_first p.segments (under (base_of base) input p h).numbers

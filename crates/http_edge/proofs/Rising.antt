@@ -1,29 +1,24 @@
--- The media numbers of a playlist that is read rise by one.
-use Rattle.std.proofs.Common.{◌≡◌, ℕ, ◌+◌, ◌<◌, ◌≤◌, true, List, [], ◌∷◌, arith}
-use Rattle.std.specs.Prelude.{Ok, ◌==◌}
+-- Numbers that go up by one rise from the first.
+use Rattle.std.proofs.Common.{◌≡◌, ℕ, ◌≤◌, ◌<◌, List, [], ◌∷◌, true, arith}
 use Rattle.std.specs.List.{AllByRecursion}
-use Rattle.std.proofs.lemmas.Bool.{and_parts, eqb-true}
-use Rattle.url.specs.Parts.{Parts}
-use Rattle.playlist_meaning.specs.declared.Playlist.{Playlist}
+use Rattle.std.proofs.lemmas.Bool.{and_parts}
+use Rattle.std.proofs.lemmas.Bool.Decides.{nat_tests}
 use Rattle.playlist_meaning.specs.declared.Segment.{Segment}
-use Rattle.playlist_meaning.specs.Said.{Reader}
-use Rattle.playlist_meaning.specs.Reading.{reading}
 use Rattle.reading_laws.specs.Read.{follows, all_follow, numbers_read}
-use Rattle.reading_laws.proofs.Whole.{can_be_written}
 use Rattle.http_edge.specs.Stitching.{RiseFromFirst}
 
-all_above : (m : ℕ) (previous : Segment) (later : List Segment) → m ≤ previous.number → all_follow previous later ≡ true → AllByRecursion (λ (t : Segment). m < t.number) later
+goes_up : (m : ℕ) (previous next : Segment) → m ≤ previous.number → follows previous next ≡ true → m < next.number
+goes_up m previous next h f = grind (arith, nat_tests)
+
+all_above : (m : ℕ) (previous : Segment) (later : List Segment) → m ≤ previous.number → all_follow previous later ≡ true
+    → AllByRecursion (λ (t : Segment). m < t.number) later
 all_above m previous [] h f = tt
-all_above m previous (next ∷ later) h f =
-    let a : (follows previous next ≡ true) × (all_follow next later ≡ true) = and_parts _ _ f in
-    let b : ((next.number == previous.number + 1) ≡ true) × ((next.discontinuity == previous.discontinuity + next.steps) ≡ true) = and_parts _ _ a.0 in
-    let one_more : next.number ≡ previous.number + 1 = eqb-true _ _ b.0 in
-    (omega (arith, one_more), all_above m next later (omega (arith, one_more)) a.1)
+all_above m previous (s ∷ later) h f =
+    let a = and_parts _ _ f in
+    let here : m < s.number = goes_up m previous s h a.0 in
+    (here, all_above m s later (omega arith) a.1)
 
-from_first : (segments : List Segment) → numbers_read segments ≡ true → RiseFromFirst segments
-from_first [] h = cc
-from_first (first ∷ later) h = all_above first.number first later (omega arith) (and_parts _ _ h).1
-
--- the first segment's number is the least, in whatever is read
-pub read_rises : (reader : Reader) (base : Parts) (bytes : List ℕ) (p : Playlist) → reading reader base bytes ≡ Ok p → RiseFromFirst p.segments
-read_rises reader base bytes p h = from_first p.segments (can_be_written reader base bytes p h).numbers
+-- the first segment's number is the least
+pub rise_from_first : (segments : List Segment) → numbers_read segments ≡ true → RiseFromFirst segments
+rise_from_first [] h = cc
+rise_from_first (s ∷ later) h = all_above s.number s later (omega arith) (and_parts _ _ h).1
