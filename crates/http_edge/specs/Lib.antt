@@ -1,6 +1,7 @@
 pub mod Streams
 pub mod Owed
 pub mod Vod
+pub mod Printed
 pub mod Stated
 pub mod Stitching
 pub mod VodStated

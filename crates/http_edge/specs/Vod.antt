@@ -6,7 +6,7 @@ use Rattle.url.specs.Parts.{Parts}
 use Rattle.playlist_meaning.specs.Reading.{Fault, Denotes}
 use Rattle.playlist_write.specs.Denoted.{denoted}
 use Rattle.http_edge.specs.declared.fault.VodFault.{VodFault}
-use Rattle.http_edge.specs.declared.fault.VodFault.TheVariants.{BadBase, Playlist as PlaylistOf, Read, TooManyReads, OutOfMemory}
+use Rattle.http_edge.specs.declared.fault.VodFault.TheVariants.{BadBase, Playlist as PlaylistOf, Read, TooManyReads, Write, OutOfMemory}
 use Rattle.playlist_write.specs.Handed.{TookFront}
 use Rattle.http_edge.specs.Streams.{GaveAll}
 use Rattle.http_edge.specs.Owed.{read_under, owed_playlist, owed_text}
@@ -44,3 +44,8 @@ IsOfInput Read = Unit {0}
 IsOfInput TooManyReads = Unit {0}
 IsOfInput OutOfMemory = Unit {0}
 IsOfInput _ = ⊥
+
+-- a fault of the input, or of writing
+abbrev pub IsOfVod : VodFault → Type 0
+IsOfVod Write = Unit {0}
+IsOfVod e = IsOfInput e

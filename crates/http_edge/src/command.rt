@@ -8,16 +8,17 @@ ghost use Rattle.playlist_write.specs.Owed.{text_of};
 ghost use Rattle.playlist_meaning.specs.Reading.{reading, limited, Fault};
 ghost use Rattle.reading_laws.specs.Read.{uris_are_text};
 ghost use Rattle.std.specs.List.{list_all};
-ghost use Rattle.http_edge.specs.Vod.{RefusesInput, IsOfInput, HasRead, Writes, WritesFront};
+ghost use Rattle.http_edge.specs.Vod.{RefusesInput, IsOfInput, IsOfVod, HasRead, Writes, WritesFront};
+ghost use Rattle.http_edge.specs.Streams.{source_stand, sink_stand};
+ghost use Rattle.http_edge.specs.Printed.{Prints, FailsAndPrints};
 
 use crate::fault::VodFault;
 use crate::input::{MOST_READS, read_input};
-use crate::output::write_text;
 use crate::shown::owed_playlist;
 use crate::texts::know_texts;
 use playlist_meaning::{Base, BaseFault, FaultKind, Playlist, Sink, Source};
 use playlist_parse::read;
-use playlist_write::{OutPlaylist, WriteFault, write};
+use playlist_write::{OutPlaylist, WriteFault, hand_out, write};
 use std::alloc::Global;
 
 fn base_said(alloc: Global, base: &str) -> Result<Base, VodFault>
@@ -108,6 +109,8 @@ pub fn vod<S: Source, K: Sink>(
     ensures write { IsErrOf result VodFault.Write → WritesFront base.now (S.remaining source.old) (S.remaining source.new) (K.contents sink.old) (K.contents sink.new) }
     ensures nothing { IfErr result (λ e. e ≢ VodFault.Write → Keeps (K.contents sink.old) (K.contents sink.new)) }
 
+    ensures kind { IfErr result IsOfVod }
+
     // The base is judged before anything is read.
     ensures bad_base { IsErrOf result VodFault.BadBase → base_of base.now ≡ None }
     ensures unread { base_of base.now ≡ None → S.called source.new ≡ S.called source.old }
@@ -127,11 +130,13 @@ pub fn vod<S: Source, K: Sink>(
 }
 
 // Writes a fault's line, as far as the sink takes it.
-fn print_fault<F: Sink>(alloc: Global, fault: VodFault, faults: &mut F) {
-    match format!(in alloc; "{fault}\n") {
-        Ok(line) => write_text(line.as_bytes(), faults),
-        Err(_) => write_text(b"E5 OutOfMemory\n", faults),
-    }
+fn print_fault<F: Sink>(alloc: Global, fault: VodFault, faults: &mut F)
+    ensures { Prints fault (sink_stand F.contents F.failed faults.old) (sink_stand F.contents F.failed faults.new) }
+{
+    let _ = match format!(in alloc; "{fault}\n") {
+        Ok(line) => hand_out(line.as_bytes(), faults),
+        Err(_) => hand_out(b"E5 OutOfMemory\n", faults),
+    };
 }
 
 /// Runs `vod`, writes the fault's line where there is one, and answers the exit status: 0, or 1
@@ -148,6 +153,16 @@ pub fn command_vod<S: Source, K: Sink, F: Sink>(
     ensures status { result ≤ 1 }
     ensures ok { result ≡ 0 → Writes base.now (S.remaining input.old) (S.remaining input.new) (K.contents output.old) (K.contents output.new) }
     ensures quiet { result ≡ 0 → faults.new ≡ faults.old }
+
+    // 1 only where `vod` answers a fault, and then its line is printed.
+    ensures fault { result ≡ 1 → FailsAndPrints base.now
+        (source_stand S.remaining S.called S.failed input.old) (source_stand S.remaining S.called S.failed input.new)
+        (sink_stand K.contents K.failed output.old) (sink_stand K.contents K.failed output.new)
+        (sink_stand F.contents F.failed faults.old) (sink_stand F.contents F.failed faults.new) }
+
+    // The base is judged before anything is read.
+    ensures unread { base_of base.now ≡ None → S.called input.new ≡ S.called input.old }
+    ensures calls { S.called input.new ≤ S.called input.old + MOST_READS }
 {
     match vod(alloc, input, output, base, decisions) {
         Ok(()) => 0,

@@ -5,7 +5,6 @@ mod arguments;
 mod command;
 mod fault;
 mod input;
-mod output;
 mod shown;
 mod stated;
 mod stitching;

@@ -11,7 +11,6 @@ ghost use Rattle.playlist_write.specs.WellFormed.{well_formed};
 ghost use Rattle.playlist_write.specs.Denoted.{denoted};
 ghost use Rattle.playlist_write.specs.Handed.{TookFront};
 
-use crate::hand_out::hand_out;
 use crate::header::{push_date_ranges, push_end, push_header};
 use crate::lines::push_line;
 use crate::segments::push_segments;
@@ -21,15 +20,17 @@ use stitcher::OutSegment;
 
 mod date_ranges;
 mod digits;
-mod hand_out;
 mod header;
 mod key_rules;
 mod keys;
 pub mod laws;
 mod lines;
+mod output;
 mod segments;
 mod texts;
 mod well_formed;
+
+pub use output::hand_out;
 
 /// A playlist as it is written.
 #[derive(Clone, PartialEq, Drop)]

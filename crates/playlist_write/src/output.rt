@@ -7,7 +7,8 @@ ghost use Rattle.playlist_write.specs.Handed.{TookFront};
 use crate::WriteFault;
 use playlist_meaning::Sink;
 
-// Hands out all bytes, or a front of them where the sink fails.
+/// Hands out all bytes, by as many writes as it takes, or a front of them where the sink fails. Its only
+/// fault is `Io`: a write failed or took nothing.
 pub fn hand_out<S: Sink>(bytes: &[u8], sink: &mut S) -> Result<(), WriteFault>
     ensures ok { OnOk result (Appends (S.contents sink.old) (S.contents sink.new) bytes.now) }
     ensures err { OnErr result (TookFront (S.contents sink.old) (S.contents sink.new) bytes.now) }

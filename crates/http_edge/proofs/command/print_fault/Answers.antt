@@ -1,0 +1,27 @@
+use Rattle.std.proofs.Common.{◌≡◌, ◌∙◌, List, ℕ, inl, inr, subst}
+use Rattle.std.specs.Prelude.{Result, Ok, Err, OnOk, OnErr}
+use Rattle.std.specs.Io.KnownBytes.{Appends}
+use Rattle.playlist_write.specs.Handed.{TookFront}
+use Rattle.playlist_meaning.specs.Devices.{HasRisen}
+use Rattle.http_edge.specs.Streams.{SinkStand, sink_stand, WasHanded}
+use Rattle.http_edge.specs.Printed.{fault_line}
+use Rattle.http_edge.proofs.command.print_fault.Goals as goal
+
+-- as `hand_out` answers
+handed : {A E : Type 0} (r : Result A E) (old new : SinkStand) (bytes : List ℕ)
+    → OnOk r (Appends old.contents new.contents bytes) → OnErr r (TookFront old.contents new.contents bytes) → OnErr r (HasRisen old.failed new.failed)
+    → WasHanded old new bytes
+handed (Ok x) old new bytes whole front failed = inl whole
+handed (Err e) old new bytes whole front failed = inr (record { front = front; failed = failed })
+
+pub returns-in-Ok : goal.returns-in-Ok
+returns-in-Ok g c =
+    let line : c.as_bytes.result.now ≡ fault_line c.args.fault = c.as_bytes.ensures.value ∙ c.in-Ok.ensures.ok in
+    let stand = sink_stand g.F.Sink.contents g.F.Sink.failed in
+    let w = c.hand_out.ensures in
+    inl (subst (WasHanded (stand c.args.faults.now) (stand c.hand_out.new.sink)) line (handed c.hand_out.result _ _ _ w.ok w.err w.failed))
+
+pub returns-in-Err : goal.returns-in-Err
+returns-in-Err g c =
+    let w = c.hand_out-in-Err.ensures in
+    inr (handed c.hand_out-in-Err.result _ _ _ w.ok w.err w.failed)
