@@ -12,7 +12,7 @@ use playlist_meaning::{DateRange, Items, Playlist, Segment, Text};
 use playlist_write::OutPlaylist;
 use std::alloc::{AllocError, Global};
 use stitcher::OutSegment;
-use timeline::timed;
+use timeline::{instants, timed, with_time};
 
 /// The least version that is written: the layout's tags need 6 (RFC 8216, section 7).
 const LEAST_VERSION: u64 = 6;
@@ -32,8 +32,13 @@ fn owed_segment(segment: Segment) -> OutSegment
 fn owed_segments(alloc: Global, segments: Vec<Segment>) -> Result<Vec<OutSegment>, AllocError>
     ensures { IfOk result (λ v. v.items ≡ owed_segments segments.items) }
 {
-    let segments = timed(alloc, segments)?;
-    segments.into_iter().map(owed_segment).collect(alloc)
+    let begun = instants(alloc, segments.as_slice())?;
+    segments
+        .into_iter()
+        .zip(begun)
+        .map(with_time)
+        .map(owed_segment)
+        .collect(alloc)
 }
 
 fn is_any_timed(segments: &[OutSegment]) -> bool

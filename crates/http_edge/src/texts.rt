@@ -7,7 +7,7 @@ ghost use Rattle.http_edge.specs.Stated.{uri_is_text};
 ghost use Rattle.reading_laws.specs.Read.{key_is_text, section_is_text, uris_are_text};
 
 use crate::stated::StatedSegment;
-use playlist_meaning::{InitSection, Key, Segment};
+use playlist_meaning::{InitSection, Key, Segment, Shared};
 
 fn know_keys(keys: &[Key])
     ensures { list_all key_is_text keys.now ≡ true }
@@ -17,7 +17,7 @@ fn know_keys(keys: &[Key])
     }
 }
 
-fn know_section(section: &Option<InitSection>)
+fn know_section(section: &Option<Shared<InitSection>>)
     ensures { if_some section_is_text section.now ≡ true }
 {
     if let Some(section) = section {

@@ -23,7 +23,7 @@ mod write_time;
 
 pub use base::{Base, BaseFault, has_scheme, same_resource};
 pub use device::{Counted, Sink, Source};
-pub use items::{Items, Text};
+pub use items::{Items, Shared, Text};
 pub use pieces::{Pieces, Taken};
 pub use read_time::{TimeFault, read_instant};
 pub use same::{is_same_key, is_same_section, same_segment};
@@ -123,14 +123,14 @@ pub struct KeyAttr {
     pub quoted: bool,
 }
 
-/// A key.
+/// A key. Each segment under it has a copy, which shares its texts.
 #[derive(Clone, PartialEq, Drop)]
 pub struct Key {
-    pub format: Text,
-    pub method: Text,
-    pub uri: Text,
+    pub format: Shared<Text>,
+    pub method: Shared<Text>,
+    pub uri: Shared<Text>,
     pub iv: Option<u128>,
-    pub other: Items<KeyAttr>,
+    pub other: Shared<Items<KeyAttr>>,
 }
 
 /// The keys in force, one for each format, sorted by format.
@@ -153,7 +153,7 @@ pub struct Segment {
     pub uri: Text,
     pub range: Option<ByteRange>,
     pub keys: Keys,
-    pub section: Option<InitSection>,
+    pub section: Option<Shared<InitSection>>,
     pub duration: Nanos,
     pub title: Text,
     pub time: Option<Instant>,
@@ -189,11 +189,23 @@ mod stitched_rows;
 #[cfg(test)]
 mod tests;
 
-// Whether each byte is an ASCII character that is no control character.
-fn is_printable_ascii(bytes: &[u8]) -> bool
+// Whether a byte is an ASCII character that is no control character.
+fn is_printable(byte: u8) -> bool
+    ensures { result ≡ is_printable byte }
+{
+    byte >= 32 && byte < 127
+}
+
+#[tactic(auto, using(std::proofs::lemmas::List::Folds::list_all_more))]
+// Whether each byte is printable. It looks at all of them, so that many are tested at once.
+fn are_printable(bytes: &[u8]) -> bool
     ensures { result ≡ list_all is_printable bytes.now }
 {
-    bytes.iter().all(|b| *b >= 32 && *b < 127)
+    let mut printable = true;
+    for byte in bytes {
+        printable &= is_printable(*byte);
+    }
+    printable
 }
 
 #[tactic(auto, using(crate::proofs::Printable::printable_has_no_control))]
@@ -202,7 +214,7 @@ pub fn has_control(text: &str) -> bool
     ensures { result ≡ has_control text.now }
 {
     // Most lines are ASCII, where the bytes are the characters.
-    if is_printable_ascii(text.as_bytes()) {
+    if are_printable(text.as_bytes()) {
         return false;
     }
     text.chars().any(char::is_control)

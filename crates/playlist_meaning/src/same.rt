@@ -3,7 +3,7 @@ ghost use Rattle.std.specs.Prelude.{◌≡◌, true, ◌↔◌};
 ghost use Rattle.std.specs.Cmp.Lexicographic.{pointwise};
 ghost use Rattle.playlist_meaning.specs.Same.{kept_parts, same_key, same_media, same_numbers, same_option, same_protection, same_section, same_segment};
 
-use crate::{InitSection, Key, Keys, Segment};
+use crate::{InitSection, Key, Keys, Segment, Shared};
 
 /// Whether two keys are the same in all their parts.
 pub fn is_same_key(a: &Key, b: &Key) -> bool
@@ -25,7 +25,7 @@ pub fn is_same_section(a: &InitSection, b: &InitSection) -> bool
     a.uri == b.uri && a.range == b.range && are_same_keys(&a.keys, &b.keys)
 }
 
-fn are_same_sections(one: &Option<InitSection>, other: &Option<InitSection>) -> bool
+fn are_same_sections(one: &Option<Shared<InitSection>>, other: &Option<Shared<InitSection>>) -> bool
     ensures { result ≡ same_option same_section one.now other.now }
 {
     match (one, other) {

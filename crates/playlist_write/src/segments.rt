@@ -9,7 +9,7 @@ use crate::keys::{push_key_tags, push_section};
 use crate::lines::{push_feed, push_line, push_range};
 use fixed_duration::Nanos;
 use playlist_meaning::{
-    ByteRange, InitSection, Instant, Key, Segment, is_same_section, write_instant,
+    ByteRange, InitSection, Instant, Key, Segment, Shared, is_same_section, write_instant,
 };
 use std::alloc::AllocError;
 use stitcher::OutSegment;
@@ -43,7 +43,7 @@ fn is_current(current: Option<&InitSection>, new: &InitSection) -> bool
 // The section, where it is another than the one in force.
 fn changed_section<'a>(
     current: Option<&InitSection>,
-    section: &'a Option<InitSection>,
+    section: &'a Option<Shared<InitSection>>,
 ) -> Option<&'a InitSection>
     ensures { option_copied result ≡ changed_section (option_copied current.entry) section.now }
 {
@@ -164,6 +164,15 @@ fn push_segment(
     Ok(())
 }
 
+fn section_of(next: &OutSegment) -> Option<&InitSection>
+    ensures { option_copied result ≡ next.now.segment.section }
+{
+    match &next.segment.section {
+        Some(section) => Some(section),
+        None => None,
+    }
+}
+
 /// Appends the lines of all segments.
 pub fn push_segments(out: &mut String, segments: &[OutSegment]) -> Result<(), AllocError>
     ensures { OnOk result (string_bytes out.new ≡ string_bytes out.old ++ said_text (segments_owed none_yet segments.now)) }
@@ -173,7 +182,7 @@ pub fn push_segments(out: &mut String, segments: &[OutSegment]) -> Result<(), Al
     for next in segments {
         push_segment(out, keys, section, next)?;
         keys = next.segment.keys.as_slice();
-        section = next.segment.section.as_ref().or(section);
+        section = section_of(next).or(section);
     }
     Ok(())
 }

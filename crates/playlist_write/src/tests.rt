@@ -2,7 +2,8 @@
 use crate::{OutPlaylist, hand_out, write};
 use fixed_duration::Nanos;
 use playlist_meaning::{
-    ByteRange, InitSection, Instant, Items, Key, KeyAttr, PlaylistKind, Segment, Taken, Text,
+    ByteRange, InitSection, Instant, Items, Key, KeyAttr, PlaylistKind, Segment, Shared, Taken,
+    Text,
 };
 use std::alloc::{AllocError, Global};
 use std::test::Fail;
@@ -44,13 +45,17 @@ fn text(alloc: Global, text: &str) -> Result<Text, AllocError> {
     Text::copy_of(alloc, text)
 }
 
+fn shared(alloc: Global, from: &str) -> Result<Shared<Text>, AllocError> {
+    Shared::new(alloc, text(alloc, from)?)
+}
+
 fn key(alloc: Global, uri: &str, iv: u128) -> Result<Key, AllocError> {
     Ok(Key {
-        format: text(alloc, "identity")?,
-        method: text(alloc, "AES-128")?,
-        uri: text(alloc, uri)?,
+        format: shared(alloc, "identity")?,
+        method: shared(alloc, "AES-128")?,
+        uri: shared(alloc, uri)?,
         iv: Some(iv),
-        other: Items::from_vec(Vec::new(alloc)),
+        other: Shared::new(alloc, Items::from_vec(Vec::new(alloc)))?,
     })
 }
 
@@ -64,17 +69,26 @@ fn other(alloc: Global, name: &str, value: &str, quoted: bool) -> Result<KeyAttr
 
 fn drm_key(alloc: Global) -> Result<Key, AllocError> {
     let versions = other(alloc, "KEYFORMATVERSIONS", "1", true)?;
+    let others = vec![in alloc; versions, other(alloc, "X", "2", false)?]?;
     Ok(Key {
-        format: text(alloc, "com.example.drm")?,
-        method: text(alloc, "SAMPLE-AES")?,
-        uri: text(alloc, "skd://1")?,
+        format: shared(alloc, "com.example.drm")?,
+        method: shared(alloc, "SAMPLE-AES")?,
+        uri: shared(alloc, "skd://1")?,
         iv: None,
-        other: Items::from_vec(vec![in alloc; versions, other(alloc, "X", "2", false)?]?),
+        other: Shared::new(alloc, Items::from_vec(others))?,
     })
 }
 
 // A segment of 9.5 seconds with the section of an advertisement.
 fn ad_segment(alloc: Global, uri: &str, keys: Vec<Key>) -> Result<Segment, AllocError> {
+    let section = InitSection {
+        uri: text(alloc, "http://ads.example/i.mp4")?,
+        range: Some(ByteRange {
+            length: 100,
+            offset: 20,
+        }),
+        keys: Items::from_vec(Vec::new(alloc)),
+    };
     Ok(Segment {
         number: 0,
         discontinuity: 0,
@@ -82,14 +96,7 @@ fn ad_segment(alloc: Global, uri: &str, keys: Vec<Key>) -> Result<Segment, Alloc
         uri: text(alloc, uri)?,
         range: None,
         keys: Items::from_vec(keys),
-        section: Some(InitSection {
-            uri: text(alloc, "http://ads.example/i.mp4")?,
-            range: Some(ByteRange {
-                length: 100,
-                offset: 20,
-            }),
-            keys: Items::from_vec(Vec::new(alloc)),
-        }),
+        section: Some(Shared::new(alloc, section)?),
         duration: Nanos(9_500_000_000),
         title: text(alloc, "")?,
         time: None,
@@ -105,11 +112,12 @@ fn origin_segment(alloc: Global) -> Result<Segment, AllocError> {
         "http://origin.example/ch/s0.m4s",
         vec![in alloc; media_key]?,
     )?;
-    segment.section = Some(InitSection {
+    let section = InitSection {
         uri,
         range: None,
         keys: Items::from_vec(vec![in alloc; map_key]?),
-    });
+    };
+    segment.section = Some(Shared::new(alloc, section)?);
     segment.duration = Nanos(10_000_000_000);
     segment.title = text(alloc, "one")?;
     Ok(segment)

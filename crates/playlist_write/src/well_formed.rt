@@ -10,7 +10,7 @@ use crate::date_ranges::date_ranges_fit;
 use crate::key_rules::{effective_keys_fit, range_fits, section_fits};
 use crate::texts::{is_clean, uri_fits};
 use fixed_duration::Nanos;
-use playlist_meaning::{InitSection, Instant, Segment};
+use playlist_meaning::{InitSection, Instant, Segment, Shared};
 use std::alloc::{AllocError, Global};
 use stitcher::OutSegment;
 
@@ -39,7 +39,7 @@ fn duration_fits(duration: Nanos) -> bool
     duration.0 < 1_000_000_000_000_000
 }
 
-fn optional_section_fits(section: &Option<InitSection>) -> bool
+fn optional_section_fits(section: &Option<Shared<InitSection>>) -> bool
     ensures { result ≡ if_some section_fits section.now }
 {
     match section {

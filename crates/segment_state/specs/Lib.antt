@@ -1,4 +1,5 @@
 pub mod Attributes
+pub mod Kept
 pub mod Running
 pub mod Views
 pub mod Tags

@@ -10,7 +10,7 @@ extent_of e = record { uri = e.uri; range = e.range }
 
 abbrev pub running_of : Inside → Running
 running_of a = record {
-  base = a.base.now;
+  base = a.references;
   standing = record {
     sequence = a.sequence;
     discontinuity_sequence = a.discontinuity_sequence;

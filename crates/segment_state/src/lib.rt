@@ -11,19 +11,22 @@ ghost use Rattle.playlist_meaning.specs.Said as said;
 ghost use Rattle.playlist_meaning.specs.Said.{uri_of, duration_said};
 ghost use Rattle.playlist_meaning.specs.Refusals.{Refuses};
 ghost use Rattle.segment_state.specs.Running.{running_at, behind_segment, Follows, Takes, TakesSegment};
+ghost use Rattle.playlist_meaning.specs.Refusals.{Gives};
 ghost use Rattle.segment_state.specs.Views.{extent_of};
 
 use crate::keys::{copied_keys, effective_keys, is_iv_needed, put_key};
-use crate::tags::{KeyTag, key_said, range_of, section_said, uri_of};
+use crate::references::References;
+use crate::tags::{KeyTag, key_said, range_of, section_said};
 use fixed_duration::Nanos;
 use playlist_meaning::{
-    Base, ByteRange, FaultKind, InitSection, Instant, Items, Key, Keys, Segment, Text,
+    Base, ByteRange, FaultKind, InitSection, Instant, Items, Key, Keys, Segment, Shared, Text,
 };
 use std::alloc::{AllocError, Global};
 use std::marker::Model;
 
 pub mod attributes;
 mod keys;
+mod references;
 mod tags;
 mod times;
 
@@ -41,7 +44,7 @@ struct Extent {
 #[derive(Drop)]
 pub struct State<'a> {
     alloc: Global,
-    base: &'a Base,
+    references: References<'a>,
     sequence: u64,
     discontinuity_sequence: u64,
     media: u64,
@@ -51,7 +54,7 @@ pub struct State<'a> {
     range: Option<(u64, Option<u64>)>,
     time: Option<Instant>,
     keys: Vec<Key>,
-    section: Option<InitSection>,
+    section: Option<Shared<InitSection>>,
     last: Option<Extent>,
 }
 
@@ -74,7 +77,7 @@ impl<'a> State<'a> {
     {
         State {
             alloc,
-            base,
+            references: References::new(alloc, base),
             sequence: 0,
             discontinuity_sequence: 0,
             media: 0,
@@ -145,7 +148,7 @@ impl<'a> State<'a> {
     pub fn key_tag(&mut self, rest: &str) -> Result<(), FaultKind>
         ensures { Takes (λ base before. said_by_tag limited base before said.key_tag rest.now) self.old self.new result }
     {
-        match key_said(self.alloc, self.base, rest)? {
+        match key_said(self.alloc, self.references.base(), rest)? {
             KeyTag::End => self.keys.clear(),
             KeyTag::Set(key) => put_key(&mut self.keys, key)?,
         }
@@ -158,16 +161,17 @@ impl<'a> State<'a> {
     pub fn map_tag(&mut self, rest: &str) -> Result<(), FaultKind>
         ensures { Takes (λ base before. said_by_tag limited base before said.map_tag rest.now) self.old self.new result }
     {
-        let tag = section_said(self.alloc, self.base, rest)?;
+        let tag = section_said(self.alloc, self.references.base(), rest)?;
         if is_iv_needed(self.keys.as_slice()) {
             return Err(FaultKind::MapWithoutIv);
         }
         let keys = copied_keys(self.alloc, self.keys.as_slice())?;
-        self.section = Some(InitSection {
+        let section = InitSection {
             uri: tag.uri,
             range: tag.range,
             keys: Items::from_vec(keys),
-        });
+        };
+        self.section = Some(Shared::new(self.alloc, section)?);
         Ok(())
     }
 
@@ -191,6 +195,17 @@ impl<'a> State<'a> {
         ensures { SomeIff result (self.now.standing.sequence + self.now.standing.media_count < 2 ^ 64) (self.now.standing.sequence + self.now.standing.media_count) }
     {
         self.sequence.checked_add(self.media)
+    }
+
+    // The resource of the next segment.
+    fn uri(&mut self, reference: &str) -> Result<Text, FaultKind>
+        ensures value { Gives (λ uri. uri) result (uri_of self.old.base reference.now) }
+        ensures kept { self.new ≡ self.old }
+    {
+        match self.range {
+            None => self.references.resolve(reference),
+            Some(_) => self.references.resolve_part(reference),
+        }
     }
 
     // The range of a segment of this resource here.
@@ -245,11 +260,11 @@ impl<'a> State<'a> {
         let Some(number) = self.number() else {
             return Err(FaultKind::BadValue);
         };
-        let uri = uri_of(self.base, reference)?;
+        let uri = self.uri(reference)?;
         let range = self.next_range(uri.as_str())?;
         let last = extent_with(self.alloc, uri.as_str(), range)?;
         let keys = self.effective_keys(number)?;
-        let section = copied_section(self.alloc, &self.section)?;
+        let section = self.section.clone()?;
         let (duration, title) = self.duration.take().unwrap();
         let segment = Segment {
             number,
@@ -281,22 +296,6 @@ fn extent_with(
     };
     let uri = Text::copy_of(alloc, uri)?;
     Ok(Some(Extent { uri, range }))
-}
-
-fn copied_section(
-    alloc: Global,
-    section: &Option<InitSection>,
-) -> Result<Option<InitSection>, AllocError>
-    ensures { IfOk result (λ s. s ≡ section.now) }
-{
-    let Some(section) = section else {
-        return Ok(None);
-    };
-    Ok(Some(InitSection {
-        uri: section.uri.clone()?,
-        range: section.range,
-        keys: Items::from_vec(copied_keys(alloc, section.keys.as_slice())?),
-    }))
 }
 
 // What stands before the first comma and after it. Without one the whole text stands before it.

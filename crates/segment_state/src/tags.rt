@@ -12,7 +12,7 @@ ghost use Rattle.segment_state.specs.Tags.{others_of, key_tag_said, section_tag_
 
 use crate::attributes::{attributes_of, optional, required};
 use attr_list::{Attr, AttrList, read_decimal, read_hex_u128};
-use playlist_meaning::{Base, BaseFault, ByteRange, FaultKind, Items, Key, KeyAttr, Text};
+use playlist_meaning::{Base, BaseFault, ByteRange, FaultKind, Items, Key, KeyAttr, Shared, Text};
 use std::alloc::{AllocError, Global};
 
 /// The format of a key that states none.
@@ -94,6 +94,12 @@ fn other_attributes(alloc: Global, list: &[Attr]) -> Result<Vec<KeyAttr>, AllocE
     Ok(others)
 }
 
+fn shared_text(alloc: Global, text: &str) -> Result<Shared<Text>, AllocError>
+    ensures { IfOk result (λ t. t ≡ text.now) }
+{
+    Shared::new(alloc, Text::copy_of(alloc, text)?)
+}
+
 fn set_key(alloc: Global, base: &Base, list: &AttrList, method: &str) -> Result<Key, FaultKind>
     ensures { Gives said.key result (set_key base.now (pairs_of list.now) method.now) }
 {
@@ -101,12 +107,13 @@ fn set_key(alloc: Global, base: &Base, list: &AttrList, method: &str) -> Result<
     let iv = iv_of(list)?;
     let format = optional(list, "KEYFORMAT", true)?;
     let uri = uri_of(base, reference)?;
+    let other = other_attributes(alloc, list.as_slice())?;
     Ok(Key {
-        format: Text::copy_of(alloc, format.unwrap_or(IDENTITY))?,
-        method: Text::copy_of(alloc, method)?,
-        uri,
+        format: shared_text(alloc, format.unwrap_or(IDENTITY))?,
+        method: shared_text(alloc, method)?,
+        uri: Shared::new(alloc, uri)?,
         iv,
-        other: Items::from_vec(other_attributes(alloc, list.as_slice())?),
+        other: Shared::new(alloc, Items::from_vec(other))?,
     })
 }
 

@@ -1,16 +1,20 @@
 //! Each public call once.
 use crate::{KeyTag, StitchFault, is_new, keeps_formats, transition};
-use playlist_meaning::{InitSection, Items, Key, Text, is_same_key, is_same_section};
+use playlist_meaning::{InitSection, Items, Key, Shared, Text, is_same_key, is_same_section};
 use std::alloc::{AllocError, Global};
 use std::test::Fail;
 
+fn shared(alloc: Global, text: &str) -> Result<Shared<Text>, AllocError> {
+    Shared::new(alloc, Text::copy_of(alloc, text)?)
+}
+
 fn key(alloc: Global, format: &str, uri: &str) -> Result<Key, AllocError> {
     Ok(Key {
-        format: Text::copy_of(alloc, format)?,
-        method: Text::copy_of(alloc, "AES-128")?,
-        uri: Text::copy_of(alloc, uri)?,
+        format: shared(alloc, format)?,
+        method: shared(alloc, "AES-128")?,
+        uri: shared(alloc, uri)?,
         iv: Some(1),
-        other: Items::from_vec(Vec::new(alloc)),
+        other: Shared::new(alloc, Items::from_vec(Vec::new(alloc)))?,
     })
 }
 

@@ -118,7 +118,8 @@ pub fn instants(alloc: Global, segments: &[Segment]) -> Result<Vec<Option<Instan
     Ok(found)
 }
 
-fn with_time(segment: (Segment, Option<Instant>)) -> Segment
+/// The segment, which states this instant, or none.
+pub fn with_time(segment: (Segment, Option<Instant>)) -> Segment
     ensures { result ≡ with_time segment }
 {
     let (mut segment, begun) = segment;

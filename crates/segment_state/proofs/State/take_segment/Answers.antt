@@ -13,17 +13,17 @@ returns c = λ before e.
       room = sym c.is_full.ensures ∙ c.if-is_full.false;
       own_is = search rules;
       number = search rules;
-      resource = ap (λ (r : Running). uri_of r.base c.args.reference.now) (sym c.self.view_is) ∙ c.in_ok-uri.ensures;
+      resource = c.in_ok-uri.ensures.value;
       part = search rules;
     } in
     let all = taken _ _ before _ _ _ _ t e in
-    let v = c.self.view_is in
+    let v = c.self-2.view_is ∙ c.in_ok-uri.ensures.kept in
     let number : c.in-Some.number ≡ c.args.self.now.standing.sequence + c.args.self.now.standing.media_count = search rules in
-    let keys : c.in_ok-keys.keys ≡ map (effective_key c.in-Some.number) c.args.self.now.standing.keys = c.in_ok-keys.ensures in
+    let keys : c.in_ok-keys.keys ≡ map (effective_key c.in-Some.number) c.args.self.now.standing.keys = search rules in
     let section : c.in_ok-section.section ≡ c.args.self.now.standing.section = search rules in
     let discontinuity : c.discontinuity_number.result ≡ c.args.self.now.standing.discontinuity_sequence + c.args.self.now.standing.discontinuities = search rules in
-    let steps : c.self.inside.steps ≡ c.args.self.now.standing.steps = search rules in
-    let time : c.self.inside.time ≡ c.args.self.now.standing.time = search rules in
+    let steps : c.self-2.inside.steps ≡ c.args.self.now.standing.steps = search rules in
+    let time : c.self-2.inside.time ≡ c.args.self.now.standing.time = search rules in
     let last : c.segment_stands.new.self ≡ behind_segment c.args.self.now (extent_with c.in_ok-uri.uri c.in_ok-range.range) =
     c.segment_stands.ensures ∙ ap (λ (r : Running). behind_segment r (option_map extent_of c.in_ok-last.last)) v
     ∙ ap (behind_segment c.args.self.now) (c.in_ok-last.ensures ∙ ap (λ u. extent_with u c.in_ok-range.range) c.as_str-2.ensures.text) in

@@ -1,0 +1,80 @@
+//! The references of a playlist, resolved against its base (RFC 3986, section 5).
+ghost use Rattle.std.specs.Prelude.{◌≡◌};
+ghost use Rattle.playlist_meaning.specs.Said.{uri_of};
+ghost use Rattle.playlist_meaning.specs.Refusals.{Gives};
+
+use crate::tags::uri_of;
+use playlist_meaning::{Base, FaultKind, Text};
+use std::alloc::Global;
+use std::marker::Model;
+
+/// A reference, and the resource that it names.
+#[derive(Drop)]
+struct Resolved {
+    reference: Text,
+    uri: Text,
+}
+
+/// The base of a playlist's references, and the last one of a segment that is a part of its resource:
+/// the parts of a file stand one after another, and so its reference is resolved once.
+#[derive(Drop)]
+pub struct References<'a> {
+    alloc: Global,
+    base: &'a Base,
+    last: Option<Resolved>,
+}
+
+impl<'a> Model for References<'a> {
+    ghost use Rattle.url.specs.Parts.{Parts};
+    ghost use Rattle.segment_state.specs.Kept.{IsResolved};
+
+    ghost Value = { Parts };
+
+    ghost view = { λ a. a.base.now };
+
+    ghost invariant = { λ a. IsResolved a.base.now a.last };
+}
+
+impl<'a> References<'a> {
+    pub fn new(alloc: Global, base: &'a Base) -> References<'a>
+        ensures { result ≡ base.now }
+    {
+        References {
+            alloc,
+            base,
+            last: None,
+        }
+    }
+
+    pub fn base(&self) -> &'a Base
+        ensures { result.now ≡ self.now }
+    {
+        self.base
+    }
+
+    /// The resource that a reference names.
+    pub fn resolve(&self, reference: &str) -> Result<Text, FaultKind>
+        ensures { Gives (λ uri. uri) result (uri_of self.now reference.now) }
+    {
+        uri_of(self.base, reference)
+    }
+
+    /// The resource of which a segment is a part. It is kept for the next part.
+    pub fn resolve_part(&mut self, reference: &str) -> Result<Text, FaultKind>
+        ensures value { Gives (λ uri. uri) result (uri_of self.old reference.now) }
+        ensures kept { self.new ≡ self.old }
+    {
+        if let Some(last) = &self.last {
+            if reference == last.reference.as_str() {
+                return Ok(last.uri.clone()?);
+            }
+        }
+        let uri = uri_of(self.base, reference)?;
+        let reference = Text::copy_of(self.alloc, reference)?;
+        self.last = Some(Resolved {
+            reference,
+            uri: uri.clone()?,
+        });
+        Ok(uri)
+    }
+}
