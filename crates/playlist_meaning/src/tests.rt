@@ -1,8 +1,8 @@
 //! Each public call once, and what no clause says.
 use crate::device::READ_ROOM;
 use crate::{
-    Base, BaseFault, Counted, FaultKind, Instant, Items, Pieces, PlaylistFault, Sink, Source,
-    Taken, Text, TimeFault, has_control, has_scheme, read_instant, same_resource, text_of,
+    Base, BaseFault, Counted, FaultKind, Instant, Items, Pieces, PlaylistFault, Shared, Sink,
+    Source, Taken, Text, TimeFault, has_control, has_scheme, read_instant, same_resource, text_of,
     write_instant,
 };
 use std::test::Fail;
@@ -136,6 +136,10 @@ fn texts_and_lists(rt: HostRuntime) -> Result<(), Fail> {
     assert_eq!(rt; copy.into_string().as_str(), "s0.ts");
     let other = Text::from_string(String::from_str(rt.alloc(), "s1.ts")?);
     assert!(rt; text != other);
+    let shared = Shared::copy_of(rt.alloc(), "s0.ts")?;
+    assert!(rt; shared.clone()? == Shared::new(rt.alloc(), text)?);
+    assert!(rt; shared != Shared::new(rt.alloc(), other)?);
+    assert_eq!(rt; shared.as_str(), "s0.ts");
     let items = Items::from_vec([1u8, 2, 3].to_vec(rt.alloc())?);
     assert_eq!(rt; items.len(), 3);
     assert_eq!(rt; items.as_slice(), [1u8, 2, 3].as_slice());

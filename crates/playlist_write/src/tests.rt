@@ -45,15 +45,11 @@ fn text(alloc: Global, text: &str) -> Result<Text, AllocError> {
     Text::copy_of(alloc, text)
 }
 
-fn shared(alloc: Global, from: &str) -> Result<Shared<Text>, AllocError> {
-    Shared::new(alloc, text(alloc, from)?)
-}
-
 fn key(alloc: Global, uri: &str, iv: u128) -> Result<Key, AllocError> {
     Ok(Key {
-        format: shared(alloc, "identity")?,
-        method: shared(alloc, "AES-128")?,
-        uri: shared(alloc, uri)?,
+        format: Shared::copy_of(alloc, "identity")?,
+        method: Shared::copy_of(alloc, "AES-128")?,
+        uri: Shared::copy_of(alloc, uri)?,
         iv: Some(iv),
         other: Shared::new(alloc, Items::from_vec(Vec::new(alloc)))?,
     })
@@ -71,9 +67,9 @@ fn drm_key(alloc: Global) -> Result<Key, AllocError> {
     let versions = other(alloc, "KEYFORMATVERSIONS", "1", true)?;
     let others = vec![in alloc; versions, other(alloc, "X", "2", false)?]?;
     Ok(Key {
-        format: shared(alloc, "com.example.drm")?,
-        method: shared(alloc, "SAMPLE-AES")?,
-        uri: shared(alloc, "skd://1")?,
+        format: Shared::copy_of(alloc, "com.example.drm")?,
+        method: Shared::copy_of(alloc, "SAMPLE-AES")?,
+        uri: Shared::copy_of(alloc, "skd://1")?,
         iv: None,
         other: Shared::new(alloc, Items::from_vec(others))?,
     })

@@ -9,9 +9,8 @@ ghost use Rattle.playlist_meaning.specs.LookBack.{standing_at, range_from, range
 ghost use Rattle.playlist_meaning.specs.Reading.{limited, said_by_tag, said_by_uri};
 ghost use Rattle.playlist_meaning.specs.Said as said;
 ghost use Rattle.playlist_meaning.specs.Said.{uri_of, duration_said};
-ghost use Rattle.playlist_meaning.specs.Refusals.{Refuses};
+ghost use Rattle.playlist_meaning.specs.Refusals.{Gives, Refuses};
 ghost use Rattle.segment_state.specs.Running.{running_at, behind_segment, Follows, Takes, TakesSegment};
-ghost use Rattle.playlist_meaning.specs.Refusals.{Gives};
 ghost use Rattle.segment_state.specs.Views.{extent_of};
 
 use crate::keys::{copied_keys, effective_keys, is_iv_needed, put_key};

@@ -94,12 +94,6 @@ fn other_attributes(alloc: Global, list: &[Attr]) -> Result<Vec<KeyAttr>, AllocE
     Ok(others)
 }
 
-fn shared_text(alloc: Global, text: &str) -> Result<Shared<Text>, AllocError>
-    ensures { IfOk result (λ t. t ≡ text.now) }
-{
-    Shared::new(alloc, Text::copy_of(alloc, text)?)
-}
-
 fn set_key(alloc: Global, base: &Base, list: &AttrList, method: &str) -> Result<Key, FaultKind>
     ensures { Gives said.key result (set_key base.now (pairs_of list.now) method.now) }
 {
@@ -109,8 +103,8 @@ fn set_key(alloc: Global, base: &Base, list: &AttrList, method: &str) -> Result<
     let uri = uri_of(base, reference)?;
     let other = other_attributes(alloc, list.as_slice())?;
     Ok(Key {
-        format: shared_text(alloc, format.unwrap_or(IDENTITY))?,
-        method: shared_text(alloc, method)?,
+        format: Shared::copy_of(alloc, format.unwrap_or(IDENTITY))?,
+        method: Shared::copy_of(alloc, method)?,
         uri: Shared::new(alloc, uri)?,
         iv,
         other: Shared::new(alloc, Items::from_vec(other))?,

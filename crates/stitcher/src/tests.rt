@@ -4,15 +4,11 @@ use playlist_meaning::{InitSection, Items, Key, Shared, Text, is_same_key, is_sa
 use std::alloc::{AllocError, Global};
 use std::test::Fail;
 
-fn shared(alloc: Global, text: &str) -> Result<Shared<Text>, AllocError> {
-    Shared::new(alloc, Text::copy_of(alloc, text)?)
-}
-
 fn key(alloc: Global, format: &str, uri: &str) -> Result<Key, AllocError> {
     Ok(Key {
-        format: shared(alloc, format)?,
-        method: shared(alloc, "AES-128")?,
-        uri: shared(alloc, uri)?,
+        format: Shared::copy_of(alloc, format)?,
+        method: Shared::copy_of(alloc, "AES-128")?,
+        uri: Shared::copy_of(alloc, uri)?,
         iv: Some(1),
         other: Shared::new(alloc, Items::from_vec(Vec::new(alloc)))?,
     })
