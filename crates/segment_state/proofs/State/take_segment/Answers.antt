@@ -1,6 +1,5 @@
 use Rattle.std.proofs.Common.{◌≡◌, ◌+◌, map, ◌∙◌, ap, sym, rules}
 use Rattle.playlist_meaning.specs.LookBack.{effective_key, extent_with}
-use Rattle.playlist_meaning.specs.Said.{uri_of}
 use Rattle.std.specs.Prelude.{option_map}
 use Rattle.segment_state.specs.Views.{extent_of}
 use Rattle.segment_state.specs.Running.{Running, behind_segment}
