@@ -15,14 +15,16 @@ use std::marker::Model;
 mod base;
 pub mod device;
 mod fault;
+mod in_force;
 mod items;
 pub mod pieces;
 mod read_time;
 mod same;
 mod write_time;
 
-pub use base::{Base, BaseFault, has_scheme, same_resource};
+pub use base::{Base, BaseFault, has_quote, has_scheme, same_resource};
 pub use device::{Counted, Sink, Source};
+pub use in_force::is_iv_needed;
 pub use items::{Items, Shared, Text};
 pub use pieces::{Pieces, Taken};
 pub use read_time::{TimeFault, read_instant};

@@ -1,10 +1,11 @@
 //! Each public call once, and what no clause says.
 use crate::device::READ_ROOM;
 use crate::{
-    Base, BaseFault, Counted, FaultKind, Instant, Items, Pieces, PlaylistFault, Shared, Sink,
-    Source, Taken, Text, TimeFault, has_control, has_scheme, read_instant, same_resource, text_of,
-    write_instant,
+    Base, BaseFault, Counted, FaultKind, Instant, Items, Key, Pieces, PlaylistFault, Shared, Sink,
+    Source, Taken, Text, TimeFault, has_control, has_quote, has_scheme, is_iv_needed, read_instant,
+    same_resource, text_of, write_instant,
 };
+use std::alloc::{AllocError, Global};
 use std::test::Fail;
 
 const BASE: &str = "http://origin.example/ch/index.m3u8";
@@ -156,6 +157,30 @@ fn bytes_and_characters(rt: HostRuntime) -> Result<(), Fail> {
         assert!(rt; has_control(text), "{text}");
     }
     assert!(rt; !has_control("a \u{a0}\u{e9}\u{1f4fa}"));
+    assert!(rt; has_quote("a\"b"));
+    assert!(rt; !has_quote("a'b"));
+    Ok(())
+}
+
+fn key(alloc: Global, format: &str, iv: Option<u128>) -> Result<Key, AllocError> {
+    Ok(Key {
+        format: Shared::copy_of(alloc, format)?,
+        method: Shared::copy_of(alloc, "AES-128")?,
+        uri: Shared::copy_of(alloc, "http://origin.example/k")?,
+        iv,
+        other: Shared::new(alloc, Items::from_vec(Vec::new(alloc)))?,
+    })
+}
+
+#[test]
+fn keys_beside_others(rt: HostRuntime) -> Result<(), Fail> {
+    let first = key(rt.alloc(), "com.example", Some(1))?;
+    let second = key(rt.alloc(), "identity", None)?;
+    assert!(rt; first.is_before(&second));
+    assert!(rt; !second.is_before(&first));
+    assert!(rt; !first.is_before(&first));
+    assert!(rt; !is_iv_needed([first].as_slice()));
+    assert!(rt; is_iv_needed([second].as_slice()));
     Ok(())
 }
 

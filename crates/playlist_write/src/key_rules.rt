@@ -2,11 +2,10 @@
 ghost use Rattle.std.specs.Prelude.{◌≡◌, ◌&&◌, not, true, false, bytes_eq};
 ghost use Rattle.std.specs.List.{list_any, list_all};
 ghost use Rattle.playlist_meaning.specs.LookBack.{is_before, are_sorted};
-ghost use Rattle.playlist_meaning.specs.Reading.{needs_iv};
 ghost use Rattle.playlist_write.specs.Fitting.{if_some, range_fits, is_own_name, other_fits, is_apart, have_distinct_names, iv_fits, method_fits, key_fits, keys_fit, states_iv, effective_keys_fit, section_fits};
 
 use crate::texts::{is_name, quoted_uri_fits, value_fits};
-use playlist_meaning::{ByteRange, InitSection, Key, KeyAttr, Text};
+use playlist_meaning::{ByteRange, InitSection, Key, KeyAttr, Text, is_iv_needed};
 
 /// Whether a range ends below 2^64, where there is one.
 pub fn range_fits(range: Option<ByteRange>) -> bool
@@ -96,16 +95,10 @@ fn all_fit(keys: &[Key]) -> bool
     keys.iter().all(|key: &Key| key_fits(key))
 }
 
-fn is_before(key: &Key, other: &Key) -> bool
-    ensures { result ≡ is_before key.now other.now }
-{
-    key.format.as_str() < other.format.as_str()
-}
-
 fn stands_before(key: &Key, later: &[Key]) -> bool
     ensures { result ≡ list_all (is_before key.now) later.now }
 {
-    later.iter().all(|other: &Key| is_before(key, other))
+    later.iter().all(|other: &Key| key.is_before(other))
 }
 
 fn are_sorted(keys: &[Key]) -> bool
@@ -144,18 +137,6 @@ pub fn effective_keys_fit(keys: &[Key]) -> bool
     keys_fit(keys) && all_state_ivs(keys)
 }
 
-fn needs_iv(key: &Key) -> bool
-    ensures { result ≡ needs_iv key.now }
-{
-    key.method.as_str() == "AES-128" && key.iv.is_none()
-}
-
-fn one_needs_iv(keys: &[Key]) -> bool
-    ensures { result ≡ list_any needs_iv keys.now }
-{
-    keys.iter().any(|key: &Key| needs_iv(key))
-}
-
 /// Whether a section can be written: its AES-128 keys have an IV.
 pub fn section_fits(section: &InitSection) -> bool
     ensures { result ≡ section_fits section.now }
@@ -164,5 +145,5 @@ pub fn section_fits(section: &InitSection) -> bool
     quoted_uri_fits(&section.uri)
         && range_fits(section.range)
         && keys_fit(keys)
-        && !one_needs_iv(keys)
+        && !is_iv_needed(keys)
 }

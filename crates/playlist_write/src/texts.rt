@@ -4,7 +4,7 @@ ghost use Rattle.std.specs.List.{list_any, list_all};
 ghost use Rattle.attr_list.specs.Attributes.{is_name, is_name_byte, is_quote, ends_plain, is_value};
 ghost use Rattle.playlist_write.specs.Fitting.{is_clean, value_fits, uri_fits, quoted_uri_fits};
 
-use playlist_meaning::{Text, has_control, has_scheme};
+use playlist_meaning::{Text, has_control, has_quote, has_scheme};
 
 /// Whether a text holds no control character.
 pub fn is_clean(text: &Text) -> bool
@@ -24,12 +24,6 @@ pub fn is_name(text: &str) -> bool
     ensures { result ≡ is_name text.now }
 {
     !text.is_empty() && are_name_bytes(text)
-}
-
-fn has_quote(text: &str) -> bool
-    ensures { result ≡ list_any is_quote text.now }
-{
-    text.as_bytes().iter().any(|b| *b == b'"')
 }
 
 // Whether a text holds what can't stand in a value without quotes.

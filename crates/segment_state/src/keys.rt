@@ -2,7 +2,6 @@
 ghost use Rattle.std.specs.Prelude.{◌≡◌, ◌≤◌, ℕ, ◌<◌, ◌+◌, not, Ok, IfOk, IfErr, OnOk, length, map, filter, vec_len, vec_capacity};
 ghost use Rattle.std.specs.List.{list_any, position_or_len};
 ghost use Rattle.playlist_meaning.specs.LookBack.{effective_key, is_before, without_format, has_format};
-ghost use Rattle.playlist_meaning.specs.Reading.{needs_iv};
 ghost use Rattle.playlist_meaning.specs.Refusals.{Refuses};
 ghost use Rattle.segment_state.specs.Tags.{with_key};
 
@@ -40,32 +39,13 @@ pub fn effective_keys(alloc: Global, keys: &[Key], number: u64) -> Result<Vec<Ke
     Ok(found)
 }
 
-fn needs_iv(key: &Key) -> bool
-    ensures { result ≡ needs_iv key.now }
-{
-    key.method.as_str() == "AES-128" && key.iv.is_none()
-}
-
-/// Whether a key in force can't decrypt an initialisation section, since it states no IV.
-pub fn is_iv_needed(keys: &[Key]) -> bool
-    ensures { result ≡ list_any needs_iv keys.now }
-{
-    keys.iter().any(needs_iv)
-}
-
-fn is_before(key: &Key, other: &Key) -> bool
-    ensures { result ≡ is_before key.now other.now }
-{
-    key.format.as_str() < other.format.as_str()
-}
-
 // The place of the first key of a greater format.
 fn place_of(keys: &[Key], key: &Key) -> usize
     ensures place { result ≡ position_or_len (is_before key.now) keys.now }
     ensures within { result ≤ length keys.now }
 {
     keys.iter()
-        .take_while(|other| !is_before(key, *other))
+        .take_while(|other| !key.is_before(*other))
         .count()
 }
 
