@@ -3,7 +3,7 @@ ghost use Rattle.std.specs.Prelude.{◌≡◌, drop, true, false, MatchOption};
 ghost use Rattle.std.specs.Option.{ok_or};
 ghost use Rattle.std.specs.List.{list_all};
 ghost use Rattle.std.specs.Char.{is_ascii_digit, is_ascii_hexdigit};
-ghost use Rattle.attr_list.specs.Numbers.{decimal_of, hex_of, has_hex_prefix, has_up_to};
+ghost use Rattle.attr_list.specs.Numbers.{decimal_of, hex_of, has_hex_prefix};
 
 use crate::AttrFault;
 

@@ -1,5 +1,5 @@
 //! The front of a text, cut into a name and a value. Nothing here takes memory.
-ghost use Rattle.std.specs.Prelude.{◌≡◌, ◌∷◌, ◌++◌, not, false, Some, MatchResult};
+ghost use Rattle.std.specs.Prelude.{◌≡◌, ◌∷◌, not, false, Some, MatchResult};
 ghost use Rattle.std.specs.List.{position_or_len};
 ghost use Rattle.attr_list.specs.Attributes.{is_name_byte, ends_plain};
 ghost use Rattle.attr_list.specs.Scanning.{first_piece, ends_pair, begins_quoted, name_fault, IsNamed, IsValued, HasValueFault};

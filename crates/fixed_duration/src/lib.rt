@@ -2,7 +2,7 @@
 //! (RFC 8216, section 4.3.2.1, EXTINF): digits with at most one point.
 #![tactic(auto)]
 
-ghost use Rattle.std.specs.Prelude.{◌≡◌, ℕ, ◌+◌, ◌*◌, ◌/◌, ◌^◌, ◌<◌, ◌≤◌, ◌++◌, List, Ok, OnOk, OnErr, IsTrue, string_bytes, string_len, string_capacity};
+ghost use Rattle.std.specs.Prelude.{◌≡◌, ℕ, ◌+◌, ◌*◌, ◌/◌, ◌^◌, ◌<◌, ◌≤◌, ◌++◌, Ok, OnOk, OnErr, IsTrue, string_bytes, string_len, string_capacity};
 ghost use Rattle.std.specs.Option.{SomeIff};
 ghost use Rattle.fixed_duration.specs.Text.{whole_part, fraction_part, are_digits, number_of, nine_digits, fraction_digits};
 ghost use Rattle.fixed_duration.specs.Duration.{duration_of, duration_text, rounded_seconds_of};

@@ -1,5 +1,5 @@
 //! One input, one playlist.
-ghost use Rattle.std.specs.Prelude.{true, ◌≡◌, ◌≢◌, ℕ, ◌+◌, ◌≤◌, Ok, Err, Some, None, OnOk, IfOk, IfErr, IsErrOf, IsNone};
+ghost use Rattle.std.specs.Prelude.{true, ◌≡◌, ◌≢◌, ◌+◌, ◌≤◌, Ok, Err, Some, None, OnOk, IfOk, IfErr, IsErrOf, IsNone};
 ghost use Rattle.std.specs.Io.KnownBytes.{Appends, Keeps};
 ghost use Rattle.playlist_write.specs.Handed.{TookFront};
 ghost use Rattle.playlist_meaning.specs.Devices.{HasRisen, CalledAll};

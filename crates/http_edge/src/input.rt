@@ -1,5 +1,5 @@
 //! An input, read to its end.
-ghost use Rattle.std.specs.Prelude.{◌≡◌, ◌+◌, ◌≤◌, IfOk, IfErr, IsErrOf};
+ghost use Rattle.std.specs.Prelude.{◌+◌, ◌≤◌, IfOk, IfErr, IsErrOf};
 ghost use Rattle.playlist_meaning.specs.Devices.{HasRisen, CalledAll};
 ghost use Rattle.http_edge.specs.Streams.{GaveAll, IsOfReading};
 

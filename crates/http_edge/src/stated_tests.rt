@@ -1,5 +1,5 @@
 //! Playlists with a pod in the place of one run, byte for byte.
-ghost use Rattle.std.specs.Prelude.{◌≡◌, ◌<◌, length, IfOk, IsTrue};
+ghost use Rattle.std.specs.Prelude.{◌<◌, length, IfOk, IsTrue};
 ghost use Rattle.std.specs.List.{list_all};
 ghost use Rattle.http_edge.specs.Stated.{can_be_stated};
 

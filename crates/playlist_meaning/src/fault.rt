@@ -1,5 +1,5 @@
 //! How faults are printed.
-ghost use Rattle.std.specs.Prelude.{◌≡◌, Some};
+ghost use Rattle.std.specs.Prelude.{Some};
 ghost use Rattle.playlist_meaning.specs.FaultTexts.{kind_text, fault_text};
 
 use crate::{FaultKind, PlaylistFault};

@@ -1,7 +1,7 @@
 //! The data of playlists and what their texts mean.
 #![tactic(auto)]
 
-ghost use Rattle.std.specs.Prelude.{◌≡◌, ℕ, List, [], ◌∷◌, ◌++◌, length, codes, Ok, Err, Some, None, Result, IfOk, string_bytes, true, false, pos, unwrap_or};
+ghost use Rattle.std.specs.Prelude.{◌≡◌, List, length, Ok, Err, Result, true, false};
 ghost use Rattle.std.specs.Prelude.{MatchResult, IsTrue};
 ghost use Rattle.std.specs.Str.{is_utf8};
 ghost use Rattle.std.specs.List.{list_all};

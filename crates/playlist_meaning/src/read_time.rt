@@ -1,5 +1,5 @@
 //! The instant that a text says.
-ghost use Rattle.std.specs.Prelude.{◌≡◌, ℕ, ◌+◌, ◌-◌, ◌*◌, ◌^◌, ◌<◌, ◌≤◌, ◌==◌, List, drop, take, length, pos, ◌-ℤ◌, ◌+ℤ◌, ◌*ℤ◌, Some, IsTrue, true, false, slice_index, MatchOption};
+ghost use Rattle.std.specs.Prelude.{◌≡◌, ◌+◌, ◌-◌, ◌*◌, ◌^◌, ◌<◌, ◌≤◌, ◌==◌, drop, length, pos, ◌-ℤ◌, ◌+ℤ◌, ◌*ℤ◌, Some, IsTrue, true, false, slice_index, MatchOption};
 ghost use Rattle.std.specs.Option.{ok_or, IfSome};
 ghost use Rattle.jiff_core.specs.Calendar.{IsEpochDay, IsWithin};
 ghost use Rattle.std.specs.List.{list_all, prefix_len};

@@ -1,6 +1,6 @@
 //! Worked rows of the definitions.
 
-ghost use Rattle.std.specs.Prelude.{◌≡◌, ℕ, [], ◌∷◌, ◌++◌, codes, Ok, Err, Some, None, true, false, pos, negsuc, map};
+ghost use Rattle.std.specs.Prelude.{◌≡◌, [], ◌∷◌, ◌++◌, codes, Ok, Err, Some, None, true, false, pos, negsuc, map};
 ghost use Rattle.playlist_meaning.specs.Instant.{instant_of};
 ghost use Rattle.playlist_meaning.specs.Instants.{instants_of};
 ghost use Rattle.playlist_meaning.specs.Times.{time_text};

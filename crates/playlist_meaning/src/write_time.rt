@@ -1,6 +1,6 @@
 //! How an instant is written.
-ghost use Rattle.std.specs.Prelude.{◌≡◌, ◌++◌, ◌<◌, ◌≤◌, ◌^◌, ◌+◌, ℕ, ℤ, [], ◌∷◌, OnOk, string_bytes, Some, true};
-ghost use Rattle.std.specs.Prelude.{◌*◌, ◌/◌, ◌%◌};
+ghost use Rattle.std.specs.Prelude.{◌≡◌, ◌++◌, ◌<◌, ◌≤◌, ◌^◌, ◌+◌, [], OnOk, string_bytes, Some, true};
+ghost use Rattle.std.specs.Prelude.{◌/◌, ◌%◌};
 ghost use Rattle.playlist_meaning.specs.Instant.{is_leap, days_in_month, in_range, instant_of};
 ghost use Rattle.playlist_meaning.specs.Digits.{fixed_digits};
 ghost use Rattle.playlist_meaning.specs.Times.{from_1900, days_in_year, year_after, month_after, decimals, date_at, clock_text, time_text};

@@ -1,9 +1,8 @@
 //! The lines of a playlist and their kinds (RFC 8216, section 4.1).
-ghost use Rattle.std.specs.Prelude.{◌≡◌, ℕ, List, [], ◌∷◌, ◌++◌, map, codes, Ok, Err, IfOk, nat_eq, IsTrue, ◌==◌, ◌+◌, ◌^◌, ◌<◌, length};
-ghost use Rattle.std.specs.List.{list_all, list_any, before_first, after_first};
+ghost use Rattle.std.specs.Prelude.{◌≡◌, map, Ok, IfOk, ◌==◌, ◌+◌, ◌^◌, ◌<◌, length};
 ghost use Rattle.std.specs.Str.Lines.{lines, strip_carriage_return};
 ghost use Rattle.attr_list.specs.Attributes.{slices_at};
-ghost use Rattle.playlist_meaning.specs.Lines.{kind_of, is_blank, is_colon, is_tag, is_comment, placed_lines};
+ghost use Rattle.playlist_meaning.specs.Lines.{kind_of, is_blank, placed_lines};
 ghost use Rattle.playlist_parse.specs.LineViews.{slices_view, line_view, line_span, placed_line, placed_view, with_end, lines_view};
 
 use attr_list::Span;

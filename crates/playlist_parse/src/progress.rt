@@ -1,12 +1,11 @@
 //! A playlist as far as it has been read, and what each tag adds to it.
-ghost use Rattle.std.specs.Prelude.{◌≡◌, ℕ, Bool, [], ◌∷◌, Some, None, Ok, Err};
+ghost use Rattle.std.specs.Prelude.{◌≡◌, [], ◌∷◌, Some, None, Ok, Err};
 ghost use Rattle.std.specs.List.{list_any, list_all};
 ghost use Rattle.playlist_meaning.specs.Reading.{said_by, said_by_kind, said_by_tag, said_by_uri, has_section};
 ghost use Rattle.playlist_meaning.specs.Lines as kinds;
 ghost use Rattle.playlist_meaning.specs.Said as said;
 ghost use Rattle.playlist_meaning.specs.Said.{number, version_of, playlist_type_of};
 ghost use Rattle.playlist_meaning.specs.Reading.{limited};
-ghost use Rattle.playlist_parse.specs.LineViews.{slices_view, tag_view};
 ghost use Rattle.playlist_parse.specs.Progress.{progress_at, Takes, Ends};
 
 use crate::date_range::date_range_of;

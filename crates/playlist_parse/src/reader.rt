@@ -1,7 +1,7 @@
 //! The reader: from bytes to a playlist, or its first fault.
-ghost use Rattle.std.specs.Prelude.{◌≡◌, ◌≢◌, ℕ, ◌+◌, ◌<◌, [], ◌∷◌, map, Ok, Err, IfOk, IfErr, MatchResult, length};
+ghost use Rattle.std.specs.Prelude.{◌≡◌, ◌+◌, ◌<◌, [], ◌∷◌, map, Ok, Err};
 ghost use Rattle.playlist_meaning.specs.Said.{nothing};
-ghost use Rattle.playlist_meaning.specs.Reading.{reading, said_by, said_from, and_whole, Denotes};
+ghost use Rattle.playlist_meaning.specs.Reading.{reading, said_by, said_from, and_whole};
 ghost use Rattle.playlist_meaning.specs.Reading.{limited};
 ghost use Rattle.playlist_parse.specs.Answers.{Answers, fault_at};
 

@@ -1,5 +1,5 @@
 //! Numbers in a fixed number of digits.
-ghost use Rattle.std.specs.Prelude.{◌≡◌, ◌++◌, ◌≤◌, ◌<◌, ℕ, [], ◌∷◌, OnOk, string_bytes, true};
+ghost use Rattle.std.specs.Prelude.{◌≡◌, ◌++◌, ◌<◌, OnOk, string_bytes, true};
 ghost use Rattle.std.specs.Fmt.{digit_glyph};
 ghost use Rattle.playlist_meaning.specs.Digits.{fixed_digits};
 

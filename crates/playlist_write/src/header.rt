@@ -1,5 +1,5 @@
 //! The lines before and after the segments.
-ghost use Rattle.std.specs.Prelude.{◌≡◌, ◌++◌, ℕ, OnOk, string_bytes};
+ghost use Rattle.std.specs.Prelude.{◌≡◌, ◌++◌, OnOk, string_bytes};
 ghost use Rattle.playlist_meaning.specs.Said as Said;
 ghost use Rattle.playlist_write.specs.Spelling.{type_text};
 ghost use Rattle.playlist_write.specs.Owed.{line_of, range_line, said_text, numbers_owed, header_owed, type_owed, independent_owed, ended_owed, first_number, first_discontinuity, ranges_text};

@@ -1,5 +1,5 @@
 //! Which keys and initialisation sections can be written (RFC 8216, sections 4.3.2.4 and 4.3.2.5).
-ghost use Rattle.std.specs.Prelude.{◌≡◌, ◌&&◌, not, true, false, bytes_eq};
+ghost use Rattle.std.specs.Prelude.{◌≡◌, ◌&&◌, true, false, bytes_eq};
 ghost use Rattle.std.specs.List.{list_any, list_all};
 ghost use Rattle.playlist_meaning.specs.LookBack.{is_before, are_sorted};
 ghost use Rattle.playlist_write.specs.Fitting.{if_some, range_fits, is_own_name, other_fits, is_apart, have_distinct_names, iv_fits, method_fits, key_fits, keys_fit, states_iv, effective_keys_fit, section_fits};

@@ -1,6 +1,5 @@
 //! Key tags and map tags (RFC 8216, sections 4.3.2.4 and 4.3.2.5).
-ghost use Rattle.std.specs.Prelude.{◌≡◌, ◌++◌, ℕ, [], ◌∷◌, OnOk, string_bytes, map, filter, Some};
-ghost use Rattle.std.specs.Option.{option_copied};
+ghost use Rattle.std.specs.Prelude.{◌≡◌, ◌++◌, OnOk, string_bytes, map, filter, Some};
 ghost use Rattle.attr_list.specs.Attributes.{pair_spelling};
 ghost use Rattle.playlist_write.specs.Spelling.{plain, in_quotes, iv_pairs, format_pairs, attr_pair, part_pairs, after_commas};
 ghost use Rattle.playlist_meaning.specs.Said as Said;

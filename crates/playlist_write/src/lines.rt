@@ -1,5 +1,5 @@
 //! Parts of lines.
-ghost use Rattle.std.specs.Prelude.{◌≡◌, ◌++◌, ℕ, [], ◌∷◌, OnOk, string_bytes, decimal};
+ghost use Rattle.std.specs.Prelude.{◌≡◌, ◌++◌, [], ◌∷◌, OnOk, string_bytes, decimal};
 ghost use Rattle.playlist_write.specs.Spelling.{range_text};
 ghost use Rattle.playlist_write.specs.Owed.{with_feed};
 

@@ -1,5 +1,5 @@
 //! Bytes handed to a sink.
-ghost use Rattle.std.specs.Prelude.{◌≡◌, ℕ, ◌≤◌, List, OnOk, OnErr, IfErr};
+ghost use Rattle.std.specs.Prelude.{◌≡◌, OnOk, OnErr, IfErr};
 ghost use Rattle.std.specs.Io.KnownBytes.{Appends};
 ghost use Rattle.playlist_meaning.specs.Devices.{HasRisen};
 ghost use Rattle.playlist_write.specs.Handed.{TookFront};

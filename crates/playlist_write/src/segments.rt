@@ -1,9 +1,9 @@
 //! The lines of segments (RFC 8216, section 4.3.2).
-ghost use Rattle.std.specs.Prelude.{◌≡◌, ◌++◌, ℕ, ℤ, [], ◌∷◌, OnOk, string_bytes, replicate, Some};
+ghost use Rattle.std.specs.Prelude.{◌≡◌, ◌++◌, [], OnOk, string_bytes, replicate, Some};
 ghost use Rattle.std.specs.Option.{option_copied};
 ghost use Rattle.playlist_meaning.specs.Said as Said;
 ghost use Rattle.playlist_meaning.specs.Same.{same_option, same_section};
-ghost use Rattle.playlist_write.specs.Owed.{Current, none_yet, line_of, said_text, changed_section, section_owed, keys_then, time_owed, range_owed, media_owed, segment_owed, segments_owed};
+ghost use Rattle.playlist_write.specs.Owed.{none_yet, line_of, said_text, changed_section, section_owed, keys_then, time_owed, range_owed, media_owed, segment_owed, segments_owed};
 
 use crate::keys::{push_key_tags, push_section};
 use crate::lines::{push_feed, push_line, push_range};

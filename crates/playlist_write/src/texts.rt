@@ -1,7 +1,7 @@
 //! Which texts can be written (RFC 8216, section 4.2).
 ghost use Rattle.std.specs.Prelude.{◌≡◌, ◌==◌, true, false};
 ghost use Rattle.std.specs.List.{list_any, list_all};
-ghost use Rattle.attr_list.specs.Attributes.{is_name, is_name_byte, is_quote, ends_plain, is_value};
+ghost use Rattle.attr_list.specs.Attributes.{is_name, is_name_byte, ends_plain, is_value};
 ghost use Rattle.playlist_write.specs.Fitting.{is_clean, value_fits, uri_fits, quoted_uri_fits};
 
 use playlist_meaning::{Text, has_control, has_quote, has_scheme};

@@ -3,8 +3,8 @@
 ghost use Rattle.std.specs.Prelude.{◌≡◌, ◌+◌, ◌*◌, ◌-◌, ◌^◌, ◌≤◌, IsTrue, Some, length, min};
 ghost use Rattle.std.specs.List.{flat_map, list_all};
 ghost use Rattle.scte35_codec.specs.Layout.{width};
-ghost use Rattle.scte35_codec.specs.Section.{optional, splice_time, component, target_of, target_fields, body_of, bodies_of, body_fields, event_of, splice_insert, command_of, command_fields, break_duration, section_of};
-ghost use Rattle.scte35_codec.specs.Writing.{time_fits, place_fits, IsCounted, target_fits, duration_fits, body_fits, command_fits, section_length, has_section};
+ghost use Rattle.scte35_codec.specs.Section.{optional, splice_time, component, target_of, target_fields, bodies_of, body_fields, splice_insert, command_of, command_fields, break_duration, section_of};
+ghost use Rattle.scte35_codec.specs.Writing.{place_fits, IsCounted, target_fits, duration_fits, body_fits, command_fits, section_length, has_section};
 
 use crate::info::{
     BreakDuration, InsertBody, SPLICE_INSERT, SpliceCommand, SpliceInfo, SpliceTarget, SpliceTime,

@@ -3,7 +3,7 @@
 ghost use Rattle.std.specs.Prelude.{◌≡◌, ◌≢◌, ◌≤◌, ◌↔◌, ℕ, List, length, IfOk, IfErr, Ok};
 ghost use Rattle.scte35_codec.specs.declared.fault.SpliceFault.TheVariants.{NotHex, TooLarge};
 ghost use Rattle.scte35_codec.specs.Layout.{IsBytes};
-ghost use Rattle.scte35_codec.specs.Section.{Section, Event, target_of, body_of, bodies_of, event_of, command_of, section_of, IsSection};
+ghost use Rattle.scte35_codec.specs.Section.{Section, target_of, body_of, bodies_of, event_of, command_of, section_of, IsSection};
 ghost use Rattle.scte35_codec.specs.Reading.{Gives, time_at, optional_time_at, component_at, components_at, target_at, optional_duration_at, body_at, optional_body_at, insert_at, whole_insert_at, unmeasured_at, measured_of, command_at, ending_at, tail_at, contents_of, reading};
 
 use crate::bits::{bit, number, number_in, take_bytes, take_number};

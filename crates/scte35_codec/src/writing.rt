@@ -5,7 +5,7 @@ ghost use Rattle.std.specs.List.{flat_map, list_all};
 ghost use Rattle.std.specs.Int.{bytes_high_first};
 ghost use Rattle.scte35_codec.specs.Layout.{Is, IsBytes, Reserved, bytes_of, Holds, IsWritten};
 ghost use Rattle.scte35_codec.specs.Section.{flag, optional, splice_time, component, target_of, target_fields, is_program, body_of, bodies_of, body_flags, body_fields, cancel_fields, event_of, splice_insert, command_of, command_fields, command_type, break_duration, start_fields, heading_fields, ending_fields, section_of, IsSection, Section};
-ghost use Rattle.scte35_codec.specs.Writing.{time_fits, place_fits, target_fits, duration_fits, body_fits, command_fits, has_section, TargetFits, Appends, written_fields, section_length as counted_length};
+ghost use Rattle.scte35_codec.specs.Writing.{time_fits, duration_fits, body_fits, command_fits, has_section, TargetFits, Appends, written_fields, section_length as counted_length};
 ghost use Rattle.scte35_codec.specs.Reading.{reading};
 ghost use Rattle.scte35_codec.specs.declared.fault.SpliceFault.TheVariants.{OutOfMemory, TooLarge};
 

@@ -1,7 +1,7 @@
 //! The keys in force (RFC 8216, 4.3.2.4 and 5.2).
-ghost use Rattle.std.specs.Prelude.{◌≡◌, ◌≤◌, ℕ, ◌<◌, ◌+◌, not, Ok, IfOk, IfErr, OnOk, length, map, filter, vec_len, vec_capacity};
-ghost use Rattle.std.specs.List.{list_any, position_or_len};
-ghost use Rattle.playlist_meaning.specs.LookBack.{effective_key, is_before, without_format, has_format};
+ghost use Rattle.std.specs.Prelude.{◌≡◌, ◌≤◌, ◌<◌, Ok, IfOk, IfErr, OnOk, length, map, filter, vec_len, vec_capacity};
+ghost use Rattle.std.specs.List.{position_or_len};
+ghost use Rattle.playlist_meaning.specs.LookBack.{effective_key, is_before, without_format};
 ghost use Rattle.playlist_meaning.specs.Refusals.{Refuses};
 ghost use Rattle.segment_state.specs.Tags.{with_key};
 

@@ -2,14 +2,14 @@
 //! to what RFC 8216 says by looking back over the lines before.
 #![tactic(auto)]
 
-ghost use Rattle.std.specs.Prelude.{◌≡◌, ℕ, ◌==◌, ◌+◌, ◌^◌, ◌<◌, ◌≤◌, List, [], ◌∷◌, ◌++◌, map, Some, None, Ok, Err, IfOk, MatchResult, OnOk, OnErr, option_map, nat_lt, length, vec_len, vec_capacity};
-ghost use Rattle.std.specs.List.{position_or_len, before_first, after_first};
+ghost use Rattle.std.specs.Prelude.{◌≡◌, ◌==◌, ◌+◌, ◌^◌, ◌<◌, ◌≤◌, [], map, Some, None, Ok, Err, IfOk, option_map, nat_lt, length};
+ghost use Rattle.std.specs.List.{before_first, after_first};
 ghost use Rattle.std.specs.Option.{SomeIff};
-ghost use Rattle.playlist_meaning.specs.LookBack.{standing_at, range_from, range_after, extent_with, effective_key};
+ghost use Rattle.playlist_meaning.specs.LookBack.{range_from, range_after, extent_with, effective_key};
 ghost use Rattle.playlist_meaning.specs.Reading.{limited, said_by_tag, said_by_uri};
 ghost use Rattle.playlist_meaning.specs.Said as said;
-ghost use Rattle.playlist_meaning.specs.Said.{uri_of, duration_said};
-ghost use Rattle.playlist_meaning.specs.Refusals.{Gives, Refuses};
+ghost use Rattle.playlist_meaning.specs.Said.{uri_of};
+ghost use Rattle.playlist_meaning.specs.Refusals.{Gives};
 ghost use Rattle.segment_state.specs.Running.{running_at, behind_segment, Follows, Takes, TakesSegment};
 ghost use Rattle.segment_state.specs.Views.{extent_of};
 
