@@ -1,11 +1,11 @@
 -- A run that had a fault, and the fault's line.
-use Rattle.std.specs.Prelude.{◌≡◌, ◌≢◌, ℕ, List, [], ◌∷◌, ◌++◌, None, Err, ◌⊎◌}
+use Rattle.std.specs.Prelude.{◌≡◌, ◌≢◌, ℕ, List, [], ◌∷◌, ◌++◌, None, Err}
 use Rattle.std.specs.Io.KnownBytes.{Keeps}
 use Rattle.playlist_meaning.specs.Devices.{HasRisen, CalledAll}
 use Rattle.playlist_meaning.specs.Reading.{Fault}
 use Rattle.playlist_meaning.specs.Uri.{base_of}
 use Rattle.http_edge.specs.declared.fault.VodFault.{VodFault}
-use Rattle.http_edge.specs.declared.fault.VodFault.TheVariants.{BadBase, Playlist, Read, TooManyReads, Write, OutOfMemory}
+use Rattle.http_edge.specs.declared.fault.VodFault.TheVariants.{BadBase, Playlist, Read, TooManyReads, Write}
 use Rattle.http_edge.specs.declared.input.TheConstants.{MOST_READS}
 use Rattle.http_edge.specs.FaultTexts.{vod_fault_text}
 use Rattle.http_edge.specs.Streams.{SourceStand, SinkStand, WasHanded}
@@ -22,15 +22,12 @@ pub record VodFailed (e : VodFault) (base : List ℕ) (source_old source_new : S
   pub write_failed : e ≡ Write → HasRisen sink_old.failed sink_new.failed
   pub too_many : e ≡ TooManyReads → CalledAll source_old.called source_new.called MOST_READS
 
+-- what is printed of a fault
 abbrev pub fault_line : VodFault → List ℕ
 fault_line e = vod_fault_text e ++ 10 ∷ []
-
--- a sink was handed the fault's line, or where memory was refused for making it, that of want of memory
-abbrev pub Prints : VodFault → SinkStand → SinkStand → Type 0
-Prints e old new = WasHanded old new (fault_line e) ⊎ WasHanded old new (fault_line OutOfMemory)
 
 -- `vod` had a fault, and its line was printed
 pub record FailsAndPrints (base : List ℕ) (source_old source_new : SourceStand) (sink_old sink_new faults_old faults_new : SinkStand) : Type 0 where
   pub fault : VodFault
   pub failed : VodFailed fault base source_old source_new sink_old sink_new
-  pub printed : Prints fault faults_old faults_new
+  pub printed : WasHanded faults_old faults_new (fault_line fault)

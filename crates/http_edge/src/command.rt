@@ -9,13 +9,14 @@ ghost use Rattle.playlist_meaning.specs.Reading.{reading, limited, Fault};
 ghost use Rattle.reading_laws.specs.Read.{uris_are_text};
 ghost use Rattle.std.specs.List.{list_all};
 ghost use Rattle.http_edge.specs.Vod.{RefusesInput, IsOfInput, IsOfVod, HasRead, Writes, WritesFront};
-ghost use Rattle.http_edge.specs.Streams.{source_stand, sink_stand};
-ghost use Rattle.http_edge.specs.Printed.{Prints, FailsAndPrints};
+ghost use Rattle.http_edge.specs.Streams.{source_stand, sink_stand, WasHanded};
+ghost use Rattle.http_edge.specs.Printed.{fault_line, FailsAndPrints};
 
 use crate::fault::VodFault;
 use crate::input::{MOST_READS, read_input};
 use crate::shown::owed_playlist;
 use crate::texts::know_texts;
+use arrayvec::ArrayString;
 use playlist_meaning::{Base, BaseFault, FaultKind, Playlist, Sink, Source};
 use playlist_parse::read;
 use playlist_write::{OutPlaylist, WriteFault, hand_out, write};
@@ -129,14 +130,22 @@ pub fn vod<S: Source, K: Sink>(
     write_playlist(alloc, &owed, sink)
 }
 
-// Writes a fault's line, as far as the sink takes it.
-fn print_fault<F: Sink>(alloc: Global, fault: VodFault, faults: &mut F)
-    ensures { Prints fault (sink_stand F.contents F.failed faults.old) (sink_stand F.contents F.failed faults.new) }
+// A fault's line. It lies in the value itself, since there may be no memory left for it.
+fn fault_line(fault: VodFault) -> ArrayString<47>
+    ensures { result.bytes ≡ fault_line fault }
 {
-    let _ = match format!(in alloc; "{fault}\n") {
-        Ok(line) => hand_out(line.as_bytes(), faults),
-        Err(_) => hand_out(b"E5 OutOfMemory\n", faults),
-    };
+    let mut line = ArrayString::<47>::new();
+    line.push_str(fault.text().as_str());
+    line.push('\n');
+    line
+}
+
+// Writes a fault's line, as far as the sink takes it.
+fn print_fault<F: Sink>(fault: VodFault, faults: &mut F)
+    ensures { WasHanded (sink_stand F.contents F.failed faults.old) (sink_stand F.contents F.failed faults.new) (fault_line fault) }
+{
+    let line = fault_line(fault);
+    let _ = hand_out(line.as_str().as_bytes(), faults);
 }
 
 /// Runs `vod`, writes the fault's line where there is one, and answers the exit status: 0, or 1
@@ -167,7 +176,7 @@ pub fn command_vod<S: Source, K: Sink, F: Sink>(
     match vod(alloc, input, output, base, decisions) {
         Ok(()) => 0,
         Err(fault) => {
-            print_fault(alloc, fault, faults);
+            print_fault(fault, faults);
             1
         }
     }

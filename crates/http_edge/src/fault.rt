@@ -1,7 +1,8 @@
 //! Why no playlist was written, or not the whole of it.
-ghost use Rattle.std.specs.Prelude.{◌≡◌, Some};
+ghost use Rattle.std.specs.Prelude.{◌≡◌, ◌≤◌, length, Some};
+ghost use Rattle.http_edge.specs.FaultTexts.{vod_fault_text};
 
-use playlist_meaning::PlaylistFault;
+use playlist_meaning::{FaultText, PlaylistFault};
 use std::alloc::{AllocError, AllocFailed};
 use std::error::Error;
 use std::fmt;
@@ -9,21 +10,21 @@ use std::fmt;
 /// Why `vod` wrote no playlist, or not the whole of it.
 #[derive(Clone, Copy, Debug, PartialEq, Eq)]
 pub enum VodFault {
-    /// The base is no absolute http or https URL.
+    /// C1: the base is no absolute http or https URL.
     BadBase,
     /// The first fault of the playlist.
     Playlist(PlaylistFault),
     /// The stated run goes past the last segment.
     BadRun,
-    /// A media or discontinuity sequence number would pass 2^64 - 1.
+    /// N10: a media or discontinuity sequence number would pass 2^64 - 1.
     NumberRange,
-    /// A read failed.
+    /// E1: a read failed.
     Read,
-    /// The 65,536th read still gave bytes.
+    /// E3: the 65,536th read still gave bytes.
     TooManyReads,
-    /// A write failed, or took nothing.
+    /// E2: a write failed, or took nothing.
     Write,
-    /// Memory was refused.
+    /// E5: memory was refused.
     OutOfMemory,
 }
 
@@ -47,23 +48,40 @@ impl<T: Drop> From<AllocFailed<T>> for VodFault {
     }
 }
 
+// A text that has room.
+fn short(text: &str) -> FaultText
+    requires { length text.now ≤ 46 }
+    ensures { result.bytes ≡ text.now }
+{
+    let mut short = FaultText::new();
+    short.push_str(text);
+    short
+}
+
+impl VodFault {
+    /// What the program prints of the fault, without its line feed.
+    pub fn text(self) -> FaultText
+        ensures { result.bytes ≡ vod_fault_text self }
+    {
+        match self {
+            VodFault::BadBase => short("C1 BadBase"),
+            VodFault::Playlist(fault) => fault.text(),
+            VodFault::BadRun => short("BadRun"),
+            VodFault::NumberRange => short("N10 NumberRange"),
+            VodFault::Read => short("cannot read input"),
+            VodFault::TooManyReads => short("E3 TooManyReads"),
+            VodFault::Write => short("cannot write output"),
+            VodFault::OutOfMemory => short("E5 OutOfMemory"),
+        }
+    }
+}
+
 /// The fault's text, as the program prints it.
 impl fmt::Display for VodFault {
-    ghost use Rattle.http_edge.specs.FaultTexts.{vod_fault_text};
-
     ghost output = { λ fault. Some (vod_fault_text fault) };
 
     fn fmt<W: fmt::Write>(&self, f: &mut fmt::Formatter<W>) -> fmt::Result {
-        match self {
-            VodFault::BadBase => write!(f, "C1 BadBase"),
-            VodFault::Playlist(fault) => write!(f, "{fault}"),
-            VodFault::BadRun => write!(f, "BadRun"),
-            VodFault::NumberRange => write!(f, "N10 NumberRange"),
-            VodFault::Read => write!(f, "cannot read input"),
-            VodFault::TooManyReads => write!(f, "E3 TooManyReads"),
-            VodFault::Write => write!(f, "cannot write output"),
-            VodFault::OutOfMemory => write!(f, "E5 OutOfMemory"),
-        }
+        f.write_str(self.text().as_str())
     }
 }
 

@@ -35,6 +35,7 @@ impl Model for Numbers {
 /// The last item of a list.
 #[derive(Clone, Copy)]
 pub struct Last {
+    /// What it is written with.
     pub numbers: Numbers,
     /// Its discontinuity number at the origin, where it is one of the origin's.
     pub origin: Option<u64>,

@@ -24,6 +24,7 @@ mod write_time;
 
 pub use base::{Base, BaseFault, has_quote, has_scheme, same_resource};
 pub use device::{Counted, Sink, Source};
+pub use fault::FaultText;
 pub use in_force::is_iv_needed;
 pub use items::{Items, Shared, Text};
 pub use pieces::{Pieces, Taken};
@@ -34,36 +35,64 @@ pub use write_time::write_instant;
 /// Why a text is no playlist that can be read.
 #[derive(Clone, Copy, PartialEq, Eq, Debug)]
 pub enum FaultKind {
+    /// P1: the input isn't UTF-8 (RFC 8216, section 4.1).
     NotUtf8,
+    /// P2: the input has more than 4,194,304 bytes: a limit of this reader.
     TooLong,
+    /// P3: the first line isn't `#EXTM3U` (section 4.3.1.1).
     NoHeader,
+    /// P4: the line holds a control character (section 4.1).
     Control,
+    /// P5: EXT-X-VERSION states no decimal number (section 4.3.1.2).
     BadVersion,
+    /// P6: EXT-X-VERSION states a number that isn't one from 1 to 7.
     Version,
+    /// P7: a tag stands again that may stand once.
     Repeated,
+    /// P8: EXT-X-MEDIA-SEQUENCE stands behind a segment, or EXT-X-DISCONTINUITY-SEQUENCE behind a segment or a
+    /// discontinuity (sections 4.3.3.2 and 4.3.3.3).
     Misplaced,
+    /// P9: a tag's value isn't one that it may have, or a number passes 2^64 - 1.
     BadValue,
+    /// P10: a duration isn't a decimal number of seconds below 1,000,000 (section 4.3.2.1).
     BadDuration,
+    /// P11: the attribute list isn't one of at most 64 attributes, or a value isn't of its attribute's kind
+    /// (section 4.2).
     BadAttributes,
+    /// P12: an attribute isn't there that has to be.
     MissingAttribute,
+    /// P13: a byte range isn't `n` or `n@o`, or ends past byte 2^64 - 1 (section 4.3.2.2).
     BadRange,
+    /// P14: a byte range states no offset, and doesn't follow a range of the same resource.
     RangeNoStart,
+    /// P15: a time isn't a date and time of the form that is read, in the years 1900 to 2199 (section 4.3.2.6).
     BadTime,
+    /// P16: a reference can't be resolved under the base.
     BadUri,
+    /// P17: a segment has no EXTINF (section 4.3.2.1).
     NoDuration,
+    /// P18: there is no EXT-X-TARGETDURATION (section 4.3.3.1).
     NoTarget,
+    /// P19: the tag is one of a master playlist (section 4.3.4).
     MasterPlaylist,
+    /// P20: the playlist is one of I-frames (section 4.3.3.6).
     IFramesOnly,
+    /// P21: there is no segment.
     NoSegments,
+    /// P22: some segments have an initialisation section, and others have none (section 4.3.2.5).
     MixedMaps,
+    /// P23: EXT-X-MAP stands under an AES-128 key that states no IV (section 4.3.2.5).
     MapWithoutIv,
+    /// P24: there are more than 10,000 segments, or keys of more than 16 formats in force: limits of this reader.
     TooMany,
+    /// P25: memory was refused.
     OutOfMemory,
 }
 
 /// The first fault of a playlist.
 #[derive(Clone, Copy, PartialEq, Eq, Debug)]
 pub struct PlaylistFault {
+    /// What the fault is.
     pub kind: FaultKind,
     /// The line on which it stands, from 1; 0 for a fault of the text as a whole.
     pub line: u64,
@@ -89,10 +118,12 @@ impl<T: Drop> From<AllocFailed<T>> for FaultKind {
     }
 }
 
-/// Whether the playlist may only grow, or doesn't change.
+/// EXT-X-PLAYLIST-TYPE (RFC 8216, section 4.3.3.5): what may still change.
 #[derive(Clone, Copy, PartialEq, Eq, Debug)]
 pub enum PlaylistKind {
+    /// Segments may be added at the end, and nothing else changes.
     Event,
+    /// Nothing changes.
     Vod,
 }
 
@@ -110,79 +141,118 @@ impl Model for Instant {
     ghost inverse = { λ n. record { 0 = n } };
 }
 
-/// A part of a resource.
+/// A part of a resource (RFC 8216, section 4.3.2.2), in bytes.
 #[derive(Clone, Copy, PartialEq, Eq)]
 pub struct ByteRange {
+    /// How many bytes it has.
     pub length: u64,
+    /// The place of its first byte, from 0.
     pub offset: u64,
 }
 
 /// An attribute of a key tag that is carried as it stands.
 #[derive(Clone, PartialEq, Drop)]
 pub struct KeyAttr {
+    /// Its name.
     pub name: Text,
+    /// Its value, without the quotes.
     pub value: Text,
+    /// Whether the value stands between quotes.
     pub quoted: bool,
 }
 
-/// A key. Each segment under it has a copy, which shares its texts.
+/// A key (EXT-X-KEY; RFC 8216, section 4.3.2.4). Each segment under it has a copy, which shares its texts.
 #[derive(Clone, PartialEq, Drop)]
 pub struct Key {
+    /// KEYFORMAT, which is `identity` where none is stated.
     pub format: Shared<Text>,
+    /// METHOD, which isn't NONE.
     pub method: Shared<Text>,
+    /// The resource of the key.
     pub uri: Shared<Text>,
+    /// The initialisation vector: as the tag states it, or the segment's media number where an `identity`
+    /// key of a segment states none (section 5.2).
     pub iv: Option<u128>,
+    /// All other attributes, in their order.
     pub other: Shared<Items<KeyAttr>>,
 }
 
 /// The keys in force, one for each format, sorted by format.
 pub type Keys = Items<Key>;
 
-/// An initialisation section.
+/// A media initialisation section (EXT-X-MAP; RFC 8216, section 4.3.2.5).
 #[derive(Clone, PartialEq, Drop)]
 pub struct InitSection {
+    /// Its resource.
     pub uri: Text,
+    /// The part of the resource, where it isn't the whole.
     pub range: Option<ByteRange>,
+    /// The keys in force at its own line, with no IV supplied.
     pub keys: Keys,
 }
 
-/// A segment.
+/// A media segment (RFC 8216, sections 3 and 4.3.2).
 #[derive(Clone, PartialEq, Drop)]
 pub struct Segment {
+    /// Its Media Sequence Number (section 4.3.3.2).
     pub number: u64,
+    /// Its Discontinuity Sequence Number (section 4.3.3.3).
     pub discontinuity: u64,
+    /// How many EXT-X-DISCONTINUITY stand between it and the segment before.
     pub steps: u64,
+    /// Its resource: an absolute URI.
     pub uri: Text,
+    /// The part of the resource, where it isn't the whole.
     pub range: Option<ByteRange>,
+    /// The keys that it is encrypted under, sorted by format; none where it is clear.
     pub keys: Keys,
+    /// What its parser is initialised with, where it needs that.
     pub section: Option<Shared<InitSection>>,
+    /// How long it lasts (EXTINF).
     pub duration: Nanos,
+    /// What stands behind the duration and a comma.
     pub title: Text,
+    /// When its first sample is, where EXT-X-PROGRAM-DATE-TIME states that.
     pub time: Option<Instant>,
 }
 
-/// A date range.
+/// A date range (EXT-X-DATERANGE; RFC 8216, section 4.3.2.7).
 #[derive(Clone, PartialEq, Drop)]
 pub struct DateRange {
+    /// ID.
     pub id: Text,
+    /// START-DATE.
     pub start: Option<Instant>,
+    /// END-DATE.
     pub end: Option<Instant>,
+    /// DURATION.
     pub duration: Option<Nanos>,
+    /// PLANNED-DURATION.
     pub planned: Option<Nanos>,
+    /// SCTE35-OUT: the splice section that leaves the network, in hexadecimal.
     pub out: Option<Text>,
+    /// SCTE35-IN: the splice section that returns to it.
     pub back: Option<Text>,
+    /// The whole attribute list as it stands.
     pub text: Text,
 }
 
-/// A media playlist.
+/// A media playlist (RFC 8216, section 4), as a reader has it.
 #[derive(Clone, PartialEq, Drop)]
 pub struct Playlist {
+    /// EXT-X-VERSION, which is 1 where none is stated.
     pub version: u64,
+    /// EXT-X-TARGETDURATION, in seconds.
     pub target: u64,
+    /// EXT-X-PLAYLIST-TYPE, where it is stated.
     pub kind: Option<PlaylistKind>,
+    /// Whether EXT-X-INDEPENDENT-SEGMENTS is stated.
     pub independent: bool,
+    /// Whether no segment will follow: EXT-X-ENDLIST.
     pub ended: bool,
+    /// The date ranges, in their order.
     pub ranges: Items<DateRange>,
+    /// The segments, in their order.
     pub segments: Items<Segment>,
 }
 

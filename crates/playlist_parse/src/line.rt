@@ -14,7 +14,9 @@ use std::alloc::{AllocError, Global};
 pub enum Slices<'a> {
     /// A blank line or a comment.
     Ignored,
+    /// The reference of a media segment.
     Uri(&'a str),
+    /// A tag: its name without `#`, what stands behind the first colon, and whether there is one.
     Tag {
         name: &'a str,
         rest: &'a str,
@@ -28,6 +30,7 @@ pub enum Slices<'a> {
 pub enum Line {
     /// A blank line or a comment.
     Ignored { span: Span },
+    /// The reference of a media segment.
     Uri { text: Text, span: Span },
     /// A tag: its name runs from behind `#` to the first `:`, its rest is what follows.
     Tag { name: Text, rest: Text, span: Span },

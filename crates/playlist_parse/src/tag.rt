@@ -6,23 +6,39 @@ ghost use Rattle.playlist_parse.specs.LineViews.{tag_view};
 /// A tag that a reader knows, or any other.
 #[derive(Clone, Copy)]
 pub enum Tag {
+    /// EXT-X-VERSION (section 4.3.1.2).
     Version,
+    /// EXT-X-TARGETDURATION (section 4.3.3.1).
     TargetDuration,
+    /// EXT-X-MEDIA-SEQUENCE (section 4.3.3.2).
     MediaSequence,
+    /// EXT-X-DISCONTINUITY-SEQUENCE (section 4.3.3.3).
     DiscontinuitySequence,
+    /// EXT-X-PLAYLIST-TYPE (section 4.3.3.5).
     PlaylistType,
+    /// EXT-X-ENDLIST (section 4.3.3.4).
     EndList,
+    /// EXT-X-INDEPENDENT-SEGMENTS (section 4.3.5.1).
     IndependentSegments,
+    /// EXT-X-I-FRAMES-ONLY (section 4.3.3.6).
     IFramesOnly,
-    /// A tag of a master playlist.
+    /// A tag of a master playlist (section 4.3.4).
     Master,
+    /// EXTINF (section 4.3.2.1).
     Inf,
+    /// EXT-X-BYTERANGE (section 4.3.2.2).
     ByteRange,
+    /// EXT-X-DISCONTINUITY (section 4.3.2.3).
     Discontinuity,
+    /// EXT-X-KEY (section 4.3.2.4).
     Key,
+    /// EXT-X-MAP (section 4.3.2.5).
     Map,
+    /// EXT-X-PROGRAM-DATE-TIME (section 4.3.2.6).
     ProgramDateTime,
+    /// EXT-X-DATERANGE (section 4.3.2.7).
     DateRange,
+    /// Any other, which is ignored.
     Unknown,
 }
 

@@ -18,7 +18,7 @@ fn glyph(value: u8) -> char
     }
 }
 
-// Appends the last `count` hexadecimal digits of a number.
+/// Appends the last `count` hexadecimal digits of a number.
 pub fn push_hex(out: &mut String, number: u128, count: u8) -> Result<(), AllocError>
     ensures { OnOk result (string_bytes out.new ≡ string_bytes out.old ++ fixed_digits 16 count number) }
 {

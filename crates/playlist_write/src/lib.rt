@@ -47,6 +47,7 @@ pub struct OutPlaylist {
     pub ended: bool,
     /// What stands behind `#EXT-X-DATERANGE:`, for each date range.
     pub ranges: Items<Text>,
+    /// The segments, in their order.
     pub segments: Items<OutSegment>,
 }
 

@@ -7,7 +7,7 @@ use itoa::Buffer;
 use playlist_meaning::ByteRange;
 use std::alloc::AllocError;
 
-// Appends a number.
+/// Appends a number.
 pub fn push_number(out: &mut String, number: u64) -> Result<(), AllocError>
     ensures { OnOk result (string_bytes out.new ≡ string_bytes out.old ++ decimal number) }
 {
@@ -16,14 +16,14 @@ pub fn push_number(out: &mut String, number: u64) -> Result<(), AllocError>
     Ok(())
 }
 
-// Ends a line.
+/// Ends a line.
 pub fn push_feed(out: &mut String) -> Result<(), AllocError>
     ensures { OnOk result (string_bytes out.new ≡ string_bytes out.old ++ 10 ∷ []) }
 {
     out.push('\n')
 }
 
-// Appends a line.
+/// Appends a line.
 pub fn push_line(out: &mut String, line: &str) -> Result<(), AllocError>
     ensures { OnOk result (string_bytes out.new ≡ string_bytes out.old ++ with_feed line.now) }
 {
@@ -31,7 +31,7 @@ pub fn push_line(out: &mut String, line: &str) -> Result<(), AllocError>
     push_feed(out)
 }
 
-// Appends a line of two parts.
+/// Appends a line of two parts.
 pub fn push_line_of(out: &mut String, tag: &str, rest: &str) -> Result<(), AllocError>
     ensures { OnOk result (string_bytes out.new ≡ string_bytes out.old ++ with_feed (tag.now ++ rest.now)) }
 {
@@ -39,7 +39,7 @@ pub fn push_line_of(out: &mut String, tag: &str, rest: &str) -> Result<(), Alloc
     push_line(out, rest)
 }
 
-// Appends a line that ends with a number.
+/// Appends a line that ends with a number.
 pub fn push_number_line(out: &mut String, tag: &str, number: u64) -> Result<(), AllocError>
     ensures { OnOk result (string_bytes out.new ≡ string_bytes out.old ++ with_feed (tag.now ++ decimal number)) }
 {
@@ -48,7 +48,7 @@ pub fn push_number_line(out: &mut String, tag: &str, number: u64) -> Result<(), 
     push_feed(out)
 }
 
-// Appends a range as `n@o`.
+/// Appends a range as `n@o`.
 pub fn push_range(out: &mut String, range: ByteRange) -> Result<(), AllocError>
     ensures { OnOk result (string_bytes out.new ≡ string_bytes out.old ++ range_text range.length range.offset) }
 {

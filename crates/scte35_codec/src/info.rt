@@ -15,6 +15,7 @@ pub struct SpliceInfo {
     pub cw_index: u8,
     /// The authorization tier: 12 bits.
     pub tier: u16,
+    /// What the section says.
     pub command: SpliceCommand,
     /// The splice descriptors, as they stand.
     pub descriptors: Vec<u8>,
@@ -36,6 +37,7 @@ pub enum SpliceCommand {
 /// splice_insert: a splice, or the cancellation of one.
 #[derive(Debug, PartialEq, Eq, Drop)]
 pub struct SpliceInsert {
+    /// splice_event_id: which event is spliced or cancelled.
     pub event_id: u32,
     /// What is spliced, or `None` where the event is cancelled.
     pub body: Option<InsertBody>,
@@ -48,10 +50,15 @@ pub struct InsertBody {
     pub out_of_network: bool,
     /// Whether the splice is at the nearest opportunity; then no time is given.
     pub immediate: bool,
+    /// What is spliced, and when.
     pub target: SpliceTarget,
+    /// How long the break lasts, where that is stated.
     pub duration: Option<BreakDuration>,
+    /// unique_program_id: the event within its programme.
     pub unique_program_id: u16,
+    /// avail_num: the place of this avail within its break, or 0.
     pub avail_num: u8,
+    /// avails_expected: how many avails the break has, or 0.
     pub avails_expected: u8,
 }
 
@@ -67,6 +74,7 @@ pub enum SpliceTarget {
 /// splice_time: a time in ticks of 90 kHz, of 33 bits, where one is specified.
 #[derive(Clone, Copy, Debug, PartialEq, Eq)]
 pub struct SpliceTime {
+    /// pts_time, where time_specified_flag is set.
     pub pts: Option<u64>,
 }
 

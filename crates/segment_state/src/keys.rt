@@ -11,6 +11,7 @@ use std::alloc::{AllocError, Global};
 /// How many formats of keys may be in force.
 const MOST_FORMATS: usize = 16;
 
+/// A copy of keys, which shares their texts. Fails only where memory is refused.
 pub fn copied_keys(alloc: Global, keys: &[Key]) -> Result<Vec<Key>, AllocError>
     ensures { IfOk result (λ v. v.items ≡ keys.now) }
 {

@@ -36,6 +36,7 @@ impl<'a> Model for References<'a> {
 }
 
 impl<'a> References<'a> {
+    /// No reference is resolved yet.
     pub fn new(alloc: Global, base: &'a Base) -> References<'a>
         ensures { result ≡ base.now }
     {
@@ -46,6 +47,7 @@ impl<'a> References<'a> {
         }
     }
 
+    /// What references are resolved under.
     pub fn base(&self) -> &'a Base
         ensures { result.now ≡ self.now }
     {

@@ -30,7 +30,9 @@ pub enum KeyTag {
 /// What a map tag says: a resource, and the part of it.
 #[derive(Drop)]
 pub struct SectionTag {
+    /// The resource.
     pub uri: Text,
+    /// The part of it, where it is not the whole.
     pub range: Option<ByteRange>,
 }
 

@@ -22,6 +22,7 @@ pub enum KeyTag {
 /// A segment as it stands in a written playlist. Its own numbers and time are not those of `segment`.
 #[derive(Clone, PartialEq, Drop)]
 pub struct OutSegment {
+    /// What is played.
     pub segment: Segment,
     /// Its media sequence number.
     pub media: u64,

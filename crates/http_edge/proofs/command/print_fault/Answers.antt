@@ -14,14 +14,9 @@ handed : {A E : Type 0} (r : Result A E) (old new : SinkStand) (bytes : List ℕ
 handed (Ok x) old new bytes whole front failed = inl whole
 handed (Err e) old new bytes whole front failed = inr (record { front = front; failed = failed })
 
-pub returns-in-Ok : goal.returns-in-Ok
-returns-in-Ok g c =
-    let line : c.as_bytes.result.now ≡ fault_line c.args.fault = c.as_bytes.ensures.value ∙ c.in-Ok.ensures.ok in
+pub returns : goal.returns
+returns g c =
+    let line : c.as_bytes.result.now ≡ fault_line c.args.fault = c.as_bytes.ensures.value ∙ c.as_str.ensures.value ∙ c.fault_line-line.ensures in
     let stand = sink_stand g.F.Sink.contents g.F.Sink.failed in
     let w = c.hand_out.ensures in
-    inl (subst (WasHanded (stand c.args.faults.now) (stand c.hand_out.new.sink)) line (handed c.hand_out.result _ _ _ w.ok w.err w.failed))
-
-pub returns-in-Err : goal.returns-in-Err
-returns-in-Err g c =
-    let w = c.hand_out-in-Err.ensures in
-    inr (handed c.hand_out-in-Err.result _ _ _ w.ok w.err w.failed)
+    subst (WasHanded (stand c.args.faults.now) (stand c.hand_out.new.sink)) line (handed c.hand_out.result _ _ _ w.ok w.err w.failed)
