@@ -151,30 +151,39 @@ fn command_run(
 
 #[test]
 fn printed_faults(rt: HostRuntime) -> Result<(), Fail> {
-    let alloc = rt.alloc();
     let key: &[u8] =
         b"#EXTM3U\n#EXT-X-TARGETDURATION:10\n#EXT-X-KEY:METHOD=\"NONE\"\n#EXTINF:10,\ns0.ts\n";
-    let (status, faults) = command_run(alloc, BASE, Pieces::new(key, ROOM, 0, 0), 0)?;
-    assert_eq!(rt; status, 1);
-    assert_eq!(rt; faults.bytes(), b"P11 BadAttributes line 3\n".as_slice());
-    let (status, faults) = command_run(alloc, BASE, Pieces::new(PLAIN, ROOM, 0, 0), 0)?;
-    assert_eq!(rt; status, 0);
-    assert_eq!(rt; faults.bytes().len(), 0);
-    let (status, faults) = command_run(alloc, BASE, Pieces::new(PLAIN, ROOM, 0, 1), 0)?;
-    assert_eq!(rt; status, 1);
-    assert_eq!(rt; faults.bytes(), b"cannot read input\n".as_slice());
-    let (status, faults) = command_run(alloc, BASE, Pieces::new(PLAIN, ROOM, 0, 0), 1)?;
-    assert_eq!(rt; status, 1);
-    assert_eq!(rt; faults.bytes(), b"cannot write output\n".as_slice());
-    let (status, faults) = command_run(alloc, "x", Pieces::new(PLAIN, ROOM, 0, 0), 0)?;
-    assert_eq!(rt; status, 1);
-    assert_eq!(rt; faults.bytes(), b"C1 BadBase\n".as_slice());
-    let (_, faults) = command_run(alloc, BASE, Pieces::new(b"", ROOM, 0, 0), 0)?;
-    assert_eq!(rt; faults.bytes(), b"P3 NoHeader line 1\n".as_slice());
-    let text = format!(in alloc; "{} {}", VodFault::TooManyReads, VodFault::OutOfMemory)?;
-    assert_eq!(rt; text.as_str(), "E3 TooManyReads E5 OutOfMemory");
-    let text = format!(in alloc; "{} {}", VodFault::BadRun, VodFault::NumberRange)?;
-    assert_eq!(rt; text.as_str(), "BadRun N10 NumberRange");
+    // The base, the input, the read and the write that fail (0: none), and what is printed.
+    let table: [(&str, &[u8], u64, u64, &[u8]); 6] = [
+        (BASE, PLAIN, 0, 0, b""),
+        (BASE, PLAIN, 1, 0, b"cannot read input\n"),
+        (BASE, PLAIN, 0, 1, b"cannot write output\n"),
+        ("x", PLAIN, 0, 0, b"C1 BadBase\n"),
+        (BASE, b"", 0, 0, b"P3 NoHeader line 1\n"),
+        (BASE, key, 0, 0, b"P11 BadAttributes line 3\n"),
+    ];
+    for (base, input, read, write, printed) in table {
+        let source = Pieces::new(input, ROOM, 0, read);
+        let (status, faults) = command_run(rt.alloc(), base, source, write)?;
+        assert_eq!(rt; faults.bytes(), printed);
+        assert_eq!(rt; status, u8::from(!printed.is_empty()));
+    }
+    Ok(())
+}
+
+#[test]
+fn shown_faults(rt: HostRuntime) -> Result<(), Fail> {
+    let table = [
+        (VodFault::TooManyReads, "E3 TooManyReads"),
+        (VodFault::OutOfMemory, "E5 OutOfMemory"),
+        (VodFault::BadRun, "BadRun"),
+        (VodFault::NumberRange, "N10 NumberRange"),
+    ];
+    for (fault, text) in table {
+        let shown = format!(in rt.alloc(); "{fault}")?;
+        assert_eq!(rt; shown.as_str(), text);
+        assert_eq!(rt; fault.text().as_str(), text);
+    }
     Ok(())
 }
 

@@ -1,7 +1,9 @@
 //! Faults with their lines, and limits on both sides.
 use crate::{Line, MOST_BYTES, lines, read};
 use fixed_duration::Nanos;
-use playlist_meaning::{Base, FaultKind, Instant, Playlist, PlaylistFault, PlaylistKind};
+use playlist_meaning::{
+    Base, DateRange, FaultKind, Instant, Playlist, PlaylistFault, PlaylistKind, Text,
+};
 use segment_state::attributes::{attributes_of, optional, required};
 use std::alloc::Global;
 use std::test::Fail;
@@ -71,27 +73,52 @@ fn attributes_of_a_tag(rt: HostRuntime) -> Result<(), Fail> {
 }
 
 #[test]
-fn times_and_date_ranges(rt: HostRuntime) -> Result<(), Fail> {
+fn time_of_a_segment(rt: HostRuntime) -> Result<(), Fail> {
     let base = Base::new(rt.alloc(), BASE)?;
     let text =
-        b"#EXTM3U\n#EXT-X-TARGETDURATION:10\n#EXT-X-DATERANGE:ID=\"b1\",START-DATE=\"2024-05-01T12:00:10Z\",END-DATE=\"2024-05-01T12:00:20Z\",DURATION=10,PLANNED-DURATION=9.5,SCTE35-OUT=0xFC,SCTE35-IN=0xFD\n#EXT-X-PROGRAM-DATE-TIME:1970-01-01T00:00:00Z\n#EXT-X-PROGRAM-DATE-TIME:2024-05-01T14:00:10.25+02:00\n#EXTINF:10,\ns0.ts\n#EXT-X-DATERANGE:ID=\"b2\"\n";
+        b"#EXTM3U\n#EXT-X-TARGETDURATION:10\n#EXT-X-PROGRAM-DATE-TIME:1970-01-01T00:00:00Z\n#EXT-X-PROGRAM-DATE-TIME:2024-05-01T14:00:10.25+02:00\n#EXTINF:10,\ns0.ts\n";
     let playlist = read(rt.alloc(), text, &base)?;
     let [segment] = playlist.segments.as_slice() else {
         return Err(Fail::from("one segment"));
     };
     assert_eq!(rt; segment.time, Some(Instant(1_714_564_810_250_000_000)));
+    Ok(())
+}
+
+fn is_text(text: &Option<Text>, other: &str) -> bool {
+    match text {
+        Some(text) => text.as_str() == other,
+        None => false,
+    }
+}
+
+// Whether a date range is the first of those below.
+fn is_first(range: &DateRange) -> bool {
+    range.id.as_str() == "b1"
+        && range.start == Some(Instant(1_714_564_810_000_000_000))
+        && range.end == Some(Instant(1_714_564_820_000_000_000))
+        && range.duration == Some(Nanos(10_000_000_000))
+        && range.planned == Some(Nanos(9_500_000_000))
+        && is_text(&range.out, "0xFC")
+        && is_text(&range.back, "0xFD")
+}
+
+// Whether it is the second.
+fn is_second(range: &DateRange) -> bool {
+    range.text.as_str() == "ID=\"b2\"" && range.start.is_none() && range.out.is_none()
+}
+
+#[test]
+fn date_ranges(rt: HostRuntime) -> Result<(), Fail> {
+    let base = Base::new(rt.alloc(), BASE)?;
+    let text =
+        b"#EXTM3U\n#EXT-X-TARGETDURATION:10\n#EXT-X-DATERANGE:ID=\"b1\",START-DATE=\"2024-05-01T12:00:10Z\",END-DATE=\"2024-05-01T12:00:20Z\",DURATION=10,PLANNED-DURATION=9.5,SCTE35-OUT=0xFC,SCTE35-IN=0xFD\n#EXTINF:10,\ns0.ts\n#EXT-X-DATERANGE:ID=\"b2\"\n";
+    let playlist = read(rt.alloc(), text, &base)?;
     let [first, second] = playlist.ranges.as_slice() else {
         return Err(Fail::from("two date ranges"));
     };
-    assert_eq!(rt; first.id.as_str(), "b1");
-    assert_eq!(rt; first.start, Some(Instant(1_714_564_810_000_000_000)));
-    assert_eq!(rt; first.end, Some(Instant(1_714_564_820_000_000_000)));
-    assert_eq!(rt; first.duration, Some(Nanos(10_000_000_000)));
-    assert_eq!(rt; first.planned, Some(Nanos(9_500_000_000)));
-    assert_eq!(rt; first.out.as_ref().map(|t| t.as_str()), Some("0xFC"));
-    assert_eq!(rt; first.back.as_ref().map(|t| t.as_str()), Some("0xFD"));
-    assert_eq!(rt; second.text.as_str(), "ID=\"b2\"");
-    assert_eq!(rt; second.start, None);
+    assert!(rt; is_first(first));
+    assert!(rt; is_second(second));
     Ok(())
 }
 

@@ -119,37 +119,54 @@ fn origin_segment(alloc: Global) -> Result<Segment, AllocError> {
     Ok(segment)
 }
 
-fn playlist(alloc: Global) -> Result<OutPlaylist, AllocError> {
-    let mut ranged = ad_segment(alloc, "http://ads.example/a0.m4s", Vec::new(alloc))?;
-    ranged.range = Some(ByteRange {
-        length: 30,
-        offset: 120,
-    });
-    let first = OutSegment {
+fn origin_item(alloc: Global) -> Result<OutSegment, AllocError> {
+    Ok(OutSegment {
         segment: origin_segment(alloc)?,
         media: 7,
         discontinuity: 3,
         steps: 1,
         time: Some(Instant(1_714_564_800_000_000_000)),
-    };
-    let second = OutSegment {
-        segment: ranged,
+    })
+}
+
+// The first segment of the advertisement, a part of its file.
+fn clear_item(alloc: Global) -> Result<OutSegment, AllocError> {
+    let mut segment = ad_segment(alloc, "http://ads.example/a0.m4s", Vec::new(alloc))?;
+    segment.range = Some(ByteRange {
+        length: 30,
+        offset: 120,
+    });
+    Ok(OutSegment {
+        segment,
         media: 8,
         discontinuity: 4,
         steps: 1,
         time: None,
-    };
-    let third = OutSegment {
-        segment: ad_segment(
-            alloc,
-            "http://ads.example/a1.m4s",
-            vec![in alloc; drm_key(alloc)?]?,
-        )?,
+    })
+}
+
+// Its second segment, which is encrypted.
+fn encrypted_item(alloc: Global) -> Result<OutSegment, AllocError> {
+    let keys = vec![in alloc; drm_key(alloc)?]?;
+    Ok(OutSegment {
+        segment: ad_segment(alloc, "http://ads.example/a1.m4s", keys)?,
         media: 9,
         discontinuity: 4,
         steps: 0,
         time: None,
-    };
+    })
+}
+
+fn segments(alloc: Global) -> Result<Items<OutSegment>, AllocError> {
+    let mut segments = Vec::new(alloc);
+    segments.push(origin_item(alloc)?)?;
+    segments.push(clear_item(alloc)?)?;
+    segments.push(encrypted_item(alloc)?)?;
+    Ok(Items::from_vec(segments))
+}
+
+fn playlist(alloc: Global) -> Result<OutPlaylist, AllocError> {
+    let segments = segments(alloc)?;
     Ok(OutPlaylist {
         version: 7,
         target: 10,
@@ -157,7 +174,7 @@ fn playlist(alloc: Global) -> Result<OutPlaylist, AllocError> {
         independent: true,
         ended: true,
         ranges: Items::from_vec(vec![in alloc; text(alloc, DATE_RANGE)?]?),
-        segments: Items::from_vec(vec![in alloc; first, second, third]?),
+        segments,
     })
 }
 
