@@ -10,24 +10,24 @@ use std::fmt;
 /// What is wrong with a splice section. Of several faults the first in this order is answered.
 #[derive(Clone, Copy, Debug, PartialEq, Eq, Hash)]
 pub enum SpliceFault {
-    /// The text does not begin with `0x` or `0X`, or an even number of hexadecimal digits does not follow.
+    /// S1: the text does not begin with `0x` or `0X`, or an even number of hexadecimal digits does not follow.
     NotHex,
-    /// The section has fewer than 20 bytes.
+    /// S2: the section has fewer than 20 bytes.
     TooShort,
-    /// table_id is not 0xFC.
+    /// S3: table_id is not 0xFC.
     TableId,
-    /// section_length is not the number of bytes that follow it.
+    /// S4: section_length is not the number of bytes that follow it.
     Length,
-    /// protocol_version is not 0.
+    /// S5: protocol_version is not 0.
     Protocol,
-    /// The section is encrypted.
+    /// S6: the section is encrypted.
     Encrypted,
-    /// The command or the descriptors do not have the length that the section states for them, or
+    /// S7: the command or the descriptors do not have the length that the section states for them, or
     /// leave too few bytes for what follows.
     CommandLength,
-    /// Memory ran out.
+    /// S8: memory ran out.
     OutOfMemory,
-    /// A value has no section: a number is too wide for its field, the section would be too long, a
+    /// S9: a value has no section: a number is too wide for its field, the section would be too long, a
     /// component is one too many, or a time is there where none belongs or the other way round.
     TooLarge,
 }
