@@ -1,22 +1,13 @@
 -- What went through a source and a sink during a call.
 use Rattle.std.specs.Prelude.{ℕ, List, Option, ◌⊎◌}
 use Rattle.std.specs.Io.KnownBytes.{Consumes, IsAtEnd, Appends}
-use Rattle.playlist_meaning.specs.Devices.{HasRisen}
-use Rattle.playlist_write.specs.Handed.{TookFront}
-use Rattle.http_edge.specs.declared.fault.VodFault.{VodFault}
-use Rattle.http_edge.specs.declared.fault.VodFault.TheVariants.{Read, TooManyReads, OutOfMemory}
+use Rattle.devices.specs.Devices.{HasRisen}
+use Rattle.devices.specs.Handed.{TookFront}
 
 -- the source gave this input, to its end
 pub record GaveAll (old new : Option (List ℕ)) (input : List ℕ) : Type 0 where
   pub given : Consumes old new input
   pub ended : IsAtEnd new
-
--- a fault that reading an input can have
-abbrev pub IsOfReading : VodFault → Type 0
-IsOfReading Read = Unit {0}
-IsOfReading TooManyReads = Unit {0}
-IsOfReading OutOfMemory = Unit {0}
-IsOfReading _ = ⊥
 
 -- how a source stands: the bytes that it still has, where they are known, its calls and its failures
 pub record SourceStand : Type 0 where

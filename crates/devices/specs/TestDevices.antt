@@ -1,6 +1,6 @@
 -- Devices for tests: what they hold, and how much a call moves.
 use Rattle.std.specs.Prelude.{ℕ, ◌-◌, ◌==◌, nat_lt, min, Bool, List, length, if◌then◌else◌}
-use Rattle.playlist_meaning.specs.Devices.{next_count}
+use Rattle.devices.specs.Devices.{next_count}
 
 -- a source: all of its bytes, how many it gave, the most that a read gives, the place that no read
 -- crosses, the number of the read that fails, and its counters

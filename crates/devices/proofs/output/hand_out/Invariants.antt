@@ -1,6 +1,6 @@
 use Rattle.std.proofs.Common.{◌≡◌, length}
-use Rattle.playlist_write.proofs.Fronts.{Joins}
-use Rattle.playlist_write.proofs.output.hand_out.Given as goal
+use Rattle.devices.proofs.Fronts.{Joins}
+use Rattle.devices.proofs.output.hand_out.Given as goal
 
 abbrev pub invariant-loop-rest : goal.invariant-loop-rest
 invariant-loop-rest g l = record {
