@@ -25,7 +25,7 @@ pub length-bytes : (k n : ℕ) → length (bytes_high_first k n) ≡ k
 length-bytes zero n = refl
 length-bytes (suc k) n = ap suc (length-bytes k n)
 
-byte_is : (k n : ℕ) → byte_at k n ≡ n / 256 ^ k % 256
+pub byte_is : (k n : ℕ) → byte_at k n ≡ n / 256 ^ k % 256
 byte_is zero n = omega arith
 byte_is (suc k) n = refl
 
