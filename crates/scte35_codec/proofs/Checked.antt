@@ -1,8 +1,8 @@
 -- A section that is written: its front, and then a CRC_32.
-use Rattle.std.proofs.Common.{◌≡◌, ℕ, ◌*◌, ◌/◌, ◌^◌, ◌<◌, true, List, [], ◌∷◌, ◌++◌, refl, sym, ap, ◌∙◌, append_assoc, arith}
+use Rattle.std.proofs.Common.{◌≡◌, ℕ, ◌/◌, ◌^◌, ◌<◌, true, List, [], ◌∷◌, ◌++◌, refl, sym, ap, ◌∙◌, append_assoc, arith}
 use Rattle.std.specs.Prelude.{◌&&◌, nat_le}
 use Rattle.std.specs.Int.{bytes_high_first}
-use Rattle.scte35_codec.specs.Layout.{Field, Is, width}
+use Rattle.scte35_codec.specs.Layout.{Field, Is}
 use Rattle.scte35_codec.specs.Section.{Section, start_fields, heading_fields, command_fields, after_length, section}
 use Rattle.scte35_codec.specs.Writing.{fits, command_fits, command_length, section_length, has_section, front_fields, tail_fields, written_fields, Appends}
 use Rattle.scte35_codec.specs.Crc.{crc_of, with_crc, IsChecked}

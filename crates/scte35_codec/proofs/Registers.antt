@@ -1,7 +1,6 @@
 -- CRC_32: the register after some bits.
-use Rattle.std.proofs.Common.{◌≡◌, ℕ, zero, suc, ◌+◌, ◌-◌, ◌*◌, ◌/◌, ◌%◌, ◌^◌, ◌<◌, ◌≤◌, Bool, true, false, cond, List, [], ◌∷◌, ◌++◌, refl, sym, ap, subst, ◌∙◌, append_assoc, lit<, arith}
+use Rattle.std.proofs.Common.{◌≡◌, ℕ, zero, suc, ◌+◌, ◌-◌, ◌*◌, ◌/◌, ◌%◌, ◌^◌, ◌<◌, Bool, true, false, cond, List, [], ◌∷◌, ◌++◌, refl, sym, ap, ◌∙◌, lit<, arith}
 use Rattle.std.specs.Prelude.{fold, bit_xor, ◌==◌}
-use Rattle.std.specs.List.{flat_map}
 use Rattle.std.specs.Int.{byte_at, bytes_high_first}
 use Rattle.std.proofs.lemmas.List.Sums.{fold-append}
 use Rattle.std.proofs.lemmas.Nat.{shr-shr, shl-shr, field_of, mod_below, mul-mod_first, xor_lt}
@@ -49,6 +48,7 @@ bit_below register comes = by_cases (differ comes (bit 31 register))
   where
     below : moved_up register < 2 ^ 32
     below = mod_below (register * 2) (2 ^ 32) (omega arith)
+
     by_cases : (d : Bool) → cond d (bit_xor (moved_up register) polynomial) (moved_up register) < 2 ^ 32
     by_cases true = xor_lt 32 (moved_up register) polynomial below (lit< tt)
     by_cases false = below

@@ -14,7 +14,9 @@ const POLYNOMIAL: u32 = 0x04C1_1DB7;
 pub fn crc_of(bytes: &[u8]) -> u32
     ensures { result ≡ crc_of bytes.now }
 {
-    bytes.iter().fold(u32::MAX, |register, byte| after_byte(register, *byte))
+    bytes
+        .iter()
+        .fold(u32::MAX, |register, byte| after_byte(register, *byte))
 }
 
 // The register after the bits of a byte.
