@@ -25,6 +25,10 @@ pub length-bytes : (k n : ℕ) → length (bytes_high_first k n) ≡ k
 length-bytes zero n = refl
 length-bytes (suc k) n = ap suc (length-bytes k n)
 
+pub byte_is : (k n : ℕ) → byte_at k n ≡ n / 256 ^ k % 256
+byte_is zero n = omega arith
+byte_is (suc k) n = refl
+
 -- the lowest bytes of a number
 pub lowest_bytes : (j k n : ℕ) → drop j (bytes_high_first (j + k) n) ≡ bytes_high_first k n
 lowest_bytes zero k n = ap (λ (m : ℕ). bytes_high_first m n) (omega arith)

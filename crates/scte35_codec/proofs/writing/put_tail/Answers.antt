@@ -1,7 +1,7 @@
 use Rattle.std.proofs.Common.{◌≡◌, ℕ, List, [], ◌∷◌, length, ap, arith}
 use Rattle.scte35_codec.specs.Layout.{Field, Is, bytes_of}
 use Rattle.scte35_codec.proofs.Appends.{Appends-then, Appends-is}
-use Rattle.scte35_codec.proofs.writing.put_ending.Goals as goal
+use Rattle.scte35_codec.proofs.writing.put_tail.Goals as goal
 
 pub returns : goal.returns
 returns c =
@@ -11,4 +11,4 @@ returns c =
     let count = Appends-is (ap word len) c.in_ok-put_u16.ensures in
     let descriptors = Appends-is (ap bytes_of c.deref.ensures.value) c.in_ok-put_bytes.ensures in
     let stuffing = Appends-is (ap bytes_of c.deref-2.ensures.value) c.in_ok-put_bytes-2.ensures in
-    Appends-then (Appends-then (Appends-then count descriptors) stuffing) c.in_ok-put_u32.ensures
+    Appends-then (Appends-then count descriptors) stuffing

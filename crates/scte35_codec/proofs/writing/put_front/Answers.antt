@@ -4,7 +4,7 @@ use Rattle.scte35_codec.specs.Writing.{command_length}
 use Rattle.scte35_codec.proofs.Fits.{kept}
 use Rattle.scte35_codec.proofs.Lengths.{section_length_is}
 use Rattle.scte35_codec.proofs.Appends.{Appends-then, Appends-is}
-use Rattle.scte35_codec.proofs.writing.put_section.Goals as goal
+use Rattle.scte35_codec.proofs.writing.put_front.Goals as goal
 
 pub put_start-requires : goal.put_start-requires
 put_start-requires c = omega (arith, (kept (section_of c.args.info.now) c.requires.fits).length)
@@ -20,8 +20,8 @@ put_heading-requires-clause-command c =
     let s = section_of c.args.info.now in
     omega (arith, (kept s c.requires.fits).length, section_length_is s (command_length s) c.command_len.result c.command_len.ensures)
 
-pub put_ending-requires : goal.put_ending-requires
-put_ending-requires c =
+pub put_tail-requires : goal.put_tail-requires
+put_tail-requires c =
     let s = section_of c.args.info.now in
     omega (arith, (kept s c.requires.fits).length, section_length_is s (command_length s) c.command_len.result c.command_len.ensures)
 
@@ -32,4 +32,4 @@ returns c =
     let len : c.command_len.result ≡ command_length s = omega (arith, c.command_len.ensures) in
     let start = Appends-is (ap start_fields c.requires.counted) c.in_ok-put_start.ensures in
     let heading = Appends-is (ap (heading_fields s) len) c.in_ok-put_heading.ensures in
-    Appends-then start (Appends-then (Appends-then heading c.in_ok-put_command.ensures) c.in_ok-put_ending.ensures)
+    Appends-then start (Appends-then (Appends-then heading c.in_ok-put_command.ensures) c.in_ok-put_tail.ensures)
