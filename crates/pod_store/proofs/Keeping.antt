@@ -1,19 +1,18 @@
 -- What a decision file says keeps the rules of pods.
-use Rattle.std.proofs.Common.{suc, ◌≡◌, ℕ, ◌+◌, ◌^◌, Bool, true, false, not, ◌&&◌, List, [], ◌∷◌, ◌++◌, length, map, sum, codes, refl, sym, ap, ◌∙◌, subst, Some, None, true≢false, arith, length-append}
-use Rattle.std.specs.Prelude.{Option, Result, Ok, Err, ◌==◌, nat_lt, nat_le, is_some, unwrap_or, option_map}
-use Rattle.std.specs.Str.{is_utf8, chars}
+use Rattle.std.proofs.Common.{suc, ◌≡◌, ◌≤◌, ℕ, ◌+◌, ◌^◌, Bool, true, false, not, List, [], ◌∷◌, ◌++◌, length, map, sum, codes, refl, sym, ◌∙◌, subst, Some, None, arith, length-append}
+use Rattle.std.specs.Prelude.{Option, Result, Ok, Err, ◌==◌, nat_lt, nat_le, unwrap_or}
+use Rattle.std.specs.Str.{chars}
 use Rattle.std.specs.List.{list_all}
-use Rattle.std.proofs.lemmas.Bool.{and_parts, and_from, not-false}
+use Rattle.std.proofs.lemmas.Bool.{and_from, le-leb}
 use Rattle.std.proofs.lemmas.Bool.Decides.{nat_tests}
 use Rattle.std.proofs.lemmas.List.{length-map}
 use Rattle.std.proofs.lemmas.List.Folds.{list_all-append}
 use Rattle.fixed_duration.specs.Duration.{duration_of}
-use Rattle.attr_list.specs.Numbers.{hex_of}
 use Rattle.playlist_meaning.specs.declared.ByteRange.{ByteRange}
 use Rattle.playlist_meaning.specs.declared.Key.{Key}
-use Rattle.playlist_meaning.specs.Pods.{PodSegment, Ad, Pod}
+use Rattle.playlist_meaning.specs.Pods.{PodSegment, Ad}
 use Rattle.serde_json.specs.Data.{Data}
-use Rattle.serde_json.specs.Find.{get, as_str, as_object}
+use Rattle.serde_json.specs.Find.{get, as_object}
 use Rattle.pod_store.specs.declared.fault.DecisionFault.{DecisionFault}
 use Rattle.pod_store.specs.declared.fault.Place.{Place}
 use Rattle.pod_store.specs.declared.fault.DecisionKind.TheVariants.{Shape, BadUri, BadDuration, BadKey, EmptyPod, TooMany}
@@ -21,7 +20,7 @@ use Rattle.pod_store.specs.Outcome.{Outcome, ◌>>=◌, fault_at, in_ad, in_segm
 use Rattle.pod_store.specs.Json.{text_at, list_at, u64_of}
 use Rattle.pod_store.specs.Pods.{is_uri, is_method, is_format, segment_count}
 use Rattle.pod_store.specs.Decided as said
-use Rattle.pod_store.specs.Rules.{range_fits, segment_keeps, key_keeps, section_keeps, ad_keeps, ads_keep}
+use Rattle.pod_store.specs.Rules.{range_fits, segment_keeps, key_keeps, ad_keeps, ads_keep}
 use Rattle.pod_store.proofs.Bounds.{duration_is_small}
 
 -- ---- steps that are passed
@@ -240,9 +239,9 @@ ad_said_keeps pod ad before d =
     (segments_keep pod ad before d segments s)))))
 
 -- the ads that are read keep the rules
-pub ads_read_keep : (pod : ℕ) (list : List Data) (ads : List Ad) → (length list == 0) ≡ false → each_after (said.next_ad pod) [] list ≡ Ok ads → ads_keep ads ≡ true
-ads_read_keep pod list ads some h =
-    and_from _ _ (some_read (said.next_ad pod) list ads some h)
+pub ads_read_keep : (pod : ℕ) (list : List Data) (ads : List Ad) → (length list == 0) ≡ false → each_after (said.next_ad pod) [] list ≡ Ok ads → sum (map segment_count ads) ≤ 500 → ads_keep ads ≡ true
+ads_read_keep pod list ads some h most =
+    and_from _ _ (and_from _ _ (some_read (said.next_ad pod) list ads some h) (le-leb _ _ most))
     (each_keeps ad_keeps (said.next_ad pod) (λ done d a e. ad_said_keeps pod (length done) (sum (map segment_count done)) d a e) [] list refl ads h)
 
 pub some_seen : {A B : Type 0} (f : A → B) (xs : List A) → (length xs == 0) ≡ false → (length (map f xs) == 0) ≡ false

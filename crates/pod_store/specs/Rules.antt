@@ -1,10 +1,10 @@
 -- The rules that each decided pod keeps.
-use Rattle.std.specs.Prelude.{◌≡◌, ℕ, ◌+◌, ◌^◌, Bool, true, ◌&&◌, ◌==◌, nat_le, nat_lt, List, map, sum, length, Option, Some, None, is_some}
+use Rattle.std.specs.Prelude.{◌+◌, ◌^◌, Bool, true, ◌&&◌, ◌==◌, nat_le, nat_lt, List, map, sum, length, Option, Some, None, is_some}
 use Rattle.std.specs.List.{list_all}
 use Rattle.playlist_meaning.specs.declared.ByteRange.{ByteRange}
 use Rattle.playlist_meaning.specs.declared.InitSection.{InitSection}
 use Rattle.playlist_meaning.specs.declared.Key.{Key}
-use Rattle.playlist_meaning.specs.Pods.{PodSegment, Ad, Pod}
+use Rattle.playlist_meaning.specs.Pods.{PodSegment, Ad}
 use Rattle.pod_store.specs.Pods.{is_uri, is_method, is_format, segment_count}
 
 abbrev pub range_fits : Option ByteRange → Bool
@@ -28,6 +28,6 @@ ad_keeps ad =
     section_keeps ad.section && nat_le (length ad.keys) 1 && list_all key_keeps ad.keys
     && nat_lt 0 (length ad.segments) && list_all segment_keeps ad.segments
 
--- at least one ad
+-- at least one ad, and at most 500 segments in all
 abbrev pub ads_keep : List Ad → Bool
-ads_keep ads = nat_lt 0 (length ads) && list_all ad_keeps ads
+ads_keep ads = nat_lt 0 (length ads) && nat_le (sum (map segment_count ads)) 500 && list_all ad_keeps ads

@@ -1,5 +1,5 @@
 -- The store of decided breaks.
-use Rattle.std.specs.Prelude.{◌≡◌, ℕ, ◌+◌, Bool, true, false, not, List, [], ◌∷◌, map, filter, fold, find, length, nat_lt, Option, Some, None, option_map, is_some, Result, Ok, Err, MatchResult, bytes_eq, if◌then◌else◌}
+use Rattle.std.specs.Prelude.{◌≡◌, ℕ, ◌+◌, Bool, true, false, not, List, [], ◌∷◌, filter, fold, find, length, nat_lt, Option, Some, None, option_map, is_some, Result, Ok, Err, MatchResult, bytes_eq, if◌then◌else◌}
 use Rattle.std.specs.List.{list_any}
 use Rattle.playlist_meaning.specs.Pods.{Pod}
 use Rattle.pod_store.specs.declared.fault.DecisionFault.{DecisionFault}
@@ -7,7 +7,7 @@ use Rattle.pod_store.specs.declared.fault.DecisionKind.TheVariants.{Used, Full, 
 use Rattle.pod_store.specs.declared.Decisions.{Decisions}
 use Rattle.pod_store.specs.declared.Decisions.TheVariants.{Breaks, Withdraw}
 use Rattle.pod_store.specs.Outcome.{Outcome, nowhere, fault_at, refuse_if, Refuses}
-use Rattle.pod_store.specs.Decided.{Decision, decides}
+use Rattle.pod_store.specs.Decided.{Decision}
 use Rattle.pod_store.specs.Pods.{pod_fits}
 
 -- a decided break: its pod, and whether the break is used
@@ -88,15 +88,6 @@ decided store (Withdraw id) = withdrawn store id
 -- a used break goes; any other stays
 abbrev pub released : List Entry → List ℕ → List Entry
 released store id = if is_used store id then without id store else store
-
--- no ID comes twice
-abbrev pub are_distinct : List Decision → Bool
-are_distinct [] = true
-are_distinct (d ∷ later) = if list_any (decides d.0) later then false else are_distinct later
-
-abbrev pub AreDistinct : Decisions → Type 0
-AreDistinct (Breaks decisions) = are_distinct decisions ≡ true
-AreDistinct (Withdraw id) = Unit {0}
 
 -- the store is the one owed; or the fault is, want of memory apart, and the store is as it was
 abbrev pub Changes : List Entry → List Entry → Result (Unit {0}) DecisionFault → Outcome (List Entry) → Type 0

@@ -3,7 +3,7 @@ ghost use Rattle.std.specs.Prelude.{◌≡◌, ℕ, ◌+◌, ◌≤◌, ◌<◌,
 ghost use Rattle.std.specs.List.{list_all, list_any};
 ghost use Rattle.std.specs.Option.{option_copied};
 ghost use Rattle.pod_store.specs.Pods.{section_fits, segment_fits, ad_fits, pod_fits};
-ghost use Rattle.pod_store.specs.Store.{names_used, put, without, entry_for, pod_for, fits, is_used, with_all, withdrawn, decided, released, with_used, count_with, is_new, AreDistinct, Changes, ChangesExactly};
+ghost use Rattle.pod_store.specs.Store.{names_used, put, without, entry_for, pod_for, fits, is_used, with_all, withdrawn, decided, released, with_used, count_with, is_new, Changes, ChangesExactly};
 
 use crate::fault::{DecisionFault, DecisionKind, Place};
 use crate::kept::{Kept, kept_for, mark, put_all, remove};
