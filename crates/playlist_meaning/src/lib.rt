@@ -254,8 +254,6 @@ pub struct Playlist {
 
 mod rows;
 mod stitched_rows;
-#[cfg(test)]
-mod tests;
 
 // Whether a byte is an ASCII character that is no control character.
 fn is_printable(byte: u8) -> bool

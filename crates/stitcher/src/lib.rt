@@ -33,6 +33,3 @@ pub struct OutSegment {
     /// The instant that is written before it, if one is.
     pub time: Option<Instant>,
 }
-
-#[cfg(test)]
-mod tests;

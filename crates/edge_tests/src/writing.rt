@@ -1,10 +1,11 @@
 //! Each public call once, and the written text of a playlist with each kind of line.
-use crate::{OutPlaylist, write};
 use devices::Taken;
 use fixed_duration::Nanos;
+use part_tests::made::key;
 use playlist_meaning::{
     ByteRange, InitSection, Instant, Items, Key, KeyAttr, PlaylistKind, Segment, Shared, Text,
 };
+use playlist_write::{OutPlaylist, write};
 use std::alloc::{AllocError, Global};
 use std::test::Fail;
 use stitcher::OutSegment;
@@ -43,16 +44,6 @@ http://ads.example/a1.m4s
 
 fn text(alloc: Global, text: &str) -> Result<Text, AllocError> {
     Text::copy_of(alloc, text)
-}
-
-fn key(alloc: Global, uri: &str, iv: u128) -> Result<Key, AllocError> {
-    Ok(Key {
-        format: Shared::copy_of(alloc, "identity")?,
-        method: Shared::copy_of(alloc, "AES-128")?,
-        uri: Shared::copy_of(alloc, uri)?,
-        iv: Some(iv),
-        other: Shared::new(alloc, Items::from_vec(Vec::new(alloc)))?,
-    })
 }
 
 fn other(alloc: Global, name: &str, value: &str, quoted: bool) -> Result<KeyAttr, AllocError> {
@@ -101,8 +92,8 @@ fn ad_segment(alloc: Global, uri: &str, keys: Vec<Key>) -> Result<Segment, Alloc
 
 fn origin_segment(alloc: Global) -> Result<Segment, AllocError> {
     let uri = text(alloc, "http://origin.example/ch/init.mp4")?;
-    let map_key = key(alloc, "http://origin.example/ch/ka", 10)?;
-    let media_key = key(alloc, "http://origin.example/ch/kb", 2)?;
+    let map_key = key(alloc, "identity", "http://origin.example/ch/ka", Some(10))?;
+    let media_key = key(alloc, "identity", "http://origin.example/ch/kb", Some(2))?;
     let mut segment = ad_segment(
         alloc,
         "http://origin.example/ch/s0.m4s",

@@ -1,5 +1,5 @@
 //! Each public call once.
-use crate::{Counted, Pieces, READ_ROOM, Sink, Source, Taken, hand_out};
+use devices::{Counted, Pieces, READ_ROOM, Sink, Source, Taken, hand_out};
 use std::test::Fail;
 
 #[test]

@@ -1,6 +1,6 @@
 use Rattle.std.proofs.Common.{refl}
 use Rattle.std.specs.Str.{chars}
-use Rattle.http_edge.proofs.stated_tests.two_segments.Goals as goal
+use Rattle.edge_tests.proofs.stated_runs.two_segments.Goals as goal
 
 pub stated-requires : goal.stated-requires
 unfolding chars

@@ -1,5 +1,5 @@
-use super::*;
-use std::alloc::Global;
+use attr_list::{Attr, AttrFault, AttrList, Span, laws, read_decimal, read_hex_u128};
+use std::alloc::{AllocError, Global};
 use std::test::Fail;
 
 const OK_LISTS: [&str; 7] = [

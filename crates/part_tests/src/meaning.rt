@@ -1,5 +1,6 @@
 //! Each public call once, and what no clause says.
-use crate::{
+use crate::made::key;
+use playlist_meaning::{
     Base, BaseFault, FaultKind, Instant, Items, Key, PlaylistFault, Shared, Text, TimeFault,
     has_control, has_quote, has_scheme, is_iv_needed, read_instant, same_resource, text_of,
     write_instant,
@@ -161,20 +162,13 @@ fn bytes_and_characters(rt: HostRuntime) -> Result<(), Fail> {
     Ok(())
 }
 
-fn key(alloc: Global, format: &str, iv: Option<u128>) -> Result<Key, AllocError> {
-    Ok(Key {
-        format: Shared::copy_of(alloc, format)?,
-        method: Shared::copy_of(alloc, "AES-128")?,
-        uri: Shared::copy_of(alloc, "http://origin.example/k")?,
-        iv,
-        other: Shared::new(alloc, Items::from_vec(Vec::new(alloc)))?,
-    })
-}
+// The resource of each key.
+const KEY: &str = "http://origin.example/k";
 
 #[test]
 fn keys_beside_others(rt: HostRuntime) -> Result<(), Fail> {
-    let first = key(rt.alloc(), "com.example", Some(1))?;
-    let second = key(rt.alloc(), "identity", None)?;
+    let first = key(rt.alloc(), "com.example", KEY, Some(1))?;
+    let second = key(rt.alloc(), "identity", KEY, None)?;
     assert!(rt; first.is_before(&second));
     assert!(rt; !second.is_before(&first));
     assert!(rt; !first.is_before(&first));

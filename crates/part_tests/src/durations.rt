@@ -1,4 +1,4 @@
-use super::*;
+use fixed_duration::{DurationFault, Nanos, nanos_of_fraction};
 use std::test::Fail;
 
 #[test]

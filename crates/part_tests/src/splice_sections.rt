@@ -1,4 +1,7 @@
-use super::*;
+use scte35_codec::{
+    BreakDuration, InsertBody, SpliceCommand, SpliceFault, SpliceInfo, SpliceInsert, SpliceTarget,
+    SpliceTime, read, read_hex, write,
+};
 use std::alloc::{AllocError, Global};
 use std::process::Abort;
 use std::test::Fail;

@@ -3,9 +3,9 @@ ghost use Rattle.std.specs.Prelude.{◌<◌, length, IfOk, IsTrue};
 ghost use Rattle.std.specs.List.{list_all};
 ghost use Rattle.http_edge.specs.Stated.{can_be_stated};
 
-use crate::{StatedRun, StatedSegment, VodFault, vod_stated};
 use devices::{Pieces, Taken};
 use fixed_duration::Nanos;
+use http_edge::{StatedRun, StatedSegment, VodFault, vod_stated};
 use playlist_meaning::{Items, Text};
 use std::alloc::Global;
 use std::test::Fail;

@@ -1,9 +1,9 @@
 //! Faults with their lines, and limits on both sides.
-use crate::{Line, MOST_BYTES, lines, read};
 use fixed_duration::Nanos;
 use playlist_meaning::{
     Base, DateRange, FaultKind, Instant, Playlist, PlaylistFault, PlaylistKind, Text,
 };
+use playlist_parse::{Line, MOST_BYTES, lines, read};
 use segment_state::attributes::{attributes_of, optional, required};
 use std::alloc::Global;
 use std::test::Fail;

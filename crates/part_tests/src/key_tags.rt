@@ -1,24 +1,15 @@
 //! Each public call once.
-use crate::{KeyTag, StitchFault, is_new, keeps_formats, transition};
+use crate::made::key;
 use playlist_meaning::{InitSection, Items, Key, Shared, Text, is_same_key, is_same_section};
 use std::alloc::{AllocError, Global};
 use std::test::Fail;
-
-fn key(alloc: Global, format: &str, uri: &str) -> Result<Key, AllocError> {
-    Ok(Key {
-        format: Shared::copy_of(alloc, format)?,
-        method: Shared::copy_of(alloc, "AES-128")?,
-        uri: Shared::copy_of(alloc, uri)?,
-        iv: Some(1),
-        other: Shared::new(alloc, Items::from_vec(Vec::new(alloc)))?,
-    })
-}
+use stitcher::{KeyTag, StitchFault, is_new, keeps_formats, transition};
 
 fn section(alloc: Global, uri: &str) -> Result<InitSection, AllocError> {
     Ok(InitSection {
         uri: Text::copy_of(alloc, uri)?,
         range: None,
-        keys: Items::from_vec(vec![in alloc; key(alloc, "identity", "http://a/1")?]?),
+        keys: Items::from_vec(vec![in alloc; key(alloc, "identity", "http://a/1", Some(1))?]?),
     })
 }
 
@@ -38,9 +29,9 @@ fn said(alloc: Global, tags: &[KeyTag]) -> Result<String, AllocError> {
 #[test]
 fn tags_between_keys(rt: HostRuntime) -> Result<(), Fail> {
     let alloc = rt.alloc();
-    let drm = key(alloc, "com.example.drm", "skd://1")?;
-    let both = vec![in alloc; drm, key(alloc, "identity", "http://a/1")?]?;
-    let one = vec![in alloc; key(alloc, "identity", "http://a/2")?]?;
+    let drm = key(alloc, "com.example.drm", "skd://1", Some(1))?;
+    let both = vec![in alloc; drm, key(alloc, "identity", "http://a/1", Some(1))?]?;
+    let one = vec![in alloc; key(alloc, "identity", "http://a/2", Some(1))?]?;
     let table = [
         (&both[..], &one[..], "NONE\nhttp://a/2\n"),
         (&one[..], &both[..], "skd://1\nhttp://a/1\n"),
