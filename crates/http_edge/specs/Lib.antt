@@ -1,3 +1,4 @@
+pub mod Runs
 pub mod Owed
 pub mod Vod
 pub mod Printed

@@ -1,9 +1,9 @@
 //! Each public call once.
 use crate::made::key;
-use playlist_meaning::{InitSection, Items, Key, Shared, Text, is_same_key, is_same_section};
+use playlist_meaning::{InitSection, Items, KeyTag, Shared, Text, is_same_key, is_same_section};
 use std::alloc::{AllocError, Global};
 use std::test::Fail;
-use stitcher::{KeyTag, StitchFault, is_new, keeps_formats, transition};
+use stitcher::{StitchFault, is_new, keeps_formats, transition};
 
 fn section(alloc: Global, uri: &str) -> Result<InitSection, AllocError> {
     Ok(InitSection {
