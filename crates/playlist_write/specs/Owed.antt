@@ -7,7 +7,7 @@ use Rattle.playlist_meaning.specs.declared.InitSection.{InitSection}
 use Rattle.playlist_meaning.specs.declared.PlaylistKind.{PlaylistKind}
 use Rattle.playlist_meaning.specs.declared.Segment.{Segment}
 use Rattle.playlist_meaning.specs.LookBack.{or_earlier}
-use Rattle.playlist_meaning.specs.Said.{Said, version, target, sequence, discontinuity_sequence, playlist_type, ended, independent, duration, range, discontinuity, key_tag_said, section, time, media}
+use Rattle.playlist_meaning.specs.Said.{Said, version, target, sequence, discontinuity_sequence, playlist_type, ended, independent, duration, range, discontinuity, key, key_tag_said, section, time, media}
 use Rattle.playlist_meaning.specs.declared.KeyTag.TheVariants.{Set}
 use Rattle.stitcher.specs.declared.OutSegment.{OutSegment}
 use Rattle.playlist_meaning.specs.Same.{same_option, same_section}
