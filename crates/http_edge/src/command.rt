@@ -91,7 +91,7 @@ pub fn write_playlist<K: Sink>(
     }
 }
 
-#[tactic(auto, using(crate::proofs::Known::known_bytes, crate::proofs::OwedFits::owed_denotes))]
+#[tactic(auto, using(crate::proofs::Known::known_bytes, crate::proofs::Means::written_means))]
 /// Reads a playlist from an input and writes the controller's playlist, and nothing else. The
 /// decision file's bytes are none until breaks are filled.
 pub fn vod<S: Source, K: Sink>(
