@@ -8,7 +8,7 @@ use Rattle.http_edge.specs.Stated.{owed_with_run}
 use Rattle.http_edge.specs.Stitching.{item_fits, stitched_segments}
 use Rattle.http_edge.proofs.Outcomes.{handed_on_as_run}
 use Rattle.http_edge.proofs.Owing.{owes, owes_range}
-use Rattle.http_edge.proofs.shown.owed_with_run.Goals as goal
+use Rattle.http_edge.proofs.owed.owed_with_run.Goals as goal
 
 pub returns-in_err-segments-clause-err : goal.returns-in_err-segments-clause-err
 returns-in_err-segments-clause-err c =
