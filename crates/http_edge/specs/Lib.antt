@@ -1,4 +1,4 @@
-pub mod Streams
+pub mod Runs
 pub mod Owed
 pub mod Vod
 pub mod Printed

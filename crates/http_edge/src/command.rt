@@ -1,25 +1,26 @@
 //! One input, one playlist.
 ghost use Rattle.std.specs.Prelude.{true, ◌≡◌, ◌≢◌, ◌+◌, ◌≤◌, Ok, Err, Some, None, OnOk, IfOk, IfErr, IsErrOf, IsNone};
 ghost use Rattle.std.specs.Io.KnownBytes.{Appends, Keeps};
-ghost use Rattle.playlist_write.specs.Handed.{TookFront};
-ghost use Rattle.playlist_meaning.specs.Devices.{HasRisen, CalledAll};
+ghost use Rattle.devices.specs.Handed.{TookFront};
 ghost use Rattle.playlist_meaning.specs.Uri.{base_of};
 ghost use Rattle.playlist_write.specs.Owed.{text_of};
 ghost use Rattle.playlist_meaning.specs.Reading.{reading, limited, Fault};
 ghost use Rattle.reading_laws.specs.Read.{uris_are_text};
 ghost use Rattle.std.specs.List.{list_all};
 ghost use Rattle.http_edge.specs.Vod.{RefusesInput, IsOfInput, IsOfVod, HasRead, Writes, WritesFront};
-ghost use Rattle.http_edge.specs.Streams.{source_stand, sink_stand, WasHanded};
-ghost use Rattle.http_edge.specs.Printed.{fault_line, FailsAndPrints};
+ghost use Rattle.devices.specs.Stands.{source_stand, sink_stand, WasHanded};
+ghost use Rattle.http_edge.specs.Runs.{IsFairToSource, IsFairToSink};
+ghost use Rattle.http_edge.specs.Printed.{fault_line, Succeeds, FailsAndPrints};
 
 use crate::fault::VodFault;
 use crate::input::{MOST_READS, read_input};
 use crate::shown::owed_playlist;
 use crate::texts::know_texts;
 use arrayvec::ArrayString;
-use playlist_meaning::{Base, BaseFault, FaultKind, Playlist, Sink, Source};
+use devices::{Sink, Source, hand_out};
+use playlist_meaning::{Base, BaseFault, FaultKind, Playlist};
 use playlist_parse::read;
-use playlist_write::{OutPlaylist, WriteFault, hand_out, write};
+use playlist_write::{OutPlaylist, WriteFault, write};
 use std::alloc::Global;
 
 fn base_said(alloc: Global, base: &str) -> Result<Base, VodFault>
@@ -63,11 +64,9 @@ pub fn read_playlist<S: Source>(
     ensures texts { IfOk result (λ playlist. list_all uris_are_text playlist.segments ≡ true) }
     ensures input { IfErr result IsOfInput }
     ensures bad_base { IsErrOf result VodFault.BadBase → base_of base.now ≡ None }
-    ensures unread { base_of base.now ≡ None → S.called source.new ≡ S.called source.old }
+    ensures unread { base_of base.now ≡ None → source.new ≡ source.old }
     ensures playlist { IfErr result (λ e. (fault : Fault) → e ≡ VodFault.Playlist fault → HasRead base.now (S.remaining source.old) (S.remaining source.new) (Err fault)) }
-    ensures read_failed { IsErrOf result VodFault.Read → HasRisen (S.failed source.old) (S.failed source.new) }
-    ensures too_many { IsErrOf result VodFault.TooManyReads → CalledAll (S.called source.old) (S.called source.new) MOST_READS }
-    ensures calls { S.called source.new ≤ S.called source.old + MOST_READS }
+    ensures source { IsFairToSource result (source_stand S.remaining S.called S.failed source.old) (source_stand S.remaining S.called S.failed source.new) }
 {
     let base = base_said(alloc, base)?;
     let input = read_input(alloc, source)?;
@@ -82,8 +81,8 @@ pub fn write_playlist<K: Sink>(
 ) -> Result<(), VodFault>
     ensures ok { OnOk result (Appends (K.contents sink.old) (K.contents sink.new) (text_of playlist.now)) }
     ensures err { IsErrOf result VodFault.Write → TookFront (K.contents sink.old) (K.contents sink.new) (text_of playlist.now) }
-    ensures memory { IfErr result (λ e. e ≢ VodFault.Write → (e ≡ VodFault.OutOfMemory) × Keeps (K.contents sink.old) (K.contents sink.new)) }
-    ensures failed { IsErrOf result VodFault.Write → HasRisen (K.failed sink.old) (K.failed sink.new) }
+    ensures memory { IfErr result (λ e. e ≢ VodFault.Write → (e ≡ VodFault.OutOfMemory) × (sink.new ≡ sink.old)) }
+    ensures sink { IsFairToSink result (sink_stand K.contents K.failed sink.old) (sink_stand K.contents K.failed sink.new) }
 {
     match write(alloc, playlist, sink) {
         Ok(()) => Ok(()),
@@ -108,22 +107,20 @@ pub fn vod<S: Source, K: Sink>(
 
     // Where the sink failed it took a front of the text, and else nothing.
     ensures write { IsErrOf result VodFault.Write → WritesFront base.now (S.remaining source.old) (S.remaining source.new) (K.contents sink.old) (K.contents sink.new) }
-    ensures nothing { IfErr result (λ e. e ≢ VodFault.Write → Keeps (K.contents sink.old) (K.contents sink.new)) }
+    ensures nothing { IfErr result (λ e. e ≢ VodFault.Write → sink.new ≡ sink.old) }
 
     ensures kind { IfErr result IsOfVod }
 
     // The base is judged before anything is read.
     ensures bad_base { IsErrOf result VodFault.BadBase → base_of base.now ≡ None }
-    ensures unread { base_of base.now ≡ None → S.called source.new ≡ S.called source.old }
+    ensures unread { base_of base.now ≡ None → source.new ≡ source.old }
 
     // The whole input is judged before anything is written.
     ensures playlist { IfErr result (λ e. (fault : Fault) → e ≡ VodFault.Playlist fault → HasRead base.now (S.remaining source.old) (S.remaining source.new) (Err fault)) }
 
-    // A device is blamed only where it failed.
-    ensures read_failed { IsErrOf result VodFault.Read → HasRisen (S.failed source.old) (S.failed source.new) }
-    ensures write_failed { IsErrOf result VodFault.Write → HasRisen (K.failed sink.old) (K.failed sink.new) }
-    ensures too_many { IsErrOf result VodFault.TooManyReads → CalledAll (S.called source.old) (S.called source.new) MOST_READS }
-    ensures calls { S.called source.new ≤ S.called source.old + MOST_READS }
+    // A device is blamed exactly where it failed, and is left alone then.
+    ensures source { IsFairToSource result (source_stand S.remaining S.called S.failed source.old) (source_stand S.remaining S.called S.failed source.new) }
+    ensures sink { IsFairToSink result (sink_stand K.contents K.failed sink.old) (sink_stand K.contents K.failed sink.new) }
 {
     let playlist = read_playlist(alloc, source, base)?;
     let owed = owed_playlist(alloc, playlist)?;
@@ -160,7 +157,9 @@ pub fn command_vod<S: Source, K: Sink, F: Sink>(
 ) -> u8
     requires { IsNone decisions }
     ensures status { result ≤ 1 }
-    ensures ok { result ≡ 0 → Writes base.now (S.remaining input.old) (S.remaining input.new) (K.contents output.old) (K.contents output.new) }
+    ensures ok { result ≡ 0 → Succeeds base.now
+        (source_stand S.remaining S.called S.failed input.old) (source_stand S.remaining S.called S.failed input.new)
+        (sink_stand K.contents K.failed output.old) (sink_stand K.contents K.failed output.new) }
     ensures quiet { result ≡ 0 → faults.new ≡ faults.old }
 
     // 1 only where `vod` answers a fault, and then its line is printed.
@@ -170,8 +169,7 @@ pub fn command_vod<S: Source, K: Sink, F: Sink>(
         (sink_stand F.contents F.failed faults.old) (sink_stand F.contents F.failed faults.new) }
 
     // The base is judged before anything is read.
-    ensures unread { base_of base.now ≡ None → S.called input.new ≡ S.called input.old }
-    ensures calls { S.called input.new ≤ S.called input.old + MOST_READS }
+    ensures unread { base_of base.now ≡ None → input.new ≡ input.old }
 {
     match vod(alloc, input, output, base, decisions) {
         Ok(()) => 0,

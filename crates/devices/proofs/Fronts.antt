@@ -3,7 +3,7 @@ use Rattle.std.proofs.Common.{◌≡◌, ℕ, ◌+◌, ◌-◌, ◌≤◌, List,
 use Rattle.std.proofs.lemmas.List.{take_at, take-append-drop, append-nil, nil_from_length}
 use Rattle.std.specs.Prelude.{Option}
 use Rattle.std.specs.Io.KnownBytes.{Appends, Keeps}
-use Rattle.playlist_write.specs.Handed.{TookFront}
+use Rattle.devices.specs.Handed.{TookFront}
 
 -- what was taken and what is left are what there was, where it is known
 abbrev pub Joins : Option (List ℕ) → Option (List ℕ) → List ℕ → List ℕ → Type 0
