@@ -1,5 +1,5 @@
 use Rattle.std.proofs.Common.{refl, ap}
-use Rattle.playlist_meaning.specs.Instant.{instant_of}
+use Rattle.instants.specs.Instant.{instant_of}
 use Rattle.segment_state.proofs.Timed.{stated, unstated, with_time, timed, untimed}
 use Rattle.segment_state.proofs.State.time_tag.Goals as goal
 
