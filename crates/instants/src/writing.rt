@@ -1,5 +1,5 @@
 //! How an instant is written.
-ghost use Rattle.std.specs.Prelude.{◌≡◌, ◌++◌, ◌<◌, ◌≤◌, ◌^◌, ◌+◌, [], OnOk, string_bytes, Some, true};
+ghost use Rattle.std.specs.Prelude.{◌≡◌, ◌++◌, ◌<◌, ◌≤◌, ◌^◌, ◌+◌, [], ◌∷◌, OnOk, OnErr, string_bytes, string_len, string_capacity, Some, true};
 ghost use Rattle.std.specs.Prelude.{◌/◌, ◌%◌};
 ghost use Rattle.instants.specs.Instant.{is_leap, days_in_month, in_range, instant_of};
 ghost use Rattle.instants.specs.Digits.{fixed_digits};
@@ -8,19 +8,35 @@ ghost use Rattle.instants.specs.Times.{from_1900, days_in_year, year_after, mont
 use crate::Instant;
 use std::alloc::AllocError;
 
+// `YYYY-MM-DDThh:mm:ss.nnnnnnnnnZ` has this many bytes.
+const LONGEST: usize = 30;
+
 /// The days from the first of 1900 to the first of 2020.
 const DAYS_TO_2020: u64 = 43_829;
 
+// Appends an ASCII character.
+fn push_mark(out: &mut String, mark: char)
+    requires ascii { mark < 128 }
+    requires room { string_len out.old + 1 ≤ string_capacity out.old }
+    ensures text { string_bytes out.new ≡ string_bytes out.old ++ mark ∷ [] }
+    ensures len { string_len out.new ≡ string_len out.old + 1 }
+    ensures capacity { string_capacity out.old ≤ string_capacity out.new }
+{
+    out.push(mark).unwrap();
+}
+
 // Appends the last `count` decimal digits of a number.
-fn push_digits(out: &mut String, number: u64, count: u8) -> Result<(), AllocError>
-    ensures { OnOk result (string_bytes out.new ≡ string_bytes out.old ++ fixed_digits 10 count number) }
+fn push_digits(out: &mut String, number: u64, count: u8)
+    requires { string_len out.old + count ≤ string_capacity out.old }
+    ensures text { string_bytes out.new ≡ string_bytes out.old ++ fixed_digits 10 count number }
+    ensures len { string_len out.new ≡ string_len out.old + count }
+    ensures capacity { string_capacity out.old ≤ string_capacity out.new }
 {
     if count == 0 {
-        return Ok(());
+        return;
     }
-    push_digits(out, number / 10, count - 1)?;
-    out.push((b'0' + (number % 10) as u8) as char)?;
-    Ok(())
+    push_digits(out, number / 10, count - 1);
+    push_mark(out, (b'0' + (number % 10) as u8) as char);
 }
 
 fn is_leap(year: u64) -> bool
@@ -108,56 +124,65 @@ fn from_1900(time: Instant) -> u64
     }
 }
 
-fn push_date(out: &mut String, days: u64) -> Result<(), AllocError>
-    requires { days < 2 ^ 40 }
-    ensures { OnOk result (string_bytes out.new ≡ string_bytes out.old ++ date_at days) }
+fn push_date(out: &mut String, days: u64)
+    requires days { days < 2 ^ 40 }
+    requires room { string_len out.old + 10 ≤ string_capacity out.old }
+    ensures text { string_bytes out.new ≡ string_bytes out.old ++ date_at days }
+    ensures len { string_len out.new ≡ string_len out.old + 10 }
+    ensures capacity { string_capacity out.old ≤ string_capacity out.new }
 {
     let (year, rest) = year_of(days);
     let (month, day) = month_after(12, year, 1, rest);
-    push_digits(out, year, 4)?;
-    out.push_str("-")?;
-    push_digits(out, month, 2)?;
-    out.push_str("-")?;
-    push_digits(out, day + 1, 2)?;
-    Ok(())
+    push_digits(out, year, 4);
+    push_mark(out, '-');
+    push_digits(out, month, 2);
+    push_mark(out, '-');
+    push_digits(out, day + 1, 2);
 }
 
-fn push_clock(out: &mut String, seconds: u64) -> Result<(), AllocError>
-    ensures { OnOk result (string_bytes out.new ≡ string_bytes out.old ++ clock_text seconds []) }
+fn push_clock(out: &mut String, seconds: u64)
+    requires { string_len out.old + 8 ≤ string_capacity out.old }
+    ensures text { string_bytes out.new ≡ string_bytes out.old ++ clock_text seconds [] }
+    ensures len { string_len out.new ≡ string_len out.old + 8 }
+    ensures capacity { string_capacity out.old ≤ string_capacity out.new }
 {
-    push_digits(out, seconds / 3600, 2)?;
-    out.push_str(":")?;
-    push_digits(out, seconds / 60 % 60, 2)?;
-    out.push_str(":")?;
-    push_digits(out, seconds % 60, 2)?;
-    Ok(())
+    push_digits(out, seconds / 3600, 2);
+    push_mark(out, ':');
+    push_digits(out, seconds / 60 % 60, 2);
+    push_mark(out, ':');
+    push_digits(out, seconds % 60, 2);
 }
 
-fn push_decimals(out: &mut String, nanos: u64) -> Result<(), AllocError>
-    ensures { OnOk result (string_bytes out.new ≡ string_bytes out.old ++ decimals nanos) }
+fn push_decimals(out: &mut String, nanos: u64)
+    requires { string_len out.old + 9 ≤ string_capacity out.old }
+    ensures text { string_bytes out.new ≡ string_bytes out.old ++ decimals nanos }
+    ensures len { string_len out.new ≤ string_len out.old + 9 }
+    ensures capacity { string_capacity out.old ≤ string_capacity out.new }
 {
     if nanos % 1_000_000 == 0 {
-        push_digits(out, nanos / 1_000_000, 3)
+        push_digits(out, nanos / 1_000_000, 3);
     } else {
-        push_digits(out, nanos, 9)
+        push_digits(out, nanos, 9);
     }
 }
 
-#[tactic(auto, using(crate::proofs::TimeLaws::time_reads))]
 /// Appends an instant in UTC with `Z`, with three decimals of a second, or nine where three would
-/// lose something. Where memory was refused some front of this may have been appended.
+/// lose something. Where memory was refused the text is as it was.
+#[tactic(auto, using(crate::proofs::TimeLaws::time_reads))]
 pub fn write_instant(instant: Instant, out: &mut String) -> Result<(), AllocError>
     ensures text { OnOk result (string_bytes out.new ≡ string_bytes out.old ++ time_text instant) }
+    ensures err { OnErr result (string_bytes out.new ≡ string_bytes out.old) }
 
     // What is written of an instant in range is read as the same instant.
     ensures again { in_range instant ≡ true → instant_of (time_text instant) ≡ Some instant }
 {
     let nanos = from_1900(instant);
-    push_date(out, nanos / 86_400_000_000_000)?;
-    out.push_str("T")?;
-    push_clock(out, nanos / 1_000_000_000 % 86_400)?;
-    out.push_str(".")?;
-    push_decimals(out, nanos % 1_000_000_000)?;
-    out.push_str("Z")?;
+    out.reserve(LONGEST)?;
+    push_date(out, nanos / 86_400_000_000_000);
+    push_mark(out, 'T');
+    push_clock(out, nanos / 1_000_000_000 % 86_400);
+    push_mark(out, '.');
+    push_decimals(out, nanos % 1_000_000_000);
+    push_mark(out, 'Z');
     Ok(())
 }
