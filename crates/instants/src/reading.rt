@@ -21,11 +21,7 @@ pub enum TimeFault {
 
 const SECONDS_PER_DAY: i64 = 86_400;
 
-/// 1900-01-01T00:00:00Z, in seconds from 1970.
-const FIRST_SECOND: i64 = -2_208_988_800;
-
-/// 2200-01-01T00:00:00Z, in seconds from 1970.
-const END_OF_SECONDS: i64 = 7_258_118_400;
+const NANOS_PER_SECOND: i128 = 1_000_000_000;
 
 /// Reads a date and time as EXT-X-PROGRAM-DATE-TIME states it (RFC 8216, section 4.3.2.6, after
 /// ISO 8601): `YYYY-MM-DDThh:mm:ss`, then optionally a point and 1 to 9 digits, then `Z`, an offset
@@ -253,8 +249,5 @@ fn instant_at(seconds: i64, nanos: u32) -> Option<Instant>
     requires { nanos < 10 ^ 9 }
     ensures { result ≡ if_in_range (seconds *ℤ pos 1000000000 +ℤ pos nanos) }
 {
-    if seconds < FIRST_SECOND || seconds >= END_OF_SECONDS {
-        return None;
-    }
-    Some(Instant(seconds * 1_000_000_000 + i64::from(nanos)))
+    Instant::from_nanos(i128::from(seconds) * NANOS_PER_SECOND + i128::from(nanos))
 }

@@ -5,11 +5,14 @@ ghost use Rattle.instants.specs.Instant.{is_leap, days_in_month, in_range, insta
 ghost use Rattle.instants.specs.Digits.{fixed_digits};
 ghost use Rattle.instants.specs.Times.{from_1900, days_in_year, year_after, month_after, decimals, date_at, clock_text, time_text};
 
-use crate::Instant;
+use crate::{FIRST_INSTANT, Instant};
 use std::alloc::AllocError;
 
 // `YYYY-MM-DDThh:mm:ss.nnnnnnnnnZ` has this many bytes.
 const LONGEST: usize = 30;
+
+/// The nanoseconds from the first instant to 1970.
+const NANOS_TO_1970: u64 = (-FIRST_INSTANT) as u64;
 
 /// The days from the first of 1900 to the first of 2020.
 const DAYS_TO_2020: u64 = 43_829;
@@ -118,9 +121,9 @@ fn from_1900(time: Instant) -> u64
 {
     let nanos = time.0;
     if nanos < 0 {
-        2_208_988_800_000_000_000u64.saturating_sub(nanos.unsigned_abs())
+        NANOS_TO_1970.saturating_sub(nanos.unsigned_abs())
     } else {
-        nanos.unsigned_abs() + 2_208_988_800_000_000_000
+        nanos.unsigned_abs() + NANOS_TO_1970
     }
 }
 
