@@ -6,7 +6,7 @@ use Rattle.fixed_duration.specs.Duration.{duration_of}
 use Rattle.attr_list.specs.Attributes.{Pair, attributes_of, attribute, is_named}
 use Rattle.attr_list.specs.Numbers.{decimal_of, hex_of}
 use Rattle.playlist_meaning.specs.Uri.{resolved}
-use Rattle.playlist_meaning.specs.Instant.{instant_of}
+use Rattle.instants.specs.Instant.{instant_of}
 use Rattle.playlist_meaning.specs.declared.FaultKind.{FaultKind}
 use Rattle.playlist_meaning.specs.declared.FaultKind.TheVariants as fault
 use Rattle.playlist_meaning.specs.declared.PlaylistKind.{PlaylistKind}

@@ -16,17 +16,14 @@ mod base;
 mod fault;
 mod in_force;
 mod items;
-mod read_time;
 mod same;
-mod write_time;
 
 pub use base::{Base, BaseFault, has_quote, has_scheme, same_resource};
 pub use fault::FaultText;
 pub use in_force::is_iv_needed;
+pub use instants::{Instant, TimeFault, read_instant, write_instant};
 pub use items::{Items, Shared, Text};
-pub use read_time::{TimeFault, read_instant};
 pub use same::{is_same_key, is_same_section, same_segment};
-pub use write_time::write_instant;
 
 /// Why a text is no playlist that can be read.
 #[derive(Clone, Copy, PartialEq, Eq, Debug)]
@@ -121,20 +118,6 @@ pub enum PlaylistKind {
     Event,
     /// Nothing changes.
     Vod,
-}
-
-/// An instant in nanoseconds from 1970 in UTC.
-#[derive(Clone, Copy, PartialEq, Eq, PartialOrd, Ord, Debug)]
-pub struct Instant(pub i64);
-
-impl Model for Instant {
-    ghost use Rattle.std.specs.Prelude.{ℤ};
-
-    ghost Value = { ℤ };
-
-    ghost view = { λ a. a.0 };
-
-    ghost inverse = { λ n. record { 0 = n } };
 }
 
 /// A part of a resource (RFC 8216, section 4.3.2.2), in bytes.

@@ -11,7 +11,7 @@ use Rattle.playlist_meaning.specs.declared.Segment.{Segment}
 use Rattle.playlist_meaning.specs.Said.{Said, discontinuity, no_keys, key, key_tag_said, duration, media}
 use Rattle.playlist_meaning.specs.LookBack.{or_earlier, put_key, Extent, extent_with, effective_key, are_sorted}
 use Rattle.playlist_meaning.specs.Reading.{passes, needs_iv}
-use Rattle.playlist_meaning.specs.Instant.{in_range}
+use Rattle.instants.specs.Instant.{in_range}
 use Rattle.playlist_meaning.proofs.ListTests.{all_filter}
 use Rattle.playlist_meaning.specs.declared.KeyTag.{KeyTag}
 use Rattle.playlist_meaning.specs.declared.KeyTag.TheVariants.{End, Set}
