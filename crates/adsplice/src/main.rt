@@ -1,8 +1,8 @@
 //! `adsplice`: puts advertisements into live HLS channels.
 #![tactic(auto)]
 
+use devices::Counted;
 use http_edge::{Command, command_vod, read_args};
-use playlist_meaning::Counted;
 use std::env;
 use std::io::{ErrorKind, Write};
 use std::process::ExitCode;

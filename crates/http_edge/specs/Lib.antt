@@ -1,4 +1,3 @@
-pub mod Streams
 pub mod Owed
 pub mod Vod
 pub mod Printed

@@ -1,14 +1,14 @@
 -- A run that had a fault, and the fault's line.
 use Rattle.std.specs.Prelude.{◌≡◌, ◌≢◌, ℕ, List, [], ◌∷◌, ◌++◌, None, Err}
 use Rattle.std.specs.Io.KnownBytes.{Keeps}
-use Rattle.playlist_meaning.specs.Devices.{HasRisen, CalledAll}
+use Rattle.devices.specs.Devices.{HasRisen, CalledAll}
 use Rattle.playlist_meaning.specs.Reading.{Fault}
 use Rattle.playlist_meaning.specs.Uri.{base_of}
 use Rattle.http_edge.specs.declared.fault.VodFault.{VodFault}
 use Rattle.http_edge.specs.declared.fault.VodFault.TheVariants.{BadBase, Playlist, Read, TooManyReads, Write}
 use Rattle.http_edge.specs.declared.input.TheConstants.{MOST_READS}
 use Rattle.http_edge.specs.FaultTexts.{vod_fault_text}
-use Rattle.http_edge.specs.Streams.{SourceStand, SinkStand, WasHanded}
+use Rattle.devices.specs.Stands.{SourceStand, SinkStand, WasHanded}
 use Rattle.http_edge.specs.Vod.{HasRead, WritesFront, IsOfVod}
 
 -- what `vod` says of its fault, clause by clause

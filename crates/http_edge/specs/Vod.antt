@@ -7,8 +7,8 @@ use Rattle.playlist_meaning.specs.Reading.{Fault, Denotes}
 use Rattle.playlist_write.specs.Denoted.{denoted}
 use Rattle.http_edge.specs.declared.fault.VodFault.{VodFault}
 use Rattle.http_edge.specs.declared.fault.VodFault.TheVariants.{BadBase, Playlist as PlaylistOf, Read, TooManyReads, Write, OutOfMemory}
-use Rattle.playlist_write.specs.Handed.{TookFront}
-use Rattle.http_edge.specs.Streams.{GaveAll}
+use Rattle.devices.specs.Handed.{TookFront}
+use Rattle.devices.specs.Stands.{GaveAll}
 use Rattle.http_edge.specs.Owed.{read_under, owed_playlist, owed_text}
 
 -- the source gave an input to its end, of which this is read under the base
@@ -35,6 +35,13 @@ abbrev pub RefusesInput : VodFault → Result Playlist Fault → Type 0
 RefusesInput (PlaylistOf fault) outcome = outcome ≡ Err fault
 RefusesInput OutOfMemory outcome = Unit {0}
 RefusesInput _ outcome = ⊥
+
+-- a fault that reading an input can have
+abbrev pub IsOfReading : VodFault → Type 0
+IsOfReading Read = Unit {0}
+IsOfReading TooManyReads = Unit {0}
+IsOfReading OutOfMemory = Unit {0}
+IsOfReading _ = ⊥
 
 -- a fault of the base, of reading or of what was read
 abbrev pub IsOfInput : VodFault → Type 0

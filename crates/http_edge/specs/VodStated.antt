@@ -7,7 +7,7 @@ use Rattle.playlist_meaning.specs.declared.Playlist.{Playlist}
 use Rattle.playlist_meaning.specs.Reading.{has_section, Denotes}
 use Rattle.playlist_write.specs.declared.OutPlaylist.{OutPlaylist}
 use Rattle.playlist_write.specs.Denoted.{denoted}
-use Rattle.playlist_write.specs.Handed.{TookFront}
+use Rattle.devices.specs.Handed.{TookFront}
 use Rattle.playlist_write.specs.Owed.{text_of}
 use Rattle.http_edge.specs.declared.fault.VodFault.{VodFault}
 use Rattle.http_edge.specs.declared.stated.StatedRun.{StatedRun}

@@ -1,15 +1,15 @@
 //! One input, one playlist.
 ghost use Rattle.std.specs.Prelude.{true, ◌≡◌, ◌≢◌, ◌+◌, ◌≤◌, Ok, Err, Some, None, OnOk, IfOk, IfErr, IsErrOf, IsNone};
 ghost use Rattle.std.specs.Io.KnownBytes.{Appends, Keeps};
-ghost use Rattle.playlist_write.specs.Handed.{TookFront};
-ghost use Rattle.playlist_meaning.specs.Devices.{HasRisen, CalledAll};
+ghost use Rattle.devices.specs.Handed.{TookFront};
+ghost use Rattle.devices.specs.Devices.{HasRisen, CalledAll};
 ghost use Rattle.playlist_meaning.specs.Uri.{base_of};
 ghost use Rattle.playlist_write.specs.Owed.{text_of};
 ghost use Rattle.playlist_meaning.specs.Reading.{reading, limited, Fault};
 ghost use Rattle.reading_laws.specs.Read.{uris_are_text};
 ghost use Rattle.std.specs.List.{list_all};
 ghost use Rattle.http_edge.specs.Vod.{RefusesInput, IsOfInput, IsOfVod, HasRead, Writes, WritesFront};
-ghost use Rattle.http_edge.specs.Streams.{source_stand, sink_stand, WasHanded};
+ghost use Rattle.devices.specs.Stands.{source_stand, sink_stand, WasHanded};
 ghost use Rattle.http_edge.specs.Printed.{fault_line, FailsAndPrints};
 
 use crate::fault::VodFault;
@@ -17,9 +17,10 @@ use crate::input::{MOST_READS, read_input};
 use crate::shown::owed_playlist;
 use crate::texts::know_texts;
 use arrayvec::ArrayString;
-use playlist_meaning::{Base, BaseFault, FaultKind, Playlist, Sink, Source};
+use devices::{Sink, Source, hand_out};
+use playlist_meaning::{Base, BaseFault, FaultKind, Playlist};
 use playlist_parse::read;
-use playlist_write::{OutPlaylist, WriteFault, hand_out, write};
+use playlist_write::{OutPlaylist, WriteFault, write};
 use std::alloc::Global;
 
 fn base_said(alloc: Global, base: &str) -> Result<Base, VodFault>

@@ -1,11 +1,11 @@
 //! An input, read to its end.
 ghost use Rattle.std.specs.Prelude.{◌+◌, ◌≤◌, IfOk, IfErr, IsErrOf};
-ghost use Rattle.playlist_meaning.specs.Devices.{HasRisen, CalledAll};
-ghost use Rattle.http_edge.specs.Streams.{GaveAll, IsOfReading};
+ghost use Rattle.devices.specs.Devices.{HasRisen, CalledAll};
+ghost use Rattle.devices.specs.Stands.{GaveAll};
+ghost use Rattle.http_edge.specs.Vod.{IsOfReading};
 
 use crate::fault::VodFault;
-use playlist_meaning::Source;
-use playlist_meaning::device::READ_ROOM;
+use devices::{READ_ROOM, Source};
 use std::alloc::Global;
 
 /// How many reads an input may take.

@@ -2,7 +2,7 @@
 ghost use Rattle.std.specs.Prelude.{◌≡◌, ◌≢◌, ◌+◌, ◌≤◌, Err, None, OnOk, IfErr, IsErrOf, IsTrue};
 ghost use Rattle.std.specs.List.{list_all};
 ghost use Rattle.std.specs.Io.KnownBytes.{Keeps};
-ghost use Rattle.playlist_meaning.specs.Devices.{HasRisen, CalledAll};
+ghost use Rattle.devices.specs.Devices.{HasRisen, CalledAll};
 ghost use Rattle.playlist_meaning.specs.Reading.{Fault};
 ghost use Rattle.playlist_meaning.specs.Uri.{base_of};
 ghost use Rattle.http_edge.specs.Stated.{IsRun, can_be_stated, is_in};
@@ -14,8 +14,9 @@ use crate::fault::VodFault;
 use crate::input::MOST_READS;
 use crate::shown::owed_with_run;
 use crate::texts::know_pod;
+use devices::{Sink, Source};
 use fixed_duration::Nanos;
-use playlist_meaning::{Items, Sink, Source, Text};
+use playlist_meaning::{Items, Text};
 use std::alloc::Global;
 
 /// One segment of a pod.

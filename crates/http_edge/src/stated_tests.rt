@@ -4,8 +4,9 @@ ghost use Rattle.std.specs.List.{list_all};
 ghost use Rattle.http_edge.specs.Stated.{can_be_stated};
 
 use crate::{StatedRun, StatedSegment, VodFault, vod_stated};
+use devices::{Pieces, Taken};
 use fixed_duration::Nanos;
-use playlist_meaning::{Items, Pieces, Taken, Text};
+use playlist_meaning::{Items, Text};
 use std::alloc::Global;
 use std::test::Fail;
 

@@ -1,6 +1,7 @@
 //! Devices that move few bytes or fail, printed faults, exit statuses, the program's words.
 use crate::{Command, VodFault, command_vod, read_args, vod};
-use playlist_meaning::{Counted, FaultKind, Pieces, PlaylistFault, Source, Taken};
+use devices::{Counted, Pieces, Source, Taken};
+use playlist_meaning::{FaultKind, PlaylistFault};
 use std::alloc::Global;
 use std::test::Fail;
 

@@ -1,4 +1,3 @@
-pub mod Devices
 pub mod Lines
 pub mod Uri
 pub mod Instant
@@ -12,7 +11,6 @@ pub mod Rows
 pub mod Refusals
 pub mod Laws
 pub mod FaultTexts
-pub mod TestDevices
 pub mod Same
 pub mod Pods
 pub mod Marks

@@ -13,21 +13,17 @@ use std::alloc::{AllocError, AllocFailed, Global};
 use std::marker::Model;
 
 mod base;
-pub mod device;
 mod fault;
 mod in_force;
 mod items;
-pub mod pieces;
 mod read_time;
 mod same;
 mod write_time;
 
 pub use base::{Base, BaseFault, has_quote, has_scheme, same_resource};
-pub use device::{Counted, Sink, Source};
 pub use fault::FaultText;
 pub use in_force::is_iv_needed;
 pub use items::{Items, Shared, Text};
-pub use pieces::{Pieces, Taken};
 pub use read_time::{TimeFault, read_instant};
 pub use same::{is_same_key, is_same_section, same_segment};
 pub use write_time::write_instant;

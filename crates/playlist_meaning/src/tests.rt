@@ -1,9 +1,8 @@
 //! Each public call once, and what no clause says.
-use crate::device::READ_ROOM;
 use crate::{
-    Base, BaseFault, Counted, FaultKind, Instant, Items, Key, Pieces, PlaylistFault, Shared, Sink,
-    Source, Taken, Text, TimeFault, has_control, has_quote, has_scheme, is_iv_needed, read_instant,
-    same_resource, text_of, write_instant,
+    Base, BaseFault, FaultKind, Instant, Items, Key, PlaylistFault, Shared, Text, TimeFault,
+    has_control, has_quote, has_scheme, is_iv_needed, read_instant, same_resource, text_of,
+    write_instant,
 };
 use std::alloc::{AllocError, Global};
 use std::test::Fail;
@@ -196,45 +195,5 @@ fn printed_faults(rt: HostRuntime) -> Result<(), Fail> {
         let text = format!(in rt.alloc(); "{fault}")?;
         assert_eq!(rt; text.as_str(), want);
     }
-    Ok(())
-}
-
-#[test]
-fn pieces_of_a_source(rt: HostRuntime) -> Result<(), Fail> {
-    let mut room = [0u8; READ_ROOM];
-    let mut source = Pieces::new(b"abcdefg", 3, 4, 2);
-    assert_eq!(rt; source.read(&mut room)?, 3);
-    assert!(rt; source.read(&mut room).is_err());
-    assert_eq!(rt; source.read(&mut room)?, 1);
-    assert_eq!(rt; source.read(&mut room)?, 3);
-    assert_eq!(rt; source.read(&mut room)?, 0);
-    assert_eq!(rt; source.failures(), 1);
-    assert_eq!(rt; source.calls(), 5);
-    Ok(())
-}
-
-#[test]
-fn room_of_a_sink(rt: HostRuntime) -> Result<(), Fail> {
-    let mut sink = Taken::new(rt.alloc(), 5, 3, 2)?;
-    assert_eq!(rt; sink.write(b"abcdefg")?, 3);
-    assert!(rt; sink.write(b"defg").is_err());
-    assert_eq!(rt; sink.write(b"defg")?, 2);
-    assert_eq!(rt; sink.write(b"fg")?, 0);
-    assert_eq!(rt; sink.bytes(), b"abcde".as_slice());
-    assert_eq!(rt; sink.failures(), 2);
-    Ok(())
-}
-
-#[test]
-fn counted_devices(rt: HostRuntime) -> Result<(), Fail> {
-    let mut room = [0u8; READ_ROOM];
-    let mut source = Counted::new(b"abc".as_slice());
-    assert_eq!(rt; source.read(&mut room)?, 3);
-    assert_eq!(rt; source.read(&mut room)?, 0);
-    assert_eq!(rt; Source::failures(&source), 0);
-    assert_eq!(rt; source.calls(), 2);
-    let mut sink = Counted::new(Vec::new(rt.alloc()));
-    assert_eq!(rt; sink.write(b"abc")?, 3);
-    assert_eq!(rt; Sink::failures(&sink), 0);
     Ok(())
 }

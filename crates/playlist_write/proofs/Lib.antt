@@ -1,4 +1,3 @@
-pub mod Fronts
 pub mod TagLines
 pub mod EachRest
 pub mod WrittenNumbers

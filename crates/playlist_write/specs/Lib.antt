@@ -5,4 +5,3 @@ pub mod DateRangeParts
 pub mod WellFormed
 pub mod Denoted
 pub mod Laws
-pub mod Handed

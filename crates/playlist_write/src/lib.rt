@@ -4,17 +4,18 @@
 ghost use Rattle.std.specs.Prelude.{◌≡◌, true, OnOk, OnErr, IfOk, IsErrOf, string_bytes};
 ghost use Rattle.std.specs.Io.KnownBytes.{Appends, Keeps};
 ghost use Rattle.url.specs.Parts.{Parts};
-ghost use Rattle.playlist_meaning.specs.Devices.{HasRisen};
+ghost use Rattle.devices.specs.Devices.{HasRisen};
 ghost use Rattle.playlist_meaning.specs.Reading.{Denotes};
 ghost use Rattle.playlist_write.specs.Owed.{text_of};
 ghost use Rattle.playlist_write.specs.WellFormed.{well_formed};
 ghost use Rattle.playlist_write.specs.Denoted.{denoted};
-ghost use Rattle.playlist_write.specs.Handed.{TookFront};
+ghost use Rattle.devices.specs.Handed.{TookFront};
 
 use crate::header::{push_date_ranges, push_end, push_header};
 use crate::lines::push_line;
 use crate::segments::push_segments;
-use playlist_meaning::{Items, PlaylistKind, Sink, Text};
+use devices::{Sink, SinkFailed, hand_out};
+use playlist_meaning::{Items, PlaylistKind, Text};
 use std::alloc::{AllocError, Global};
 use stitcher::OutSegment;
 
@@ -25,12 +26,9 @@ mod key_rules;
 mod keys;
 pub mod laws;
 mod lines;
-mod output;
 mod segments;
 mod texts;
 mod well_formed;
-
-pub use output::hand_out;
 
 /// A playlist as it is written.
 #[derive(Clone, PartialEq, Drop)]
@@ -67,6 +65,16 @@ impl From<AllocError> for WriteFault {
 
     fn from(_error: AllocError) -> WriteFault {
         WriteFault::OutOfMemory
+    }
+}
+
+impl From<SinkFailed> for WriteFault {
+    ghost use Rattle.playlist_write.specs.declared.WriteFault.TheVariants.{Io};
+
+    ghost from_gives = { λ _ fault. fault ≡ Io };
+
+    fn from(_failed: SinkFailed) -> WriteFault {
+        WriteFault::Io
     }
 }
 
@@ -118,7 +126,7 @@ pub fn write<S: Sink>(alloc: Global, playlist: &OutPlaylist, sink: &mut S) -> Re
     ensures memory { IsErrOf result WriteFault.OutOfMemory → Keeps (S.contents sink.old) (S.contents sink.new) }
 {
     let text = make_text(alloc, playlist)?;
-    hand_out(text.as_bytes(), sink)
+    Ok(hand_out(text.as_bytes(), sink)?)
 }
 
 #[cfg(test)]

@@ -1,9 +1,9 @@
 //! Each public call once, and the written text of a playlist with each kind of line.
-use crate::{OutPlaylist, hand_out, write};
+use crate::{OutPlaylist, write};
+use devices::Taken;
 use fixed_duration::Nanos;
 use playlist_meaning::{
-    ByteRange, InitSection, Instant, Items, Key, KeyAttr, PlaylistKind, Segment, Shared, Taken,
-    Text,
+    ByteRange, InitSection, Instant, Items, Key, KeyAttr, PlaylistKind, Segment, Shared, Text,
 };
 use std::alloc::{AllocError, Global};
 use std::test::Fail;
@@ -197,16 +197,6 @@ fn written(rt: HostRuntime) -> Result<(), Fail> {
     match write(rt.alloc(), &playlist, &mut sink) {
         Ok(()) => assert!(rt; sink.bytes() == WRITTEN.as_bytes()),
         Err(_) => assert!(rt; false, "it is written"),
-    }
-    Ok(())
-}
-
-#[test]
-fn handed_out(rt: HostRuntime) -> Result<(), Fail> {
-    for most in 1..5usize {
-        let mut sink = Taken::new(rt.alloc(), ROOM, most, 0)?;
-        assert_eq!(rt; hand_out(b"#EXTM3U\n", &mut sink), Ok(()));
-        assert_eq!(rt; sink.bytes(), b"#EXTM3U\n".as_slice());
     }
     Ok(())
 }

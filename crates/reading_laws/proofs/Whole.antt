@@ -11,15 +11,12 @@ use Rattle.playlist_meaning.specs.Said.{Said, nothing, version, target, Reader, 
 use Rattle.playlist_meaning.specs.LookBack.{latest, the_version, the_target, is_media, segments_of}
 use Rattle.playlist_meaning.specs.Reading.{has, has_section, are_mixed, is_set, said_by, said_from, whole_fault, whole, playlist_of, and_whole, of_lines, reading, unlimited, Fault}
 use Rattle.playlist_meaning.proofs.LimitLaws.{reads_what_is_denoted}
-use Rattle.playlist_meaning.proofs.ListTests.{all_with}
 use Rattle.playlist_write.specs.WellFormed.{is_word}
 use Rattle.playlist_write.specs.Fitting.{if_some}
-use Rattle.reading_laws.specs.Read.{version_reads, sections_agree, IsSaid, AreRead, numbers_read, segment_reads, JoinsToText, uris_are_text, segment_can_be_written, text_is_clean}
+use Rattle.reading_laws.specs.Read.{version_reads, sections_agree, IsSaid, AreRead, numbers_read, segment_reads, text_is_clean}
 use Rattle.reading_laws.proofs.Lines.{is_fit, all_good, good_from, all_fit}
 use Rattle.reading_laws.proofs.Numbers.{numbers_rise}
 use Rattle.reading_laws.proofs.Segments.{latest_fits, or_default, segments_fit, texts_clean}
-use Rattle.reading_laws.proofs.Texts.{segment_is_written}
-use Rattle.reading_laws.proofs.UriTexts.{text_from, segments_text}
 use Rattle.reading_laws.proofs.CleanCuts.{lines_are_utf8}
 use Rattle.reading_laws.proofs.DateRanges.{says_from, ranges_said, first_says}
 
@@ -105,14 +102,3 @@ can_be_written reader base bytes p h =
       range_texts = subst (λ (q : Playlist). list_all text_is_clean q.ranges ≡ true) l.whole (texts_clean l.said fit);
       ranges = ranges_are reader base (lines bytes) p (text_was reader base bytes p h).1;
     }
-
-pub read_uris_are_text : (reader : Reader) (base : Parts) (bytes : List ℕ) (p : Playlist) → JoinsToText base → reading reader base bytes ≡ Ok p → list_all uris_are_text p.segments ≡ true
-read_uris_are_text reader base bytes p joins h =
-    let denoted = text_was unlimited base bytes p (reads_what_is_denoted reader base bytes p h) in
-    let l = denoted.1 in
-    subst (λ (q : Playlist). list_all uris_are_text q.segments ≡ true) l.whole
-    (segments_text l.said (text_from base joins (nothing ∷ []) l.later l.said (l.utf8 (lines_are_utf8 bytes denoted.0)) refl l.from))
-
-pub read_segments_are_written : (reader : Reader) (base : Parts) (bytes : List ℕ) (p : Playlist) → JoinsToText base → reading reader base bytes ≡ Ok p → list_all segment_can_be_written p.segments ≡ true
-read_segments_are_written reader base bytes p joins h =
-    all_with segment_reads uris_are_text segment_can_be_written p.segments (can_be_written reader base bytes p h).segments (read_uris_are_text reader base bytes p joins h) segment_is_written

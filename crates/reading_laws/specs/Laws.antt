@@ -1,29 +1,20 @@
 -- What holds of whatever is read.
 use Rattle.std.specs.Prelude.{◌≡◌, ◌↔◌, ℕ, true, List, Ok}
-use Rattle.std.specs.List.{list_all}
 use Rattle.url.specs.Parts.{Parts}
 use Rattle.playlist_meaning.specs.declared.Playlist.{Playlist}
 use Rattle.playlist_meaning.specs.declared.Segment.{Segment}
 use Rattle.playlist_meaning.specs.Said.{Reader}
 use Rattle.playlist_meaning.specs.Reading.{reading, limited, Denotes}
 use Rattle.reading_laws.specs.Limits.{KeepsLimits}
-use Rattle.reading_laws.specs.Read.{segment_reads, uris_are_text, JoinsToText, segment_can_be_written, AreRead}
+use Rattle.reading_laws.specs.Read.{segment_reads, uris_are_text, segment_can_be_written, AreRead}
 
 -- what is read, by whatever reader, can be written again
 abbrev pub ReadCanBeWritten : Type 0
 ReadCanBeWritten = (reader : Reader) (base : Parts) (bytes : List ℕ) (p : Playlist) → reading reader base bytes ≡ Ok p → AreRead reader p
 
--- the URIs of what is read are UTF-8 where those are that references are joined to
-abbrev pub UrisAreText : Type 0
-UrisAreText = (reader : Reader) (base : Parts) (bytes : List ℕ) (p : Playlist) → JoinsToText base → reading reader base bytes ≡ Ok p → list_all uris_are_text p.segments ≡ true
-
 -- a segment that is read can be written where its URIs are UTF-8
 abbrev pub TextSegmentsCanBeWritten : Type 0
 TextSegmentsCanBeWritten = (s : Segment) → segment_reads s ≡ true → uris_are_text s ≡ true → segment_can_be_written s ≡ true
-
--- so each segment that is read can be written, where references are joined to text
-abbrev pub ReadSegmentsCanBeWritten : Type 0
-ReadSegmentsCanBeWritten = (reader : Reader) (base : Parts) (bytes : List ℕ) (p : Playlist) → JoinsToText base → reading reader base bytes ≡ Ok p → list_all segment_can_be_written p.segments ≡ true
 
 -- the reader with limits reads exactly what is denoted, where that is within them
 abbrev pub ReadsWithinLimits : Type 0

@@ -1,9 +1,7 @@
 -- What holds of each playlist that is read, in the terms in which one can be written (RFC 8216, section 4.3).
-use Rattle.std.specs.Prelude.{◌≡◌, ℕ, ◌+◌, Bool, true, false, not, ◌&&◌, ◌||◌, ◌==◌, nat_le, List, [], ◌∷◌, Ok, Some}
+use Rattle.std.specs.Prelude.{◌≡◌, ℕ, ◌+◌, Bool, true, false, not, ◌&&◌, ◌||◌, ◌==◌, nat_le, List, [], ◌∷◌, Ok}
 use Rattle.std.specs.List.{list_any, list_all, AllByRecursion}
 use Rattle.std.specs.Str.{is_utf8}
-use Rattle.url.specs.Parts.{Parts, serialize}
-use Rattle.url.specs.Parser.{parse_url}
 use Rattle.attr_list.specs.Attributes.{is_value}
 use Rattle.playlist_meaning.specs.declared.Segment.{Segment}
 use Rattle.playlist_meaning.specs.declared.DateRange.{DateRange}
@@ -77,10 +75,6 @@ section_is_text s = is_utf8 s.uri && list_all key_is_text s.keys
 
 abbrev pub uris_are_text : Segment → Bool
 uris_are_text s = is_utf8 s.uri && list_all key_is_text s.keys && if_some section_is_text s.section
-
--- what a reference is joined to is UTF-8
-abbrev pub JoinsToText : Parts → Type 0
-JoinsToText base = (reference : List ℕ) (url : Parts) → parse_url (Some base) reference ≡ Ok url → is_utf8 (serialize url) ≡ true
 
 -- it can be written with its own numbers and time
 abbrev pub segment_can_be_written : Segment → Bool

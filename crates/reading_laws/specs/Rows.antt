@@ -1,7 +1,5 @@
 -- What the worked rows read.
-use Rattle.std.specs.Prelude.{ℕ, List, [], ◌∷◌, codes, Some, None}
-use Rattle.url.specs.Parts.{Parts}
-use Rattle.url.specs.declared.host.Host.TheVariants.{Domain}
+use Rattle.std.specs.Prelude.{ℕ, List, [], ◌∷◌, codes}
 use Rattle.playlist_meaning.specs.declared.Segment.{Segment}
 use Rattle.playlist_meaning.specs.Rows.{read_after_target, segments_read}
 
@@ -13,16 +11,3 @@ small_lines =
 
 abbrev pub small_segments : List Segment
 small_segments = segments_read (read_after_target small_lines)
-
--- the base `http://h/` with a byte in its path that is no text: no parsed URL has it
-abbrev pub broken_base : Parts
-broken_base = record {
-  scheme = codes "http";
-  username = [];
-  password = [];
-  host = Some (Domain (codes "h"));
-  port = None;
-  path = 47 ∷ 200 ∷ [];
-  query = None;
-  fragment = None;
-}

@@ -1,7 +1,7 @@
 //! Laws of what is read. Each function's contract is its law; calling it does nothing.
 #![tactic(auto)]
 
-ghost use Rattle.reading_laws.specs.Laws.{ReadCanBeWritten, UrisAreText, TextSegmentsCanBeWritten, ReadSegmentsCanBeWritten, ReadsWithinLimits};
+ghost use Rattle.reading_laws.specs.Laws.{ReadCanBeWritten, TextSegmentsCanBeWritten, ReadsWithinLimits};
 
 mod rows;
 
@@ -10,19 +10,9 @@ pub fn read_can_be_written()
     ensures { ReadCanBeWritten }
 {}
 
-/// The URIs of what is read are UTF-8 where those are that references are joined to.
-pub fn uris_are_text()
-    ensures { UrisAreText }
-{}
-
 /// A segment that is read can be written with its own numbers and time where its URIs are UTF-8.
 pub fn text_segments_can_be_written()
     ensures { TextSegmentsCanBeWritten }
-{}
-
-/// Each segment that is read can be written with its own numbers and time, where references are joined to text.
-pub fn read_segments_can_be_written()
-    ensures { ReadSegmentsCanBeWritten }
 {}
 
 /// A playlist is read within the limits exactly where it is denoted and keeps them: at most 4,194,304 bytes, 64

@@ -2,12 +2,9 @@
 
 ghost use Rattle.std.specs.Prelude.{◌≡◌, [], true, false, codes, length};
 ghost use Rattle.std.specs.List.{list_all};
-ghost use Rattle.std.specs.Str.{is_utf8};
-ghost use Rattle.playlist_meaning.specs.Uri.{resolved};
-ghost use Rattle.playlist_write.specs.Fitting.{if_some};
 ghost use Rattle.reading_laws.specs.Limits.{line_keeps};
 ghost use Rattle.reading_laws.specs.Read.{uri_reads, quoted_uri_reads, numbers_read, segment_reads, uris_are_text, segment_can_be_written};
-ghost use Rattle.reading_laws.specs.Rows.{small_lines, small_segments, broken_base};
+ghost use Rattle.reading_laws.specs.Rows.{small_lines, small_segments};
 
 /// What holds of two segments that are read.
 fn small_row()
@@ -25,9 +22,4 @@ fn unread_row()
     ensures relative { uri_reads (codes "s0.ts") ≡ false }
     ensures control { uri_reads (codes "http://origin.example/\u{7f}") ≡ false }
     ensures quote { quoted_uri_reads (codes "http://origin.example/\"") ≡ false }
-{}
-
-/// Why the URIs are UTF-8 only where references are joined to text: under this base one isn't.
-fn broken_base_row()
-    ensures { if_some is_utf8 (resolved broken_base (codes "?q")) ≡ false }
 {}

@@ -1,9 +1,9 @@
 use Rattle.std.proofs.Common.{◌≡◌, ◌∙◌, List, ℕ, inl, inr, subst}
 use Rattle.std.specs.Prelude.{Result, Ok, Err, OnOk, OnErr}
 use Rattle.std.specs.Io.KnownBytes.{Appends}
-use Rattle.playlist_write.specs.Handed.{TookFront}
-use Rattle.playlist_meaning.specs.Devices.{HasRisen}
-use Rattle.http_edge.specs.Streams.{SinkStand, sink_stand, WasHanded}
+use Rattle.devices.specs.Handed.{TookFront}
+use Rattle.devices.specs.Devices.{HasRisen}
+use Rattle.devices.specs.Stands.{SinkStand, sink_stand, WasHanded}
 use Rattle.http_edge.specs.Printed.{fault_line}
 use Rattle.http_edge.proofs.command.print_fault.Goals as goal
 

@@ -1,6 +1,6 @@
 use Rattle.std.proofs.Common.{◌≡◌, ◌+◌, ◌≤◌}
 use Rattle.std.specs.Io.KnownBytes.{Consumes}
-use Rattle.playlist_meaning.specs.Devices.{CalledAll}
+use Rattle.devices.specs.Devices.{CalledAll}
 use Rattle.http_edge.proofs.input.read_input.Given as goal
 
 abbrev pub invariant-loop : goal.invariant-loop

@@ -1,0 +1,28 @@
+-- What was taken of bytes, and what is left.
+use Rattle.std.proofs.Common.{◌≡◌, ℕ, ◌+◌, ◌-◌, ◌≤◌, List, [], ◌∷◌, ◌++◌, take, drop, length, refl, ap, sym, ◌∙◌, arith, append_assoc, length-append, suc, None, Some}
+use Rattle.std.proofs.lemmas.List.{take_at, take-append-drop, append-nil, nil_from_length}
+use Rattle.std.specs.Prelude.{Option}
+use Rattle.std.specs.Io.KnownBytes.{Appends, Keeps}
+use Rattle.devices.specs.Handed.{TookFront}
+
+-- what was taken and what is left are what there was, where it is known
+abbrev pub Joins : Option (List ℕ) → Option (List ℕ) → List ℕ → List ℕ → Type 0
+Joins None new rest bytes = Unit {0}
+Joins (Some old) None rest bytes = ⊥
+Joins (Some old) (Some new) rest bytes = (new ++ rest ≡ old ++ bytes) × (length old ≤ length new)
+
+take_step : (x : ℕ) (ys : List ℕ) (k m : ℕ) → m ≡ suc k → take m (x ∷ ys) ≡ x ∷ take k ys
+take_step x ys k m e = rw e refl
+
+take_same : (k n : ℕ) (bytes : List ℕ) → k ≡ n → take k bytes ≡ take n bytes
+take_same k n bytes e = rw e refl
+
+take_behind : (old bytes : List ℕ) (n : ℕ) → take (length old + n) (old ++ bytes) ≡ old ++ take n bytes
+take_behind [] bytes n = take_same (0 + n) n bytes (omega arith)
+take_behind (x ∷ xs) bytes n = take_step x (xs ++ bytes) (length xs + n) (length (x ∷ xs) + n) (omega arith) ∙ ap (λ ys. x ∷ ys) (take_behind xs bytes n)
+
+front : (old new rest bytes : List ℕ) → new ++ rest ≡ old ++ bytes → length old ≤ length new → new ≡ old ++ take (length new - length old) bytes
+front old new rest bytes h l =
+    let n : length old + (length new - length old) ≡ length new = omega arith in
+    sym (take_at new rest (length new) refl) ∙ ap (take (length new)) h ∙ ap (λ k. take k (old ++ bytes)) (sym n) ∙ take_behind old bytes (length new - length old)
+

@@ -1,0 +1,4 @@
+pub mod Devices
+pub mod TestDevices
+pub mod Handed
+pub mod Stands
