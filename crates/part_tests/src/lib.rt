@@ -6,6 +6,8 @@ mod attribute_lists;
 #[cfg(test)]
 mod beginnings;
 #[cfg(test)]
+mod decision_files;
+#[cfg(test)]
 mod durations;
 #[cfg(test)]
 mod key_tags;

@@ -1,7 +1,7 @@
 //! Decision files: each fault with its place, limits on both sides, and the store call by call.
-use crate::{Decision, DecisionFault, Decisions, Pod, PodStore, read_decisions};
 use fixed_duration::Nanos;
 use playlist_meaning::{ByteRange, InitSection, Items, Key};
+use pod_store::{Decision, DecisionFault, Decisions, Pod, PodStore, read_decisions};
 use std::alloc::{AllocError, Global};
 use std::test::Fail;
 
