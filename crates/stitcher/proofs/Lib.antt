@@ -1,1 +1,5 @@
 pub mod TagLaws
+pub mod Putting
+pub mod Counting
+pub mod Runs
+pub mod Outcomes

@@ -1,3 +1,6 @@
 pub mod KeyTags
 pub mod Laws
 pub mod FaultTexts
+pub mod Written
+pub mod StitchedSegments
+pub mod Making

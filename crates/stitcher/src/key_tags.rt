@@ -1,5 +1,5 @@
 //! The key tags that lead from keys to keys.
-ghost use Rattle.std.specs.Prelude.{◌≡◌, ◌∷◌, true, map, filter, IfOk};
+ghost use Rattle.std.specs.Prelude.{◌≡◌, ◌∷◌, true, map, filter, IfErr, IfOk};
 ghost use Rattle.std.specs.List.{list_any};
 ghost use Rattle.playlist_meaning.specs.LookBack.{has_format, are_sorted};
 ghost use Rattle.playlist_meaning.specs.Same.{same_key};
@@ -80,6 +80,9 @@ fn tags_between(alloc: Global, old: &[Key], new: &[Key]) -> Result<Vec<KeyTag>, 
 /// key that isn't in force as it is.
 pub fn transition(alloc: Global, old: &[Key], new: &[Key]) -> Result<Vec<KeyTag>, StitchFault>
     ensures tags { IfOk result (λ tags. tags.items ≡ transition old.now new.now) }
+
+    // It counts nothing.
+    ensures memory { IfErr result (λ e. e ≡ StitchFault.OutOfMemory) }
 
     // After these tags exactly the new keys are in force.
     ensures leads { IfOk result (λ tags.

@@ -1,14 +1,19 @@
-//! What is put into a playlist: segments with their numbers, and the key tags between them.
+//! What is put into a playlist: segments with their numbers, runs replaced by their pods, and the key tags between them.
 #![tactic(auto)]
 
 use playlist_meaning::{Instant, Segment};
 
+mod copies;
 mod fault;
 mod key_tags;
 pub mod laws;
+mod making;
+mod marked;
 
 pub use fault::StitchFault;
 pub use key_tags::{is_new, keeps_formats, transition};
+pub use making::stitch;
+pub use marked::{Marked, Numbers};
 
 /// A segment as it stands in a written playlist. Its own numbers and time are not those of `segment`.
 #[derive(Clone, PartialEq, Drop)]

@@ -1,0 +1,24 @@
+-- From what a call answered to what its caller answers.
+use Rattle.std.proofs.Common.{◌≡◌}
+use Rattle.std.specs.Prelude.{Result, Ok, Err, OnOk, IfErr}
+use Rattle.std.specs.Result.{IsErrAnd}
+use Rattle.stitcher.specs.declared.fault.StitchFault.{StitchFault}
+use Rattle.stitcher.specs.declared.fault.StitchFault.TheVariants.{NumberRange, OutOfMemory}
+use Rattle.stitcher.specs.StitchedSegments.{RefusesNumber}
+
+pub on_ok : {A E : Type 0} {P Q : Type 0} (r : Result A E) → OnOk r P → (P → Q) → OnOk r Q
+on_ok (Ok x) p f = f p
+on_ok (Err e) p f = p
+
+pub refuses_more : (e : StitchFault) {P Q : Type 0} → RefusesNumber e P → (P → Q) → RefusesNumber e Q
+refuses_more NumberRange p f = f p
+refuses_more OutOfMemory p f = p
+
+pub on_err : {A : Type 0} {P Q : Type 0} (r : Result A StitchFault) → IfErr r (λ e. RefusesNumber e P) → (P → Q) → IfErr r (λ e. RefusesNumber e Q)
+on_err (Ok x) p f = p
+on_err (Err e) p f = refuses_more e p f
+
+-- a fault is handed on
+pub handed_on : {A : Type 0} (r : Result A StitchFault) (e : StitchFault) {P Q : Type 0} → IsErrAnd r (λ d. d ≡ e) → RefusesNumber e P → (P → Q) → IfErr r (λ d. RefusesNumber d Q)
+handed_on (Ok x) e h p f = absurd h
+handed_on (Err d) e h p f = rw h (refuses_more e p f)

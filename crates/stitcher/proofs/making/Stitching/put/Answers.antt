@@ -1,0 +1,22 @@
+use Rattle.std.proofs.Common.{◌≡◌, [], ◌∷◌, sym, subst, ◌∙◌, ap, Bool, true, false}
+use Rattle.std.specs.Prelude.{None, ℕ}
+use Rattle.playlist_meaning.specs.Stitched.{ad_piece}
+use Rattle.stitcher.specs.Making.{Made, Puts, ad_steps, numbers_with, pushed}
+use Rattle.stitcher.proofs.Outcomes.{on_ok}
+use Rattle.stitcher.proofs.Putting.{puts_one}
+use Rattle.stitcher.proofs.making.Stitching.put.Goals as goal
+
+steps_are : (first : Bool) (n : ℕ) → n ≡ mir.Val.bool_byte first → n ≡ ad_steps first
+steps_are true n h = h
+steps_are false n h = h
+
+pub returns-clause-ok : goal.returns-clause-ok
+returns-clause-ok c =
+    let made = c.args.self.now in
+    let steps = steps_are c.args.first c.from.result c.from.ensures in
+    on_ok c.push.result c.push.ensures.ok (λ e mark.
+    let s = c.in_ok-segment.ensures mark c.args.first in
+    let p = ad_piece mark c.args.first c.args.ad.now c.args.segment.now in
+    subst (λ (m : Made). Puts made m (p ∷ [])) (ap (λ x. pushed made x None c.in_ok-numbers.numbers None) (sym s) ∙ sym e)
+    (puts_one made p c.in_ok-numbers.numbers
+    (c.in_ok-numbers.ensures.ok.0 ∙ ap (numbers_with made.first made.last) steps) c.in_ok-numbers.ensures.ok.1))

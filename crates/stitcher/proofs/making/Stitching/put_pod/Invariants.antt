@@ -1,0 +1,15 @@
+use Rattle.std.proofs.Common.{◌≡◌, true, length}
+use Rattle.playlist_meaning.specs.Marks.{Mark}
+use Rattle.playlist_meaning.specs.Stitched.{pieces_of_ads}
+use Rattle.stitcher.specs.Making.{numbers_fit}
+use Rattle.stitcher.proofs.Putting.{Walks}
+use Rattle.stitcher.proofs.making.Stitching.put_pod.Given as goal
+
+abbrev pub invariant-loop-ad : goal.invariant-loop-ad
+invariant-loop-ad l = record {
+  fits : numbers_fit l.self.first ≡ true;
+  walks : (mark : Mark) → Walks l.fn.self l.self (pieces_of_ads mark l.pod.ads) (pieces_of_ads mark l.rest);
+}
+
+abbrev pub decreases-loop-ad : goal.decreases-loop-ad
+decreases-loop-ad l = length l.rest

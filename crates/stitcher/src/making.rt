@@ -1,0 +1,245 @@
+//! The stitched list of marked segments, as it is made.
+ghost use Rattle.std.specs.Prelude.{◌≡◌, Bool, true, false, [], ◌∷◌, None, OnOk, IfOk, IfErr, option_map};
+ghost use Rattle.std.specs.List.{list_all};
+ghost use Rattle.playlist_meaning.specs.Marks.{Mark};
+ghost use Rattle.playlist_meaning.specs.Pods.{Pod};
+ghost use Rattle.playlist_meaning.specs.Stitched.{ad_piece, ad_pieces, next_numbers, pieces_of_ads, with_keys};
+ghost use Rattle.stitcher.specs.StitchedSegments.{AreDecided, RefusesNumber, item_fits, stitched_segments};
+ghost use Rattle.stitcher.specs.Making.{Passes, Puts, is_same_run, numbers_fit, numbers_with, pieces_at, plain, pushed, steps_from};
+
+use crate::OutSegment;
+use crate::copies::{ad_section, ad_segment, copied_segment};
+use crate::fault::StitchFault;
+use crate::marked::{Marked, Numbers};
+use playlist_meaning::{InitSection, Instant, Segment, Shared, Text};
+use pod_store::{Ad, Pod, PodSegment, PodStore};
+use std::alloc::Global;
+use std::marker::Model;
+
+/// The last item of a list.
+#[derive(Clone, Copy)]
+pub struct Last {
+    /// What it is written with.
+    pub numbers: Numbers,
+    /// Its discontinuity number at the origin, where it is one of the origin's.
+    pub origin: Option<u64>,
+}
+
+/// A stitched list, as far as it is made.
+#[derive(Drop)]
+pub struct Stitching {
+    first: Numbers,
+    last: Option<Last>,
+    items: Vec<OutSegment>,
+}
+
+impl Model for Stitching {
+    ghost use Rattle.stitcher.specs.Making.{Made};
+
+    ghost Value = { Made };
+
+    ghost view = { λ a. record { first = a.first; last = a.last; items = a.items.items } };
+}
+
+fn numbers_of(media: u64, discontinuity: u64, steps: u64) -> Numbers
+    ensures value { result ≡ record { media = media; discontinuity = discontinuity; steps = steps } }
+    ensures fit { numbers_fit result ≡ true }
+{
+    Numbers {
+        media,
+        discontinuity,
+        steps,
+    }
+}
+
+// The numbers of an item so many steps behind one with these.
+fn next_numbers(numbers: Numbers, steps: u64) -> Result<Numbers, StitchFault>
+    ensures ok { IfOk result (λ n. (n ≡ next_numbers numbers steps) × (numbers_fit n ≡ true)) }
+    ensures err { IfErr result (λ e. (e ≡ StitchFault.NumberRange) × (numbers_fit (next_numbers numbers steps) ≡ false)) }
+{
+    let Some(media) = numbers.media.checked_add(1) else {
+        return Err(StitchFault::NumberRange);
+    };
+    let Some(discontinuity) = numbers.discontinuity.checked_add(steps) else {
+        return Err(StitchFault::NumberRange);
+    };
+    Ok(numbers_of(media, discontinuity, steps))
+}
+
+fn is_same_run(mark: &Option<Text>, previous: &Option<Text>) -> bool
+    ensures { result ≡ is_same_run mark.now previous.now }
+{
+    match (mark, previous) {
+        (Some(mark), Some(previous)) => mark == previous,
+        _ => false,
+    }
+}
+
+impl Stitching {
+    fn new(alloc: Global, first: Numbers) -> Stitching
+        ensures { result ≡ record { first = first; last = None; items = [] } }
+    {
+        Stitching {
+            first,
+            last: None,
+            items: Vec::new(alloc),
+        }
+    }
+
+    // The steps to a kept segment of this discontinuity number; of the first none are counted.
+    fn steps_to(&self, discontinuity: u64) -> u64
+        ensures { result ≡ steps_from self.now.last discontinuity }
+    {
+        let Some(last) = self.last else {
+            return 0;
+        };
+        match last.origin {
+            Some(before) => discontinuity.saturating_sub(before),
+            None => 1,
+        }
+    }
+
+    // The numbers of the next item.
+    fn numbers_with(&self, steps: u64) -> Result<Numbers, StitchFault>
+        requires { numbers_fit self.now.first ≡ true }
+        ensures ok { IfOk result (λ n. (n ≡ numbers_with self.now.first self.now.last steps) × (numbers_fit n ≡ true)) }
+        ensures err { IfErr result (λ e. (e ≡ StitchFault.NumberRange) × (numbers_fit (numbers_with self.now.first self.now.last steps) ≡ false)) }
+    {
+        match self.last {
+            None => Ok(self.first),
+            Some(last) => next_numbers(last.numbers, steps),
+        }
+    }
+
+    fn push(
+        &mut self,
+        segment: Segment,
+        time: Option<Instant>,
+        numbers: Numbers,
+        origin: Option<u64>,
+    ) -> Result<(), StitchFault>
+        ensures ok { OnOk result (self.new ≡ pushed self.old segment time numbers origin) }
+        ensures err { IfErr result (λ e. e ≡ StitchFault.OutOfMemory) }
+    {
+        self.items.push(OutSegment {
+            media: numbers.media,
+            discontinuity: numbers.discontinuity,
+            steps: numbers.steps,
+            time,
+            segment,
+        })?;
+        self.last = Some(Last { numbers, origin });
+        Ok(())
+    }
+
+    // Puts a segment of the origin behind.
+    fn keep(&mut self, alloc: Global, marked: &Marked) -> Result<(), StitchFault>
+        requires { numbers_fit self.old.first ≡ true }
+        ensures ok { OnOk result (Puts self.old self.new (plain marked.now ∷ [])) }
+        ensures err { IfErr result (λ e. RefusesNumber e (Passes self.old (plain marked.now ∷ []))) }
+    {
+        let origin = marked.segment.discontinuity;
+        let numbers = self.numbers_with(self.steps_to(origin))?;
+        let segment = copied_segment(alloc, &marked.segment)?;
+        self.push(segment, marked.instant, numbers, Some(origin))
+    }
+
+    // Puts a segment of an ad behind.
+    fn put(
+        &mut self,
+        alloc: Global,
+        ad: &Ad,
+        section: &Option<Shared<InitSection>>,
+        segment: &PodSegment,
+        first: bool,
+    ) -> Result<(), StitchFault>
+        requires fits { numbers_fit self.old.first ≡ true }
+        requires section { section.now ≡ option_map (with_keys ad.now.keys) ad.now.section }
+        ensures ok { OnOk result ((mark : Mark) → Puts self.old self.new (ad_piece mark first ad.now segment.now ∷ [])) }
+        ensures err { IfErr result (λ e. RefusesNumber e ((mark : Mark) → Passes self.old (ad_piece mark first ad.now segment.now ∷ []))) }
+    {
+        let numbers = self.numbers_with(u64::from(first))?;
+        let segment = ad_segment(alloc, ad, section, segment, numbers)?;
+        self.push(segment, None, numbers, None)
+    }
+
+    fn put_ad(&mut self, alloc: Global, ad: &Ad) -> Result<(), StitchFault>
+        requires { numbers_fit self.old.first ≡ true }
+        ensures ok { OnOk result ((mark : Mark) → Puts self.old self.new (ad_pieces mark ad.now ad.now.segments)) }
+        ensures err { IfErr result (λ e. RefusesNumber e ((mark : Mark) → Passes self.old (ad_pieces mark ad.now ad.now.segments))) }
+    {
+        let section = ad_section(alloc, ad)?;
+        let Some((first, later)) = ad.segments.as_slice().split_first() else {
+            return Ok(());
+        };
+        self.put(alloc, ad, &section, first, true)?;
+        let mut rest = later;
+        while let Some((segment, later)) = rest.split_first() {
+            self.put(alloc, ad, &section, segment, false)?;
+            rest = later;
+        }
+        Ok(())
+    }
+
+    fn put_pod(&mut self, alloc: Global, pod: &Pod) -> Result<(), StitchFault>
+        requires { numbers_fit self.old.first ≡ true }
+        ensures ok { OnOk result ((mark : Mark) → Puts self.old self.new (pieces_of_ads mark pod.now.ads)) }
+        ensures err { IfErr result (λ e. RefusesNumber e ((mark : Mark) → Passes self.old (pieces_of_ads mark pod.now.ads))) }
+    {
+        let mut rest = pod.ads();
+        while let Some((ad, later)) = rest.split_first() {
+            self.put_ad(alloc, ad)?;
+            rest = later;
+        }
+        Ok(())
+    }
+
+    // Puts behind what stands for a segment behind one of this mark.
+    fn put_marked(
+        &mut self,
+        alloc: Global,
+        marked: &Marked,
+        previous: &Option<Text>,
+        store: &PodStore,
+    ) -> Result<(), StitchFault>
+        requires { numbers_fit self.old.first ≡ true }
+        ensures ok { OnOk result (Puts self.old self.new (pieces_at store.now previous.now marked.now)) }
+        ensures err { IfErr result (λ e. RefusesNumber e (Passes self.old (pieces_at store.now previous.now marked.now))) }
+    {
+        if is_same_run(&marked.mark, previous) {
+            return Ok(());
+        }
+        let Some(id) = &marked.mark else {
+            return self.keep(alloc, marked);
+        };
+        match store.get(id.as_str()) {
+            Some(pod) => self.put_pod(alloc, pod),
+            None => Ok(()),
+        }
+    }
+}
+
+/// The stitched list of these segments, in the order of a playlist, whose first item has these numbers: each run
+/// of one mark replaced by the pod that the break has in the store. `NumberRange` exactly where a number would
+/// pass 2^64 - 1, want of memory apart.
+pub fn stitch(
+    alloc: Global,
+    marked: &[Marked],
+    store: &PodStore,
+    first: Numbers,
+) -> Result<Vec<OutSegment>, StitchFault>
+    requires { AreDecided store.now marked.now }
+    ensures ok { IfOk result (λ v. (v.items ≡ stitched_segments store.now first marked.now) × (list_all item_fits v.items ≡ true)) }
+    ensures err { IfErr result (λ e. RefusesNumber e (list_all item_fits (stitched_segments store.now first marked.now) ≡ false)) }
+{
+    let mut stitching = Stitching::new(alloc, first);
+    let unmarked: Option<Text> = None;
+    let mut previous = &unmarked;
+    let mut rest = marked;
+    while let Some((here, later)) = rest.split_first() {
+        stitching.put_marked(alloc, here, previous, store)?;
+        previous = &here.mark;
+        rest = later;
+    }
+    Ok(stitching.items)
+}
