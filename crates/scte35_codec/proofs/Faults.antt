@@ -101,6 +101,10 @@ unfolding contents_of
 by_contents bytes =
     by_then (command_at _ _ (drop 14 bytes)) _ (by_command _ _ (drop 14 bytes)) (λ command. by_then (tail_at command.1) _ (by_tail command.1) (λ _. tt))
 
+-- what follows the first 14 bytes fails by the lengths alone
+pub contents_fail : (bytes : List ℕ) (e : SpliceFault) → contents_of bytes ≡ Err e → e ≡ CommandLength
+contents_fail bytes e is = subst ByLength is (by_contents bytes)
+
 -- a fault of a section's bytes
 abbrev pub OfBytes : {A : Type 0} → Result A SpliceFault → Type 0
 OfBytes (Ok x) = Unit {0}

@@ -11,3 +11,5 @@ pub mod Appends
 pub mod Fits
 pub mod Hexadecimals
 pub mod Faults
+pub mod Registers
+pub mod Checked

@@ -4,3 +4,4 @@ pub mod Section
 pub mod Reading
 pub mod Writing
 pub mod Hexadecimal
+pub mod Crc

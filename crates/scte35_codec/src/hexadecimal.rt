@@ -6,7 +6,8 @@ ghost use Rattle.std.specs.Char.{is_ascii_hexdigit};
 ghost use Rattle.hex.specs.Hex.{decode_of};
 ghost use Rattle.scte35_codec.specs.Section.{Section, section_of, IsSection};
 ghost use Rattle.scte35_codec.specs.Reading.{Gives};
-ghost use Rattle.scte35_codec.specs.declared.fault.SpliceFault.TheVariants.{NotHex, TooLarge};
+ghost use Rattle.scte35_codec.specs.declared.fault.SpliceFault.{SpliceFault};
+ghost use Rattle.scte35_codec.specs.declared.fault.SpliceFault.TheVariants.{NotHex, CommandLength, TooLarge};
 ghost use Rattle.scte35_codec.specs.Hexadecimal.{are_pairs, is_hex_text, digits_of, reading_digits, hex_bytes, reading_hex};
 
 use crate::fault::SpliceFault;
@@ -48,7 +49,8 @@ fn decode_into(digits: &[u8], out: &mut [u8])
 // The section of pairs of digits. No more bytes are decoded than show that there are too many.
 fn read_digits(alloc: Global, digits: &[u8]) -> Result<SpliceInfo, SpliceFault>
     requires { IsTrue (are_pairs digits.now) }
-    ensures { Gives section_of result (reading_digits digits.now) }
+    ensures exact { Gives section_of result (reading_digits digits.now) }
+    ensures told { (e : SpliceFault) → reading_digits digits.now ≡ Err e → e ≢ CommandLength → result ≡ Err e }
 {
     let count = (digits.len() / 2).min(TOO_MANY);
     let mut buffer = [0u8; TOO_MANY];
@@ -60,7 +62,7 @@ fn read_digits(alloc: Global, digits: &[u8]) -> Result<SpliceInfo, SpliceFault>
 #[tactic(auto, unfolding(crate::specs::Hexadecimal::reading_hex, crate::specs::Hexadecimal::hex_bytes))]
 fn section_of_text(alloc: Global, text: &str) -> Result<SpliceInfo, SpliceFault>
     ensures exact { Gives section_of result (reading_hex text.now) }
-    ensures not_hex { is_hex_text text.now ≡ false → result ≡ Err NotHex }
+    ensures told { (e : SpliceFault) → reading_hex text.now ≡ Err e → e ≢ CommandLength → result ≡ Err e }
 {
     let digits = digits_of(text.as_bytes())?;
     read_digits(alloc, digits)
@@ -69,8 +71,8 @@ fn section_of_text(alloc: Global, text: &str) -> Result<SpliceInfo, SpliceFault>
 /// Reads a splice_info_section from hexadecimal text, as the SCTE35 attributes of EXT-X-DATERANGE in
 /// RFC 8216, section 4.3.2.7.1, write it: `0x` or `0X`, and two digits in either case for each byte.
 ///
-/// A text that is not of this form is `NotHex`; else the answer is that of [`read`] for the bytes. No
-/// memory is taken but what the value owns.
+/// A text that is not of this form is `NotHex`; else the answer is that of [`read`] for the bytes, which
+/// takes all the memory that is taken here.
 pub fn read_hex(alloc: Global, text: &str) -> Result<SpliceInfo, SpliceFault>
     // What is read is what the text's bytes say.
     ensures found { IfOk result (λ info. (bytes : List ℕ) × (hex_bytes text.now ≡ Ok bytes) × IsSection (section_of info) bytes) }
@@ -78,8 +80,9 @@ pub fn read_hex(alloc: Global, text: &str) -> Result<SpliceInfo, SpliceFault>
     // What the text's bytes say is read, unless memory runs out.
     ensures only { (bytes : List ℕ) (s : Section) → hex_bytes text.now ≡ Ok bytes → IsSection s bytes → Gives section_of result (Ok s) }
 
-    // Which fault it is.
+    // Which fault it is. All but CommandLength are told before any memory is taken.
     ensures exact { Gives section_of result (reading_hex text.now) }
+    ensures told { (e : SpliceFault) → reading_hex text.now ≡ Err e → e ≢ CommandLength → result ≡ Err e }
     ensures not_hex { (result ≡ Err NotHex) ↔ (is_hex_text text.now ≡ false) }
     ensures fault { IfErr result (λ e. e ≢ TooLarge) }
 {

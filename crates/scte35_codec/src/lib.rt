@@ -2,23 +2,27 @@
 //!
 //! A splice_info_section is read whole: an unknown command, the descriptors and the stuffing are kept
 //! as bytes, and the CRC as a number that is not verified. Of the commands, splice_insert is taken apart.
+//! A value is written with the CRC that it has, or with the one that its bytes have.
 #![tactic(auto)]
 
 mod bits;
+mod crc;
 mod fault;
 mod fitting;
 mod hexadecimal;
 mod info;
+pub mod laws;
 mod reading;
 mod writing;
 
+pub use crc::crc_of;
 pub use fault::SpliceFault;
 pub use hexadecimal::read_hex;
 pub use info::{
     BreakDuration, InsertBody, SpliceCommand, SpliceInfo, SpliceInsert, SpliceTarget, SpliceTime,
 };
-pub use reading::{has_one_value, read, reads_the_layout};
-pub use writing::{refuses_what_has_no_section, write};
+pub use reading::read;
+pub use writing::{write, write_with_crc};
 
 #[cfg(test)]
 mod tests;

@@ -1,8 +1,8 @@
 //! Reading sections.
 
-ghost use Rattle.std.specs.Prelude.{◌≡◌, ◌≢◌, ◌≤◌, ◌↔◌, ℕ, List, length, IfOk, IfErr, Ok};
-ghost use Rattle.scte35_codec.specs.declared.fault.SpliceFault.TheVariants.{NotHex, TooLarge};
-ghost use Rattle.scte35_codec.specs.Layout.{IsBytes};
+ghost use Rattle.std.specs.Prelude.{◌≡◌, ◌≢◌, ◌≤◌, length, IfOk, IfErr, Ok, Err};
+ghost use Rattle.scte35_codec.specs.declared.fault.SpliceFault.{SpliceFault};
+ghost use Rattle.scte35_codec.specs.declared.fault.SpliceFault.TheVariants.{NotHex, CommandLength, TooLarge};
 ghost use Rattle.scte35_codec.specs.Section.{Section, target_of, body_of, bodies_of, event_of, command_of, section_of, IsSection};
 ghost use Rattle.scte35_codec.specs.Reading.{Gives, time_at, optional_time_at, component_at, components_at, target_at, optional_duration_at, body_at, optional_body_at, insert_at, whole_insert_at, unmeasured_at, measured_of, command_at, ending_at, tail_at, contents_of, reading};
 
@@ -270,7 +270,8 @@ fn contents(alloc: Global, bytes: &[u8]) -> Result<SpliceInfo, SpliceFault>
 
 #[tactic(auto, unfolding(crate::specs::Reading::reading))]
 fn section(alloc: Global, bytes: &[u8]) -> Result<SpliceInfo, SpliceFault>
-    ensures { Gives section_of result (reading bytes.now) }
+    ensures exact { Gives section_of result (reading bytes.now) }
+    ensures told { (e : SpliceFault) → reading bytes.now ≡ Err e → e ≢ CommandLength → result ≡ Err e }
 {
     if bytes.len() < SHORTEST {
         return Err(SpliceFault::TooShort);
@@ -294,7 +295,8 @@ fn section(alloc: Global, bytes: &[u8]) -> Result<SpliceInfo, SpliceFault>
 /// Reads a splice_info_section of ANSI/SCTE 35, all of the bytes.
 ///
 /// The answer is the value whose layout the bytes have, where there is one, else the first fault in the
-/// order of [`SpliceFault`]. The CRC is not verified, and reserved bits are ignored.
+/// order of [`SpliceFault`]. The CRC is not verified, and reserved bits are ignored. Where a fault that
+/// comes before `CommandLength` stands, no memory is taken.
 pub fn read(alloc: Global, bytes: &[u8]) -> Result<SpliceInfo, SpliceFault>
     // What is read is laid out so, field by field.
     ensures found { IfOk result (λ info. IsSection (section_of info) bytes.now) }
@@ -302,19 +304,10 @@ pub fn read(alloc: Global, bytes: &[u8]) -> Result<SpliceInfo, SpliceFault>
     // What is laid out so is read, unless memory runs out.
     ensures only { (s : Section) → IsSection s bytes.now → Gives section_of result (Ok s) }
 
-    // Which fault it is.
+    // Which fault it is. All but CommandLength are told before any memory is taken.
     ensures exact { Gives section_of result (reading bytes.now) }
+    ensures told { (e : SpliceFault) → reading bytes.now ≡ Err e → e ≢ CommandLength → result ≡ Err e }
     ensures fault { IfErr result (λ e. (e ≢ NotHex) × (e ≢ TooLarge)) }
 {
     section(alloc, bytes)
 }
-
-/// Reading finds what the layout says, no more and no less.
-pub fn reads_the_layout()
-    ensures { (bytes : List ℕ) (s : Section) → IsBytes bytes → (reading bytes ≡ Ok s) ↔ IsSection s bytes }
-{}
-
-/// No bytes have two values.
-pub fn has_one_value()
-    ensures { (bytes : List ℕ) (s t : Section) → IsBytes bytes → IsSection s bytes → IsSection t bytes → s ≡ t }
-{}

@@ -5,10 +5,12 @@ ghost use Rattle.std.specs.List.{flat_map, list_all};
 ghost use Rattle.std.specs.Int.{bytes_high_first};
 ghost use Rattle.scte35_codec.specs.Layout.{Is, IsBytes, Reserved, bytes_of, Holds, IsWritten};
 ghost use Rattle.scte35_codec.specs.Section.{flag, optional, splice_time, component, target_of, target_fields, is_program, body_of, bodies_of, body_flags, body_fields, cancel_fields, event_of, splice_insert, command_of, command_fields, command_type, break_duration, start_fields, heading_fields, ending_fields, section_of, IsSection, Section};
-ghost use Rattle.scte35_codec.specs.Writing.{time_fits, duration_fits, body_fits, command_fits, has_section, TargetFits, Appends, written_fields, section_length as counted_length};
+ghost use Rattle.scte35_codec.specs.Writing.{time_fits, duration_fits, body_fits, command_fits, has_section, TargetFits, Appends, written_fields, front_fields, tail_fields, section_length as counted_length};
+ghost use Rattle.scte35_codec.specs.Crc.{crc_of, IsChecked};
 ghost use Rattle.scte35_codec.specs.Reading.{reading};
 ghost use Rattle.scte35_codec.specs.declared.fault.SpliceFault.TheVariants.{OutOfMemory, TooLarge};
 
+use crate::crc::crc_of;
 use crate::fault::SpliceFault;
 use crate::fitting::{command_len, has_section, section_length};
 use crate::info::{
@@ -252,32 +254,44 @@ fn put_heading(
     Ok(())
 }
 
-fn put_ending(out: &mut Vec<u8>, info: &SpliceInfo) -> Result<(), AllocError>
+// What stands between the command and CRC_32.
+fn put_tail(out: &mut Vec<u8>, info: &SpliceInfo) -> Result<(), AllocError>
     requires { length info.now.descriptors.items < 2 ^ 16 }
-    ensures { OnOk result (Appends (ending_fields (section_of info.now)) out.old.items out.new.items) }
+    ensures { OnOk result (Appends (tail_fields (section_of info.now)) out.old.items out.new.items) }
 {
     put_u16(out, info.descriptors.len() as u16)?;
     put_bytes(out, &info.descriptors)?;
     put_bytes(out, &info.stuffing)?;
-    put_u32(out, info.crc)?;
     Ok(())
 }
 
 #[tactic(auto, using(crate::proofs::Fits::adjustment_fits, crate::proofs::Fits::tier_fits, crate::proofs::Fits::command_is_fit))]
-fn put_section(
-    out: &mut Vec<u8>,
-    info: &SpliceInfo,
-    section_length: usize,
-) -> Result<(), AllocError>
+fn put_front(out: &mut Vec<u8>, info: &SpliceInfo, section_length: usize) -> Result<(), AllocError>
     requires fits { IsTrue (has_section (section_of info.now)) }
     requires counted { section_length ≡ counted_length (section_of info.now) }
-    ensures { OnOk result (Appends (written_fields (section_of info.now)) out.old.items out.new.items) }
+    ensures { OnOk result (Appends (front_fields (section_of info.now)) out.old.items out.new.items) }
 {
     put_start(out, section_length)?;
     put_heading(out, info, command_len(&info.command))?;
     put_command(out, &info.command)?;
-    put_ending(out, info)?;
+    put_tail(out, info)?;
     Ok(())
+}
+
+// The section up to CRC_32.
+fn front_of(alloc: Global, info: &SpliceInfo) -> Result<Vec<u8>, SpliceFault>
+    ensures refused { (result ≡ Err TooLarge) ↔ (has_section (section_of info.now) ≡ false) }
+    ensures fault { IfErr result (λ e. (e ≡ OutOfMemory) ⊎ (e ≡ TooLarge)) }
+    ensures fits { IfOk result (λ _. IsTrue (has_section (section_of info.now))) }
+    ensures front { IfOk result (λ bytes. Appends (front_fields (section_of info.now)) [] bytes.items) }
+{
+    if !has_section(info) {
+        return Err(SpliceFault::TooLarge);
+    }
+    let section_length = section_length(info);
+    let mut out = Vec::with_capacity(alloc, START_LEN + section_length)?;
+    put_front(&mut out, info, section_length)?;
+    Ok(out)
 }
 
 /// Writes a value as a splice_info_section, with its lengths counted.
@@ -299,18 +313,25 @@ pub fn write(alloc: Global, info: &SpliceInfo) -> Result<Vec<u8>, SpliceFault>
     // It is read as the same value.
     ensures again { IfOk result (λ bytes. reading bytes.items ≡ Ok (section_of info.now)) }
 {
-    if !has_section(info) {
-        return Err(SpliceFault::TooLarge);
-    }
-    let section_length = section_length(info);
-    let mut out = Vec::with_capacity(alloc, START_LEN + section_length)?;
-    put_section(&mut out, info, section_length)?;
+    let mut out = front_of(alloc, info)?;
+    put_u32(&mut out, info.crc)?;
     Ok(out)
 }
 
-/// A value is refused only where no section of at most 4,096 bytes says it, so that section_length is at
-/// most 4093.
-pub fn refuses_what_has_no_section()
-    ensures { (s : Section) (bytes : List ℕ) → IsBytes bytes → length bytes ≤ 4096 → IsSection s bytes
-        → IsTrue (has_section s) }
-{}
+/// Writes a value as [`write`] does, but with the CRC_32 that its bytes have in place of the value's own:
+/// the one by which the registers of ISO/IEC 13818-1, Annex A, are zero after the whole section, as ANSI/SCTE
+/// 35 wants it. So it is a section that others take.
+pub fn write_with_crc(alloc: Global, info: &SpliceInfo) -> Result<Vec<u8>, SpliceFault>
+    // A value is refused exactly where it has no section that may be written.
+    ensures refused { (result ≡ Err TooLarge) ↔ (has_section (section_of info.now) ≡ false) }
+    ensures fault { IfErr result (λ e. (e ≡ OutOfMemory) ⊎ (e ≡ TooLarge)) }
+
+    // What is written is the value's section with the CRC_32 of its other bytes, and is read so.
+    ensures checked { IfOk result (λ bytes. IsChecked (section_of info.now) bytes.items) }
+    ensures zero { IfOk result (λ bytes. crc_of bytes.items ≡ 0) }
+{
+    let mut out = front_of(alloc, info)?;
+    let crc = crc_of(&out);
+    put_number(&mut out, u64::from(crc), 4)?;
+    Ok(out)
+}

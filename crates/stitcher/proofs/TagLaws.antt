@@ -68,9 +68,6 @@ stands_after : (y x : Key) (ys : List Key) → list_all (is_before y) ys ≡ tru
 stands_after y x [] h g = cc
 stands_after y x (k ∷ ys) h g = let a = and_parts _ _ h in after_step y x k ys (or_cases _ _ g) a.0 (stands_after y x ys a.1)
 
-behind_all : (y : Key) (ys keys : List Key) → list_all (is_before y) ys ≡ true → list_all (has_its_format ys) keys ≡ true → list_all (is_before y) keys ≡ true
-behind_all y ys keys h g = all_from (has_its_format ys) (is_before y) keys g (λ x f. stands_after y x ys h f)
-
 -- keys after y have their formats among ys
 without_first : (y : Key) (ys keys : List Key) → list_all (is_before y) keys ≡ true → list_all (has_its_format (y ∷ ys)) keys ≡ true → list_all (has_its_format ys) keys ≡ true
 without_first y ys keys h g = all_with (is_before y) (has_its_format (y ∷ ys)) (has_its_format ys) keys h g (λ k b f. dropped_step k y ys (differ_back y k b) f)

@@ -1,0 +1,55 @@
+-- A section that is written: its front, and then a CRC_32.
+use Rattle.std.proofs.Common.{◌≡◌, ℕ, ◌/◌, ◌^◌, ◌<◌, true, List, [], ◌∷◌, ◌++◌, refl, sym, ap, ◌∙◌, append_assoc, arith}
+use Rattle.std.specs.Prelude.{◌&&◌, nat_le}
+use Rattle.std.specs.Int.{bytes_high_first}
+use Rattle.scte35_codec.specs.Layout.{Field, Is}
+use Rattle.scte35_codec.specs.Section.{Section, start_fields, heading_fields, command_fields, after_length, section}
+use Rattle.scte35_codec.specs.Writing.{fits, command_fits, command_length, section_length, has_section, front_fields, tail_fields, written_fields, Appends}
+use Rattle.scte35_codec.specs.Crc.{crc_of, with_crc, IsChecked}
+use Rattle.scte35_codec.proofs.Whole.{width-after}
+use Rattle.scte35_codec.proofs.Appends.{Appends-then, Appends-is, group_appends, Made, made, made_is, made_again}
+use Rattle.scte35_codec.proofs.Registers.{crc_below}
+
+abbrev crc_fields : ℕ → List Field
+crc_fields crc = (32, Is crc) ∷ []
+
+abbrev start : Section → List Field
+start s = start_fields (section_length s)
+
+abbrev middle : Section → List Field
+middle s = heading_fields s (command_length s) ++ command_fields s.command
+
+front_then_crc : (s : Section) → front_fields s ++ crc_fields s.crc ≡ written_fields s
+unfolding section after_length
+front_then_crc s =
+    append_assoc (start s) (middle s ++ tail_fields s) (crc_fields s.crc)
+    ∙ ap (λ (fs : List Field). start s ++ fs) (append_assoc (middle s) (tail_fields s) (crc_fields s.crc))
+
+-- the front, and then the section's own CRC_32
+pub whole_made : (s : Section) (a b : List ℕ) → Appends (front_fields s) [] a → Appends (crc_fields s.crc) a b → Made s b
+whole_made s a b front crc = made s [] b refl (Appends-is (front_then_crc s) (Appends-then front crc))
+
+-- ---- Another CRC_32 changes nothing else
+
+same_length : (s : Section) (crc : ℕ) → section_length (with_crc s crc) ≡ section_length s
+same_length s crc = ap (λ (w : ℕ). w / 8) (width-after (with_crc s crc) (command_length s) ∙ sym (width-after s (command_length s)))
+
+same_front : (s : Section) (crc : ℕ) → front_fields s ≡ front_fields (with_crc s crc)
+same_front s crc = ap (λ (n : ℕ). start_fields n ++ (middle s ++ tail_fields s)) (sym (same_length s crc))
+
+still_has_section : (s : Section) (crc : ℕ) → has_section s ≡ true → has_section (with_crc s crc) ≡ true
+unfolding has_section
+still_has_section s crc fit =
+    ap (λ (n : ℕ). fits 33 s.pts_adjustment && fits 12 s.tier && command_fits s.command && nat_le n 4093) (same_length s crc) ∙ fit
+
+crc_appends : (crc : ℕ) (a b : List ℕ) → crc < 2 ^ 32 → b ≡ a ++ bytes_high_first 4 crc → Appends (crc_fields crc) a b
+crc_appends crc a b below whole = group_appends 4 (crc_fields crc) crc a b whole refl below (omega arith, omega arith)
+
+-- the front, and then its CRC_32
+pub checked : (s : Section) (a b : List ℕ) → has_section s ≡ true → Appends (front_fields s) [] a → b ≡ a ++ bytes_high_first 4 (crc_of a) → IsChecked s b
+checked s a b fit front whole =
+    let crc = crc_of a in
+    let t = with_crc s crc in
+    let fit' = still_has_section s crc fit in
+    let is : Made t b = whole_made t a b (Appends-is (same_front s crc) front) (crc_appends crc a b (crc_below a) whole) in
+    record { front = a; whole = whole; written = is.holds; section = made_is t b fit' is; again = made_again t b fit' is }
