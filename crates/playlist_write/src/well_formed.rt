@@ -48,17 +48,11 @@ fn optional_section_fits(section: &Option<Shared<InitSection>>) -> bool
     }
 }
 
-fn is_in_range(time: Instant) -> bool
-    ensures { result ≡ in_range time }
-{
-    time.0 >= -2_208_988_800_000_000_000 && time.0 < 7_258_118_400_000_000_000
-}
-
 fn optional_time_fits(time: Option<Instant>) -> bool
     ensures { result ≡ if_some in_range time }
 {
     match time {
-        Some(time) => is_in_range(time),
+        Some(time) => time.is_in_range(),
         None => true,
     }
 }
