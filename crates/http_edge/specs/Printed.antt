@@ -1,4 +1,4 @@
--- A run that had a fault, and the fault's line.
+-- A run that had a fault, and the fault's line, which ends with a line feed (10).
 use Rattle.std.specs.Prelude.{◌≡◌, ◌≢◌, ℕ, List, [], ◌∷◌, ◌++◌, None, Ok, Err}
 use Rattle.playlist_meaning.specs.Reading.{Fault}
 use Rattle.playlist_meaning.specs.Uri.{base_of}

@@ -1,9 +1,10 @@
--- How an instant is written.
+-- How an instant is written: as a time text in UTC with `Z` (RFC 8216, 4.3.2.6).
+-- Bytes of ASCII: 45 is `-`, 46 `.`, 58 `:`, 84 `T` and 90 `Z`.
 use Rattle.std.specs.Prelude.{ℕ, zero, suc, ◌+◌, ◌-◌, ◌/◌, ◌%◌, ◌==◌, nat_lt, List, [], ◌∷◌, ◌++◌, ℤ, pos, negsuc, if◌then◌else◌}
 use Rattle.instants.specs.Instant.{is_leap, days_in_month}
 use Rattle.instants.specs.Digits.{fixed_digits}
 
--- nanoseconds from 1900
+-- nanoseconds from the first of 1900, 0 for what is before it
 abbrev pub from_1900 : ℤ → ℕ
 from_1900 (pos n) = n + 2208988800000000000
 from_1900 (negsuc n) = 2208988800000000000 - (n + 1)
@@ -29,6 +30,7 @@ date_text year month day rest = fixed_digits 10 4 year ++ 45 ∷ (fixed_digits 1
 abbrev pub clock_text : ℕ → List ℕ → List ℕ
 clock_text seconds rest = fixed_digits 10 2 (seconds / 3600) ++ 58 ∷ (fixed_digits 10 2 (seconds / 60 % 60) ++ 58 ∷ (fixed_digits 10 2 (seconds % 60) ++ rest))
 
+-- three decimals, or nine where three would lose something
 abbrev pub decimals : ℕ → List ℕ
 decimals nanos = if nanos % 1000000 == 0 then fixed_digits 10 3 (nanos / 1000000) else fixed_digits 10 9 nanos
 

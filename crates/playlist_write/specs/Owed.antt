@@ -1,4 +1,4 @@
--- The text of a playlist.
+-- The text of a playlist. Each line ends with a line feed (10).
 use Rattle.std.specs.Prelude.{ℕ, ◌-◌, Bool, List, [], ◌∷◌, ◌++◌, map, codes, replicate, ℤ, Option, Some, None, if◌then◌else◌}
 use Rattle.std.specs.List.{flat_map}
 use Rattle.playlist_meaning.specs.declared.Key.{Key}

@@ -1,4 +1,5 @@
 -- How what a line says is written (RFC 8216, section 4.3).
+-- Bytes of ASCII: 44 is the comma, 48 `0`, 64 `@` and 120 `x`.
 use Rattle.std.specs.Prelude.{ℕ, true, false, List, [], ◌∷◌, ◌++◌, map, codes, Option, Some, None, bytes_eq, if◌then◌else◌}
 use Rattle.std.specs.List.{flat_map}
 use Rattle.std.specs.Fmt.{decimal}
