@@ -15,8 +15,3 @@ pub use fault::VodFault;
 pub use input::MOST_READS;
 pub use one_playlist::vod;
 pub use stated::{StatedRun, StatedSegment, vod_stated};
-
-#[cfg(test)]
-mod stated_tests;
-#[cfg(test)]
-mod tests;

@@ -11,7 +11,7 @@ use Rattle.playlist_meaning.specs.declared.Key.{Key}
 use Rattle.playlist_meaning.specs.declared.Segment.{Segment}
 use Rattle.playlist_meaning.specs.declared.Playlist.{Playlist}
 use Rattle.playlist_meaning.specs.Lines.{Kind, ignored, uri, tag, kind_of, has_control}
-use Rattle.playlist_meaning.specs.Instant.{instant_of}
+use Rattle.instants.specs.Instant.{instant_of}
 use Rattle.playlist_meaning.specs.Said.{Name, version_tag, target_tag, sequence_tag, discontinuity_sequence_tag, type_tag, ended_tag, independent_tag, frames_tag, master_tag, duration_tag, range_tag, discontinuity_tag, key_tag, map_tag, time_tag, date_range_tag, unknown_tag, Said, nothing, version, target, sequence, discontinuity_sequence, playlist_type, ended, independent, range, discontinuity, time, media, Outcome, ◌>>=◌, or_fault, refuse_if, over, Reader, number, version_of, playlist_type_of, duration_said, range_of, key_said, section_said, date_range_said, uri_of}
 use Rattle.playlist_meaning.specs.LookBack.{latest, the_version, the_target, the_sequence, the_discontinuity_sequence, the_type, is_media, is_discontinuity, is_ended, is_independent, count, own_duration, number_at, discontinuity_at, keys_at, range_at, segments_of, date_ranges_of}
 

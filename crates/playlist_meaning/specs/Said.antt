@@ -6,13 +6,15 @@ use Rattle.fixed_duration.specs.Duration.{duration_of}
 use Rattle.attr_list.specs.Attributes.{Pair, attributes_of, attribute, is_named}
 use Rattle.attr_list.specs.Numbers.{decimal_of, hex_of}
 use Rattle.playlist_meaning.specs.Uri.{resolved}
-use Rattle.playlist_meaning.specs.Instant.{instant_of}
+use Rattle.instants.specs.Instant.{instant_of}
 use Rattle.playlist_meaning.specs.declared.FaultKind.{FaultKind}
 use Rattle.playlist_meaning.specs.declared.FaultKind.TheVariants as fault
 use Rattle.playlist_meaning.specs.declared.PlaylistKind.{PlaylistKind}
 use Rattle.playlist_meaning.specs.declared.PlaylistKind.TheVariants.{Event, Vod}
 use Rattle.playlist_meaning.specs.declared.Key.{Key}
 use Rattle.playlist_meaning.specs.declared.KeyAttr.{KeyAttr}
+use Rattle.playlist_meaning.specs.declared.KeyTag.{KeyTag}
+use Rattle.playlist_meaning.specs.declared.KeyTag.TheVariants.{End, Set}
 use Rattle.playlist_meaning.specs.declared.ByteRange.{ByteRange}
 use Rattle.playlist_meaning.specs.declared.DateRange.{DateRange}
 
@@ -64,6 +66,11 @@ pub data Said : Type 0 where
   time : ℤ → Said
   date_range : DateRange → Said
   media : List ℕ → Said
+
+-- a key tag (4.3.2.4)
+abbrev pub key_tag_said : KeyTag → Said
+key_tag_said End = no_keys
+key_tag_said (Set k) = key k
 
 abbrev pub Outcome : Type 0 → Type 0
 Outcome A = Result A FaultKind

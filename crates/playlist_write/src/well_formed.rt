@@ -1,7 +1,7 @@
 //! Which playlists can be written so that the text says them.
 ghost use Rattle.std.specs.Prelude.{◌≡◌, ◌==◌, ◌+◌, IfOk, true, false};
 ghost use Rattle.std.specs.List.{list_all, list_any};
-ghost use Rattle.playlist_meaning.specs.Instant.{in_range};
+ghost use Rattle.instants.specs.Instant.{in_range};
 ghost use Rattle.playlist_write.specs.Fitting.{if_some, section_fits};
 ghost use Rattle.playlist_write.specs.WellFormed.{well_formed, fits_without_ranges, numbers_are_words, resource_fits, duration_fits, segment_fits, follows, all_follow, numbers_fit, is_mapped, sections_agree, version_fits, is_word};
 
