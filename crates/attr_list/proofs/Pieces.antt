@@ -73,9 +73,6 @@ plain_runs value h = fewer ends_plain stops value h (λ b g. (or_parts _ _ g).0)
 
 -- ---- the front of a text that begins with a spelling
 
-named_front : (name rest : List ℕ) → is_name name ≡ true → list_any stops (name ++ 61 ∷ []) ≡ false
-named_front name rest h = list_any-append stops name (61 ∷ []) ∙ or_from _ _ (name_runs name h) refl
-
 pub first_named : (name rest : List ℕ) → is_name name ≡ true → first_piece (name ++ 61 ∷ rest) ≡ name ++ 61 ∷ first_piece rest
 first_named name rest h = first_past name (61 ∷ rest) (name_runs name h)
 

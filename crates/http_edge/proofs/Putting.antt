@@ -10,10 +10,6 @@ use Rattle.http_edge.specs.declared.stated.StatedSegment.{StatedSegment}
 use Rattle.http_edge.specs.Stated.{pod_segment, stated_ad, stated_mark, written_item, written_segment}
 use Rattle.http_edge.specs.Stitching.{Made, numbers_fit, item_fits, numbers_behind, last_of, origin_of, counted, comes_to, Puts, Passes, pushed, stated_piece}
 
-and_false : (b : Bool) → (b && false) ≡ false
-and_false true = refl
-and_false false = refl
-
 false_and : (a b c : Bool) → a ≡ true → b ≡ true → (a && (b && true)) ≡ true
 false_and true true c p q = refl
 false_and true false c p q = q
@@ -33,13 +29,6 @@ puts_one made p n untimed same fits = record {
       ∙ sym (append_assoc made.items (record (written_item (numbered_piece p n)) { time = (written_segment p n).time } ∷ []) (map written_item (counted made.first (Some (last_of p n)) later))));
   fit = λ h. list_all-append item_fits made.items _ ∙ false_and _ _ true h fits;
 }
-
--- one piece more, whose numbers do not
-pub passes_one : (made : Made) (p : Piece) → numbers_fit (numbers_behind made.first made.last p) ≡ false → Passes made (p ∷ [])
-passes_one made p h later =
-    list_all-append item_fits made.items _
-    ∙ (ap (λ b. list_all item_fits made.items && (b && list_all item_fits (map written_item (counted made.first (Some (last_of p (numbers_behind made.first made.last p))) later)))) h
-    ∙ and_false (list_all item_fits made.items))
 
 -- nothing
 pub puts_none : (made : Made) → Puts made made []

@@ -10,10 +10,10 @@ ghost use Rattle.http_edge.specs.Stated.{IsRun, can_be_stated, is_in};
 ghost use Rattle.http_edge.specs.Vod.{HasRead};
 ghost use Rattle.http_edge.specs.VodStated.{HasOwed, WritesStated, WritesStatedFront};
 
-use crate::command::{read_playlist, write_playlist};
 use crate::fault::VodFault;
 use crate::input::MOST_READS;
-use crate::shown::owed_with_run;
+use crate::one_playlist::{read_playlist, write_playlist};
+use crate::owed::owed_with_run;
 use crate::texts::know_pod;
 use devices::{Sink, Source};
 use fixed_duration::Nanos;

@@ -38,10 +38,6 @@ civil_day y m d h g =
     let epoch = first_day 1970 in
     omega (arith, signed_arith, count, place, month, same, epoch, day_count-epoch, first_day y)
 
--- what is a day
-pub day_is_date : (y m d : ℕ) → y ≤ 9999 → is_day y m d ≡ true → IsDate (pos y) (pos m) (pos d)
-day_is_date y m d h e = grind (arith, signed_arith, nat_tests)
-
 pub date_is_day : (y m d : ℕ) → IsDate (pos y) (pos m) (pos d) → is_day y m d ≡ true
 date_is_day y m d e = grind (arith, signed_arith, nat_tests)
 

@@ -14,6 +14,8 @@ use Rattle.playlist_meaning.specs.declared.PlaylistKind.{PlaylistKind}
 use Rattle.playlist_meaning.specs.declared.PlaylistKind.TheVariants.{Event, Vod}
 use Rattle.playlist_meaning.specs.declared.Key.{Key}
 use Rattle.playlist_meaning.specs.declared.KeyAttr.{KeyAttr}
+use Rattle.playlist_meaning.specs.declared.KeyTag.{KeyTag}
+use Rattle.playlist_meaning.specs.declared.KeyTag.TheVariants.{End, Set}
 use Rattle.playlist_meaning.specs.declared.ByteRange.{ByteRange}
 use Rattle.playlist_meaning.specs.declared.DateRange.{DateRange}
 
@@ -65,6 +67,11 @@ pub data Said : Type 0 where
   time : ℤ → Said
   date_range : DateRange → Said
   media : List ℕ → Said
+
+-- a key tag (4.3.2.4)
+abbrev pub key_tag_said : KeyTag → Said
+key_tag_said End = no_keys
+key_tag_said (Set k) = key k
 
 abbrev pub Outcome : Type 0 → Type 0
 Outcome A = Result A FaultKind

@@ -140,6 +140,15 @@ pub struct KeyAttr {
     pub quoted: bool,
 }
 
+/// What a key tag says (EXT-X-KEY; RFC 8216, section 4.3.2.4).
+#[derive(Clone, PartialEq, Drop)]
+pub enum KeyTag {
+    /// METHOD=NONE: no key is in force any more, of whatever format.
+    End,
+    /// This key is in force, in place of the one of its format.
+    Set(Key),
+}
+
 /// A key (EXT-X-KEY; RFC 8216, section 4.3.2.4). Each segment under it has a copy, which shares its texts.
 #[derive(Clone, PartialEq, Drop)]
 pub struct Key {
@@ -237,8 +246,6 @@ pub struct Playlist {
 
 mod rows;
 mod stitched_rows;
-#[cfg(test)]
-mod tests;
 
 // Whether a byte is an ASCII character that is no control character.
 fn is_printable(byte: u8) -> bool

@@ -13,9 +13,6 @@ use Rattle.playlist_meaning.specs.Reading.{limited}
 use Rattle.playlist_parse.specs.Answers.{Answers, fault_at, line_of}
 use Rattle.playlist_parse.specs.Progress.{Progress, progress_at, Ends}
 
-abbrev read_from : Parts → List Said → List (List ℕ) → Result (List Said) Fault
-read_from base before lines = said_from (said_by limited base) before lines
-
 -- some lines after the header are read: they say `before`, and what is still to come leads to the
 -- same as all lines
 pub record Reached (base : Parts) (progress : Progress) (i : ℕ) (lines : List (List ℕ)) : Type 0 where
@@ -86,25 +83,6 @@ refused {base = base} {i = i} {line = line} {lines = lines} e r d h =
     ∙ ap (λ o. at_line (length r.before + 1) o (λ said. said_from (said_by limited base) (said ∷ r.before) (drop (i + 1) lines))) (h some)
     ∙ ap (λ k. Err (record { kind = e; line = k + 1 })) r.count ∙ ap (λ k. Err (record { kind = e; line = k })) (omega arith) in
     ap and_whole (sym r.rest ∙ at))
-
-all_said : {base : Parts} {progress : Progress} {i : ℕ} {lines : List (List ℕ)} (r : Reached base progress i lines) → drop i lines ≡ []
-    → said_from (said_by limited base) (nothing ∷ []) lines ≡ Ok r.before
-all_said {base = base} r e = sym r.rest ∙ ap (said_from (said_by limited base) r.before) e
-
-ended_ok : (before : List Said) (playlist : Playlist) → whole_fault before ≡ None → playlist ≡ playlist_of before → and_whole (Ok before) ≡ Ok playlist
-ended_ok before playlist none is = ap (λ w. whole w before) none ∙ ap Ok (sym is)
-
-ended_err : (before : List Said) (e : FaultKind) → whole_fault before ≡ Some e → and_whole (Ok before) ≡ Err (record { kind = e; line = 0 })
-ended_err before e some = ap (λ w. whole w before) some
-
--- the end of the text
-pub whole_ok : {base : Parts} {progress : Progress} {i : ℕ} {lines : List (List ℕ)} (playlist : Playlist) (r : Reached base progress i lines) → drop i lines ≡ []
-    → (whole_fault r.before ≡ None) × (playlist ≡ playlist_of r.before) → and_whole (said_from (said_by limited base) (nothing ∷ []) lines) ≡ Ok playlist
-whole_ok playlist r d h = ap and_whole (all_said r d) ∙ ended_ok r.before playlist h.0 h.1
-
-pub whole_err : {base : Parts} {progress : Progress} {i : ℕ} {lines : List (List ℕ)} (e : FaultKind) (r : Reached base progress i lines) → drop i lines ≡ []
-    → whole_fault r.before ≡ Some e → Answers (Err (fault_at e 0)) (and_whole (said_from (said_by limited base) (nothing ∷ []) lines))
-whole_err e r d h = failed e 0 _ (λ some. ap and_whole (all_said r d) ∙ ended_err r.before e h)
 
 pub ends : {base : Parts} {progress : Progress} {i : ℕ} {lines : List (List ℕ)} (result : Result Playlist FaultKind) (r : Reached base progress i lines) → Ends progress result
     → MatchResult result (λ playlist. (whole_fault r.before ≡ None) × (playlist ≡ playlist_of r.before)) (λ e. whole_fault r.before ≡ Some e)

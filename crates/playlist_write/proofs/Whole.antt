@@ -163,9 +163,6 @@ abbrev first_is_mapped : List OutSegment → Bool
 first_is_mapped [] = false
 first_is_mapped (out ∷ later) = is_mapped out
 
-all_alike : (outs : List OutSegment) → list_all is_mapped outs ≡ true → sections_alike true outs ≡ true
-all_alike outs h = h
-
 none_alike : (outs : List OutSegment) → list_any is_mapped outs ≡ false → sections_alike false outs ≡ true
 none_alike [] h = refl
 none_alike (out ∷ outs) h = let a = or_parts _ _ h in and_from _ _ (unmapped out.segment.section a.0) (none_alike outs a.1)

@@ -129,6 +129,3 @@ pub fn write<S: Sink>(alloc: Global, playlist: &OutPlaylist, sink: &mut S) -> Re
     let text = make_text(alloc, playlist)?;
     Ok(hand_out(text.as_bytes(), sink)?)
 }
-
-#[cfg(test)]
-mod tests;

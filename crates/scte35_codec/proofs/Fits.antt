@@ -37,10 +37,6 @@ pub is_proper : (c : Command) → IsTrue (command_fits c) → IsProper c
 is_proper (Insert i) h = body_timed i.body h
 is_proper (Other kind bytes) h = eqb-false kind 5 (not-true _ h)
 
--- a time of components that all fit
-pub one_fits : (cs : List Component) (i : ℕ) (d : Component) → i < length cs → list_all (λ c. time_fits c.1) cs ≡ true → IsTrue (time_fits (get_or cs i d).1)
-one_fits cs i d lt h = true_from_ne_false _ (λ f. both_ways _ (list_all_at (λ (c : Component). time_fits c.1) cs i d lt f) h)
-
 -- ---- What a value that has a section keeps
 
 pub record Kept (s : Section) : Type 0 where

@@ -34,10 +34,6 @@ number_below (x ∷ xs) fits =
     let most : x * 256 ^ length xs ≤ 255 * 256 ^ length xs = mul-le x (256 ^ length xs) 255 (256 ^ length xs) (omega arith) (omega arith) in
     omega arith
 
--- one byte more
-pub number_more : (xs : List ℕ) (i : ℕ) → i < length xs → number (take (i + 1) xs) ≡ number (take i xs) * 256 + get_or xs i 0
-number_more xs i lt = rw (take_more xs i 0 lt) (number-append (take i xs) (get_or xs i 0 ∷ []) ∙ omega arith)
-
 pub number_below_take : (xs : List ℕ) (i : ℕ) → i ≤ length xs → IsBytes xs → number (take i xs) < 256 ^ i
 number_below_take xs i le fits =
     let len : length (take i xs) ≡ i = omega (arith, length-take i xs) in

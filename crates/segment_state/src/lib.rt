@@ -15,11 +15,11 @@ ghost use Rattle.segment_state.specs.Views.{extent_of};
 
 use crate::keys::{copied_keys, effective_keys, put_key};
 use crate::references::References;
-use crate::tags::{KeyTag, key_said, range_of, section_said};
+use crate::tags::{key_said, range_of, section_said};
 use fixed_duration::Nanos;
 use playlist_meaning::{
-    Base, ByteRange, FaultKind, InitSection, Instant, Items, Key, Keys, Segment, Shared, Text,
-    is_iv_needed,
+    Base, ByteRange, FaultKind, InitSection, Instant, Items, Key, KeyTag, Keys, Segment, Shared,
+    Text, is_iv_needed,
 };
 use std::alloc::{AllocError, Global};
 use std::marker::Model;

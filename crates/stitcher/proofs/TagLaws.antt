@@ -9,7 +9,7 @@ use Rattle.playlist_meaning.specs.declared.Key.{Key}
 use Rattle.playlist_meaning.specs.LookBack.{put_key, insert_key, is_before, are_sorted}
 use Rattle.playlist_meaning.proofs.ListTests.{all_with, all_filter, filter_like, filter_all}
 use Rattle.playlist_meaning.proofs.KeyOrder.{not_back, differ_back, differ, like, like_behind, chained}
-use Rattle.stitcher.specs.declared.KeyTag.TheVariants.{End, Set}
+use Rattle.playlist_meaning.specs.declared.KeyTag.TheVariants.{End, Set}
 use Rattle.playlist_meaning.specs.Same.{same_key}
 use Rattle.stitcher.specs.KeyTags.{has_its_format, is_new, keeps_formats, transition, after_tags}
 use Rattle.playlist_meaning.proofs.SameParts.{key_is}
@@ -67,9 +67,6 @@ after_step y x k ys (inr e) b ih = ih e
 stands_after : (y x : Key) (ys : List Key) → list_all (is_before y) ys ≡ true → has_its_format ys x ≡ true → is_before y x ≡ true
 stands_after y x [] h g = cc
 stands_after y x (k ∷ ys) h g = let a = and_parts _ _ h in after_step y x k ys (or_cases _ _ g) a.0 (stands_after y x ys a.1)
-
-behind_all : (y : Key) (ys keys : List Key) → list_all (is_before y) ys ≡ true → list_all (has_its_format ys) keys ≡ true → list_all (is_before y) keys ≡ true
-behind_all y ys keys h g = all_from (has_its_format ys) (is_before y) keys g (λ x f. stands_after y x ys h f)
 
 -- keys after y have their formats among ys
 without_first : (y : Key) (ys keys : List Key) → list_all (is_before y) keys ≡ true → list_all (has_its_format (y ∷ ys)) keys ≡ true → list_all (has_its_format ys) keys ≡ true

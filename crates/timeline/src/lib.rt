@@ -135,6 +135,3 @@ pub fn instants_law()
     ensures said { SaidAreInRange }
     ensures begun { BegunAreInRange }
 {}
-
-#[cfg(test)]
-mod tests;

@@ -1,0 +1,33 @@
+-- The rules that each decided pod keeps.
+use Rattle.std.specs.Prelude.{◌+◌, ◌^◌, Bool, true, ◌&&◌, ◌==◌, nat_le, nat_lt, List, map, sum, length, Option, Some, None, is_some}
+use Rattle.std.specs.List.{list_all}
+use Rattle.playlist_meaning.specs.declared.ByteRange.{ByteRange}
+use Rattle.playlist_meaning.specs.declared.InitSection.{InitSection}
+use Rattle.playlist_meaning.specs.declared.Key.{Key}
+use Rattle.playlist_meaning.specs.Pods.{PodSegment, Ad}
+use Rattle.pod_store.specs.Pods.{is_uri, is_method, is_format, segment_count}
+
+abbrev pub range_fits : Option ByteRange → Bool
+range_fits None = true
+range_fits (Some r) = nat_lt (r.length + r.offset) (2 ^ 64)
+
+-- a URI, a range that ends below 2^64, less than 1,000,000 s
+abbrev pub segment_keeps : PodSegment → Bool
+segment_keeps s = is_uri s.uri && range_fits s.range && nat_lt s.duration (10 ^ 15)
+
+abbrev pub key_keeps : Key → Bool
+key_keeps k = is_method k.method && is_uri k.uri && is_some k.iv && is_format k.format && length k.other == 0
+
+-- it has no other keys than an ad can have
+abbrev pub section_keeps : Option InitSection → Bool
+section_keeps None = true
+section_keeps (Some s) = is_uri s.uri && range_fits s.range && nat_le (length s.keys) 1 && list_all key_keeps s.keys
+
+abbrev pub ad_keeps : Ad → Bool
+ad_keeps ad =
+    section_keeps ad.section && nat_le (length ad.keys) 1 && list_all key_keeps ad.keys
+    && nat_lt 0 (length ad.segments) && list_all segment_keeps ad.segments
+
+-- at least one ad, and at most 500 segments in all
+abbrev pub ads_keep : List Ad → Bool
+ads_keep ads = nat_lt 0 (length ads) && nat_le (sum (map segment_count ads)) 500 && list_all ad_keeps ads

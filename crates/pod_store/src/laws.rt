@@ -1,0 +1,18 @@
+//! Laws of the store. Each function's contract is its law; calling it does nothing.
+ghost use Rattle.pod_store.specs.Laws.{StaysSmall, UsedPodsStay, LastPodStands};
+
+/// After any calls no break stands twice in the store, and at most 256 are decided.
+pub fn stays_small()
+    ensures { StaysSmall }
+{}
+
+/// A used break keeps its pod whatever is decided or withdrawn.
+pub fn used_pods_stay()
+    ensures { UsedPodsStay }
+{}
+
+/// After any calls each break has the pod that the last decision on it gave it, unless it was withdrawn or
+/// released since.
+pub fn last_pod_stands()
+    ensures { LastPodStands }
+{}
