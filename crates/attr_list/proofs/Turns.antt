@@ -65,12 +65,3 @@ first_is_read whole text after pair attrs e starts is_read first fault =
     let read : pair_of (Some 64) [] (pair_spelling pair) ≡ Ok pair = ap (λ (xs : List Attr). pair_of (Some 64) (map attr_pair xs) (pair_spelling pair)) (sym still.0) ∙ is_read in
     let both : failed e ≡ Ok pair = sym fault ∙ ap (pair_of (Some 64) []) piece ∙ read in
     cc
-
--- the first attribute has the fault that is met, since nothing is read yet
-pub first_fault_is : (whole text : List ℕ) (attrs : List Attr) (e fault : AttrFault) → pair_of (Some 64) (map attr_pair attrs) (first_piece text) ≡ Err fault
-    → ((f : AttrFault) → pair_of (Some 64) [] (first_piece whole) ≡ Err f → (attrs ≡ []) × (text ≡ whole)) → pair_of (Some 64) [] (first_piece whole) ≡ Err e → fault ≡ e
-first_fault_is whole text attrs e fault met first is =
-    let still = first e is in
-    let same : pair_of (Some 64) (map attr_pair attrs) (first_piece text) ≡ pair_of (Some 64) [] (first_piece whole) = rw (still.0, still.1) refl in
-    let both : failed fault ≡ failed e = sym met ∙ same ∙ is in
-    cc

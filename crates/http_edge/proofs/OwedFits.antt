@@ -14,7 +14,7 @@ use Rattle.playlist_meaning.specs.Reading.{reading, limited, has_section, Denote
 use Rattle.playlist_meaning.specs.Uri.{base_of}
 use Rattle.timeline.specs.Timed.{with_time}
 use Rattle.timeline.proofs.RangeLaws.{found_in_range}
-use Rattle.playlist_write.specs.Fitting.{if_some, date_range_fits, says_date_range}
+use Rattle.fitting.specs.Fitting.{if_some, date_range_fits, says_date_range}
 use Rattle.playlist_write.specs.WellFormed as written
 use Rattle.playlist_write.specs.WellFormed.{version_fits, segment_fits, numbers_fit, is_mapped, well_formed}
 use Rattle.playlist_write.specs.Denoted.{denoted}

@@ -20,7 +20,7 @@ use Rattle.playlist_meaning.specs.Stitched.{Piece, is_kept, pod_pieces, Numbers,
 use Rattle.playlist_meaning.specs.Uri.{base_of, has_scheme}
 use Rattle.timeline.specs.Timed.{timed, with_time}
 use Rattle.timeline.proofs.RangeLaws.{found_in_range}
-use Rattle.playlist_write.specs.Fitting.{if_some, is_clean, uri_fits, effective_keys_fit, section_fits}
+use Rattle.fitting.specs.Fitting.{if_some, is_clean, uri_fits, effective_keys_fit, section_fits}
 use Rattle.playlist_write.specs.WellFormed as written
 use Rattle.playlist_write.specs.WellFormed.{resource_fits, duration_fits, segment_fits, numbers_fit, is_mapped, well_formed}
 use Rattle.playlist_write.specs.declared.OutPlaylist.{OutPlaylist}

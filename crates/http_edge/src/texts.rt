@@ -2,7 +2,7 @@
 //! as a list of bytes. Nothing of it is left when it runs.
 ghost use Rattle.std.specs.Prelude.{◌≡◌, true};
 ghost use Rattle.std.specs.List.{list_all};
-ghost use Rattle.playlist_write.specs.Fitting.{if_some};
+ghost use Rattle.fitting.specs.Fitting.{if_some};
 ghost use Rattle.http_edge.specs.Stated.{uri_is_text};
 ghost use Rattle.reading_laws.specs.Read.{key_is_text, section_is_text, uris_are_text};
 

@@ -12,7 +12,7 @@ use Rattle.playlist_meaning.specs.declared.DateRange.{DateRange}
 use Rattle.instants.specs.Instant.{instant_of}
 use Rattle.playlist_meaning.specs.Said.{mended, or_fault, required, optional, some_value, value_if, time_of, length_of, value_of, Said, Reader, date_range, Outcome, ◌>>=◌, date_range_said}
 use Rattle.playlist_meaning.specs.Reading.{limited, unlimited}
-use Rattle.playlist_write.specs.Fitting.{if_some, is_clean, says_date_range, date_range_fits}
+use Rattle.fitting.specs.Fitting.{if_some, is_clean, says_date_range, date_range_fits}
 use Rattle.playlist_write.specs.DateRangeParts.{is_id, says_time, says_duration, is_date_range}
 
 -- a reader of at most 64 attributes

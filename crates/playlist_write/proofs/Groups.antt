@@ -21,7 +21,7 @@ use Rattle.stitcher.specs.KeyTags.{transition, is_new, keeps_formats, after_tags
 use Rattle.playlist_meaning.proofs.SameParts.{section_is}
 use Rattle.stitcher.proofs.TagLaws.{transition_leads}
 use Rattle.playlist_write.specs.Owed.{Current, keys_owed, changed_section, section_owed, keys_then, time_owed, range_owed, segment_owed, after_segment, segments_owed}
-use Rattle.playlist_write.specs.Fitting.{is_clean, uri_fits, quoted_uri_fits, range_fits, if_some, key_fits, keys_fit, states_iv, section_fits}
+use Rattle.fitting.specs.Fitting.{is_clean, uri_fits, quoted_uri_fits, range_fits, if_some, key_fits, keys_fit, states_iv, section_fits}
 use Rattle.playlist_write.specs.WellFormed.{is_word, numbers_are_words, resource_fits, segment_fits}
 use Rattle.playlist_write.specs.Denoted.{denoted_segment}
 use Rattle.playlist_write.proofs.Machine.{Known, step, run, Allowed, number_known, discontinuity_known}

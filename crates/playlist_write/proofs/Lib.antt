@@ -1,5 +1,4 @@
 pub mod TagLines
-pub mod EachRest
 pub mod WrittenNumbers
 pub mod CleanTexts
 pub mod TagFields

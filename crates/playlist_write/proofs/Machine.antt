@@ -16,7 +16,7 @@ use Rattle.playlist_meaning.specs.LookBack.{latest, the_version, the_target, the
 use Rattle.playlist_meaning.specs.Reading.{said_by, said_from, at_line, unlimited, passes, needs_iv, has}
 use Rattle.playlist_meaning.proofs.SaidCounts.{counted_none}
 use Rattle.playlist_write.specs.Spelling.{spelled}
-use Rattle.playlist_write.specs.Fitting.{is_clean, uri_fits, quoted_uri_fits, if_some, range_fits, key_fits}
+use Rattle.fitting.specs.Fitting.{is_clean, uri_fits, quoted_uri_fits, if_some, range_fits, key_fits}
 use Rattle.playlist_write.proofs.CleanTexts.{Clean, AllClean}
 use Rattle.playlist_write.proofs.SaidLines as lines
 

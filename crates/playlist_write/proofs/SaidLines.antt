@@ -36,7 +36,7 @@ use Rattle.playlist_meaning.proofs.SameParts.{key_ext}
 use Rattle.instants.specs.Digits.{fixed_digits}
 use Rattle.instants.specs.Times.{time_text}
 use Rattle.playlist_write.specs.Spelling.{spelled, key_pairs, section_pairs, iv_pairs, format_pairs, attr_pair, in_quotes, part_pairs}
-use Rattle.playlist_write.specs.Fitting.{is_clean, value_fits, uri_fits, quoted_uri_fits, other_fits, if_some, iv_fits, key_fits, range_fits}
+use Rattle.fitting.specs.Fitting.{is_clean, value_fits, uri_fits, quoted_uri_fits, other_fits, if_some, iv_fits, key_fits, range_fits}
 use Rattle.playlist_write.proofs.CleanTexts.{Clean, clean-append, clean_printable}
 use Rattle.playlist_write.proofs.WrittenNumbers.{is_number_byte, decimal_bytes, duration_bytes, hex_bytes, hex_read}
 use Rattle.playlist_write.proofs.TagFields.{KeyParts, key_parts, other_parts, is_other, key_attributes, section_attributes}

@@ -18,7 +18,7 @@ use Rattle.stitcher.specs.declared.OutSegment.{OutSegment}
 use Rattle.playlist_write.specs.declared.OutPlaylist.{OutPlaylist}
 use Rattle.playlist_write.specs.Spelling.{spelled, date_range_line}
 use Rattle.playlist_write.specs.Owed.{none_yet, header_owed, type_owed, independent_owed, ended_owed, segments_owed, first_number, first_discontinuity, line_of, said_text, range_line, ranges_text, text_of}
-use Rattle.playlist_write.specs.Fitting.{is_clean, says_date_range, date_range_fits}
+use Rattle.fitting.specs.Fitting.{is_clean, says_date_range, date_range_fits}
 use Rattle.playlist_write.specs.WellFormed.{is_word, version_fits, segment_fits, follows, all_follow, numbers_fit, is_mapped, sections_agree, well_formed}
 use Rattle.playlist_write.specs.Denoted.{denoted, denoted_segment, denoted_range, range_said}
 use Rattle.playlist_write.specs.Laws.{TextDenotes}

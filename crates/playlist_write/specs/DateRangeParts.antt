@@ -3,7 +3,7 @@ use Rattle.std.specs.Prelude.{Bool, false, ◌&&◌, List, codes, Option, Some, 
 use Rattle.fixed_duration.specs.Duration.{duration_of}
 use Rattle.attr_list.specs.Attributes.{Pair, attribute}
 use Rattle.instants.specs.Instant.{instant_of}
-use Rattle.playlist_write.specs.Fitting.{if_some}
+use Rattle.fitting.specs.Fitting.{if_some}
 
 -- an ID in quotes
 abbrev pub is_id : Option Pair → Bool

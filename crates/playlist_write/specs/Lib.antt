@@ -1,6 +1,5 @@
 pub mod Spelling
 pub mod Owed
-pub mod Fitting
 pub mod DateRangeParts
 pub mod WellFormed
 pub mod Denoted

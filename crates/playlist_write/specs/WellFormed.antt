@@ -5,7 +5,8 @@ use Rattle.instants.specs.Instant.{in_range}
 use Rattle.playlist_meaning.specs.declared.Segment.{Segment}
 use Rattle.stitcher.specs.declared.OutSegment.{OutSegment}
 use Rattle.playlist_write.specs.declared.OutPlaylist.{OutPlaylist}
-use Rattle.playlist_write.specs.Fitting.{if_some, is_clean, uri_fits, range_fits, effective_keys_fit, section_fits, date_range_fits}
+pub use Rattle.fitting.specs.Fitting.{duration_fits}
+use Rattle.fitting.specs.Fitting.{if_some, is_clean, uri_fits, range_fits, effective_keys_fit, section_fits, date_range_fits}
 
 -- a number of 64 bits
 abbrev pub is_word : ℕ → Bool
@@ -18,10 +19,6 @@ numbers_are_words out = is_word out.media && is_word out.discontinuity
 
 abbrev pub resource_fits : Segment → Bool
 resource_fits segment = uri_fits segment.uri && if_some range_fits segment.range
-
--- below 1,000,000 s
-abbrev pub duration_fits : ℕ → Bool
-duration_fits nanos = nat_lt nanos (10 ^ 15)
 
 abbrev pub segment_fits : OutSegment → Bool
 segment_fits out =

@@ -7,11 +7,11 @@ ghost use Rattle.instants.specs.Instant.{instant_of};
 ghost use Rattle.std.specs.List.{list_all};
 ghost use Rattle.playlist_meaning.specs.Said.{date_range_said};
 ghost use Rattle.playlist_meaning.specs.Reading.{limited};
-ghost use Rattle.playlist_write.specs.Fitting.{if_some, says_date_range, date_range_fits};
+ghost use Rattle.fitting.specs.Fitting.{if_some, says_date_range, date_range_fits};
 ghost use Rattle.playlist_write.specs.DateRangeParts.{is_id, says_time, says_duration, is_date_range};
 
-use crate::texts::is_clean;
 use attr_list::{Attr, AttrFault, AttrList};
+use fitting::is_clean;
 use fixed_duration::Nanos;
 use playlist_meaning::{Text, read_instant};
 use std::alloc::{AllocError, Global};
@@ -91,7 +91,7 @@ fn reads_as_date_range(alloc: Global, text: &str) -> Result<bool, AllocError>
 pub fn date_range_fits(alloc: Global, text: &Text) -> Result<bool, AllocError>
     ensures { IfOk result (λ b. b ≡ date_range_fits text.now) }
 {
-    if !is_clean(text) {
+    if !is_clean(text.as_str()) {
         return Ok(false);
     }
     reads_as_date_range(alloc, text.as_str())

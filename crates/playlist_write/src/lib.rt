@@ -22,12 +22,10 @@ use stitcher::OutSegment;
 mod date_ranges;
 mod digits;
 mod header;
-mod key_rules;
 mod keys;
 pub mod laws;
 mod lines;
 mod segments;
-mod texts;
 mod well_formed;
 
 /// A playlist as it is written.

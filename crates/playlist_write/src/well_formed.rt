@@ -2,14 +2,12 @@
 ghost use Rattle.std.specs.Prelude.{◌≡◌, ◌==◌, ◌+◌, IfOk, true, false};
 ghost use Rattle.std.specs.List.{list_all, list_any};
 ghost use Rattle.instants.specs.Instant.{in_range};
-ghost use Rattle.playlist_write.specs.Fitting.{if_some, section_fits};
-ghost use Rattle.playlist_write.specs.WellFormed.{well_formed, fits_without_ranges, numbers_are_words, resource_fits, duration_fits, segment_fits, follows, all_follow, numbers_fit, is_mapped, sections_agree, version_fits, is_word};
+ghost use Rattle.fitting.specs.Fitting.{if_some, section_fits};
+ghost use Rattle.playlist_write.specs.WellFormed.{well_formed, fits_without_ranges, numbers_are_words, resource_fits, segment_fits, follows, all_follow, numbers_fit, is_mapped, sections_agree, version_fits, is_word};
 
 use crate::OutPlaylist;
 use crate::date_ranges::date_ranges_fit;
-use crate::key_rules::{effective_keys_fit, range_fits, section_fits};
-use crate::texts::{is_clean, uri_fits};
-use fixed_duration::Nanos;
+use fitting::{duration_fits, effective_keys_fit, is_clean, range_fits, section_fits, uri_fits};
 use playlist_meaning::{InitSection, Instant, Segment, Shared};
 use std::alloc::{AllocError, Global};
 use stitcher::OutSegment;
@@ -30,13 +28,7 @@ fn numbers_are_words(out: &OutSegment) -> bool
 fn resource_fits(segment: &Segment) -> bool
     ensures { result ≡ resource_fits segment.now }
 {
-    uri_fits(&segment.uri) && range_fits(segment.range)
-}
-
-fn duration_fits(duration: Nanos) -> bool
-    ensures { result ≡ duration_fits duration }
-{
-    duration.0 < 1_000_000_000_000_000
+    uri_fits(segment.uri.as_str()) && range_fits(segment.range)
 }
 
 fn optional_section_fits(section: &Option<Shared<InitSection>>) -> bool
@@ -67,7 +59,7 @@ fn segment_fits(out: &OutSegment) -> bool
         && effective_keys_fit(segment.keys.as_slice())
         && optional_section_fits(&segment.section)
         && duration_fits(segment.duration)
-        && is_clean(&segment.title)
+        && is_clean(segment.title.as_str())
         && optional_time_fits(out.time)
 }
 

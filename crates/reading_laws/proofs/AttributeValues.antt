@@ -11,7 +11,7 @@ use Rattle.playlist_meaning.specs.declared.FaultKind.TheVariants as fault
 use Rattle.playlist_meaning.specs.declared.KeyAttr.{KeyAttr}
 use Rattle.playlist_meaning.specs.Said.{Outcome, attributes, required, optional, some_value, value_if, quoted_of, is_key_attribute, key_attr}
 use Rattle.playlist_meaning.specs.Reading.{unlimited}
-use Rattle.playlist_write.specs.Fitting.{if_some, value_fits, is_apart, have_distinct_names, other_fits}
+use Rattle.fitting.specs.Fitting.{if_some, value_fits, is_apart, have_distinct_names, other_fits}
 use Rattle.playlist_write.proofs.CleanTexts.{Clean}
 use Rattle.reading_laws.proofs.Gives.{Gives, answers, fails, told}
 use Rattle.reading_laws.proofs.CleanCuts.{clean_is, clean_cut, clean_parts}

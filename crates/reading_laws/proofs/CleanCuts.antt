@@ -13,7 +13,7 @@ use Rattle.std.proofs.lemmas.Str.{IsUtf8-take, IsUtf8-drop, IsUtf8-nil, chars-ni
 use Rattle.std.proofs.lemmas.Str.Ascii.{IsAscii-nil, IsAscii-cons}
 use Rattle.attr_list.proofs.Cuts.{after_none}
 use Rattle.playlist_meaning.specs.Lines.{has_control}
-use Rattle.playlist_write.specs.Fitting.{is_clean}
+use Rattle.fitting.specs.Fitting.{is_clean}
 use Rattle.playlist_write.proofs.CleanTexts.{Clean}
 
 pub clean_is : (text : List ℕ) → Clean text → is_clean text ≡ true

@@ -10,7 +10,7 @@ use Rattle.playlist_meaning.specs.Said.{Said, no_keys, key, section}
 use Rattle.playlist_meaning.specs.LookBack.{without_format, is_before, insert_key, keys_at, are_sorted, effective_key, section_at}
 use Rattle.playlist_meaning.proofs.ListTests.{all_filter}
 use Rattle.playlist_meaning.proofs.KeyOrder.{keys_are_sorted}
-use Rattle.playlist_write.specs.Fitting.{if_some, iv_fits, states_iv, value_fits, method_fits, other_fits, have_distinct_names}
+use Rattle.fitting.specs.Fitting.{if_some, iv_fits, states_iv, value_fits, method_fits, other_fits, have_distinct_names}
 use Rattle.playlist_write.specs.WellFormed.{is_word}
 use Rattle.reading_laws.specs.Read.{key_reads, keys_read, quoted_uri_reads, section_reads, effective_keys_read}
 use Rattle.reading_laws.proofs.Lines.{is_fit, all_good, all_parts, good_parts, all_fit}

@@ -15,7 +15,7 @@ use Rattle.playlist_meaning.specs.Said.{Name, sequence_tag, version_tag, target_
 use Rattle.playlist_meaning.specs.LookBack.{the_version, the_target, the_sequence, the_discontinuity_sequence, the_type, is_media, is_discontinuity, is_ended, own_duration, range_at, keys_at, discontinuity_at, number_at}
 use Rattle.playlist_meaning.specs.Reading.{name_of, has, is_set, passes, needs_iv, said_by_tag, said_by_kind, said_by, said_from, at_line, Fault, unlimited}
 use Rattle.playlist_write.specs.WellFormed.{is_word, duration_fits}
-use Rattle.playlist_write.specs.Fitting.{if_some, is_clean, value_fits, method_fits, iv_fits, range_fits}
+use Rattle.fitting.specs.Fitting.{if_some, is_clean, value_fits, method_fits, iv_fits, range_fits}
 use Rattle.playlist_write.proofs.CleanTexts.{Clean}
 use Rattle.reading_laws.specs.Read.{version_reads, uri_reads, quoted_uri_reads, key_reads}
 use Rattle.reading_laws.proofs.CleanCuts.{clean_is, clean_after, clean_after_first}

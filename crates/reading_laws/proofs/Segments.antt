@@ -9,7 +9,7 @@ use Rattle.instants.specs.Instant.{in_range}
 use Rattle.playlist_meaning.specs.Said.{Said, duration, time, media, range, date_range, refuse_if, range_end_fits}
 use Rattle.playlist_meaning.specs.LookBack.{or_earlier, latest, the_duration, the_time, is_media, since_media, own_duration, segments_of, segment_at, the_range, own_range, Extent, range_here, range_from, last_extent, number_at, date_ranges_of}
 use Rattle.playlist_meaning.specs.declared.FaultKind.TheVariants as fault
-use Rattle.playlist_write.specs.Fitting.{if_some, is_clean, range_fits}
+use Rattle.fitting.specs.Fitting.{if_some, is_clean, range_fits}
 use Rattle.playlist_write.specs.WellFormed.{duration_fits}
 use Rattle.reading_laws.specs.Read.{segment_reads, text_is_clean}
 use Rattle.reading_laws.proofs.CleanCuts.{clean_is, clean_nil}

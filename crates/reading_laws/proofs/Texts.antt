@@ -14,7 +14,7 @@ use Rattle.playlist_meaning.specs.LookBack.{are_sorted}
 use Rattle.playlist_meaning.specs.Reading.{needs_iv}
 use Rattle.playlist_meaning.specs.Uri.{has_scheme}
 use Rattle.playlist_meaning.proofs.ListTests.{all_with}
-use Rattle.playlist_write.specs.Fitting.{if_some, is_clean, value_fits, method_fits, iv_fits, other_fits, have_distinct_names, range_fits, states_iv, uri_fits, quoted_uri_fits, key_fits, keys_fit, section_fits}
+use Rattle.fitting.specs.Fitting.{if_some, is_clean, value_fits, method_fits, iv_fits, other_fits, have_distinct_names, range_fits, states_iv, uri_fits, quoted_uri_fits, key_fits, keys_fit, section_fits}
 use Rattle.playlist_write.specs.WellFormed.{duration_fits}
 use Rattle.reading_laws.specs.Read.{uri_reads, quoted_uri_reads, key_reads, keys_read, section_reads, numbers_are_words, resource_reads, effective_keys_read, segment_reads, key_is_text, section_is_text, uris_are_text, segment_can_be_written}
 

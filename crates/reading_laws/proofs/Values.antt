@@ -15,7 +15,7 @@ use Rattle.attr_list.specs.Numbers.{decimal_of, hex_of, has_up_to, has_hex_prefi
 use Rattle.playlist_meaning.specs.declared.FaultKind.TheVariants as fault
 use Rattle.playlist_meaning.specs.Uri.{has_scheme, can_be_written, joined, resolved}
 use Rattle.playlist_meaning.specs.Said.{or_fault, value_if, iv_of, quoted_of, uri_of, range_of, section_range, range_end_fits, key_attr, is_key_attribute}
-use Rattle.playlist_write.specs.Fitting.{if_some, is_clean, value_fits, method_fits, iv_fits, range_fits}
+use Rattle.fitting.specs.Fitting.{if_some, is_clean, value_fits, method_fits, iv_fits, range_fits}
 use Rattle.playlist_write.proofs.CleanTexts.{Clean, clean_printable}
 use Rattle.reading_laws.specs.Read.{uri_reads, quoted_uri_reads, key_reads}
 use Rattle.reading_laws.proofs.Gives.{Gives, answers, guarded, chosen, found, after}

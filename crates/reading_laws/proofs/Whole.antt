@@ -12,7 +12,7 @@ use Rattle.playlist_meaning.specs.LookBack.{latest, the_version, the_target, is_
 use Rattle.playlist_meaning.specs.Reading.{has, has_section, are_mixed, is_set, said_by, said_from, whole_fault, whole, playlist_of, and_whole, of_lines, reading, unlimited, Fault}
 use Rattle.playlist_meaning.proofs.LimitLaws.{reads_what_is_denoted}
 use Rattle.playlist_write.specs.WellFormed.{is_word}
-use Rattle.playlist_write.specs.Fitting.{if_some}
+use Rattle.fitting.specs.Fitting.{if_some}
 use Rattle.reading_laws.specs.Read.{version_reads, sections_agree, IsSaid, AreRead, numbers_read, segment_reads, text_is_clean}
 use Rattle.reading_laws.proofs.Lines.{is_fit, all_good, good_from, all_fit}
 use Rattle.reading_laws.proofs.Numbers.{numbers_rise}

@@ -14,7 +14,7 @@ use Rattle.playlist_meaning.specs.Lines.{has_control}
 use Rattle.playlist_meaning.specs.Uri.{has_scheme}
 use Rattle.playlist_meaning.specs.declared.Key.{Key}
 use Rattle.playlist_meaning.specs.declared.InitSection.{InitSection}
-use Rattle.playlist_write.specs.Fitting.{if_some, is_clean, value_fits, method_fits, iv_fits, other_fits, have_distinct_names, range_fits, states_iv, effective_keys_fit, section_fits}
+use Rattle.fitting.specs.Fitting.{if_some, is_clean, value_fits, method_fits, iv_fits, other_fits, have_distinct_names, range_fits, states_iv, effective_keys_fit, section_fits}
 use Rattle.playlist_write.specs.WellFormed.{is_word, duration_fits, resource_fits}
 
 -- a version that is supported

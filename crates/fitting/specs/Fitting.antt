@@ -1,4 +1,4 @@
--- What can be written: texts, keys, sections and date ranges (RFC 8216, sections 4.2 and 4.3).
+-- What can be written: texts, durations, keys, sections and date ranges (RFC 8216, sections 4.2 and 4.3).
 use Rattle.std.specs.Prelude.{ℕ, ◌^◌, Bool, true, false, not, ◌&&◌, ◌||◌, nat_lt, List, [], ◌∷◌, codes, Option, Some, None, Ok, bytes_eq, is_none}
 use Rattle.std.specs.List.{list_any, list_all}
 use Rattle.std.specs.Str.{is_utf8}
@@ -40,6 +40,10 @@ quoted_uri_fits uri = value_fits true uri && has_scheme uri
 -- a range ends below 2^64
 abbrev pub range_fits : ByteRange → Bool
 range_fits range = range_end_fits range.length range.offset
+
+-- below 1,000,000 s
+abbrev pub duration_fits : ℕ → Bool
+duration_fits nanos = nat_lt nanos (10 ^ 15)
 
 -- ---- keys (4.3.2.4)
 

@@ -1,16 +1,17 @@
-//! Which texts can be written (RFC 8216, section 4.2).
+//! Which texts and durations can be written (RFC 8216, sections 4.2 and 4.3.2.1).
 ghost use Rattle.std.specs.Prelude.{◌≡◌, ◌==◌, true, false};
 ghost use Rattle.std.specs.List.{list_any, list_all};
 ghost use Rattle.attr_list.specs.Attributes.{is_name, is_name_byte, ends_plain, is_value};
-ghost use Rattle.playlist_write.specs.Fitting.{is_clean, value_fits, uri_fits, quoted_uri_fits};
+ghost use Rattle.fitting.specs.Fitting.{is_clean, value_fits, uri_fits, quoted_uri_fits, duration_fits};
 
-use playlist_meaning::{Text, has_control, has_quote, has_scheme};
+use fixed_duration::Nanos;
+use playlist_meaning::{has_control, has_quote, has_scheme};
 
 /// Whether a text holds no control character.
-pub fn is_clean(text: &Text) -> bool
+pub fn is_clean(text: &str) -> bool
     ensures { result ≡ is_clean text.now }
 {
-    !has_control(text.as_str())
+    !has_control(text)
 }
 
 fn are_name_bytes(text: &str) -> bool
@@ -50,28 +51,34 @@ fn is_plain(text: &str) -> bool
 }
 
 /// Whether a text can be the value of an attribute, in quotes or without.
-pub fn value_fits(value: &Text, quoted: bool) -> bool
+pub fn value_fits(value: &str, quoted: bool) -> bool
     ensures { result ≡ value_fits quoted value.now }
 {
-    let text = value.as_str();
     let is_value = if quoted {
-        is_quotable(text)
+        is_quotable(value)
     } else {
-        is_plain(text)
+        is_plain(value)
     };
     is_clean(value) && is_value
 }
 
 /// Whether a text is a whole URI that can stand on a line.
-pub fn uri_fits(uri: &Text) -> bool
+pub fn uri_fits(uri: &str) -> bool
     ensures { result ≡ uri_fits uri.now }
 {
-    is_clean(uri) && has_scheme(uri.as_str())
+    is_clean(uri) && has_scheme(uri)
 }
 
 /// Whether a text is a whole URI that can stand in quotes.
-pub fn quoted_uri_fits(uri: &Text) -> bool
+pub fn quoted_uri_fits(uri: &str) -> bool
     ensures { result ≡ quoted_uri_fits uri.now }
 {
-    value_fits(uri, true) && has_scheme(uri.as_str())
+    value_fits(uri, true) && has_scheme(uri)
+}
+
+/// Whether a duration is below 1,000,000 s.
+pub fn duration_fits(duration: Nanos) -> bool
+    ensures { result ≡ duration_fits duration }
+{
+    duration.0 < 1_000_000_000_000_000
 }

@@ -1,7 +1,7 @@
 use Rattle.std.proofs.Common.{refl, sym, ◌∙◌, arith}
-use Rattle.playlist_write.specs.Fitting.{is_apart, have_distinct_names}
-use Rattle.playlist_write.proofs.EachRest.{stopped, passed, ended}
-use Rattle.playlist_write.proofs.key_rules.have_distinct_names.Goals as goal
+use Rattle.fitting.specs.Fitting.{is_apart, have_distinct_names}
+use Rattle.fitting.proofs.EachRest.{stopped, passed, ended}
+use Rattle.fitting.proofs.key_rules.have_distinct_names.Goals as goal
 
 pub returns-then-not-is_apart : goal.returns-then-not-is_apart
 returns-then-not-is_apart c =

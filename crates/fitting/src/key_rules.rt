@@ -2,10 +2,10 @@
 ghost use Rattle.std.specs.Prelude.{◌≡◌, ◌&&◌, true, false, bytes_eq};
 ghost use Rattle.std.specs.List.{list_any, list_all};
 ghost use Rattle.playlist_meaning.specs.LookBack.{is_before, are_sorted};
-ghost use Rattle.playlist_write.specs.Fitting.{if_some, range_fits, is_own_name, other_fits, is_apart, have_distinct_names, iv_fits, method_fits, key_fits, keys_fit, states_iv, effective_keys_fit, section_fits};
+ghost use Rattle.fitting.specs.Fitting.{if_some, range_fits, is_own_name, other_fits, is_apart, have_distinct_names, iv_fits, method_fits, key_fits, keys_fit, states_iv, effective_keys_fit, section_fits};
 
 use crate::texts::{is_name, quoted_uri_fits, value_fits};
-use playlist_meaning::{ByteRange, InitSection, Key, KeyAttr, Text, is_iv_needed};
+use playlist_meaning::{ByteRange, InitSection, Key, KeyAttr, is_iv_needed};
 
 /// Whether a range ends below 2^64, where there is one.
 pub fn range_fits(range: Option<ByteRange>) -> bool
@@ -27,7 +27,7 @@ fn other_fits(attr: &KeyAttr) -> bool
     ensures { result ≡ other_fits attr.now }
 {
     let name = attr.name.as_str();
-    is_name(name) && !is_own_name(name) && value_fits(&attr.value, attr.quoted)
+    is_name(name) && !is_own_name(name) && value_fits(attr.value.as_str(), attr.quoted)
 }
 
 fn others_fit(attrs: &[KeyAttr]) -> bool
@@ -62,10 +62,11 @@ fn have_distinct_names(attrs: &[KeyAttr]) -> bool
     true
 }
 
-fn method_fits(method: &Text) -> bool
+/// Whether a text can be METHOD of a key that encrypts: a word without quotes other than NONE.
+pub fn method_fits(method: &str) -> bool
     ensures { result ≡ method_fits method.now }
 {
-    value_fits(method, false) && method.as_str() != "NONE"
+    value_fits(method, false) && method != "NONE"
 }
 
 // An IV is a number of 128 bits by its type.
@@ -81,9 +82,9 @@ fn iv_fits(iv: Option<u128>) -> bool
 fn key_fits(key: &Key) -> bool
     ensures { result ≡ key_fits key.now }
 {
-    value_fits(&key.format, true)
-        && method_fits(&key.method)
-        && quoted_uri_fits(&key.uri)
+    value_fits(key.format.as_str(), true)
+        && method_fits(key.method.as_str())
+        && quoted_uri_fits(key.uri.as_str())
         && iv_fits(key.iv)
         && others_fit(key.other.as_slice())
         && have_distinct_names(key.other.as_slice())
@@ -142,7 +143,7 @@ pub fn section_fits(section: &InitSection) -> bool
     ensures { result ≡ section_fits section.now }
 {
     let keys = section.keys.as_slice();
-    quoted_uri_fits(&section.uri)
+    quoted_uri_fits(section.uri.as_str())
         && range_fits(section.range)
         && keys_fit(keys)
         && !is_iv_needed(keys)

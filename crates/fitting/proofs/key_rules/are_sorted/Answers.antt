@@ -1,8 +1,8 @@
 use Rattle.std.proofs.Common.{refl, sym, ◌∙◌, arith}
 use Rattle.std.specs.List.{list_all}
 use Rattle.playlist_meaning.specs.LookBack.{is_before, are_sorted}
-use Rattle.playlist_write.proofs.EachRest.{stopped, passed, ended}
-use Rattle.playlist_write.proofs.key_rules.are_sorted.Goals as goal
+use Rattle.fitting.proofs.EachRest.{stopped, passed, ended}
+use Rattle.fitting.proofs.key_rules.are_sorted.Goals as goal
 
 pub returns-then-not-stands_before : goal.returns-then-not-stands_before
 returns-then-not-stands_before c =
