@@ -110,6 +110,25 @@ fn instants(rt: HostRuntime) -> Result<(), Fail> {
     Ok(())
 }
 
+// 1900-01-01T00:00:00Z and 2200-01-01T00:00:00Z, in nanoseconds from 1970.
+#[test]
+fn range_of_instants(rt: HostRuntime) -> Result<(), Fail> {
+    let table = [
+        (-2_208_988_800_000_000_001i128, false),
+        (-2_208_988_800_000_000_000, true),
+        (0, true),
+        (7_258_118_399_999_999_999, true),
+        (7_258_118_400_000_000_000, false),
+        (1 << 64, false),
+    ];
+    for (nanos, within) in table {
+        assert_eq!(rt; Instant::from_nanos(nanos).is_some(), within, "{nanos}");
+    }
+    assert!(rt; Instant(0).is_in_range());
+    assert!(rt; !Instant(i64::MAX).is_in_range());
+    Ok(())
+}
+
 #[test]
 fn written_instants(rt: HostRuntime) -> Result<(), Fail> {
     let table = [

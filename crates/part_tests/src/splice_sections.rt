@@ -1,6 +1,6 @@
 use scte35_codec::{
     BreakDuration, InsertBody, SpliceCommand, SpliceFault, SpliceInfo, SpliceInsert, SpliceTarget,
-    SpliceTime, read, read_hex, write,
+    SpliceTime, crc_of, laws, read, read_hex, write, write_with_crc,
 };
 use std::alloc::{AllocError, Global};
 use std::process::Abort;
@@ -355,4 +355,41 @@ fn fault_texts(rt: HostRuntime) -> Result<(), Fail> {
         assert_eq!(rt; format!(in rt.alloc(); "{fault}")?.as_str(), text);
     }
     Ok(())
+}
+
+// The section with its CRC_32, as tshark and GStreamer take it.
+const OUT_CRC: u32 = 0x4B6F_CB04;
+
+#[test]
+fn crc_of_bytes(rt: HostRuntime) -> Result<(), Fail> {
+    // The check value of CRC-32/MPEG-2 in the catalogue of parametrised CRC algorithms.
+    assert_eq!(rt; crc_of(b"123456789"), 0x0376_E6E7);
+    assert_eq!(rt; crc_of(&OUT[..31]), OUT_CRC);
+    Ok(())
+}
+
+#[test]
+fn written_with_crc(rt: HostRuntime) -> Result<(), Fail> {
+    let alloc = rt.alloc();
+    let bytes = write_with_crc(alloc, &out(alloc))?;
+    assert_eq!(rt; read(alloc, bytes.as_slice())?.crc, OUT_CRC);
+    let mut other = out(alloc);
+    other.tier = 0x1000;
+    assert_eq!(rt; write_with_crc(alloc, &other), Err(SpliceFault::TooLarge));
+    Ok(())
+}
+
+#[test]
+fn copied_section(rt: HostRuntime) -> Result<(), Fail> {
+    let section = out(rt.alloc());
+    assert_eq!(rt; section.clone()?, section);
+    Ok(())
+}
+
+#[test]
+fn states_laws() {
+    laws::reads_the_layout();
+    laws::has_one_value();
+    laws::refuses_what_has_no_section();
+    laws::crc_with_its_crc_is_zero();
 }

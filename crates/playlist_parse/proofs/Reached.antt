@@ -8,7 +8,7 @@ use Rattle.playlist_meaning.specs.declared.Playlist.{Playlist}
 use Rattle.playlist_meaning.specs.Refusals.{Refuses}
 use Rattle.playlist_meaning.specs.Said.{Said, nothing, Outcome}
 use Rattle.playlist_meaning.specs.LookBack.{with_said}
-use Rattle.playlist_meaning.specs.Reading.{said_by, said_from, at_line, and_whole, whole, whole_fault, playlist_of, Fault}
+use Rattle.playlist_meaning.specs.Reading.{said_by, said_from, at_line, and_whole, whole_fault, playlist_of, Fault}
 use Rattle.playlist_meaning.specs.Reading.{limited}
 use Rattle.playlist_parse.specs.Answers.{Answers, fault_at, line_of}
 use Rattle.playlist_parse.specs.Progress.{Progress, progress_at, Ends}

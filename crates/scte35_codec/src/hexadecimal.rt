@@ -71,8 +71,7 @@ fn section_of_text(alloc: Global, text: &str) -> Result<SpliceInfo, SpliceFault>
 /// Reads a splice_info_section from hexadecimal text, as the SCTE35 attributes of EXT-X-DATERANGE in
 /// RFC 8216, section 4.3.2.7.1, write it: `0x` or `0X`, and two digits in either case for each byte.
 ///
-/// A text that is not of this form is `NotHex`; else the answer is that of [`read`] for the bytes, which
-/// takes all the memory that is taken here.
+/// A text that is not of this form is `NotHex`; else the answer is that of [`read`] for the bytes.
 pub fn read_hex(alloc: Global, text: &str) -> Result<SpliceInfo, SpliceFault>
     // What is read is what the text's bytes say.
     ensures found { IfOk result (λ info. (bytes : List ℕ) × (hex_bytes text.now ≡ Ok bytes) × IsSection (section_of info) bytes) }
@@ -80,7 +79,7 @@ pub fn read_hex(alloc: Global, text: &str) -> Result<SpliceInfo, SpliceFault>
     // What the text's bytes say is read, unless memory runs out.
     ensures only { (bytes : List ℕ) (s : Section) → hex_bytes text.now ≡ Ok bytes → IsSection s bytes → Gives section_of result (Ok s) }
 
-    // Which fault it is. All but CommandLength are told before any memory is taken.
+    // Which fault it is. All but CommandLength are told whatever memory there is.
     ensures exact { Gives section_of result (reading_hex text.now) }
     ensures told { (e : SpliceFault) → reading_hex text.now ≡ Err e → e ≢ CommandLength → result ≡ Err e }
     ensures not_hex { (result ≡ Err NotHex) ↔ (is_hex_text text.now ≡ false) }

@@ -295,8 +295,8 @@ fn section(alloc: Global, bytes: &[u8]) -> Result<SpliceInfo, SpliceFault>
 /// Reads a splice_info_section of ANSI/SCTE 35, all of the bytes.
 ///
 /// The answer is the value whose layout the bytes have, where there is one, else the first fault in the
-/// order of [`SpliceFault`]. The CRC is not verified, and reserved bits are ignored. Where a fault that
-/// comes before `CommandLength` stands, no memory is taken.
+/// order of [`SpliceFault`]. The CRC is not verified, and reserved bits are ignored. A fault that
+/// comes before `CommandLength` is told whatever memory there is.
 pub fn read(alloc: Global, bytes: &[u8]) -> Result<SpliceInfo, SpliceFault>
     // What is read is laid out so, field by field.
     ensures found { IfOk result (λ info. IsSection (section_of info) bytes.now) }
@@ -304,7 +304,7 @@ pub fn read(alloc: Global, bytes: &[u8]) -> Result<SpliceInfo, SpliceFault>
     // What is laid out so is read, unless memory runs out.
     ensures only { (s : Section) → IsSection s bytes.now → Gives section_of result (Ok s) }
 
-    // Which fault it is. All but CommandLength are told before any memory is taken.
+    // Which fault it is. All but CommandLength are told whatever memory there is.
     ensures exact { Gives section_of result (reading bytes.now) }
     ensures told { (e : SpliceFault) → reading bytes.now ≡ Err e → e ≢ CommandLength → result ≡ Err e }
     ensures fault { IfErr result (λ e. (e ≢ NotHex) × (e ≢ TooLarge)) }

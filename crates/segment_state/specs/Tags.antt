@@ -4,7 +4,7 @@ use Rattle.attr_list.specs.declared.attr.Attr.{Attr}
 use Rattle.playlist_meaning.specs.declared.FaultKind.TheVariants as fault
 use Rattle.playlist_meaning.specs.declared.Key.{Key}
 use Rattle.playlist_meaning.specs.declared.KeyAttr.{KeyAttr}
-use Rattle.playlist_meaning.specs.Said.{Said, no_keys, key, section, Outcome, refuse_if, over, is_key_attribute, key_attr}
+use Rattle.playlist_meaning.specs.Said.{Said, section, Outcome, refuse_if, over, is_key_attribute, key_attr}
 use Rattle.playlist_meaning.specs.LookBack.{put_key}
 use Rattle.segment_state.specs.Attributes.{pairs_of}
 use Rattle.segment_state.specs.declared.tags.SectionTag.{SectionTag}

@@ -1,11 +1,10 @@
 -- What is before the first instant stays there.
-use Rattle.std.proofs.Common.{◌≡◌, ℕ, Bool, true, false, cond, List, [], ◌∷◌, ◌++◌, refl, ap, sym, ◌∙◌, arith, ℤ, pos}
-use Rattle.std.specs.Prelude.{◌-ℤ◌, int_lt, Option, Some, None, option_map}
+use Rattle.std.proofs.Common.{◌≡◌, ℕ, true, List, [], ◌∷◌, ◌++◌, refl, ap, sym, ◌∙◌, arith, ℤ, pos}
+use Rattle.std.specs.Prelude.{◌-ℤ◌, int_lt, Option, None}
 use Rattle.playlist_meaning.specs.declared.Segment.{Segment}
-use Rattle.instants.specs.Instant.{first_instant, in_range, if_in_range}
-use Rattle.playlist_meaning.specs.Instants.{bounded, begins_at, ends_at, instants_after, instants_of, reckoned_back}
-use Rattle.playlist_meaning.specs.LookBack.{or_earlier}
-use Rattle.timeline.specs.Reckoned.{clamped, reckoned, stack_of, Walked}
+use Rattle.instants.specs.Instant.{first_instant}
+use Rattle.playlist_meaning.specs.Instants.{instants_after, instants_of}
+use Rattle.timeline.specs.Reckoned.{stack_of, Walked}
 
 lower : (x : ℤ) (d : ℕ) → int_lt x first_instant ≡ true → int_lt (x -ℤ pos d) first_instant ≡ true
 lower x d h = grind (arith)
