@@ -1,13 +1,13 @@
 -- One turn of the loop that reads a list, with the attributes that it keeps.
-use Rattle.std.proofs.Common.{◌≡◌, ◌≢◌, ℕ, ◌+◌, ◌-◌, ◌<◌, ◌≤◌, List, [], ◌∷◌, ◌++◌, map, length, ap, sym, ◌∙◌, arith, Ok, Some, Result}
+use Rattle.std.proofs.Common.{◌≡◌, ◌≢◌, ℕ, ◌+◌, ◌-◌, ◌<◌, ◌≤◌, List, [], ◌∷◌, ◌++◌, map, length, ap, sym, ◌∙◌, arith, refl, Ok, Err, Some, Result}
 use Rattle.std.proofs.lemmas.List.{map-append}
 use Rattle.std.proofs.Common.{length-append}
 use Rattle.attr_list.specs.declared.AttrFault.{AttrFault}
 use Rattle.attr_list.specs.declared.attr.Attr.{Attr}
 use Rattle.attr_list.specs.Attributes.{Pair, pair_spelling, pieces, pair_of, pairs_from, spans_from}
 use Rattle.attr_list.specs.Attrs.{attr_pair, attr_span}
-use Rattle.attr_list.specs.Scanning.{StartsWithPair}
-use Rattle.attr_list.proofs.Steps.{read_on, read_last, ends_empty, span_on, span_last}
+use Rattle.attr_list.specs.Scanning.{first_piece, StartsWithPair}
+use Rattle.attr_list.proofs.Steps.{first_pair, read_on, read_last, ends_empty, span_on, span_last}
 
 -- the attributes with the one at the front of the text
 pub record IsTurn (whole text after : List ℕ) (pair : Pair) (attrs items : List Attr) (attr : Attr) : Type 0 where
@@ -52,3 +52,16 @@ pub spans_end : (whole text after : List ℕ) (pair : Pair) (attrs items : List 
     → map attr_span attrs ++ spans_from (length whole - length text) (pieces text) ≡ all → map attr_span items ≡ all
 spans_end whole text after pair attrs items attr all t other h =
     spans_kept attrs items attr _ t.stands t.kept ∙ sym (span_last whole text pair after (map attr_span attrs) t.starts (ends_empty after t.starts.ended other) t.within) ∙ h
+
+abbrev failed : AttrFault → Result Pair AttrFault
+failed e = Err e
+
+-- the first attribute was read, so it has no fault
+pub first_is_read : (whole text after : List ℕ) (pair : Pair) (attrs : List Attr) (e : AttrFault) → StartsWithPair text pair after → pair_of (Some 64) (map attr_pair attrs) (pair_spelling pair) ≡ Ok pair
+    → ((f : AttrFault) → pair_of (Some 64) [] (first_piece whole) ≡ Err f → (attrs ≡ []) × (text ≡ whole)) → pair_of (Some 64) [] (first_piece whole) ≢ Err e
+first_is_read whole text after pair attrs e starts is_read first fault =
+    let still = first e fault in
+    let piece : first_piece whole ≡ pair_spelling pair = ap first_piece (sym still.1) ∙ first_pair text pair after starts in
+    let read : pair_of (Some 64) [] (pair_spelling pair) ≡ Ok pair = ap (λ (xs : List Attr). pair_of (Some 64) (map attr_pair xs) (pair_spelling pair)) (sym still.0) ∙ is_read in
+    let both : failed e ≡ Ok pair = sym fault ∙ ap (pair_of (Some 64) []) piece ∙ read in
+    cc

@@ -1,4 +1,5 @@
 -- Attribute lists, after RFC 8216, section 4.2.
+-- Bytes of ASCII: 32 is the space, 34 the quote, 44 the comma, 45 `-` and 61 `=`.
 use Rattle.std.specs.Prelude.{◌≡◌, ℕ, ◌+◌, ◌*◌, Bool, true, false, not, ◌&&◌, ◌||◌, ◌==◌, nat_lt, nat_le, List, [], ◌∷◌, ◌++◌, map, take, drop, length, slice_range, Option, Some, None, Result, Ok, Err, bytes_eq, if◌then◌else◌, AllPairs, IsTrue, find, ◌≢◌}
 use Rattle.std.specs.List.{list_all, list_any, position_or_len, join_with_byte, onto_first}
 use Rattle.std.specs.Char.{is_ascii_digit, is_ascii_uppercase}

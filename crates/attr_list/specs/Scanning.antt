@@ -1,4 +1,5 @@
--- The front of a text that is cut into attributes: its first piece, and how a piece ends.
+-- The front of a text that is cut into attributes: its first piece, and how a piece ends (RFC 8216, 4.2). The byte
+-- 61 is `=`.
 use Rattle.std.specs.Prelude.{◌≡◌, ℕ, Bool, true, false, not, ◌&&◌, List, [], ◌∷◌, ◌++◌, Option, Some, None, Err, IsTrue, if◌then◌else◌}
 use Rattle.attr_list.specs.declared.AttrFault.{AttrFault}
 use Rattle.attr_list.specs.declared.AttrFault.TheVariants.{BadName, NoEquals}

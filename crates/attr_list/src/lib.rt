@@ -75,6 +75,3 @@ impl<T: Drop> From<AllocFailed<T>> for AttrFault {
         AttrFault::OutOfMemory
     }
 }
-
-#[cfg(test)]
-mod tests;

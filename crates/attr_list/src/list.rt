@@ -1,9 +1,10 @@
 //! Attribute lists.
-ghost use Rattle.std.specs.Prelude.{◌≡◌, ◌≤◌, ◌⊎◌, List, map, length, Ok, Err, Some, IfOk, IfErr, MatchResult, find, option_map};
+ghost use Rattle.std.specs.Prelude.{◌≡◌, ◌≤◌, ◌⊎◌, List, [], map, length, Ok, Err, Some, IfOk, IfErr, MatchResult, find, option_map};
 ghost use Rattle.std.specs.Option.{option_copied};
 ghost use Rattle.std.specs.List.{list_any};
 ghost use Rattle.std.specs.Slice.Iter.{iter_rest};
 ghost use Rattle.std.specs.Iterator.Adapters.{IterYieldsInOrder};
+ghost use Rattle.attr_list.specs.declared.AttrFault.{AttrFault};
 ghost use Rattle.attr_list.specs.declared.attr.Attr.{Attr};
 ghost use Rattle.attr_list.specs.Attributes.{Pair, IsAttributeList, attributes_of, attribute, pair_of, pair_spelling, pieces, spans_from, slices_at, is_named};
 ghost use Rattle.attr_list.specs.Attrs.{attr_pair, attr_span};
@@ -37,7 +38,7 @@ impl AttrList {
     /// Reads a text as an attribute list of at most 64 attributes.
     ///
     /// The first faulty attribute decides the fault, and in it the order TooMany, BadName, NoEquals,
-    /// Twice, OpenQuote, BadValue. OutOfMemory comes only where memory was refused.
+    /// Twice, OpenQuote, BadValue. The first attribute is judged before any memory is taken.
     pub fn read(alloc: Global, text: &str) -> Result<AttrList, AttrFault>
         // What is read is in the grammar.
         ensures list { IfOk result (λ list. IsAttributeList text.now (map attr_pair list)) }
@@ -49,6 +50,9 @@ impl AttrList {
         ensures ok { IfOk result (λ list. attributes_of (Some 64) text.now ≡ Ok (map attr_pair list)) }
         ensures fault { IfErr result
             (λ e. (e ≡ AttrFault.OutOfMemory) ⊎ (attributes_of (Some 64) text.now ≡ Err e)) }
+
+        // The first attribute's fault is told whatever memory there is: that of an empty text, too.
+        ensures told { (e : AttrFault) → pair_of (Some 64) [] (first_piece text.now) ≡ Err e → result ≡ Err e }
 
         // Each attribute's place, where its spelling stands.
         ensures spans { IfOk result (λ list. map attr_span list ≡ spans_from 0 (pieces text.now)) }
@@ -90,6 +94,7 @@ fn read_attrs(alloc: Global, text: &str) -> Result<Vec<Attr>, AttrFault>
     ensures ok { IfOk result (λ v. attributes_of (Some 64) text.now ≡ Ok (map attr_pair v.items)) }
     ensures fault { IfErr result
         (λ e. (e ≡ AttrFault.OutOfMemory) ⊎ (attributes_of (Some 64) text.now ≡ Err e)) }
+    ensures told { (e : AttrFault) → pair_of (Some 64) [] (first_piece text.now) ≡ Err e → result ≡ Err e }
     ensures spans { IfOk result (λ v. map attr_span v.items ≡ spans_from 0 (pieces text.now)) }
 {
     let mut attrs: Vec<Attr> = Vec::new(alloc);

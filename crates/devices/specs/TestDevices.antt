@@ -1,6 +1,6 @@
 -- Devices for tests: what they hold, and how much a call moves.
 use Rattle.std.specs.Prelude.{ℕ, ◌-◌, ◌==◌, nat_lt, min, Bool, List, length, if◌then◌else◌}
-use Rattle.devices.specs.Devices.{next_count}
+use Rattle.devices.specs.Devices.{next_count, Failures}
 
 -- a source: all of its bytes, how many it gave, the most that a read gives, the place that no read
 -- crosses, the number of the read that fails, and its counters
@@ -10,7 +10,7 @@ pub record SourceState : Type 0 where
   pub most : ℕ
   pub cut : ℕ
   pub fail : ℕ
-  pub failures : ℕ
+  pub failures : Failures
   pub calls : ℕ
 
 -- up to where the next read may give
@@ -32,7 +32,7 @@ pub record SinkState : Type 0 where
   pub room : ℕ
   pub most : ℕ
   pub fail : ℕ
-  pub failures : ℕ
+  pub failures : Failures
   pub calls : ℕ
 
 -- how many of so many bytes the next write takes

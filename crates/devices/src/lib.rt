@@ -8,6 +8,3 @@ mod pieces;
 pub use device::{Counted, READ_ROOM, Sink, Source};
 pub use output::{SinkFailed, hand_out};
 pub use pieces::{Pieces, Taken};
-
-#[cfg(test)]
-mod tests;

@@ -20,7 +20,7 @@ duration_of text =
     else (if nat_le (10 ^ 6) (seconds_of text) then Err TooLarge
     else Ok (seconds_of text * 10 ^ 9 + fraction_of text)))
 
--- a point and the digits behind it, up to the last that is not 0; nothing where all nine are 0
+-- a point (46) and the digits behind it, up to the last that is not 0; nothing where all nine are 0
 abbrev pub fraction_text : ℕ → List ℕ
 fraction_text nanos = if nanos == 0 then [] else 46 ∷ fraction_digits 9 nanos
 
@@ -28,7 +28,7 @@ fraction_text nanos = if nanos == 0 then [] else 46 ∷ fraction_digits 9 nanos
 abbrev pub duration_text : ℕ → List ℕ
 duration_text nanos = decimal (nanos / 10 ^ 9) ++ fraction_text (nanos % 10 ^ 9)
 
--- the nearest whole number of seconds, where a half goes up
+-- the nearest whole number of seconds, where a half goes up: so EXT-X-TARGETDURATION compares (RFC 8216, 4.3.3.1)
 abbrev pub rounded_seconds_of : ℕ → ℕ
 rounded_seconds_of nanos = (nanos + 5 * 10 ^ 8) / 10 ^ 9
 

@@ -4,7 +4,7 @@ use Rattle.std.specs.List.{before_first, after_first, list_all}
 use Rattle.std.specs.Char.{is_ascii_digit}
 use Rattle.std.specs.Str.Parse.{digits_value}
 
--- '.'
+-- `.`, of which 46 is the byte
 abbrev pub is_point : ℕ → Bool
 is_point c = c == 46
 
@@ -40,7 +40,7 @@ unfoldable pub last_digits : ℕ → ℕ → List ℕ
 last_digits zero n = []
 last_digits (suc k) n = last_digits k (n / 10) ++ (48 + n % 10) ∷ []
 
--- without the zeros at the end
+-- without the zeros at the end (48 is the byte of `0`)
 abbrev pub without_last_zeros : List ℕ → List ℕ
 without_last_zeros [] = []
 without_last_zeros (d ∷ digits) = if d == 48 && is_empty (without_last_zeros digits) then [] else d ∷ without_last_zeros digits

@@ -191,6 +191,3 @@ fn push_fraction(out: &mut String, nanos: u64)
         rest %= unit;
     }
 }
-
-#[cfg(test)]
-mod tests;

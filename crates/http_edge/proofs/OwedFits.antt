@@ -8,7 +8,7 @@ use Rattle.url.specs.Parts.{Parts}
 use Rattle.playlist_meaning.specs.declared.Segment.{Segment}
 use Rattle.playlist_meaning.specs.declared.DateRange.{DateRange}
 use Rattle.playlist_meaning.specs.declared.Playlist.{Playlist}
-use Rattle.playlist_meaning.specs.Instant.{in_range}
+use Rattle.instants.specs.Instant.{in_range}
 use Rattle.playlist_meaning.specs.Instants.{begins_at, ends_at, instants_after}
 use Rattle.playlist_meaning.specs.Reading.{reading, limited, has_section, Denotes}
 use Rattle.playlist_meaning.specs.Uri.{base_of}

@@ -1,5 +1,5 @@
 -- What is owed where a run was stated is well formed, so that its text denotes it.
-use Rattle.std.proofs.Common.{◌≡◌, ℕ, ◌+◌, ◌<◌, ℤ, Bool, true, false, not, cond, List, [], ◌∷◌, ◌++◌, map, length, refl, ap, sym, ◌∙◌, arith, length-append}
+use Rattle.std.proofs.Common.{◌≡◌, ℕ, ◌+◌, ◌<◌, ℤ, Bool, true, false, not, cond, List, [], ◌∷◌, ◌++◌, map, length, refl, ap, sym, subst, ◌∙◌, arith, length-append}
 use Rattle.std.specs.Prelude.{Result, Ok, Err, Option, Some, None, ◌&&◌, ◌||◌, ◌==◌, nat_le, nat_lt}
 use Rattle.std.specs.List.{list_all, list_any, zip}
 use Rattle.std.specs.Char.{is_control}
@@ -11,7 +11,7 @@ use Rattle.std.proofs.lemmas.Str.{chars-nil, IsUtf8-nil, is_utf8-from_IsUtf8}
 use Rattle.url.specs.Parts.{Parts}
 use Rattle.playlist_meaning.specs.declared.Segment.{Segment}
 use Rattle.playlist_meaning.specs.declared.Playlist.{Playlist}
-use Rattle.playlist_meaning.specs.Instant.{in_range}
+use Rattle.instants.specs.Instant.{in_range}
 use Rattle.playlist_meaning.specs.Instants.{begins_at, ends_at, instants_after}
 use Rattle.playlist_meaning.specs.Lines.{has_control}
 use Rattle.playlist_meaning.specs.Marks.{Mark}
@@ -36,6 +36,8 @@ use Rattle.http_edge.specs.declared.stated.StatedRun.{StatedRun}
 use Rattle.http_edge.specs.declared.stitching.Last.{Last}
 use Rattle.http_edge.specs.declared.stated.StatedSegment.{StatedSegment}
 use Rattle.http_edge.specs.Owed.{read_under, owed_with, states_time}
+use Rattle.http_edge.specs.Meant.{meant_with}
+use Rattle.http_edge.proofs.Means.{items_mean}
 use Rattle.http_edge.specs.Stated.{can_be_stated, uri_is_text, is_in, stated_mark, written_item, stated_window, all_fit, goes_past, owed_with_run}
 use Rattle.http_edge.specs.Stitching.{item_fits, numbers_behind, last_of, counted, plain, stated_piece, pieces_at, pieces_on, begun, stitched_segments}
 use Rattle.http_edge.proofs.Putting.{pod_of}
@@ -221,13 +223,14 @@ module _ (run : StatedRun) (filled : 0 < length run.pod) (can : list_all can_be_
       (and_from _ _ (and_from _ _ (and_from _ _ (and_from _ _ (version_owed p.version r.version) r.target) (numbers_stated run p.segments r.numbers pod.1)) parts.0) (none_mapped (list_all is_mapped items) items parts.1))
       (some_ranges (list_any states_time items) p.ranges (ranges_fit p.ranges r.ranges r.range_texts))
 
-  -- what is written denotes what is owed, whatever the base
+  -- what is written denotes what was read with the window in place of its segments, whatever the base
   pub stated_denotes : (base input : List ℕ) (p : Playlist) → read_under base input ≡ Some (Ok p) → list_all uris_are_text p.segments ≡ true
-      → (out : OutPlaylist) → owed_with_run run p ≡ Ok out → list_any has_section p.segments ≡ false → (other : Parts) → Denotes other (text_of out) (denoted out)
+      → (out : OutPlaylist) → owed_with_run run p ≡ Ok out → list_any has_section p.segments ≡ false → (other : Parts) → Denotes other (text_of out) (meant_with (stated_window run (timed p.segments)) p)
   stated_denotes base input p h t out owed none other =
       let window = map written_item (stated_window run (timed p.segments)) in
       let was = was_owed (goes_past run p.segments) (all_fit run (timed p.segments)) (owed_with p window) out owed in
       let whole = window_is_whole run (timed p.segments) (timed_rise p.segments (rises base input p h)) in
       let fit = sym (fit_as_written run (timed p.segments)) ∙ was.0 in
       let good = stitched_is_well_formed p (under (base_of base) input p h) t none fit in
-      text_denotes other out (sym (ap well_formed (sym (ap (owed_with p) whole) ∙ was.1)) ∙ good)
+      let means = sym (ap denoted was.1) ∙ items_mean p (under (base_of base) input p h) (stated_window run (timed p.segments)) in
+      subst (Denotes other (text_of out)) means (text_denotes other out (sym (ap well_formed (sym (ap (owed_with p) whole) ∙ was.1)) ∙ good))

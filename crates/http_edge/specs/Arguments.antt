@@ -1,7 +1,7 @@
 -- What the program's words ask for.
 use Rattle.std.specs.Prelude.{ℕ, List, [], ◌∷◌, codes, Option, Some, None, bytes_eq, if◌then◌else◌}
-use Rattle.http_edge.specs.declared.arguments.Command.{Command}
-use Rattle.http_edge.specs.declared.arguments.Command.TheVariants.{Vod}
+use Rattle.http_edge.specs.declared.command.Command.{Command}
+use Rattle.http_edge.specs.declared.command.Command.TheVariants.{Vod}
 
 pub data Asked : Type 0 where
   vod_of : List ℕ → Asked

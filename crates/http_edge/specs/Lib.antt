@@ -1,4 +1,6 @@
+pub mod Runs
 pub mod Owed
+pub mod Meant
 pub mod Vod
 pub mod Printed
 pub mod Stated

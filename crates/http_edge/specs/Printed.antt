@@ -1,26 +1,29 @@
--- A run that had a fault, and the fault's line.
-use Rattle.std.specs.Prelude.{◌≡◌, ◌≢◌, ℕ, List, [], ◌∷◌, ◌++◌, None, Err}
-use Rattle.std.specs.Io.KnownBytes.{Keeps}
-use Rattle.devices.specs.Devices.{HasRisen, CalledAll}
+-- A run that had a fault, and the fault's line, which ends with a line feed (10).
+use Rattle.std.specs.Prelude.{◌≡◌, ◌≢◌, ℕ, List, [], ◌∷◌, ◌++◌, None, Ok, Err}
 use Rattle.playlist_meaning.specs.Reading.{Fault}
 use Rattle.playlist_meaning.specs.Uri.{base_of}
 use Rattle.http_edge.specs.declared.fault.VodFault.{VodFault}
-use Rattle.http_edge.specs.declared.fault.VodFault.TheVariants.{BadBase, Playlist, Read, TooManyReads, Write}
-use Rattle.http_edge.specs.declared.input.TheConstants.{MOST_READS}
+use Rattle.http_edge.specs.declared.fault.VodFault.TheVariants.{BadBase, Playlist, Write}
 use Rattle.http_edge.specs.FaultTexts.{vod_fault_text}
 use Rattle.devices.specs.Stands.{SourceStand, SinkStand, WasHanded}
-use Rattle.http_edge.specs.Vod.{HasRead, WritesFront, IsOfVod}
+use Rattle.http_edge.specs.Runs.{IsFairToSource, IsFairToSink}
+use Rattle.http_edge.specs.Vod.{HasRead, Writes, WritesFront, IsOfVod}
 
 -- what `vod` says of its fault, clause by clause
 pub record VodFailed (e : VodFault) (base : List ℕ) (source_old source_new : SourceStand) (sink_old sink_new : SinkStand) : Type 0 where
   pub kind : IsOfVod e
   pub write : e ≡ Write → WritesFront base source_old.remaining source_new.remaining sink_old.contents sink_new.contents
-  pub nothing : e ≢ Write → Keeps sink_old.contents sink_new.contents
+  pub nothing : e ≢ Write → sink_new ≡ sink_old
   pub bad_base : e ≡ BadBase → base_of base ≡ None
   pub playlist : (fault : Fault) → e ≡ Playlist fault → HasRead base source_old.remaining source_new.remaining (Err fault)
-  pub read_failed : e ≡ Read → HasRisen source_old.failed source_new.failed
-  pub write_failed : e ≡ Write → HasRisen sink_old.failed sink_new.failed
-  pub too_many : e ≡ TooManyReads → CalledAll source_old.called source_new.called MOST_READS
+  pub source : IsFairToSource {A = Unit {0}} (Err e) source_old source_new
+  pub sink : IsFairToSink {A = Unit {0}} (Err e) sink_old sink_new
+
+-- what `vod` says of its success
+pub record Succeeds (base : List ℕ) (source_old source_new : SourceStand) (sink_old sink_new : SinkStand) : Type 0 where
+  pub writes : Writes base source_old.remaining source_new.remaining sink_old.contents sink_new.contents
+  pub source : IsFairToSource {A = Unit {0}} (Ok tt) source_old source_new
+  pub sink : IsFairToSink {A = Unit {0}} (Ok tt) sink_old sink_new
 
 -- what is printed of a fault
 abbrev pub fault_line : VodFault → List ℕ

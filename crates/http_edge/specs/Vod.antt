@@ -4,12 +4,12 @@ use Rattle.std.specs.Io.KnownBytes.{Appends}
 use Rattle.playlist_meaning.specs.declared.Playlist.{Playlist}
 use Rattle.url.specs.Parts.{Parts}
 use Rattle.playlist_meaning.specs.Reading.{Fault, Denotes}
-use Rattle.playlist_write.specs.Denoted.{denoted}
 use Rattle.http_edge.specs.declared.fault.VodFault.{VodFault}
 use Rattle.http_edge.specs.declared.fault.VodFault.TheVariants.{BadBase, Playlist as PlaylistOf, Read, TooManyReads, Write, OutOfMemory}
 use Rattle.devices.specs.Handed.{TookFront}
 use Rattle.devices.specs.Stands.{GaveAll}
-use Rattle.http_edge.specs.Owed.{read_under, owed_playlist, owed_text}
+use Rattle.http_edge.specs.Owed.{read_under, owed_text}
+use Rattle.http_edge.specs.Meant.{meant}
 
 -- the source gave an input to its end, of which this is read under the base
 pub record HasRead (base : List ℕ) (old new : Option (List ℕ)) (outcome : Result Playlist Fault) : Type 0 where
@@ -17,12 +17,12 @@ pub record HasRead (base : List ℕ) (old new : Option (List ℕ)) (outcome : Re
   pub given : GaveAll old new input
   pub read : read_under base input ≡ Some outcome
 
--- a playlist was read, and the sink took its owed text, which denotes what is owed, whatever the base
+-- a playlist was read, and the sink took its owed text, which denotes just that playlist, whatever the base
 pub record Writes (base : List ℕ) (source_old source_new sink_old sink_new : Option (List ℕ)) : Type 0 where
   pub playlist : Playlist
   pub read : HasRead base source_old source_new (Ok playlist)
   pub written : Appends sink_old sink_new (owed_text playlist)
-  pub denotes : (other : Parts) → Denotes other (owed_text playlist) (denoted (owed_playlist playlist))
+  pub denotes : (other : Parts) → Denotes other (owed_text playlist) (meant playlist)
 
 -- a playlist was read, and the sink took a front of its owed text
 pub record WritesFront (base : List ℕ) (source_old source_new sink_old sink_new : Option (List ℕ)) : Type 0 where

@@ -1,7 +1,7 @@
 //! An input, read to its end.
-ghost use Rattle.std.specs.Prelude.{◌+◌, ◌≤◌, IfOk, IfErr, IsErrOf};
-ghost use Rattle.devices.specs.Devices.{HasRisen, CalledAll};
-ghost use Rattle.devices.specs.Stands.{GaveAll};
+ghost use Rattle.std.specs.Prelude.{IfOk, IfErr};
+ghost use Rattle.devices.specs.Stands.{GaveAll, source_stand};
+ghost use Rattle.http_edge.specs.Runs.{IsFairToSource};
 ghost use Rattle.http_edge.specs.Vod.{IsOfReading};
 
 use crate::fault::VodFault;
@@ -12,13 +12,11 @@ use std::alloc::Global;
 pub const MOST_READS: u64 = 65_536;
 
 /// Reads an input to its end, with room for 8,192 bytes in each read. The whole of it is kept, also
-/// past the length that a playlist may have: whether it is UTF-8 is judged first.
+/// past the length that a playlist may have: whether it is UTF-8 is judged first. A read that fails is the last.
 pub fn read_input<S: Source>(alloc: Global, source: &mut S) -> Result<Vec<u8>, VodFault>
     ensures ok { IfOk result (λ input. GaveAll (S.remaining source.old) (S.remaining source.new) input.items) }
-    ensures read { IsErrOf result VodFault.Read → HasRisen (S.failed source.old) (S.failed source.new) }
-    ensures too_many { IsErrOf result VodFault.TooManyReads → CalledAll (S.called source.old) (S.called source.new) MOST_READS }
+    ensures source { IsFairToSource result (source_stand S.remaining S.called S.failed source.old) (source_stand S.remaining S.called S.failed source.new) }
     ensures faults { IfErr result IsOfReading }
-    ensures calls { S.called source.new ≤ S.called source.old + MOST_READS }
 {
     let mut input = Vec::new(alloc);
     let mut block = [0u8; READ_ROOM];

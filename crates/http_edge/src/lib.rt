@@ -1,22 +1,17 @@
 //! The program's edge: from the bytes of an input to the bytes of the owed playlist.
 #![tactic(auto)]
 
-mod arguments;
 mod command;
 mod fault;
 mod input;
-mod shown;
+mod one_playlist;
+mod owed;
 mod stated;
 mod stitching;
 mod texts;
 
-pub use arguments::{Command, read_args};
-pub use command::{command_vod, vod};
+pub use command::{Command, command_vod, read_args};
 pub use fault::VodFault;
 pub use input::MOST_READS;
+pub use one_playlist::vod;
 pub use stated::{StatedRun, StatedSegment, vod_stated};
-
-#[cfg(test)]
-mod stated_tests;
-#[cfg(test)]
-mod tests;

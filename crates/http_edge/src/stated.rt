@@ -2,17 +2,18 @@
 ghost use Rattle.std.specs.Prelude.{◌≡◌, ◌≢◌, ◌+◌, ◌≤◌, Err, None, OnOk, IfErr, IsErrOf, IsTrue};
 ghost use Rattle.std.specs.List.{list_all};
 ghost use Rattle.std.specs.Io.KnownBytes.{Keeps};
-ghost use Rattle.devices.specs.Devices.{HasRisen, CalledAll};
+ghost use Rattle.devices.specs.Stands.{source_stand, sink_stand};
 ghost use Rattle.playlist_meaning.specs.Reading.{Fault};
 ghost use Rattle.playlist_meaning.specs.Uri.{base_of};
+ghost use Rattle.http_edge.specs.Runs.{IsFairToSource, IsFairToSink};
 ghost use Rattle.http_edge.specs.Stated.{IsRun, can_be_stated, is_in};
 ghost use Rattle.http_edge.specs.Vod.{HasRead};
 ghost use Rattle.http_edge.specs.VodStated.{HasOwed, WritesStated, WritesStatedFront};
 
-use crate::command::{read_playlist, write_playlist};
 use crate::fault::VodFault;
 use crate::input::MOST_READS;
-use crate::shown::owed_with_run;
+use crate::one_playlist::{read_playlist, write_playlist};
+use crate::owed::owed_with_run;
 use crate::texts::know_pod;
 use devices::{Sink, Source};
 use fixed_duration::Nanos;
@@ -68,7 +69,7 @@ pub fn vod_stated<S: Source, K: Sink>(
 
     // Where the sink failed it took a front of the text, and else nothing.
     ensures write { IsErrOf result VodFault.Write → WritesStatedFront run.now base.now (S.remaining source.old) (S.remaining source.new) (K.contents sink.old) (K.contents sink.new) }
-    ensures nothing { IfErr result (λ e. e ≢ VodFault.Write → Keeps (K.contents sink.old) (K.contents sink.new)) }
+    ensures nothing { IfErr result (λ e. e ≢ VodFault.Write → sink.new ≡ sink.old) }
 
     // The run is judged on the playlist that was read.
     ensures bad_run { IsErrOf result VodFault.BadRun → HasOwed run.now base.now (S.remaining source.old) (S.remaining source.new) (Err VodFault.BadRun) }
@@ -76,16 +77,14 @@ pub fn vod_stated<S: Source, K: Sink>(
 
     // The base is judged before anything is read.
     ensures bad_base { IsErrOf result VodFault.BadBase → base_of base.now ≡ None }
-    ensures unread { base_of base.now ≡ None → S.called source.new ≡ S.called source.old }
+    ensures unread { base_of base.now ≡ None → source.new ≡ source.old }
 
     // The whole input is judged before anything is written.
     ensures playlist { IfErr result (λ e. (fault : Fault) → e ≡ VodFault.Playlist fault → HasRead base.now (S.remaining source.old) (S.remaining source.new) (Err fault)) }
 
-    // A device is blamed only where it failed.
-    ensures read_failed { IsErrOf result VodFault.Read → HasRisen (S.failed source.old) (S.failed source.new) }
-    ensures write_failed { IsErrOf result VodFault.Write → HasRisen (K.failed sink.old) (K.failed sink.new) }
-    ensures too_many { IsErrOf result VodFault.TooManyReads → CalledAll (S.called source.old) (S.called source.new) MOST_READS }
-    ensures calls { S.called source.new ≤ S.called source.old + MOST_READS }
+    // A device is blamed exactly where it failed, and is left alone then.
+    ensures source { IsFairToSource result (source_stand S.remaining S.called S.failed source.old) (source_stand S.remaining S.called S.failed source.new) }
+    ensures sink { IsFairToSink result (sink_stand K.contents K.failed sink.old) (sink_stand K.contents K.failed sink.new) }
 {
     know_pod(run.pod.as_slice());
     let playlist = read_playlist(alloc, source, base)?;

@@ -5,14 +5,6 @@ pub mod KeyOrder
 pub mod KeyLaws
 pub mod LimitLaws
 pub mod LineLaws
-pub mod Chains
-pub mod FixedDigits
-pub mod WalkedDates
-pub mod Dates
-pub mod TimeLaws
-pub mod CivilDays
-pub mod TimeForms
-pub mod TimeRange
 pub mod Pointwise
 pub mod SameParts
 pub mod SameSegments

@@ -1,7 +1,7 @@
--- The instants at which segments begin.
+-- The instants at which segments begin (RFC 8216, 4.3.2.6 and 6.2.1).
 use Rattle.std.specs.Prelude.{ℕ, List, [], ◌∷◌, ℤ, pos, ◌+ℤ◌, ◌-ℤ◌, Option, Some, None, option_map}
 use Rattle.playlist_meaning.specs.declared.Segment.{Segment}
-use Rattle.playlist_meaning.specs.Instant.{if_in_range}
+use Rattle.instants.specs.Instant.{if_in_range}
 use Rattle.playlist_meaning.specs.LookBack.{or_earlier}
 
 -- none outside the range

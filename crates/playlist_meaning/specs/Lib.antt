@@ -1,8 +1,5 @@
 pub mod Lines
 pub mod Uri
-pub mod Instant
-pub mod Digits
-pub mod Times
 pub mod Said
 pub mod LookBack
 pub mod Instants

@@ -14,7 +14,7 @@ use Rattle.playlist_meaning.specs.declared.Segment.{Segment}
 use Rattle.playlist_meaning.specs.declared.DateRange.{DateRange}
 use Rattle.playlist_meaning.specs.Said.{Said, version, target, sequence, discontinuity_sequence, playlist_type, ended, independent, duration, range, discontinuity, no_keys, key, section, time, date_range, media, Outcome, refuse_if, range_end_fits}
 
--- ---- the last line that says something
+-- ---- the last line that says something (RFC 8216, 4.3)
 
 abbrev pub or_earlier : {A : Type 0} → Option A → Option A → Option A
 or_earlier (Some x) earlier = Some x
@@ -25,50 +25,62 @@ abbrev pub latest : {A : Type 0} → (Said → Option A) → List Said → Optio
 latest answer [] = None
 latest answer (said ∷ before) = or_earlier (answer said) (latest answer before)
 
+-- EXT-X-VERSION (4.3.1.2)
 abbrev pub the_version : Said → Option ℕ
 the_version (version n) = Some n
 the_version _ = None
 
+-- EXT-X-TARGETDURATION (4.3.3.1)
 abbrev pub the_target : Said → Option ℕ
 the_target (target n) = Some n
 the_target _ = None
 
+-- EXT-X-MEDIA-SEQUENCE (4.3.3.2)
 abbrev pub the_sequence : Said → Option ℕ
 the_sequence (sequence n) = Some n
 the_sequence _ = None
 
+-- EXT-X-DISCONTINUITY-SEQUENCE (4.3.3.3)
 abbrev pub the_discontinuity_sequence : Said → Option ℕ
 the_discontinuity_sequence (discontinuity_sequence n) = Some n
 the_discontinuity_sequence _ = None
 
+-- EXT-X-PLAYLIST-TYPE (4.3.3.5)
 abbrev pub the_type : Said → Option PlaylistKind
 the_type (playlist_type kind) = Some kind
 the_type _ = None
 
+-- EXTINF (4.3.2.1): the duration in nanoseconds, and the title
 abbrev pub the_duration : Said → Option (ℕ × List ℕ)
 the_duration (duration nanos title) = Some (nanos, title)
 the_duration _ = None
 
+-- EXT-X-BYTERANGE (4.3.2.2): the length, and the offset where it is stated
 abbrev pub the_range : Said → Option (ℕ × Option ℕ)
 the_range (range length offset) = Some (length, offset)
 the_range _ = None
 
+-- EXT-X-PROGRAM-DATE-TIME (4.3.2.6)
 abbrev pub the_time : Said → Option ℤ
 the_time (time instant) = Some instant
 the_time _ = None
 
+-- a URI line (4.1), with which a segment ends
 abbrev pub is_media : Said → Bool
 is_media (media uri) = true
 is_media _ = false
 
+-- EXT-X-DISCONTINUITY (4.3.2.3)
 abbrev pub is_discontinuity : Said → Bool
 is_discontinuity discontinuity = true
 is_discontinuity _ = false
 
+-- EXT-X-ENDLIST (4.3.3.4)
 abbrev pub is_ended : Said → Bool
 is_ended ended = true
 is_ended _ = false
 
+-- EXT-X-INDEPENDENT-SEGMENTS (4.3.5.1)
 abbrev pub is_independent : Said → Bool
 is_independent independent = true
 is_independent _ = false
@@ -78,30 +90,38 @@ abbrev pub count : (Said → Bool) → List Said → ℕ
 count test [] = 0
 count test (said ∷ before) = if test said then count test before + 1 else count test before
 
--- ---- the tags of one segment
+-- ---- the tags of one segment: those that apply to the next media segment alone (4.3.2)
 
 -- the lines since the last URI
 abbrev pub since_media : List Said → List Said
 since_media [] = []
 since_media (said ∷ before) = if is_media said then [] else said ∷ since_media before
 
+-- its EXTINF (4.3.2.1)
 abbrev pub own_duration : List Said → Option (ℕ × List ℕ)
 own_duration before = latest the_duration (since_media before)
 
+-- its EXT-X-BYTERANGE (4.3.2.2)
 abbrev pub own_range : List Said → Option (ℕ × Option ℕ)
 own_range before = latest the_range (since_media before)
 
+-- its EXT-X-PROGRAM-DATE-TIME (4.3.2.6)
 abbrev pub own_time : List Said → Option ℤ
 own_time before = latest the_time (since_media before)
 
 -- ---- numbers (4.3.3.2, 4.3.3.3)
 
+-- the Media Sequence Number of the segment of a URI line here: that of the first, 0 where none is stated, and one more
+-- for each segment before (4.3.3.2)
 abbrev pub number_at : List Said → ℕ
 number_at before = unwrap_or (latest the_sequence before) 0 + count is_media before
 
+-- its Discontinuity Sequence Number: the stated one, 0 where there is none, and one more for each EXT-X-DISCONTINUITY
+-- before (4.3.3.3)
 abbrev pub discontinuity_at : List Said → ℕ
 discontinuity_at before = unwrap_or (latest the_discontinuity_sequence before) 0 + count is_discontinuity before
 
+-- how many EXT-X-DISCONTINUITY stand between the segment before and this one (4.3.2.3)
 abbrev pub steps_at : List Said → ℕ
 steps_at before = count is_discontinuity (since_media before)
 
@@ -111,10 +131,11 @@ steps_at before = count is_discontinuity (since_media before)
 abbrev pub without_format : List ℕ → List Key → List Key
 without_format format keys = filter (λ (k : Key). not (bytes_eq format k.format)) keys
 
--- before the first key of a greater format, by bytes
+-- whether the format of the first key comes before that of the second, by bytes
 abbrev pub is_before : Key → Key → Bool
 is_before k j = is_lt (slice_cmp nat_cmp k.format j.format)
 
+-- the keys with this one before the first of a later format
 abbrev pub insert_key : Key → List Key → List Key
 insert_key k [] = k ∷ []
 insert_key k (j ∷ keys) = if is_before k j then k ∷ j ∷ keys else j ∷ insert_key k keys
@@ -142,10 +163,11 @@ key_of format (no_keys ∷ before) = None
 key_of format (key k ∷ before) = if bytes_eq format k.format then Some k else key_of format before
 key_of format (_ ∷ before) = key_of format before
 
+-- whether a key is of this format
 abbrev pub has_format : List ℕ → Key → Bool
 has_format format k = bytes_eq format k.format
 
--- a key of the format `identity` without IV has the media sequence number as IV
+-- a key of the format `identity` without IV has the Media Sequence Number as IV (5.2)
 abbrev pub effective_key : ℕ → Key → Key
 effective_key number k = if bytes_eq k.format (codes "identity") && is_none k.iv then record k { iv = Some number } else k
 
@@ -194,7 +216,7 @@ last_extent (_ ∷ before) = last_extent before
 abbrev pub range_at : List Said → List ℕ → Outcome (Option ByteRange)
 range_at before uri = range_from (own_range before) uri (last_extent before)
 
--- ---- the segment of a URI line
+-- ---- the segment of a URI line (4.3.2)
 
 abbrev pub segment_at : List Said → List ℕ → Segment
 segment_at before uri = record {
@@ -216,6 +238,7 @@ segments_of [] = []
 segments_of (media uri ∷ before) = segments_of before ++ segment_at before uri ∷ []
 segments_of (_ ∷ before) = segments_of before
 
+-- the date ranges of these lines, in order (4.3.2.7)
 abbrev pub date_ranges_of : List Said → List DateRange
 date_ranges_of [] = []
 date_ranges_of (date_range r ∷ before) = date_ranges_of before ++ r ∷ []

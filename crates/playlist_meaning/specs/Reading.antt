@@ -11,11 +11,11 @@ use Rattle.playlist_meaning.specs.declared.Key.{Key}
 use Rattle.playlist_meaning.specs.declared.Segment.{Segment}
 use Rattle.playlist_meaning.specs.declared.Playlist.{Playlist}
 use Rattle.playlist_meaning.specs.Lines.{Kind, ignored, uri, tag, kind_of, has_control}
-use Rattle.playlist_meaning.specs.Instant.{instant_of}
+use Rattle.instants.specs.Instant.{instant_of}
 use Rattle.playlist_meaning.specs.Said.{Name, version_tag, target_tag, sequence_tag, discontinuity_sequence_tag, type_tag, ended_tag, independent_tag, frames_tag, master_tag, duration_tag, range_tag, discontinuity_tag, key_tag, map_tag, time_tag, date_range_tag, unknown_tag, Said, nothing, version, target, sequence, discontinuity_sequence, playlist_type, ended, independent, range, discontinuity, time, media, Outcome, ◌>>=◌, or_fault, refuse_if, over, Reader, number, version_of, playlist_type_of, duration_said, range_of, key_said, section_said, date_range_said, uri_of}
 use Rattle.playlist_meaning.specs.LookBack.{latest, the_version, the_target, the_sequence, the_discontinuity_sequence, the_type, is_media, is_discontinuity, is_ended, is_independent, count, own_duration, number_at, discontinuity_at, keys_at, range_at, segments_of, date_ranges_of}
 
--- ---- the tags by name
+-- ---- the tags by name (RFC 8216, 4.3)
 
 -- a name, and whether it is a flag, which takes no `:`
 abbrev pub names : List (List ℕ × Bool × Name)
@@ -48,7 +48,8 @@ name_found colon (Some (text, flag, name)) = if flag && colon then unknown_tag e
 abbrev pub name_of : List ℕ → Bool → Name
 name_of text colon = name_found colon (find (λ (row : List ℕ × Bool × Name). bytes_eq text row.0) names)
 
--- ---- what a line says after the lines before it, or its first fault
+-- ---- what a line says after the lines before it, or its first fault (4.3: of the tags of a media playlist, which of
+-- them may repeat, and where they may stand)
 
 abbrev pub is_set : {A : Type 0} → (Said → Option A) → List Said → Bool
 is_set answer before = is_some (latest answer before)
@@ -64,6 +65,7 @@ abbrev pub within_formats : Reader → List Said → Said → Outcome Said
 within_formats reader before said =
     refuse_if (over reader.formats (length (keys_at (said ∷ before)))) fault.TooMany (Ok said)
 
+-- an AES-128 key over an EXT-X-MAP has to state its IV (4.3.2.5)
 abbrev pub needs_iv : Key → Bool
 needs_iv k = bytes_eq k.method (codes "AES-128") && is_none k.iv
 
@@ -134,10 +136,11 @@ said_from read before (line ∷ later) =
 abbrev pub has_section : Segment → Bool
 has_section s = is_some s.section
 
+-- some segments have an initialisation section, and others have none: a rule of this project
 abbrev pub are_mixed : List Segment → Bool
 are_mixed segments = list_any has_section segments && not (list_all has_section segments)
 
--- the first fault of the text as a whole
+-- the first fault of the text as a whole: EXT-X-TARGETDURATION is required (4.3.3.1)
 abbrev pub whole_fault : List Said → Option FaultKind
 whole_fault said =
     if not (is_set the_target said) then Some fault.NoTarget
@@ -163,14 +166,14 @@ abbrev pub and_whole : Result (List Said) Fault → Result Playlist Fault
 and_whole (Ok said) = whole (whole_fault said) said
 and_whole (Err e) = Err e
 
--- the first line is the header
+-- the first line is EXTM3U (4.3.1.1)
 abbrev pub of_lines : Reader → Parts → List (List ℕ) → Result Playlist Fault
 of_lines reader base [] = Err (record { kind = fault.NoHeader; line = 1 })
 of_lines reader base (first ∷ later) =
     if bytes_eq first (codes "#EXTM3U") then and_whole (said_from (said_by reader base) (nothing ∷ []) later)
     else Err (record { kind = fault.NoHeader; line = 1 })
 
--- what bytes are read as under a base by a reader with these limits, or the first fault
+-- what bytes are read as under a base by a reader with these limits, or the first fault: a playlist is UTF-8 (4.1)
 abbrev pub reading : Reader → Parts → List ℕ → Result Playlist Fault
 reading reader base bytes =
     if not (is_utf8 bytes) then Err (record { kind = fault.NotUtf8; line = 0 })

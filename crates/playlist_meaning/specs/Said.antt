@@ -1,4 +1,5 @@
 -- What one line says by itself, after RFC 8216, section 4.3.
+-- Bytes of ASCII: 44 is the comma and 64 `@`.
 use Rattle.std.specs.Prelude.{ℕ, ◌+◌, ◌^◌, Bool, true, false, not, ◌||◌, ◌==◌, nat_lt, List, filter, length, codes, ℤ, Option, Some, None, Result, Ok, Err, bytes_eq, unwrap_or, option_map, if◌then◌else◌, map}
 use Rattle.std.specs.List.{list_any, before_first, after_first}
 use Rattle.url.specs.Parts.{Parts}
@@ -6,13 +7,15 @@ use Rattle.fixed_duration.specs.Duration.{duration_of}
 use Rattle.attr_list.specs.Attributes.{Pair, attributes_of, attribute, is_named}
 use Rattle.attr_list.specs.Numbers.{decimal_of, hex_of}
 use Rattle.playlist_meaning.specs.Uri.{resolved}
-use Rattle.playlist_meaning.specs.Instant.{instant_of}
+use Rattle.instants.specs.Instant.{instant_of}
 use Rattle.playlist_meaning.specs.declared.FaultKind.{FaultKind}
 use Rattle.playlist_meaning.specs.declared.FaultKind.TheVariants as fault
 use Rattle.playlist_meaning.specs.declared.PlaylistKind.{PlaylistKind}
 use Rattle.playlist_meaning.specs.declared.PlaylistKind.TheVariants.{Event, Vod}
 use Rattle.playlist_meaning.specs.declared.Key.{Key}
 use Rattle.playlist_meaning.specs.declared.KeyAttr.{KeyAttr}
+use Rattle.playlist_meaning.specs.declared.KeyTag.{KeyTag}
+use Rattle.playlist_meaning.specs.declared.KeyTag.TheVariants.{End, Set}
 use Rattle.playlist_meaning.specs.declared.ByteRange.{ByteRange}
 use Rattle.playlist_meaning.specs.declared.DateRange.{DateRange}
 
@@ -65,6 +68,11 @@ pub data Said : Type 0 where
   date_range : DateRange → Said
   media : List ℕ → Said
 
+-- a key tag (4.3.2.4)
+abbrev pub key_tag_said : KeyTag → Said
+key_tag_said End = no_keys
+key_tag_said (Set k) = key k
+
 abbrev pub Outcome : Type 0 → Type 0
 Outcome A = Result A FaultKind
 
@@ -89,30 +97,35 @@ refuse_if false e outcome = outcome
 
 -- ---- the parts of a line
 
+-- a decimal-integer (4.2)
 abbrev pub number : List ℕ → Outcome ℕ
 number rest = or_fault fault.BadValue (decimal_of rest)
 
+-- EXT-X-VERSION (4.3.1.2): from 1 to 7, which RFC 8216 describes
 abbrev pub version_of : List ℕ → Outcome ℕ
 version_of rest =
     or_fault fault.BadVersion (decimal_of rest) >>= λ v. refuse_if (v == 0 || nat_lt 7 v) fault.Version (Ok v)
 
+-- EXT-X-PLAYLIST-TYPE (4.3.3.5)
 abbrev pub playlist_type_of : List ℕ → Outcome PlaylistKind
 playlist_type_of rest =
     if bytes_eq rest (codes "EVENT") then Ok Event
     else (if bytes_eq rest (codes "VOD") then Ok Vod else Err fault.BadValue)
 
+-- EXTINF (4.3.2.1): the duration up to the first comma, and the title after it
 abbrev pub duration_said : List ℕ → Outcome Said
 duration_said rest =
     mended fault.BadDuration (duration_of (before_first (λ b. b == 44) rest)) >>= λ nanos.
     Ok (duration nanos (after_first (λ b. b == 44) rest))
 
--- `n[@o]`: the length, and the offset where it is stated
+-- whether the end of a range has 64 bits (4.3.2.2)
 abbrev pub range_end_fits : ℕ → ℕ → Bool
 range_end_fits length offset = nat_lt (length + offset) (2 ^ 64)
 
 abbrev pub stated_range : ℕ → ℕ → Outcome (ℕ × Option ℕ)
 stated_range length offset = refuse_if (not (range_end_fits length offset)) fault.BadRange (Ok (length, Some offset))
 
+-- EXT-X-BYTERANGE (4.3.2.2), `n[@o]`: the length, and the offset where it is stated
 abbrev pub range_of : List ℕ → Outcome (ℕ × Option ℕ)
 range_of rest =
     or_fault fault.BadRange (decimal_of (before_first (λ b. b == 64) rest)) >>= λ length.
@@ -125,7 +138,7 @@ abbrev pub over : Option ℕ → ℕ → Bool
 over None n = false
 over (Some most) n = nat_lt most n
 
--- ---- attributes
+-- ---- attributes (4.2)
 
 abbrev pub attributes : Reader → List ℕ → Outcome (List Pair)
 attributes reader rest = mended fault.BadAttributes (attributes_of reader.attributes rest)
@@ -146,15 +159,18 @@ abbrev pub optional : {A : Type 0} → (Pair → Outcome A) → Option Pair → 
 optional read None = Ok None
 optional read (Some pair) = some_value (read pair)
 
+-- the IV of EXT-X-KEY (4.3.2.4), a hexadecimal-sequence
 abbrev pub iv_of : Pair → Outcome ℕ
 iv_of pair = value_if false pair.quoted pair.value >>= λ value. or_fault fault.BadAttributes (hex_of value)
 
 abbrev pub quoted_of : Pair → Outcome (List ℕ)
 quoted_of pair = value_if true pair.quoted pair.value
 
+-- the resource that a reference names (4.1)
 abbrev pub uri_of : Parts → List ℕ → Outcome (List ℕ)
 uri_of base reference = or_fault fault.BadUri (resolved base reference)
 
+-- whether an attribute of EXT-X-KEY has a meaning of its own here (4.3.2.4); the others are carried
 abbrev pub is_key_attribute : Pair → Bool
 is_key_attribute pair =
     is_named (codes "METHOD") pair || is_named (codes "URI") pair || is_named (codes "IV") pair || is_named (codes "KEYFORMAT") pair
@@ -162,6 +178,7 @@ is_key_attribute pair =
 abbrev pub key_attr : Pair → KeyAttr
 key_attr pair = record { name = pair.name; value = pair.value; quoted = pair.quoted }
 
+-- EXT-X-KEY of a METHOD other than NONE (4.3.2.4)
 abbrev pub set_key : Parts → List Pair → List ℕ → Outcome Said
 set_key base pairs method =
     required true (attribute pairs (codes "URI")) >>= λ reference.
@@ -176,19 +193,21 @@ set_key base pairs method =
       other = map key_attr (filter (λ pair. not (is_key_attribute pair)) pairs);
     }))
 
+-- EXT-X-KEY (4.3.2.4)
 abbrev pub key_said : Reader → Parts → List ℕ → Outcome Said
 key_said reader base rest =
     attributes reader rest >>= λ pairs.
     required false (attribute pairs (codes "METHOD")) >>= λ method.
     if bytes_eq method (codes "NONE") then Ok no_keys else set_key base pairs method
 
--- a section's range begins at 0 where it states no offset
+-- the BYTERANGE of EXT-X-MAP (4.3.2.5), which begins at 0 where it states no offset
 abbrev pub section_range : Pair → Outcome ByteRange
 section_range pair =
     quoted_of pair >>= λ value. range_of value >>= λ range.
     refuse_if (not (range_end_fits range.0 (unwrap_or range.1 0))) fault.BadRange
     (Ok (record { length = range.0; offset = unwrap_or range.1 0 }))
 
+-- EXT-X-MAP (4.3.2.5)
 abbrev pub section_said : Reader → Parts → List ℕ → Outcome Said
 section_said reader base rest =
     attributes reader rest >>= λ pairs.
@@ -206,6 +225,7 @@ length_of pair = mended fault.BadDuration (duration_of pair.value)
 abbrev pub value_of : Pair → List ℕ
 value_of pair = pair.value
 
+-- EXT-X-DATERANGE (4.3.2.7; 4.3.2.7.1 for SCTE35-OUT and SCTE35-IN)
 abbrev pub date_range_said : Reader → List ℕ → Outcome Said
 date_range_said reader rest =
     attributes reader rest >>= λ pairs.

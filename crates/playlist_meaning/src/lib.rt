@@ -16,17 +16,14 @@ mod base;
 mod fault;
 mod in_force;
 mod items;
-mod read_time;
 mod same;
-mod write_time;
 
 pub use base::{Base, BaseFault, has_quote, has_scheme, same_resource};
 pub use fault::FaultText;
 pub use in_force::is_iv_needed;
+pub use instants::{Instant, TimeFault, read_instant, write_instant};
 pub use items::{Items, Shared, Text};
-pub use read_time::{TimeFault, read_instant};
 pub use same::{is_same_key, is_same_section, same_segment};
-pub use write_time::write_instant;
 
 /// Why a text is no playlist that can be read.
 #[derive(Clone, Copy, PartialEq, Eq, Debug)]
@@ -123,20 +120,6 @@ pub enum PlaylistKind {
     Vod,
 }
 
-/// An instant in nanoseconds from 1970 in UTC.
-#[derive(Clone, Copy, PartialEq, Eq, PartialOrd, Ord, Debug)]
-pub struct Instant(pub i64);
-
-impl Model for Instant {
-    ghost use Rattle.std.specs.Prelude.{ℤ};
-
-    ghost Value = { ℤ };
-
-    ghost view = { λ a. a.0 };
-
-    ghost inverse = { λ n. record { 0 = n } };
-}
-
 /// A part of a resource (RFC 8216, section 4.3.2.2), in bytes.
 #[derive(Clone, Copy, PartialEq, Eq)]
 pub struct ByteRange {
@@ -155,6 +138,15 @@ pub struct KeyAttr {
     pub value: Text,
     /// Whether the value stands between quotes.
     pub quoted: bool,
+}
+
+/// What a key tag says (EXT-X-KEY; RFC 8216, section 4.3.2.4).
+#[derive(Clone, PartialEq, Drop)]
+pub enum KeyTag {
+    /// METHOD=NONE: no key is in force any more, of whatever format.
+    End,
+    /// This key is in force, in place of the one of its format.
+    Set(Key),
 }
 
 /// A key (EXT-X-KEY; RFC 8216, section 4.3.2.4). Each segment under it has a copy, which shares its texts.
@@ -254,8 +246,6 @@ pub struct Playlist {
 
 mod rows;
 mod stitched_rows;
-#[cfg(test)]
-mod tests;
 
 // Whether a byte is an ASCII character that is no control character.
 fn is_printable(byte: u8) -> bool

@@ -1,9 +1,7 @@
 //! Worked rows of the definitions.
 
 ghost use Rattle.std.specs.Prelude.{◌≡◌, [], ◌∷◌, ◌++◌, codes, Ok, Err, Some, None, true, false, pos, negsuc, map};
-ghost use Rattle.playlist_meaning.specs.Instant.{instant_of};
 ghost use Rattle.playlist_meaning.specs.Instants.{instants_of};
-ghost use Rattle.playlist_meaning.specs.Times.{time_text};
 ghost use Rattle.playlist_meaning.specs.Lines.{placed_lines};
 ghost use Rattle.playlist_meaning.specs.Uri.{base_of};
 ghost use Rattle.playlist_meaning.specs.Rows.{read_lines, read_text, read_after_target, segments_read, keys_and_section, resolved_here};
@@ -107,25 +105,6 @@ fn effective_row()
               ∷ record { number = 8; discontinuity = 1; steps = 0; uri = codes "http://origin.example/ch/s1.ts"; range = None; keys = []; section = None; duration = 10000000000; title = []; time = Some (pos 1714564810250000000) }
               ∷ [];
         })) }
-{}
-
-/// Instants.
-fn instant_rows()
-    ensures east { instant_of (codes "2024-05-01T14:00:10.25+02:00") ≡ Some (pos 1714564810250000000) }
-    ensures no_zone { instant_of (codes "2024-05-01T12:00:10.1000001") ≡ Some (pos 1714564810100000100) }
-    ensures no_such_day { instant_of (codes "2024-02-30T00:00:00Z") ≡ None }
-    ensures too_late { instant_of (codes "2199-12-31T23:59:59-00:01") ≡ None }
-    ensures first { instant_of (codes "1900-01-01T00:00:00Z") ≡ Some (negsuc 2208988799999999999) }
-    ensures epoch { instant_of (codes "1970-01-01T01:00:00+0100") ≡ Some (pos 0) }
-{}
-
-/// How instants are written.
-fn written_instant_rows()
-    ensures three_decimals { time_text (pos 1714564810250000000) ≡ codes "2024-05-01T12:00:10.250Z" }
-    ensures nine_decimals { time_text (pos 1714564810100000100) ≡ codes "2024-05-01T12:00:10.100000100Z" }
-    ensures first { time_text (negsuc 2208988799999999999) ≡ codes "1900-01-01T00:00:00.000Z" }
-    ensures last { time_text (pos 7258118399999999999) ≡ codes "2199-12-31T23:59:59.999999999Z" }
-    ensures leap_day { time_text (pos 951782400000000000) ≡ codes "2000-02-29T00:00:00.000Z" }
 {}
 
 /// The instants of segments.

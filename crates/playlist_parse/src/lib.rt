@@ -9,6 +9,3 @@ mod tag;
 
 pub use line::{Line, lines};
 pub use reader::{MOST_BYTES, read};
-
-#[cfg(test)]
-mod tests;

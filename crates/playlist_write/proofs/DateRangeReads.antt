@@ -9,7 +9,7 @@ use Rattle.attr_list.proofs.Limits.{limited_is_read}
 use Rattle.fixed_duration.specs.Duration.{duration_of}
 use Rattle.playlist_meaning.specs.declared.FaultKind.TheVariants as fault
 use Rattle.playlist_meaning.specs.declared.DateRange.{DateRange}
-use Rattle.playlist_meaning.specs.Instant.{instant_of}
+use Rattle.instants.specs.Instant.{instant_of}
 use Rattle.playlist_meaning.specs.Said.{mended, or_fault, required, optional, some_value, value_if, time_of, length_of, value_of, Said, Reader, date_range, Outcome, ◌>>=◌, date_range_said}
 use Rattle.playlist_meaning.specs.Reading.{limited, unlimited}
 use Rattle.fitting.specs.Fitting.{if_some, is_clean, says_date_range, date_range_fits}

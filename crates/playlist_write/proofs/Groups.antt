@@ -8,19 +8,19 @@ use Rattle.playlist_meaning.specs.declared.Key.{Key}
 use Rattle.playlist_meaning.specs.declared.ByteRange.{ByteRange}
 use Rattle.playlist_meaning.specs.declared.InitSection.{InitSection}
 use Rattle.playlist_meaning.specs.declared.Segment.{Segment}
-use Rattle.playlist_meaning.specs.Said.{Said, discontinuity, no_keys, key, duration, media}
+use Rattle.playlist_meaning.specs.Said.{Said, discontinuity, no_keys, key, key_tag_said, duration, media}
 use Rattle.playlist_meaning.specs.LookBack.{or_earlier, put_key, Extent, extent_with, effective_key, are_sorted}
 use Rattle.playlist_meaning.specs.Reading.{passes, needs_iv}
-use Rattle.playlist_meaning.specs.Instant.{in_range}
+use Rattle.instants.specs.Instant.{in_range}
 use Rattle.playlist_meaning.proofs.ListTests.{all_filter}
-use Rattle.stitcher.specs.declared.KeyTag.{KeyTag}
-use Rattle.stitcher.specs.declared.KeyTag.TheVariants.{End, Set}
+use Rattle.playlist_meaning.specs.declared.KeyTag.{KeyTag}
+use Rattle.playlist_meaning.specs.declared.KeyTag.TheVariants.{End, Set}
 use Rattle.stitcher.specs.declared.OutSegment.{OutSegment}
 use Rattle.playlist_meaning.specs.Same.{same_section, same_option}
 use Rattle.stitcher.specs.KeyTags.{transition, is_new, keeps_formats, after_tags}
 use Rattle.playlist_meaning.proofs.SameParts.{section_is}
 use Rattle.stitcher.proofs.TagLaws.{transition_leads}
-use Rattle.playlist_write.specs.Owed.{Current, tag_said, keys_owed, changed_section, section_owed, keys_then, time_owed, range_owed, segment_owed, after_segment, segments_owed}
+use Rattle.playlist_write.specs.Owed.{Current, keys_owed, changed_section, section_owed, keys_then, time_owed, range_owed, segment_owed, after_segment, segments_owed}
 use Rattle.fitting.specs.Fitting.{is_clean, uri_fits, quoted_uri_fits, range_fits, if_some, key_fits, keys_fit, states_iv, section_fits}
 use Rattle.playlist_write.specs.WellFormed.{is_word, numbers_are_words, resource_fits, segment_fits}
 use Rattle.playlist_write.specs.Denoted.{denoted_segment}
@@ -72,16 +72,16 @@ goes_steps (suc n) k h =
 
 -- ---- keys
 
-run_tags : (tags : List KeyTag) (k : Known) → run k (map tag_said tags) ≡ record k { keys = after_tags k.keys tags }
+run_tags : (tags : List KeyTag) (k : Known) → run k (map key_tag_said tags) ≡ record k { keys = after_tags k.keys tags }
 run_tags [] k = refl
 run_tags (End ∷ tags) k = run_tags tags (record k { keys = [] })
 run_tags (Set j ∷ tags) k = run_tags tags (record k { keys = put_key j k.keys })
 
-sets_allowed : (keys : List Key) (k : Known) → list_all key_fits keys ≡ true → Allowed k (map tag_said (map Set keys))
+sets_allowed : (keys : List Key) (k : Known) → list_all key_fits keys ≡ true → Allowed k (map key_tag_said (map Set keys))
 sets_allowed [] k h = tt
 sets_allowed (j ∷ keys) k h = let a = and_parts _ _ h in (a.0, tt, sets_allowed keys (step k (key j)) a.1)
 
-tags_allowed : (b : Bool) (old new : List Key) (k : Known) → list_all key_fits new ≡ true → Allowed k (map tag_said (cond b (map Set (filter (is_new old) new)) (End ∷ map Set new)))
+tags_allowed : (b : Bool) (old new : List Key) (k : Known) → list_all key_fits new ≡ true → Allowed k (map key_tag_said (cond b (map Set (filter (is_new old) new)) (End ∷ map Set new)))
 tags_allowed true old new k h = sets_allowed (filter (is_new old) new) k (all_filter key_fits (is_new old) new h)
 tags_allowed false old new k h = (tt, tt, sets_allowed new (step k no_keys) h)
 

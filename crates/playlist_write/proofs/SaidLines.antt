@@ -28,19 +28,19 @@ use Rattle.playlist_meaning.specs.declared.PlaylistKind.{PlaylistKind}
 use Rattle.playlist_meaning.specs.declared.PlaylistKind.TheVariants.{Event, Vod}
 use Rattle.playlist_meaning.specs.Lines.{has_control, is_printable, kind_of, uri}
 use Rattle.playlist_meaning.specs.Uri.{has_scheme, is_scheme_byte}
-use Rattle.playlist_meaning.specs.Instant.{in_range, instant_of}
+use Rattle.instants.specs.Instant.{in_range, instant_of}
 use Rattle.playlist_meaning.specs.Said.{Said, version, target, sequence, discontinuity_sequence, playlist_type, ended, independent, duration, range, discontinuity, no_keys, key, section, time, date_range, media, Outcome, ◌>>=◌, refuse_if, or_fault, duration_said, range_of, range_end_fits, uri_of, some_value, iv_of, optional, required, quoted_of, key_attr, is_key_attribute, set_key, key_said, section_said, section_range, number, version_of, date_range_said}
 use Rattle.playlist_meaning.specs.Reading.{said_by, unlimited, passes, said_by_kind, within_formats, needs_iv, with_ivs, is_set, has}
 use Rattle.playlist_meaning.specs.LookBack.{discontinuity_at, own_duration, number_at, range_at, keys_at, the_version, the_target, the_sequence, the_discontinuity_sequence, the_type, is_media, is_discontinuity, is_ended}
 use Rattle.playlist_meaning.proofs.SameParts.{key_ext}
-use Rattle.playlist_meaning.specs.Digits.{fixed_digits}
-use Rattle.playlist_meaning.specs.Times.{time_text}
+use Rattle.instants.specs.Digits.{fixed_digits}
+use Rattle.instants.specs.Times.{time_text}
 use Rattle.playlist_write.specs.Spelling.{spelled, key_pairs, section_pairs, iv_pairs, format_pairs, attr_pair, in_quotes, part_pairs}
 use Rattle.fitting.specs.Fitting.{is_clean, value_fits, uri_fits, quoted_uri_fits, other_fits, if_some, iv_fits, key_fits, range_fits}
 use Rattle.playlist_write.proofs.CleanTexts.{Clean, clean-append, clean_printable}
 use Rattle.playlist_write.proofs.WrittenNumbers.{is_number_byte, decimal_bytes, duration_bytes, hex_bytes, hex_read}
 use Rattle.playlist_write.proofs.TagFields.{KeyParts, key_parts, other_parts, is_other, key_attributes, section_attributes}
-use Rattle.playlist_meaning.proofs.TimeLaws.{time_reads}
+use Rattle.instants.proofs.TimeLaws.{time_reads}
 use Rattle.playlist_write.proofs.WrittenTimes.{times_are_clean}
 
 pub clean_is : (bs : List ℕ) → is_clean bs ≡ true → Clean bs

@@ -13,7 +13,7 @@ use Rattle.playlist_meaning.specs.declared.Key.{Key}
 use Rattle.playlist_meaning.specs.declared.KeyAttr.{KeyAttr}
 use Rattle.playlist_meaning.specs.declared.ByteRange.{ByteRange}
 use Rattle.playlist_meaning.proofs.ListTests.{all_with}
-use Rattle.playlist_meaning.specs.Digits.{fixed_digits}
+use Rattle.instants.specs.Digits.{fixed_digits}
 use Rattle.playlist_write.specs.Spelling.{plain, in_quotes, iv_text, iv_pairs, format_pairs, attr_pair, key_pairs, part_pairs, section_pairs, range_text}
 use Rattle.fitting.specs.Fitting.{if_some, is_clean, value_fits, quoted_uri_fits, range_fits, is_own_name, other_fits, have_distinct_names, iv_fits, method_fits, key_fits}
 use Rattle.playlist_write.proofs.WrittenNumbers.{is_number_byte, decimal_bytes, hex_bytes}

@@ -6,7 +6,7 @@ use Rattle.playlist_meaning.specs.declared.Key.{Key}
 use Rattle.playlist_meaning.specs.declared.InitSection.{InitSection}
 use Rattle.playlist_meaning.specs.Said.{duration, range, time}
 use Rattle.fixed_duration.specs.Duration.{duration_text}
-use Rattle.playlist_meaning.specs.Times.{time_text}
+use Rattle.instants.specs.Times.{time_text}
 use Rattle.playlist_write.specs.Spelling.{after_commas, plain, in_quotes, iv_pairs, format_pairs, attr_pair, part_pairs, range_text}
 use Rattle.playlist_write.specs.Owed.{line_of, with_feed, key_line, section_line}
 

@@ -2,7 +2,7 @@
 use Rattle.std.specs.Prelude.{Bool, false, ◌&&◌, List, codes, Option, Some, None, is_some, is_ok}
 use Rattle.fixed_duration.specs.Duration.{duration_of}
 use Rattle.attr_list.specs.Attributes.{Pair, attribute}
-use Rattle.playlist_meaning.specs.Instant.{instant_of}
+use Rattle.instants.specs.Instant.{instant_of}
 use Rattle.fitting.specs.Fitting.{if_some}
 
 -- an ID in quotes

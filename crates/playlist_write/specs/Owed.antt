@@ -1,4 +1,4 @@
--- The text of a playlist.
+-- The text of a playlist. Each line ends with a line feed (10).
 use Rattle.std.specs.Prelude.{ℕ, ◌-◌, Bool, List, [], ◌∷◌, ◌++◌, map, codes, replicate, ℤ, Option, Some, None, if◌then◌else◌}
 use Rattle.std.specs.List.{flat_map}
 use Rattle.playlist_meaning.specs.declared.Key.{Key}
@@ -7,9 +7,8 @@ use Rattle.playlist_meaning.specs.declared.InitSection.{InitSection}
 use Rattle.playlist_meaning.specs.declared.PlaylistKind.{PlaylistKind}
 use Rattle.playlist_meaning.specs.declared.Segment.{Segment}
 use Rattle.playlist_meaning.specs.LookBack.{or_earlier}
-use Rattle.playlist_meaning.specs.Said.{Said, version, target, sequence, discontinuity_sequence, playlist_type, ended, independent, duration, range, discontinuity, no_keys, key, section, time, media}
-use Rattle.stitcher.specs.declared.KeyTag.{KeyTag}
-use Rattle.stitcher.specs.declared.KeyTag.TheVariants.{End, Set}
+use Rattle.playlist_meaning.specs.Said.{Said, version, target, sequence, discontinuity_sequence, playlist_type, ended, independent, duration, range, discontinuity, key, key_tag_said, section, time, media}
+use Rattle.playlist_meaning.specs.declared.KeyTag.TheVariants.{Set}
 use Rattle.stitcher.specs.declared.OutSegment.{OutSegment}
 use Rattle.playlist_meaning.specs.Same.{same_option, same_section}
 use Rattle.stitcher.specs.KeyTags.{transition}
@@ -18,16 +17,12 @@ use Rattle.playlist_write.specs.Spelling.{spelled, date_range_line}
 
 -- ---- the lines of a segment
 
-abbrev pub tag_said : KeyTag → Said
-tag_said End = no_keys
-tag_said (Set k) = key k
-
 -- tags that set these keys
 abbrev pub set_tags : List Key → List Said
-set_tags keys = map tag_said (map Set keys)
+set_tags keys = map key_tag_said (map Set keys)
 
 abbrev pub keys_owed : List Key → List Key → List Said
-keys_owed old new = map tag_said (transition old new)
+keys_owed old new = map key_tag_said (transition old new)
 
 -- the keys and the section that are in force where a line is written
 pub record Current : Type 0 where

@@ -1,4 +1,5 @@
 -- How what a line says is written (RFC 8216, section 4.3).
+-- Bytes of ASCII: 44 is the comma, 48 `0`, 64 `@` and 120 `x`.
 use Rattle.std.specs.Prelude.{ℕ, true, false, List, [], ◌∷◌, ◌++◌, map, codes, Option, Some, None, bytes_eq, if◌then◌else◌}
 use Rattle.std.specs.List.{flat_map}
 use Rattle.std.specs.Fmt.{decimal}
@@ -10,8 +11,8 @@ use Rattle.playlist_meaning.specs.declared.Key.{Key}
 use Rattle.playlist_meaning.specs.declared.KeyAttr.{KeyAttr}
 use Rattle.playlist_meaning.specs.declared.ByteRange.{ByteRange}
 use Rattle.playlist_meaning.specs.Said.{Said, nothing, version, target, sequence, discontinuity_sequence, playlist_type, ended, independent, duration, range, discontinuity, no_keys, key, section, time, date_range, media}
-use Rattle.playlist_meaning.specs.Times.{time_text}
-use Rattle.playlist_meaning.specs.Digits.{fixed_digits}
+use Rattle.instants.specs.Times.{time_text}
+use Rattle.instants.specs.Digits.{fixed_digits}
 
 abbrev pub range_text : ℕ → ℕ → List ℕ
 range_text length offset = decimal length ++ 64 ∷ decimal offset

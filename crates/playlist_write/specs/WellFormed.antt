@@ -1,7 +1,7 @@
 -- Which playlists can be written so that the text says them.
 use Rattle.std.specs.Prelude.{ℕ, ◌+◌, ◌^◌, Bool, true, false, not, ◌&&◌, ◌||◌, ◌==◌, nat_lt, nat_le, List, [], ◌∷◌, is_some}
 use Rattle.std.specs.List.{list_any, list_all}
-use Rattle.playlist_meaning.specs.Instant.{in_range}
+use Rattle.instants.specs.Instant.{in_range}
 use Rattle.playlist_meaning.specs.declared.Segment.{Segment}
 use Rattle.stitcher.specs.declared.OutSegment.{OutSegment}
 use Rattle.playlist_write.specs.declared.OutPlaylist.{OutPlaylist}

@@ -3,7 +3,7 @@ ghost use Rattle.std.specs.Prelude.{◌≡◌, ◌≢◌, map, IfOk, is_some, is
 ghost use Rattle.std.specs.Option.{option_copied};
 ghost use Rattle.attr_list.specs.Attrs.{attr_pair};
 ghost use Rattle.fixed_duration.specs.Duration.{duration_of};
-ghost use Rattle.playlist_meaning.specs.Instant.{instant_of};
+ghost use Rattle.instants.specs.Instant.{instant_of};
 ghost use Rattle.std.specs.List.{list_all};
 ghost use Rattle.playlist_meaning.specs.Said.{date_range_said};
 ghost use Rattle.playlist_meaning.specs.Reading.{limited};

@@ -1,7 +1,7 @@
 //! Numbers in a fixed number of digits.
 ghost use Rattle.std.specs.Prelude.{◌≡◌, ◌++◌, ◌<◌, OnOk, string_bytes, true};
 ghost use Rattle.std.specs.Fmt.{digit_glyph};
-ghost use Rattle.playlist_meaning.specs.Digits.{fixed_digits};
+ghost use Rattle.instants.specs.Digits.{fixed_digits};
 
 use std::alloc::AllocError;
 

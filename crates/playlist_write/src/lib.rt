@@ -2,9 +2,9 @@
 #![tactic(auto)]
 
 ghost use Rattle.std.specs.Prelude.{◌≡◌, true, OnOk, OnErr, IfOk, IsErrOf, string_bytes};
-ghost use Rattle.std.specs.Io.KnownBytes.{Appends, Keeps};
+ghost use Rattle.std.specs.Io.KnownBytes.{Appends};
 ghost use Rattle.url.specs.Parts.{Parts};
-ghost use Rattle.devices.specs.Devices.{HasRisen};
+ghost use Rattle.devices.specs.Devices.{FailedAtLast, NoneFailed};
 ghost use Rattle.playlist_meaning.specs.Reading.{Denotes};
 ghost use Rattle.playlist_write.specs.Owed.{text_of};
 ghost use Rattle.playlist_write.specs.WellFormed.{well_formed};
@@ -117,15 +117,13 @@ pub fn write<S: Sink>(alloc: Global, playlist: &OutPlaylist, sink: &mut S) -> Re
     ensures denotes { well_formed playlist.now ≡ true
         → (base : Parts) → Denotes base (text_of playlist.now) (denoted playlist.now) }
 
-    // The sink is blamed only where it failed or took nothing.
-    ensures io { IsErrOf result WriteFault.Io → HasRisen (S.failed sink.old) (S.failed sink.new) }
+    // The sink is blamed exactly where a write failed or took nothing, and that write is the last.
+    ensures unfailed { OnOk result (NoneFailed (S.failed sink.old) (S.failed sink.new)) }
+    ensures io { IsErrOf result WriteFault.Io → FailedAtLast (S.failed sink.old) (S.failed sink.new) }
 
     // Nothing was written where memory was refused.
-    ensures memory { IsErrOf result WriteFault.OutOfMemory → Keeps (S.contents sink.old) (S.contents sink.new) }
+    ensures memory { IsErrOf result WriteFault.OutOfMemory → sink.new ≡ sink.old }
 {
     let text = make_text(alloc, playlist)?;
     Ok(hand_out(text.as_bytes(), sink)?)
 }
-
-#[cfg(test)]
-mod tests;

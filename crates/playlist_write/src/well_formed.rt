@@ -1,7 +1,7 @@
 //! Which playlists can be written so that the text says them.
 ghost use Rattle.std.specs.Prelude.{◌≡◌, ◌==◌, ◌+◌, IfOk, true, false};
 ghost use Rattle.std.specs.List.{list_all, list_any};
-ghost use Rattle.playlist_meaning.specs.Instant.{in_range};
+ghost use Rattle.instants.specs.Instant.{in_range};
 ghost use Rattle.fitting.specs.Fitting.{if_some, section_fits};
 ghost use Rattle.playlist_write.specs.WellFormed.{well_formed, fits_without_ranges, numbers_are_words, resource_fits, segment_fits, follows, all_follow, numbers_fit, is_mapped, sections_agree, version_fits, is_word};
 
@@ -40,17 +40,11 @@ fn optional_section_fits(section: &Option<Shared<InitSection>>) -> bool
     }
 }
 
-fn is_in_range(time: Instant) -> bool
-    ensures { result ≡ in_range time }
-{
-    time.0 >= -2_208_988_800_000_000_000 && time.0 < 7_258_118_400_000_000_000
-}
-
 fn optional_time_fits(time: Option<Instant>) -> bool
     ensures { result ≡ if_some in_range time }
 {
     match time {
-        Some(time) => is_in_range(time),
+        Some(time) => time.is_in_range(),
         None => true,
     }
 }

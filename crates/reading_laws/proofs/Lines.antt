@@ -8,7 +8,7 @@ use Rattle.url.specs.Parts.{Parts}
 use Rattle.fixed_duration.specs.Duration.{duration_of}
 use Rattle.attr_list.specs.Attributes.{attribute, Pair}
 use Rattle.attr_list.specs.Numbers.{decimal_of}
-use Rattle.playlist_meaning.specs.Instant.{instant_of, in_range}
+use Rattle.instants.specs.Instant.{instant_of, in_range}
 use Rattle.playlist_meaning.specs.declared.FaultKind.TheVariants as fault
 use Rattle.playlist_meaning.specs.Lines.{Kind, ignored, uri, tag, kind_of, has_control, is_blank, is_tag, is_comment, is_colon}
 use Rattle.playlist_meaning.specs.Said.{Name, sequence_tag, version_tag, target_tag, discontinuity_sequence_tag, type_tag, ended_tag, independent_tag, frames_tag, master_tag, duration_tag, range_tag, discontinuity_tag, key_tag, map_tag, time_tag, date_range_tag, unknown_tag, Said, nothing, version, target, sequence, discontinuity_sequence, playlist_type, ended, independent, duration, range, discontinuity, no_keys, section, time, media, Outcome, or_fault, mended, number, version_of, playlist_type_of, range_of, duration_said, key_said, section_said, date_range_said, attributes, required, optional, iv_of, quoted_of, uri_of, section_range, time_of, length_of, set_key, range_end_fits, key, date_range}
@@ -22,7 +22,7 @@ use Rattle.reading_laws.proofs.CleanCuts.{clean_is, clean_after, clean_after_fir
 use Rattle.reading_laws.proofs.AttributeValues.{pairs_fit, attributes_fit, attribute_fits, required_fits, optional_fits, quoted_fits}
 use Rattle.reading_laws.proofs.Values.{iv_is_fit, range_is_fit, range_of_fits, section_range_fits, plain_uri, quoted_uri, or_identity, key_from}
 use Rattle.reading_laws.proofs.Gives.{Gives, answers, fails, guarded, refused, chosen, found, told, bound, after}
-use Rattle.playlist_meaning.proofs.TimeRange.{said_in_range}
+use Rattle.instants.proofs.TimeRange.{said_in_range}
 use Rattle.reading_laws.proofs.Bounds.{decimal_is_word, duration_is_small}
 
 -- what is said fits by itself

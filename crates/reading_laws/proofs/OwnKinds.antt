@@ -5,7 +5,7 @@ use Rattle.std.specs.List.{list_any, before_first}
 use Rattle.url.specs.Parts.{Parts}
 use Rattle.fixed_duration.specs.Duration.{duration_of}
 use Rattle.attr_list.specs.Attributes.{attribute}
-use Rattle.playlist_meaning.specs.Instant.{instant_of}
+use Rattle.instants.specs.Instant.{instant_of}
 use Rattle.playlist_meaning.specs.declared.FaultKind.TheVariants as fault
 use Rattle.playlist_meaning.specs.Said.{Name, sequence_tag, version_tag, target_tag, discontinuity_sequence_tag, type_tag, ended_tag, independent_tag, frames_tag, master_tag, duration_tag, range_tag, discontinuity_tag, key_tag, map_tag, time_tag, date_range_tag, unknown_tag, Said, nothing, version, target, sequence, discontinuity_sequence, playlist_type, ended, independent, duration, range, discontinuity, no_keys, key, section, time, date_range, media, or_fault, mended, Reader, over, number, version_of, playlist_type_of, range_of, attributes, required, optional, iv_of, quoted_of, uri_of, section_range, time_of, length_of, key_said, section_said, date_range_said}
 use Rattle.playlist_meaning.specs.LookBack.{the_version, the_target, the_sequence, the_discontinuity_sequence, the_type, is_media, is_discontinuity, is_ended, count, own_duration, range_at, keys_at, discontinuity_at, number_at}

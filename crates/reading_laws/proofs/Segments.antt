@@ -5,7 +5,7 @@ use Rattle.std.specs.List.{list_all}
 use Rattle.std.proofs.lemmas.Bool.{and_parts, and_from}
 use Rattle.std.proofs.lemmas.List.Folds.{list_all-append}
 use Rattle.std.specs.Result.{result_unwrap_or}
-use Rattle.playlist_meaning.specs.Instant.{in_range}
+use Rattle.instants.specs.Instant.{in_range}
 use Rattle.playlist_meaning.specs.Said.{Said, duration, time, media, range, date_range, refuse_if, range_end_fits}
 use Rattle.playlist_meaning.specs.LookBack.{or_earlier, latest, the_duration, the_time, is_media, since_media, own_duration, segments_of, segment_at, the_range, own_range, Extent, range_here, range_from, last_extent, number_at, date_ranges_of}
 use Rattle.playlist_meaning.specs.declared.FaultKind.TheVariants as fault

@@ -8,7 +8,7 @@ use Rattle.attr_list.specs.Attributes.{is_value}
 use Rattle.playlist_meaning.specs.declared.Key.{Key}
 use Rattle.playlist_meaning.specs.declared.InitSection.{InitSection}
 use Rattle.playlist_meaning.specs.declared.Segment.{Segment}
-use Rattle.playlist_meaning.specs.Instant.{in_range}
+use Rattle.instants.specs.Instant.{in_range}
 use Rattle.playlist_meaning.specs.Lines.{has_control}
 use Rattle.playlist_meaning.specs.LookBack.{are_sorted}
 use Rattle.playlist_meaning.specs.Reading.{needs_iv}

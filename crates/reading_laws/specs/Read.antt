@@ -6,7 +6,7 @@ use Rattle.attr_list.specs.Attributes.{is_value}
 use Rattle.playlist_meaning.specs.declared.Segment.{Segment}
 use Rattle.playlist_meaning.specs.declared.DateRange.{DateRange}
 use Rattle.playlist_meaning.specs.declared.Playlist.{Playlist}
-use Rattle.playlist_meaning.specs.Instant.{in_range}
+use Rattle.instants.specs.Instant.{in_range}
 use Rattle.playlist_meaning.specs.Said.{Reader, date_range, date_range_said}
 use Rattle.playlist_meaning.specs.Reading.{has_section, needs_iv}
 use Rattle.playlist_meaning.specs.LookBack.{are_sorted}

@@ -29,6 +29,28 @@ pub byte_is : (k n : ℕ) → byte_at k n ≡ n / 256 ^ k % 256
 byte_is zero n = omega arith
 byte_is (suc k) n = refl
 
+byte_below : (k n : ℕ) → byte_at k n < 256
+byte_below k n = rw byte_is (mod_below (n / 256 ^ k) 256 (omega arith))
+
+pub IsBytes-bytes : (k n : ℕ) → IsBytes (bytes_high_first k n)
+IsBytes-bytes zero n i = omega arith
+IsBytes-bytes (suc k) n zero = byte_below k n
+IsBytes-bytes (suc k) n (suc i) = IsBytes-bytes k n i
+
+number_mod : (k n : ℕ) → number (bytes_high_first k n) ≡ n % 2 ^ (8 * k)
+number_mod zero n = omega arith
+number_mod (suc k) n =
+    let rest = bytes_high_first k n in
+    let bits = bytes-bits k in
+    let unit : 256 ^ length rest ≡ 2 ^ (8 * k) = ap (λ (m : ℕ). 256 ^ m) (length-bytes k n) ∙ bits in
+    let top : byte_at k n ≡ n / 2 ^ (8 * k) % 2 ^ 8 = byte_is k n ∙ ap (λ (m : ℕ). n / m % 256) bits in
+    let more : 8 + 8 * k ≡ 8 * suc k = omega arith in
+    let parts : (n / 2 ^ (8 * k) % 2 ^ 8) * 2 ^ (8 * k) + n % 2 ^ (8 * k) ≡ n % 2 ^ (8 + 8 * k) = sym (mod-pow-add n 8 (8 * k)) in
+    ap (λ (m : ℕ). byte_at k n * m + number rest) unit ∙ ap (λ (m : ℕ). m * 2 ^ (8 * k) + number rest) top ∙ ap (λ (m : ℕ). (n / 2 ^ (8 * k) % 2 ^ 8) * 2 ^ (8 * k) + m) (number_mod k n) ∙ parts ∙ ap (λ (m : ℕ). n % 2 ^ m) more
+
+pub number_of_bytes : (k n : ℕ) → n < 2 ^ (8 * k) → number (bytes_high_first k n) ≡ n
+number_of_bytes k n below = number_mod k n ∙ mod-eq_of_lt below
+
 -- the lowest bytes of a number
 pub lowest_bytes : (j k n : ℕ) → drop j (bytes_high_first (j + k) n) ≡ bytes_high_first k n
 lowest_bytes zero k n = ap (λ (m : ℕ). bytes_high_first m n) (omega arith)
@@ -64,6 +86,14 @@ Appends-then {fs} {gs} {a} {b} {c} p q = record {
 
 pub Appends-is : {fs gs : List Field} {a b : List ℕ} → fs ≡ gs → Appends fs a b → Appends gs a b
 Appends-is {fs} {gs} {a} {b} e h = subst (λ (x : List Field). Appends x a b) e h
+
+pub group_appends : (count : ℕ) (fields : List Field) (n : ℕ) (old new : List ℕ) → new ≡ old ++ bytes_high_first count n → 8 * count ≡ width fields → n < 2 ^ (8 * count) → Splits IsWritten fields n → Appends fields old new
+group_appends count fields n old new whole size below split = record {
+  added = bytes_high_first count n;
+  whole = whole;
+  bytes = IsBytes-bytes count n;
+  holds = record { count = ap (λ (k : ℕ). 8 * k) (length-bytes count n) ∙ size; split = subst (λ (m : ℕ). Splits IsWritten fields m) (sym (number_of_bytes count n below)) split };
+}
 
 pub bytes_append : (bs old new : List ℕ) → new ≡ old ++ bs → IsBytes bs → Appends (bytes_of bs) old new
 bytes_append bs old new whole fits = record { added = bs; whole = whole; bytes = fits; holds = bytes_hold IsWritten (λ v n e. e) bs fits }

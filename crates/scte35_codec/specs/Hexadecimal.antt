@@ -10,7 +10,7 @@ use Rattle.scte35_codec.specs.declared.fault.SpliceFault.TheVariants.{NotHex}
 use Rattle.scte35_codec.specs.Section.{Section}
 use Rattle.scte35_codec.specs.Reading.{◌>>=◌, reading}
 
--- whether a text begins with `0x` or `0X`
+-- whether a text begins with `0x` or `0X`, of which 48, 120 and 88 are the bytes
 abbrev pub is_marked : List ℕ → Bool
 is_marked text = slice_index text 0 == 48 && (slice_index text 1 == 120 || slice_index text 1 == 88)
 

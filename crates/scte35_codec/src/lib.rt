@@ -23,6 +23,3 @@ pub use info::{
 };
 pub use reading::read;
 pub use writing::{write, write_with_crc};
-
-#[cfg(test)]
-mod tests;

@@ -4,7 +4,7 @@ use Rattle.std.specs.Prelude.{ℕ, ℤ, Option, Result, IsOk}
 use Rattle.std.specs.Option.{ok_or}
 use Rattle.url.specs.Parts.{Parts}
 use Rattle.playlist_meaning.specs.declared.FaultKind.TheVariants as fault
-use Rattle.playlist_meaning.specs.Instant.{instant_of}
+use Rattle.instants.specs.Instant.{instant_of}
 use Rattle.playlist_meaning.specs.Said.{Said, time, time_tag, or_fault, ◌>>=◌}
 use Rattle.playlist_meaning.specs.LookBack.{standing_at, with_said}
 use Rattle.playlist_meaning.specs.Reading.{said_by_tag, limited}

@@ -1,5 +1,5 @@
 -- A state, and what a line does to it.
-use Rattle.std.specs.Prelude.{◌≡◌, ◌+◌, Option, None, List, ◌∷◌, Result, Ok, MatchResult, IsOk}
+use Rattle.std.specs.Prelude.{◌≡◌, ◌+◌, Option, None, List, ◌∷◌, Result, Ok, Err, MatchResult, IsOk}
 use Rattle.url.specs.Parts.{Parts}
 use Rattle.playlist_meaning.specs.declared.FaultKind.{FaultKind}
 use Rattle.playlist_meaning.specs.declared.Segment.{Segment}
@@ -42,7 +42,15 @@ Takes outcome old new result =
     (λ _. IsOk (outcome old.base before) × (new ≡ running_at old.base (with_said before (outcome old.base before))))
     (λ e. Refuses e (outcome old.base before) × (new ≡ old))
 
--- the same of a URI line, which gives a segment: the one that stands there
+-- the same of a line that takes no memory: the fault is always the line's own
+abbrev pub TakesExactly : (Parts → List Said → Outcome Said) → Running → Running → Result (Unit {0}) FaultKind → Type 0
+TakesExactly outcome old new result =
+    (before : List Said) → old.standing ≡ standing_at before →
+    MatchResult result
+    (λ _. IsOk (outcome old.base before) × (new ≡ running_at old.base (with_said before (outcome old.base before))))
+    (λ e. (outcome old.base before ≡ Err e) × (new ≡ old))
+
+-- what Takes says of a URI line, which gives a segment: the one that stands there
 abbrev pub TakesSegment : (Parts → List Said → Outcome Said) → Running → Running → Result Segment FaultKind → Type 0
 TakesSegment outcome old new result =
     (before : List Said) → old.standing ≡ standing_at before →

@@ -7,13 +7,7 @@ use Rattle.playlist_meaning.specs.declared.KeyAttr.{KeyAttr}
 use Rattle.playlist_meaning.specs.Said.{Said, no_keys, key, section, Outcome, refuse_if, over, is_key_attribute, key_attr}
 use Rattle.playlist_meaning.specs.LookBack.{put_key}
 use Rattle.segment_state.specs.Attributes.{pairs_of}
-use Rattle.segment_state.specs.declared.tags.KeyTag.{KeyTag}
-use Rattle.segment_state.specs.declared.tags.KeyTag.TheVariants.{End, Set}
 use Rattle.segment_state.specs.declared.tags.SectionTag.{SectionTag}
-
-abbrev pub key_tag_said : KeyTag → Said
-key_tag_said End = no_keys
-key_tag_said (Set k) = key k
 
 abbrev pub section_tag_said : SectionTag → Said
 section_tag_said tag = section tag.uri tag.range

@@ -10,16 +10,16 @@ ghost use Rattle.playlist_meaning.specs.Reading.{limited, said_by_tag, said_by_u
 ghost use Rattle.playlist_meaning.specs.Said as said;
 ghost use Rattle.playlist_meaning.specs.Said.{uri_of};
 ghost use Rattle.playlist_meaning.specs.Refusals.{Gives};
-ghost use Rattle.segment_state.specs.Running.{running_at, behind_segment, Follows, Takes, TakesSegment};
+ghost use Rattle.segment_state.specs.Running.{running_at, behind_segment, Follows, Takes, TakesExactly, TakesSegment};
 ghost use Rattle.segment_state.specs.Views.{extent_of};
 
 use crate::keys::{copied_keys, effective_keys, put_key};
 use crate::references::References;
-use crate::tags::{KeyTag, key_said, range_of, section_said};
+use crate::tags::{key_said, range_of, section_said};
 use fixed_duration::Nanos;
 use playlist_meaning::{
-    Base, ByteRange, FaultKind, InitSection, Instant, Items, Key, Keys, Segment, Shared, Text,
-    is_iv_needed,
+    Base, ByteRange, FaultKind, InitSection, Instant, Items, Key, KeyTag, Keys, Segment, Shared,
+    Text, is_iv_needed,
 };
 use std::alloc::{AllocError, Global};
 use std::marker::Model;
@@ -114,9 +114,10 @@ impl<'a> State<'a> {
         self.discontinuities > 0
     }
 
-    /// A discontinuity before the next segment (4.3.2.3). `BadValue` where its number passes 2^64 - 1.
+    /// A discontinuity before the next segment (4.3.2.3). `BadValue` where its number passes 2^64 - 1. Takes no
+    /// memory.
     pub fn discontinuity(&mut self) -> Result<(), FaultKind>
-        ensures { Takes (λ base before. said_by_tag limited base before said.discontinuity_tag []) self.old self.new result }
+        ensures { TakesExactly (λ base before. said_by_tag limited base before said.discontinuity_tag []) self.old self.new result }
     {
         let Some(total) = self.discontinuities.checked_add(1) else {
             return Err(FaultKind::BadValue);
@@ -178,7 +179,7 @@ impl<'a> State<'a> {
     /// The byte range of the next segment (4.3.2.2). `BadRange` where it states none, or its end
     /// passes 2^64 - 1. Takes no memory.
     pub fn range_tag(&mut self, rest: &str) -> Result<(), FaultKind>
-        ensures { Takes (λ base before. said_by_tag limited base before said.range_tag rest.now) self.old self.new result }
+        ensures { TakesExactly (λ base before. said_by_tag limited base before said.range_tag rest.now) self.old self.new result }
     {
         self.range = Some(range_of(rest)?);
         Ok(())

@@ -3,29 +3,22 @@ ghost use Rattle.std.specs.Prelude.{◌≡◌, IfOk, codes};
 ghost use Rattle.attr_list.specs.Attributes.{attribute};
 ghost use Rattle.attr_list.specs.Attrs.{attr_pair};
 ghost use Rattle.playlist_meaning.specs.Said as said;
-ghost use Rattle.playlist_meaning.specs.Said.{iv_of, uri_of, set_key, key_said, section_said, section_range, range_of, is_key_attribute, key_attr, or_fault};
+ghost use Rattle.playlist_meaning.specs.Said.{iv_of, key_tag_said, uri_of, set_key, key_said, section_said, section_range, range_of, is_key_attribute, key_attr, or_fault};
 ghost use Rattle.attr_list.specs.Numbers.{decimal_of};
 ghost use Rattle.playlist_meaning.specs.Reading.{limited};
 ghost use Rattle.playlist_meaning.specs.Refusals.{Gives};
 ghost use Rattle.segment_state.specs.Attributes.{pairs_of};
-ghost use Rattle.segment_state.specs.Tags.{others_of, key_tag_said, section_tag_said};
+ghost use Rattle.segment_state.specs.Tags.{others_of, section_tag_said};
 
 use crate::attributes::{attributes_of, optional, required};
 use attr_list::{Attr, AttrList, read_decimal, read_hex_u128};
-use playlist_meaning::{Base, BaseFault, ByteRange, FaultKind, Items, Key, KeyAttr, Shared, Text};
+use playlist_meaning::{
+    Base, BaseFault, ByteRange, FaultKind, Items, Key, KeyAttr, KeyTag, Shared, Text,
+};
 use std::alloc::{AllocError, Global};
 
 /// The format of a key that states none.
 const IDENTITY: &str = "identity";
-
-/// What a key tag says.
-#[derive(Drop)]
-pub enum KeyTag {
-    /// METHOD=NONE: the keys of every format end.
-    End,
-    /// This key is in force, in place of the one of its format.
-    Set(Key),
-}
 
 /// What a map tag says: a resource, and the part of it.
 #[derive(Drop)]

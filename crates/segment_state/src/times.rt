@@ -1,7 +1,7 @@
 //! The instants that a playlist states (RFC 8216, 4.3.2.6).
 ghost use Rattle.playlist_meaning.specs.Reading.{limited, said_by_tag};
 ghost use Rattle.playlist_meaning.specs.Said as said;
-ghost use Rattle.segment_state.specs.Running.{Takes};
+ghost use Rattle.segment_state.specs.Running.{TakesExactly};
 
 use crate::State;
 use playlist_meaning::{FaultKind, read_instant};
@@ -10,7 +10,7 @@ impl<'a> State<'a> {
     /// The instant at which the next segment begins (4.3.2.6). Of several, the last stands. `BadTime`
     /// where the text says none. Takes no memory.
     pub fn time_tag(&mut self, rest: &str) -> Result<(), FaultKind>
-        ensures { Takes (λ base before. said_by_tag limited base before said.time_tag rest.now) self.old self.new result }
+        ensures { TakesExactly (λ base before. said_by_tag limited base before said.time_tag rest.now) self.old self.new result }
     {
         let Ok(instant) = read_instant(rest) else {
             return Err(FaultKind::BadTime);

@@ -9,7 +9,7 @@ use Rattle.playlist_meaning.specs.declared.Key.{Key}
 use Rattle.playlist_meaning.specs.LookBack.{put_key, insert_key, is_before, are_sorted}
 use Rattle.playlist_meaning.proofs.ListTests.{all_with, all_filter, filter_like, filter_all}
 use Rattle.playlist_meaning.proofs.KeyOrder.{not_back, differ_back, differ, like, like_behind, chained}
-use Rattle.stitcher.specs.declared.KeyTag.TheVariants.{End, Set}
+use Rattle.playlist_meaning.specs.declared.KeyTag.TheVariants.{End, Set}
 use Rattle.playlist_meaning.specs.Same.{same_key}
 use Rattle.stitcher.specs.KeyTags.{has_its_format, is_new, keeps_formats, transition, after_tags}
 use Rattle.playlist_meaning.proofs.SameParts.{key_is}

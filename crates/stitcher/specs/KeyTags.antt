@@ -3,8 +3,8 @@ use Rattle.std.specs.Prelude.{Bool, not, List, [], ◌∷◌, map, filter, if◌
 use Rattle.std.specs.List.{list_any, list_all}
 use Rattle.playlist_meaning.specs.declared.Key.{Key}
 use Rattle.playlist_meaning.specs.LookBack.{has_format, put_key}
-use Rattle.stitcher.specs.declared.KeyTag.{KeyTag}
-use Rattle.stitcher.specs.declared.KeyTag.TheVariants.{End, Set}
+use Rattle.playlist_meaning.specs.declared.KeyTag.{KeyTag}
+use Rattle.playlist_meaning.specs.declared.KeyTag.TheVariants.{End, Set}
 use Rattle.playlist_meaning.specs.Same.{same_key}
 
 -- one of the keys has the format of this one

@@ -5,8 +5,8 @@ ghost use Rattle.playlist_meaning.specs.LookBack.{has_format, are_sorted};
 ghost use Rattle.playlist_meaning.specs.Same.{same_key};
 ghost use Rattle.stitcher.specs.KeyTags.{is_new, keeps_formats, transition, after_tags};
 
-use crate::{KeyTag, StitchFault};
-use playlist_meaning::{Key, is_same_key};
+use crate::StitchFault;
+use playlist_meaning::{Key, KeyTag, is_same_key};
 use std::alloc::{AllocError, Global};
 
 fn has_format(keys: &[Key], format: &str) -> bool

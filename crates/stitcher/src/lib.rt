@@ -1,7 +1,7 @@
 //! What is put into a playlist: segments with their numbers, and the key tags between them.
 #![tactic(auto)]
 
-use playlist_meaning::{Instant, Key, Segment};
+use playlist_meaning::{Instant, Segment};
 
 mod fault;
 mod key_tags;
@@ -9,15 +9,6 @@ pub mod laws;
 
 pub use fault::StitchFault;
 pub use key_tags::{is_new, keeps_formats, transition};
-
-/// A key tag (RFC 8216, section 4.3.2.4).
-#[derive(Clone, PartialEq, Drop)]
-pub enum KeyTag {
-    /// METHOD=NONE: no key is in force any more.
-    End,
-    /// This key is in force, in place of the one of its format.
-    Set(Key),
-}
 
 /// A segment as it stands in a written playlist. Its own numbers and time are not those of `segment`.
 #[derive(Clone, PartialEq, Drop)]
@@ -33,6 +24,3 @@ pub struct OutSegment {
     /// The instant that is written before it, if one is.
     pub time: Option<Instant>,
 }
-
-#[cfg(test)]
-mod tests;

@@ -2,7 +2,7 @@
 use Rattle.std.proofs.Common.{◌≡◌, ℕ, Bool, true, false, cond, List, [], ◌∷◌, ◌++◌, refl, ap, sym, ◌∙◌, arith, ℤ, pos}
 use Rattle.std.specs.Prelude.{◌-ℤ◌, int_lt, Option, Some, None, option_map}
 use Rattle.playlist_meaning.specs.declared.Segment.{Segment}
-use Rattle.playlist_meaning.specs.Instant.{first_instant, in_range, if_in_range}
+use Rattle.instants.specs.Instant.{first_instant, in_range, if_in_range}
 use Rattle.playlist_meaning.specs.Instants.{bounded, begins_at, ends_at, instants_after, instants_of, reckoned_back}
 use Rattle.playlist_meaning.specs.LookBack.{or_earlier}
 use Rattle.timeline.specs.Reckoned.{clamped, reckoned, stack_of, Walked}

@@ -9,24 +9,15 @@ ghost use Rattle.timeline.specs.Timed.{with_time, timed};
 ghost use Rattle.timeline.specs.Laws.{SaidAreInRange, BegunAreInRange};
 
 use fixed_duration::Nanos;
+use instants::FIRST_INSTANT;
 use playlist_meaning::{Instant, Segment};
 use std::alloc::{AllocError, Global};
-
-/// The first instant: 1900-01-01T00:00:00Z, in nanoseconds from 1970.
-const FIRST_INSTANT: i128 = -2_208_988_800_000_000_000;
-
-/// The end of all instants: 2200-01-01T00:00:00Z.
-const END_OF_INSTANTS: i128 = 7_258_118_400_000_000_000;
 
 // The instant, unless it lies outside the range.
 fn bounded(nanos: Option<i128>) -> Option<Instant>
     ensures { result ≡ bounded nanos }
 {
-    let nanos = nanos?;
-    if nanos < FIRST_INSTANT || nanos >= END_OF_INSTANTS {
-        return None;
-    }
-    Some(Instant(nanos as i64))
+    Instant::from_nanos(nanos?)
 }
 
 fn nanos_of(instant: Option<Instant>) -> Option<i128>
@@ -144,6 +135,3 @@ pub fn instants_law()
     ensures said { SaidAreInRange }
     ensures begun { BegunAreInRange }
 {}
-
-#[cfg(test)]
-mod tests;

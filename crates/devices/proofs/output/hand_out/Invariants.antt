@@ -1,11 +1,12 @@
-use Rattle.std.proofs.Common.{◌≡◌, length}
+use Rattle.std.proofs.Common.{length}
+use Rattle.devices.specs.Devices.{NoneFailed}
 use Rattle.devices.proofs.Fronts.{Joins}
 use Rattle.devices.proofs.output.hand_out.Given as goal
 
 abbrev pub invariant-loop-rest : goal.invariant-loop-rest
 invariant-loop-rest g l = record {
   taken : Joins (g.S.Sink.contents l.fn.sink) (g.S.Sink.contents l.sink) l.rest l.bytes;
-  failed : g.S.Sink.failed l.sink ≡ g.S.Sink.failed l.fn.sink;
+  failed : NoneFailed (g.S.Sink.failed l.fn.sink) (g.S.Sink.failed l.sink);
 }
 
 abbrev pub decreases-loop-rest : goal.decreases-loop-rest

@@ -1,4 +1,5 @@
-use Rattle.std.proofs.Common.{◌<◌, [], take, length, sym, ◌∙◌, arith, append-nil, refl, subst}
+use Rattle.std.proofs.Common.{◌<◌, [], take, length, length-append, sym, ap, ◌∙◌, arith, append-nil, refl, subst}
+use Rattle.devices.specs.Devices.{Failures}
 use Rattle.std.proofs.KnownBytes.{Consumes-trans}
 use Rattle.std.specs.Io.KnownBytes.{Consumes}
 use Rattle.http_edge.proofs.input.read_input.Goals as goal
@@ -17,5 +18,6 @@ loop-preserved g c =
       given = subst (Consumes _ _) (sym c.in_ok-extend_from_slice.ensures.items) (Consumes-trans _ _ _ _ block c.loop.invariant.given c.in-Ok.ensures.bytes.0);
       called = λ h. omega (arith, c.in-Ok.ensures.calls, c.loop.invariant.called);
       calls = omega (arith, c.in-Ok.ensures.calls);
-      failed = c.in-Ok.ensures.failures ∙ c.loop.invariant.failed;
+      failed = ap (λ (f : Failures). f.count) c.in-Ok.ensures.failures ∙ c.loop.invariant.failed;
+      many = omega (arith, c.loop.invariant.many, c.if-count-eq0.false, c.in-Ok.ensures.bound.1, ap length c.in_ok-extend_from_slice.ensures.items, length-append c.loop.input.items block);
     }

@@ -1,7 +1,7 @@
 use Rattle.std.proofs.Common.{ap, ◌∙◌}
 use Rattle.std.specs.Option.{ok_or}
-use Rattle.playlist_meaning.specs.Instant.{instant_of}
-use Rattle.playlist_meaning.specs.declared.read_time.TimeFault.TheVariants.{BadTime}
+use Rattle.instants.specs.Instant.{instant_of}
+use Rattle.instants.specs.declared.reading.TimeFault.TheVariants.{BadTime}
 use Rattle.attr_list.specs.Attrs.{attr_pair}
 use Rattle.playlist_parse.proofs.DateRangeLemmas.{time_found, time_refused}
 use Rattle.playlist_parse.proofs.date_range.instant_of.Goals as goal

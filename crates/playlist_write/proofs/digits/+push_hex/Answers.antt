@@ -1,8 +1,8 @@
 use Rattle.std.proofs.Common.{◌∷◌, [], ◌-◌, ◌/◌, ◌%◌, ◌++◌, string_bytes, ap, ◌∙◌, sym, true}
 use Rattle.std.specs.Fmt.{digit_glyph}
-use Rattle.playlist_meaning.specs.Digits.{fixed_digits}
-use Rattle.playlist_meaning.proofs.Chains.{grown2, as_text, unchanged}
-use Rattle.playlist_meaning.proofs.FixedDigits.{fixed_none, fixed_more}
+use Rattle.instants.specs.Digits.{fixed_digits}
+use Rattle.instants.proofs.Chains.{grown2, as_text, unchanged}
+use Rattle.instants.proofs.FixedDigits.{fixed_none, fixed_more}
 use Rattle.playlist_write.proofs.digits.+push_hex.Goals as goal
 
 pub returns-then-count-eq0 : goal.returns-then-count-eq0

@@ -2,7 +2,7 @@ use Rattle.std.proofs.Common.{◌∙◌, ◌∷◌, [], string_bytes, map}
 use Rattle.std.specs.Prelude.{codes}
 use Rattle.attr_list.specs.Attributes.{pair_spelling}
 use Rattle.playlist_write.specs.Spelling.{plain, in_quotes, iv_pairs, format_pairs, attr_pair, after_commas}
-use Rattle.playlist_meaning.proofs.Chains.{grown7, as_text}
+use Rattle.instants.proofs.Chains.{grown7, as_text}
 use Rattle.playlist_write.proofs.TagLines.{key_parts}
 use Rattle.playlist_write.proofs.keys.push_key.Goals as goal
 

@@ -1,7 +1,7 @@
 use Rattle.std.proofs.Common.{◌∷◌, [], string_bytes}
 use Rattle.std.specs.Prelude.{codes}
 use Rattle.playlist_write.specs.Spelling.{range_text}
-use Rattle.playlist_meaning.proofs.Chains.{grown3, as_text}
+use Rattle.instants.proofs.Chains.{grown3, as_text}
 use Rattle.playlist_write.proofs.TagLines.{range_parts}
 use Rattle.playlist_write.proofs.segments.push_range_line.Goals as goal
 

@@ -1,6 +1,6 @@
 use Rattle.std.proofs.Common.{◌≡◌, map, take}
 use Rattle.std.specs.Prelude.{filter}
-use Rattle.stitcher.specs.declared.KeyTag.TheVariants.{Set}
+use Rattle.playlist_meaning.specs.declared.KeyTag.TheVariants.{Set}
 use Rattle.stitcher.specs.KeyTags.{is_new}
 use Rattle.stitcher.proofs.key_tags.tags_of_new.Given as goal
 

@@ -2,10 +2,10 @@ use Rattle.playlist_meaning.specs.Said as said
 use Rattle.playlist_meaning.specs.Reading.{said_by_tag}
 use Rattle.playlist_meaning.specs.Reading.{limited}
 use Rattle.playlist_parse.specs.Views.{progress_of}
-use Rattle.playlist_parse.proofs.Kept.{takes_tag, time_tag_says}
+use Rattle.playlist_parse.proofs.Kept.{takes_tag_exactly, time_tag_says}
 use Rattle.playlist_parse.proofs.progress.Progress.time.Goals as goal
 
 pub returns : goal.returns
 returns c =
-    takes_tag (λ base before. said_by_tag limited base before said.time_tag c.args.rest.now) (progress_of c.self.inside) c.args.self.now _ _ c.self.view_is
+    takes_tag_exactly (λ base before. said_by_tag limited base before said.time_tag c.args.rest.now) (progress_of c.self.inside) c.args.self.now _ _ c.self.view_is
     (λ base before. time_tag_says limited base before c.args.rest.now) c.time_tag.ensures

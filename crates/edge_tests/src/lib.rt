@@ -1,0 +1,11 @@
+//! Tests of reading, writing and whole runs: what no clause says, and each public call once.
+#![tactic(auto)]
+
+#[cfg(test)]
+mod reading;
+#[cfg(test)]
+mod runs;
+#[cfg(test)]
+mod stated_runs;
+#[cfg(test)]
+mod writing;
