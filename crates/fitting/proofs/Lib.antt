@@ -1,1 +1,2 @@
 pub mod EachRest
+pub mod Hexadecimal

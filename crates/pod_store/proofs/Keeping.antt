@@ -1,7 +1,7 @@
 -- What a decision file says keeps the rules of pods.
-use Rattle.std.proofs.Common.{suc, ◌≡◌, ◌≤◌, ℕ, ◌+◌, ◌^◌, Bool, true, false, not, List, [], ◌∷◌, ◌++◌, length, map, sum, codes, refl, sym, ◌∙◌, subst, Some, None, arith, length-append}
+use Rattle.std.proofs.Common.{ap, suc, ◌≡◌, ◌≤◌, ℕ, ◌+◌, ◌^◌, Bool, true, false, not, List, [], ◌∷◌, ◌++◌, length, map, sum, codes, refl, sym, ◌∙◌, subst, Some, None, arith, length-append}
 use Rattle.std.specs.Prelude.{Option, Result, Ok, Err, ◌==◌, nat_lt, nat_le, unwrap_or}
-use Rattle.std.specs.Str.{chars}
+use Rattle.std.specs.Str.{is_utf8, chars}
 use Rattle.std.specs.List.{list_all}
 use Rattle.std.proofs.lemmas.Bool.{and_from, le-leb}
 use Rattle.std.proofs.lemmas.Bool.Decides.{nat_tests}
@@ -21,6 +21,9 @@ use Rattle.pod_store.specs.Json.{text_at, list_at, u64_of}
 use Rattle.pod_store.specs.Pods.{is_uri, is_method, is_format, segment_count}
 use Rattle.pod_store.specs.Decided as said
 use Rattle.pod_store.specs.Rules.{range_fits, segment_keeps, key_keeps, ad_keeps, ads_keep}
+use Rattle.attr_list.specs.Numbers.{hex_of}
+use Rattle.fitting.specs.Fitting.{iv_fits}
+use Rattle.fitting.proofs.Hexadecimal.{hex_is_iv}
 use Rattle.pod_store.proofs.Bounds.{duration_is_small}
 
 -- ---- steps that are passed
@@ -132,7 +135,7 @@ abbrev HasFormat : Option (List ℕ) → Type 0
 HasFormat o = is_format (unwrap_or o (codes "identity")) ≡ true
 
 identity_is : HasFormat None
-unfolding chars
+unfolding chars is_utf8 lib.Utf8.encode
 identity_is = refl
 
 method_is : (place : Place) (d : Data) (m : List ℕ) → said.method_said place d ≡ Ok m → is_method m ≡ true
@@ -158,6 +161,15 @@ optional_is : {A B : Type 0} (P : Option B → Type 0) (read : A → Outcome B) 
 optional_is P read None none each = answers P None none
 optional_is P read (Some a) none each = some_is P (read a) (each a)
 
+found : {A : Type 0} (e : DecisionFault) (o : Option A) (x : A) → or_fault e o ≡ Ok x → o ≡ Some x
+found e None x h = absurd (cc)
+found e (Some y) x h = ap Some (same_ok y x h)
+
+iv_is : (place : Place) (d : Data) (n : ℕ) → said.iv_said place d ≡ Ok n → iv_fits n ≡ true
+iv_is place d =
+    after (λ n. iv_fits n ≡ true) (or_fault (fault_at place BadKey) (text_at (codes "iv") d)) (λ text. or_fault (fault_at place BadKey) (hex_of text))
+    (λ text was n h. hex_is_iv text n (found (fault_at place BadKey) (hex_of text) n h))
+
 abbrev key : List ℕ → List ℕ → ℕ → Option (List ℕ) → Key
 key method uri iv format = record { format = unwrap_or format (codes "identity"); method = method; uri = uri; iv = Some iv; other = [] }
 
@@ -168,7 +180,7 @@ members_keep place d =
     (λ uri u. after KeyKeeps (said.iv_said place d) (λ iv. optional (said.format_said place) (get (codes "format") d) >>= λ format. Ok (key method uri iv format))
     (λ iv i. after KeyKeeps (optional (said.format_said place) (get (codes "format") d)) (λ format. Ok (key method uri iv format))
     (λ format f. answers KeyKeeps (key method uri iv format)
-    (and_from _ _ (and_from _ _ (and_from _ _ (and_from _ _ (method_is place d method m) (key_uri_is place d uri u)) refl)
+    (and_from _ _ (and_from _ _ (and_from _ _ (and_from _ _ (method_is place d method m) (key_uri_is place d uri u)) (iv_is place d iv i))
     (optional_is HasFormat (said.format_said place) (get (codes "format") d) identity_is (λ a x e. format_is place a x e) format f)) refl)))))
 
 key_is : (place : Place) (d : Data) (k : Key) → said.key_said place d ≡ Ok k → KeyKeeps k

@@ -1,12 +1,14 @@
--- What holds of the store, whatever was called.
+-- What holds of pods that keep the rules, and of the store, whatever was called.
 use Rattle.std.specs.Prelude.{◌≡◌, ℕ, ◌≤◌, Bool, true, not, ◌&&◌, List, [], ◌∷◌, length, Option, Some, None, Ok, Err, bytes_eq, if◌then◌else◌}
-use Rattle.std.specs.List.{list_any}
+use Rattle.std.specs.List.{list_any, list_all}
 use Rattle.playlist_meaning.specs.LookBack.{or_earlier}
-use Rattle.playlist_meaning.specs.Pods.{Pod}
+use Rattle.playlist_meaning.specs.Pods.{PodSegment, Ad, Pod}
+use Rattle.fitting.specs.Fitting.{if_some, uri_fits, range_fits, duration_fits, effective_keys_fit, section_fits}
 use Rattle.pod_store.specs.declared.Decisions.{Decisions}
 use Rattle.pod_store.specs.declared.Decisions.TheVariants.{Breaks, Withdraw}
 use Rattle.pod_store.specs.Outcome.{Outcome}
 use Rattle.pod_store.specs.Decided.{Decision}
+use Rattle.pod_store.specs.Rules.{ads_keep}
 use Rattle.pod_store.specs.Store.{Entry, has_id, entry_for, pod_for, is_used, with_all, withdrawn, decided, with_used, released}
 
 -- ---- calls
@@ -82,3 +84,16 @@ pod_by id (call ∷ earlier) = pod_after id call (after_calls earlier) (pod_by i
 -- after any calls each break has the pod that the last decision on it gave it, where none took it away since
 abbrev pub LastPodStands : Type 0
 LastPodStands = (calls : List Call) (id : List ℕ) → pod_for (after_calls calls) id ≡ pod_by id calls
+
+-- ---- writing
+
+abbrev pub segment_can_be_written : PodSegment → Bool
+segment_can_be_written s = uri_fits s.uri && if_some range_fits s.range && duration_fits s.duration
+
+-- its segments, and its keys and section as those of a segment
+abbrev pub ad_can_be_written : Ad → Bool
+ad_can_be_written ad = effective_keys_fit ad.keys && if_some section_fits ad.section && list_all segment_can_be_written ad.segments
+
+-- the ads of each pod can be written, with keys and sections or without
+abbrev pub PodsCanBeWritten : Type 0
+PodsCanBeWritten = (ads : List Ad) → ads_keep ads ≡ true → list_all ad_can_be_written ads ≡ true

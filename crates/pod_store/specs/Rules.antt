@@ -1,10 +1,11 @@
 -- The rules that each decided pod keeps.
-use Rattle.std.specs.Prelude.{◌+◌, ◌^◌, Bool, true, ◌&&◌, ◌==◌, nat_le, nat_lt, List, map, sum, length, Option, Some, None, is_some}
+use Rattle.std.specs.Prelude.{ℕ, false, ◌+◌, ◌^◌, Bool, true, ◌&&◌, ◌==◌, nat_le, nat_lt, List, map, sum, length, Option, Some, None}
 use Rattle.std.specs.List.{list_all}
 use Rattle.playlist_meaning.specs.declared.ByteRange.{ByteRange}
 use Rattle.playlist_meaning.specs.declared.InitSection.{InitSection}
 use Rattle.playlist_meaning.specs.declared.Key.{Key}
 use Rattle.playlist_meaning.specs.Pods.{PodSegment, Ad}
+use Rattle.fitting.specs.Fitting.{iv_fits}
 use Rattle.pod_store.specs.Pods.{is_uri, is_method, is_format, segment_count}
 
 abbrev pub range_fits : Option ByteRange → Bool
@@ -15,8 +16,13 @@ range_fits (Some r) = nat_lt (r.length + r.offset) (2 ^ 64)
 abbrev pub segment_keeps : PodSegment → Bool
 segment_keeps s = is_uri s.uri && range_fits s.range && nat_lt s.duration (10 ^ 15)
 
+-- an IV of 128 bits
+abbrev pub iv_keeps : Option ℕ → Bool
+iv_keeps None = false
+iv_keeps (Some iv) = iv_fits iv
+
 abbrev pub key_keeps : Key → Bool
-key_keeps k = is_method k.method && is_uri k.uri && is_some k.iv && is_format k.format && length k.other == 0
+key_keeps k = is_method k.method && is_uri k.uri && iv_keeps k.iv && is_format k.format && length k.other == 0
 
 -- it has no other keys than an ad can have
 abbrev pub section_keeps : Option InitSection → Bool

@@ -1,5 +1,5 @@
-//! Laws of the store. Each function's contract is its law; calling it does nothing.
-ghost use Rattle.pod_store.specs.Laws.{StaysSmall, UsedPodsStay, LastPodStands};
+//! Laws of pods and of the store. Each function's contract is its law; calling it does nothing.
+ghost use Rattle.pod_store.specs.Laws.{PodsCanBeWritten, StaysSmall, UsedPodsStay, LastPodStands};
 
 /// After any calls no break stands twice in the store, and at most 256 are decided.
 pub fn stays_small()
@@ -15,4 +15,9 @@ pub fn used_pods_stay()
 /// released since.
 pub fn last_pod_stands()
     ensures { LastPodStands }
+{}
+
+/// Each segment of a pod can be written, with the keys and the initialisation section of its ad.
+pub fn pods_can_be_written()
+    ensures { PodsCanBeWritten }
 {}

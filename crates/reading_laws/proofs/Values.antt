@@ -16,6 +16,7 @@ use Rattle.playlist_meaning.specs.declared.FaultKind.TheVariants as fault
 use Rattle.playlist_meaning.specs.Uri.{has_scheme, can_be_written, joined, resolved}
 use Rattle.playlist_meaning.specs.Said.{or_fault, value_if, iv_of, quoted_of, uri_of, range_of, section_range, range_end_fits, key_attr, is_key_attribute}
 use Rattle.fitting.specs.Fitting.{if_some, is_clean, value_fits, method_fits, iv_fits, range_fits}
+use Rattle.fitting.proofs.Hexadecimal.{hex_is_iv}
 use Rattle.playlist_write.proofs.CleanTexts.{Clean, clean_printable}
 use Rattle.reading_laws.specs.Read.{uri_reads, quoted_uri_reads, key_reads}
 use Rattle.reading_laws.proofs.Gives.{Gives, answers, guarded, chosen, found, after}
@@ -24,27 +25,6 @@ use Rattle.reading_laws.proofs.CleanCuts.{clean_is, is_is_clean}
 use Rattle.reading_laws.proofs.AttributeValues.{pair_fits, pairs_fit, others_fit, others_distinct}
 
 -- ---- hexadecimal sequences
-
-hex_digits : (ds : List ℕ) → list_all is_ascii_hexdigit ds ≡ true → AllDigits 16 ds
-hex_digits [] h = tt
-hex_digits (d ∷ ds) h = let a = and_parts _ _ h in (small d a.0, hex_digits ds a.1)
-  where
-    small : (d : ℕ) → is_ascii_hexdigit d ≡ true → digit_value d < 16
-    small d h = grind (arith, nat_tests)
-
-hex_power : (n : ℕ) → n ≤ 32 → 16 ^ n ≤ 2 ^ 128
-hex_power n h = let positive : 0 < 16 = omega arith in pow-le-pow_right positive h
-
-pub hex_is_iv : (text : List ℕ) (n : ℕ) → hex_of text ≡ Some n → iv_fits n ≡ true
-hex_is_iv text n h =
-    let w = where_some (has_hex_prefix text && has_up_to 32 (drop 2 text) && list_all is_ascii_hexdigit (drop 2 text)) (digits_value 16 (drop 2 text)) n h in
-    let a : ((has_hex_prefix text && has_up_to 32 (drop 2 text)) ≡ true) × (list_all is_ascii_hexdigit (drop 2 text) ≡ true) = and_parts _ _ w.0 in
-    let size : length (drop 2 text) ≤ 32 = leb-true _ _ (and_parts _ _ (and_parts (has_hex_prefix text) (has_up_to 32 (drop 2 text)) a.0).1).1 in
-    let below = digits_value-lt 16 (drop 2 text) (hex_digits (drop 2 text) a.1) in
-    small (digits_value 16 (drop 2 text)) n (16 ^ length (drop 2 text)) w.1 below (hex_power (length (drop 2 text)) size)
-  where
-    small : (v n most : ℕ) → v ≡ n → v < most → most ≤ 2 ^ 128 → iv_fits n ≡ true
-    small v n most e h g = lt-ltb n (2 ^ 128) (omega arith)
 
 pub iv_is_fit : (pair : Pair) → pair_fits pair ≡ true → Gives iv_fits (iv_of pair)
 iv_is_fit pair h = after iv_fits (value_if false pair.quoted pair.value) _ (λ value. found iv_fits fault.BadAttributes (hex_of value) (λ n e. hex_is_iv value n e))
