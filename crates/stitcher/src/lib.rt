@@ -11,6 +11,7 @@ mod making;
 mod marked;
 
 pub use fault::StitchFault;
+pub use copies::copied_segment;
 pub use key_tags::{is_new, keeps_formats, transition};
 pub use making::stitch;
 pub use marked::{Marked, Numbers};

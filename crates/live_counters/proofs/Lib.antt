@@ -1,0 +1,4 @@
+pub mod Marked
+pub mod Found
+pub mod Placed
+pub mod Sizes

@@ -1,0 +1,48 @@
+-- How many pieces stand for a pod.
+use Rattle.std.proofs.Common.{◌≡◌, suc, ℕ, ◌+◌, false, cond, List, [], ◌∷◌, map, sum, length, refl, ap, sym, ◌∙◌, arith, length-append}
+use Rattle.std.proofs.lemmas.List.{length-map}
+use Rattle.std.specs.Prelude.{Option, Some, None, fold}
+use Rattle.playlist_meaning.specs.Pods.{Pod, Ad, PodSegment}
+use Rattle.playlist_meaning.specs.Marks.{Mark}
+use Rattle.playlist_meaning.specs.Stitched.{pieces_of_ads, ad_pieces, ad_piece}
+use Rattle.pod_store.specs.Store.{Entry, pod_for}
+use Rattle.pod_store.specs.Pods.{segment_count}
+use Rattle.stitcher.specs.declared.marked.Marked.{Marked}
+use Rattle.stitcher.specs.Making.{begun, pod_with, pieces_at, pieces_on, is_same_run}
+
+ad_size : (mark : Mark) (ad : Ad) (segments : List PodSegment) → length (ad_pieces mark ad segments) ≡ length segments
+ad_size mark ad [] = refl
+ad_size mark ad (s ∷ later) = ap suc (length-map later (ad_piece mark false ad))
+
+fold_from : (n : ℕ) (xs : List ℕ) → fold ◌+◌ n xs ≡ n + fold ◌+◌ 0 xs
+fold_from n [] = omega arith
+fold_from n (x ∷ xs) =
+    let a : fold ◌+◌ (n + x) xs ≡ (n + x) + fold ◌+◌ 0 xs = fold_from (n + x) xs in
+    let b : fold ◌+◌ (0 + x) xs ≡ (0 + x) + fold ◌+◌ 0 xs = fold_from (0 + x) xs in
+    let c : (n + x) + fold ◌+◌ 0 xs ≡ n + ((0 + x) + fold ◌+◌ 0 xs) = omega arith in
+    a ∙ (c ∙ ap (λ k. n + k) (sym b))
+
+sum_cons : (x : ℕ) (xs : List ℕ) → x + sum xs ≡ sum (x ∷ xs)
+sum_cons x xs =
+    let b : fold ◌+◌ (0 + x) xs ≡ (0 + x) + fold ◌+◌ 0 xs = fold_from (0 + x) xs in
+    let c : x + fold ◌+◌ 0 xs ≡ (0 + x) + fold ◌+◌ 0 xs = omega arith in
+    c ∙ sym b
+
+pub ads_size : (mark : Mark) (ads : List Ad) → length (pieces_of_ads mark ads) ≡ sum (map segment_count ads)
+ads_size mark [] = refl
+ads_size mark (ad ∷ ads) =
+    let more : length ad.segments + sum (map segment_count ads) ≡ sum (map segment_count (ad ∷ ads)) = sum_cons (length ad.segments) (map segment_count ads) in
+    let first : length (pieces_of_ads mark (ad ∷ ads)) ≡ length (ad_pieces mark ad ad.segments) + length (pieces_of_ads mark ads) = length-append (ad_pieces mark ad ad.segments) (pieces_of_ads mark ads) in
+    let here : length (ad_pieces mark ad ad.segments) + length (pieces_of_ads mark ads) ≡ length ad.segments + length (pieces_of_ads mark ads) = ap (λ n. n + length (pieces_of_ads mark ads)) (ad_size mark ad ad.segments) in
+    let rest : length ad.segments + length (pieces_of_ads mark ads) ≡ length ad.segments + sum (map segment_count ads) = ap (λ n. length ad.segments + n) (ads_size mark ads) in
+    first ∙ (here ∙ (rest ∙ more))
+
+pub begun_pod : (store : List Entry) (m : Marked) (id : List ℕ) (pod : Pod) → m.mark ≡ Some id → pod_for store id ≡ Some pod → length (begun store m m.mark) ≡ sum (map segment_count pod.ads)
+begun_pod store m id pod e f = ap (λ o. length (begun store m o)) e ∙ (ap (λ o. length (pod_with id o)) f ∙ ads_size (record { id = id; pod = pod }) pod.ads)
+
+pub begun_none : (store : List Entry) (m : Marked) (id : List ℕ) → m.mark ≡ Some id → pod_for store id ≡ None → length (begun store m m.mark) ≡ 0
+begun_none store m id e f = ap (λ o. length (begun store m o)) e ∙ ap (λ o. length (pod_with id o)) f
+
+pub step_size : (store : List Entry) (previous : Option (List ℕ)) (m : Marked) (later : List Marked)
+    → length (pieces_on store previous (m ∷ later)) ≡ length (cond (is_same_run m.mark previous) [] (begun store m m.mark)) + length (pieces_on store m.mark later)
+step_size store previous m later = length-append (pieces_at store previous m) (pieces_on store m.mark later)

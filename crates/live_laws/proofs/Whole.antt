@@ -1,0 +1,188 @@
+-- What is owed is well formed, and its text denotes it.
+use Rattle.std.proofs.Common.{◌≡◌, ℕ, ◌-◌, ◌<◌, Bool, true, false, cond, zero, suc, List, [], ◌∷◌, ◌++◌, map, take, length, refl, ap, ◌∙◌, subst, inl, inr, arith}
+use Rattle.std.specs.Prelude.{Option, Some, None, Ok, max, is_none, is_some, not, filter}
+use Rattle.std.specs.List.{list_all, list_any, flat_map, AllByRecursion}
+use Rattle.std.proofs.lemmas.Bool.{and_from, and_parts}
+use Rattle.std.proofs.lemmas.Bool.Decides.{nat_tests}
+use mathlib.Core.List.{reverse_aux}
+use Rattle.playlist_meaning.specs.declared.DateRange.{DateRange}
+use Rattle.playlist_meaning.specs.declared.Playlist.{Playlist}
+use Rattle.playlist_meaning.specs.LookBack.{or_earlier}
+use Rattle.playlist_meaning.specs.Reading.{limited, unlimited}
+use Rattle.playlist_meaning.specs.Said.{Reader}
+use Rattle.playlist_meaning.specs.Marks.{Marked}
+use Rattle.playlist_meaning.specs.Stitched.{Piece, is_kept, Numbers, Item, numbered, stitched, stitched_list, fits, first_numbers, up_to}
+use Rattle.stitcher.specs.declared.OutSegment.{OutSegment}
+use Rattle.stitcher.specs.Written.{written_item}
+use Rattle.fitting.specs.Fitting.{date_range_fits, says_date_range}
+use Rattle.playlist_write.specs.WellFormed.{version_fits, segment_fits, is_mapped, well_formed}
+use Rattle.playlist_write.specs.Denoted.{denoted, denoted_segment, denoted_range, range_said}
+use Rattle.playlist_write.proofs.Whole.{text_denotes}
+use Rattle.reading_laws.specs.Read.{version_reads, IsSaid, text_is_clean}
+use Rattle.live_meaning.specs.declared.fault.RefreshFault.TheVariants.{NumberRange}
+use Rattle.live_meaning.specs.Successor.{first_number, end_number, fault_if}
+use Rattle.live_meaning.specs.Successor as successor
+use Rattle.live_meaning.specs.Live.{refreshed, Told, told, refusal, succession_fault, last_playlist, after_refresh, moment, in_use, item_segment, states_instant, window_after, written_ranges, owed_for}
+use Rattle.live_meaning.proofs.Numbered.{window_place}
+use Rattle.live_meaning.proofs.Windows.{In}
+use Rattle.live_meaning.proofs.Fills.{Mapped, stitched_mapped, IsAlike}
+use Rattle.live_meaning.proofs.Places.{place_inside, stitched_longer, up_to_within, up_to_some}
+use Rattle.live_meaning.proofs.EachWindow.{all_behind}
+use Rattle.live_meaning.proofs.LiveState.{Standing, holds, new_standing}
+use Rattle.live_laws.specs.Owed.{owed_playlist, range_text}
+use Rattle.live_laws.specs.Laws.{CanBeRead, OwedIsWellFormed, OwedIsDenoted, TextDenotesOwed}
+use Rattle.live_laws.proofs.AllPods.{all_filter}
+use Rattle.live_laws.proofs.Pieces.{list_all-reverse, all_taken, pieces_stand, item_fits, items_fit, all_written, window_numbers, is_mapped_item, agree}
+use Rattle.live_laws.proofs.Told.{Good, refresh_good, good_told}
+use Rattle.live_laws.proofs.Given.{is_read, all_given}
+
+-- ---- the window isn't empty
+
+place_within : (p : Playlist) (history : List Marked) → Standing p history → window_place (first_number p.segments) history < length (stitched history)
+place_within p history s =
+    let n = first_number p.segments in
+    let some = up_to_some n (end_number p.segments) history s.falls (omega (arith, s.read.some)) (omega (arith, s.long)) in
+    let g = up_to_within n history in
+    let alike = all_behind (IsAlike (successor.is_mapped p.segments)) g.0 (up_to n history) (subst (λ h. AllByRecursion (IsAlike (successor.is_mapped p.segments)) h) g.1 s.alike) in
+    let inside = place_inside (successor.is_mapped p.segments) (up_to n history) alike some in
+    let longer = stitched_longer (up_to n history) history g in
+    omega (arith, inside, longer)
+
+length-numbered : (first : Numbers) (pieces : List Piece) → length (numbered first pieces) ≡ length pieces
+length-numbered first [] = refl
+length-numbered first (p ∷ before) = ap suc (length-numbered first before)
+
+-- ---- lists
+
+all_turned : {A : Type 0} (P : A → Type 0) (xs acc : List A) → AllByRecursion P xs → AllByRecursion P acc → AllByRecursion P (reverse_aux xs acc)
+all_turned P [] acc h k = k
+all_turned P (x ∷ xs) acc h k = all_turned P xs (x ∷ acc) h.1 (h.0, k)
+
+all_first : {A : Type 0} (P : A → Type 0) (n : ℕ) (xs : List A) → AllByRecursion P xs → AllByRecursion P (take n xs)
+all_first P zero xs h = tt
+all_first P (suc n) [] h = tt
+all_first P (suc n) (x ∷ xs) h = (h.0, all_first P n xs h.1)
+
+list_filter : {A : Type 0} (test keep : A → Bool) (xs : List A) → list_all test xs ≡ true → list_all test (filter keep xs) ≡ true
+list_filter test keep [] h = refl
+list_filter test keep (x ∷ xs) h = let a = and_parts _ _ h in step (keep x) a.0 (list_filter test keep xs a.1)
+  where
+    step : (b : Bool) → test x ≡ true → list_all test (filter keep xs) ≡ true → list_all test (cond b (x ∷ filter keep xs) (filter keep xs)) ≡ true
+    step true e f = and_from _ _ e f
+    step false e f = f
+
+-- ---- sections
+
+items_mapped : (m : Bool) (first : Numbers) (pieces : List Piece) → Mapped m pieces → AllByRecursion (λ (item : Item). is_some item.piece.segment.section ≡ m) (numbered first pieces)
+unfolding Mapped In
+items_mapped m first [] h = tt
+items_mapped m first (p ∷ before) h = (h p (inl refl), items_mapped m first before (λ q k. h q (inr k)))
+
+outs_mapped : (m : Bool) (items : List Item) → AllByRecursion (λ (item : Item). is_some item.piece.segment.section ≡ m) items → AllByRecursion (λ (o : OutSegment). is_mapped o ≡ m) (map written_item items)
+outs_mapped m [] h = tt
+outs_mapped m (item ∷ items) h = (is_mapped_item item ∙ h.0, outs_mapped m items h.1)
+
+-- ---- date ranges
+
+version_owed : (v : ℕ) → version_reads v ≡ true → version_fits (max v 6) ≡ true
+version_owed v h = grind (arith, nat_tests)
+
+ranges_fit : (ranges : List DateRange) → AllByRecursion (IsSaid limited) ranges → list_all text_is_clean ranges ≡ true → list_all date_range_fits (map range_text ranges) ≡ true
+ranges_fit [] said clean = refl
+ranges_fit (r ∷ later) (here, rest) clean =
+    let c = and_parts _ _ clean in and_from _ _ (and_from _ _ c.0 (ap says_date_range here)) (ranges_fit later rest c.1)
+
+some_said : (P : DateRange → Type 0) (b : Bool) (ranges : List DateRange) → AllByRecursion P ranges → AllByRecursion P (cond b ranges [])
+some_said P true ranges h = h
+some_said P false ranges h = tt
+
+some_clean : (b : Bool) (ranges : List DateRange) → list_all text_is_clean ranges ≡ true → list_all text_is_clean (cond b ranges []) ≡ true
+some_clean true ranges h = h
+some_clean false ranges h = refl
+
+ranges_said : (ranges : List DateRange) → AllByRecursion (IsSaid unlimited) ranges → flat_map denoted_range (map range_text ranges) ≡ ranges
+ranges_said [] h = refl
+ranges_said (r ∷ later) (here, rest) = ap (λ o. range_said o ++ flat_map denoted_range (map range_text later)) here ∙ ap (λ rs. r ∷ rs) (ranges_said later rest)
+
+module _ (t : Told) (p : Playlist) where
+  abbrev stated : Bool
+  stated = list_any states_instant (window_after t p)
+
+  abbrev others : DateRange → Bool
+  others r = not (in_use (first_number p.segments) t.history r.id)
+
+  written_said : (reader : Reader) → AllByRecursion (IsSaid reader) p.ranges → AllByRecursion (IsSaid reader) (written_ranges t p)
+  written_said reader h = some_said (IsSaid reader) stated (filter others p.ranges) (all_filter (IsSaid reader) others p.ranges h)
+
+  written_clean : list_all text_is_clean p.ranges ≡ true → list_all text_is_clean (written_ranges t p) ≡ true
+  written_clean h = some_clean stated (filter others p.ranges) (list_filter text_is_clean others p.ranges h)
+
+-- ---- well formed
+
+well : (t : Told) (p : Playlist) → Good t → Standing p t.history → CanBeRead p → list_all fits (stitched_list t.history) ≡ true → well_formed (owed_playlist t p) ≡ true
+well t p g s r f =
+    let first = first_numbers t.history in
+    let pieces = stitched t.history in
+    let place = window_place (first_number p.segments) t.history in
+    let n = length (stitched_list t.history) - place in
+    let inside = place_within p t.history s in
+    let size = length-numbered first pieces in
+    let m = successor.is_mapped p.segments in
+    let items = items_fit first pieces (pieces_stand t.history g.stands) f in
+    let segments : list_all segment_fits (map written_item (window_after t p)) ≡ true =
+    all_written (window_after t p) ∙ (list_all-reverse item_fits (take n (stitched_list t.history)) ∙ all_taken item_fits n (stitched_list t.history) items) in
+    let numbers = window_numbers first g.first n pieces (omega (arith, inside, size)) (omega (arith, inside)) in
+    let mapped = outs_mapped m (window_after t p)
+    (all_turned (λ (item : Item). is_some item.piece.segment.section ≡ m) (take n (stitched_list t.history)) []
+    (all_first (λ (item : Item). is_some item.piece.segment.section ≡ m) n (stitched_list t.history) (items_mapped m first pieces (stitched_mapped m t.history s.alike))) tt) in
+    and_from _ _
+    (and_from _ _ (and_from _ _ (and_from _ _ (and_from _ _ (version_owed p.version r.limits.version) r.limits.target) numbers) segments) (agree m (map written_item (window_after t p)) mapped))
+    (ranges_fit (written_ranges t p) (written_said t p limited r.limits.ranges) (written_clean t p r.limits.range_texts))
+
+or_none : {A : Type 0} (a b : Option A) → or_earlier a b ≡ None → (a ≡ None) × (b ≡ None)
+or_none None b e = (refl, e)
+or_none (Some x) b e = absurd (cc)
+
+within : (b : Bool) → fault_if (not b) NumberRange ≡ None → b ≡ true
+within true e = refl
+within false e = absurd (cc)
+
+accepted : (tolerance : ℕ) (t : Told) (p : Playlist) → refusal tolerance t p ≡ None → (succession_fault (last_playlist t.accepted) p ≡ None) × (list_all fits (stitched_list (after_refresh tolerance t p).history) ≡ true)
+accepted tolerance t p e =
+    let a = or_none (succession_fault (last_playlist t.accepted) p) _ e in
+    (a.0, within (list_all fits (stitched_list (after_refresh tolerance t p).history)) a.1)
+
+now : (tolerance : ℕ) (t : Told) (p : Playlist) → refusal tolerance t p ≡ None → cond (is_none (refusal tolerance t p)) (after_refresh tolerance t p) t ≡ after_refresh tolerance t p
+now tolerance t p e = ap (λ o. cond (is_none o) (after_refresh tolerance t p) t) e
+
+pub owed_is_well_formed : OwedIsWellFormed
+owed_is_well_formed tolerance p before g e =
+    let t = told tolerance before in
+    let a = accepted tolerance t p e in
+    let h = holds tolerance before (all_given before g.1) in
+    let good = refresh_good tolerance t p (good_told tolerance before g.1) g.0 in
+    let s = new_standing (moment tolerance t p) t.accepted t.history p h.standing (is_read p g.0.limits) refl h.store a.0 in
+    ap (λ u. well_formed (owed_playlist u p)) (now tolerance t p e) ∙ well (after_refresh tolerance t p) p good s g.0 a.1
+
+-- ---- denoted
+
+segment_step : (kept : Bool) (item : Item) → is_kept item.piece ≡ kept → denoted_segment (written_item item) ≡ item_segment item
+segment_step true item e = rw e refl
+segment_step false item e = rw e refl
+
+segments_denoted : (items : List Item) → map denoted_segment (map written_item items) ≡ map item_segment items
+segments_denoted [] = refl
+segments_denoted (item ∷ items) = ap (λ s. s ∷ map denoted_segment (map written_item items)) (segment_step (is_kept item.piece) item refl) ∙ ap (λ ss. item_segment item ∷ ss) (segments_denoted items)
+
+pub denotes_owed : (t : Told) (p : Playlist) → CanBeRead p → denoted (owed_playlist t p) ≡ owed_for t p
+denotes_owed t p r =
+    ap (λ ranges. record (denoted (owed_playlist t p)) { ranges = ranges }) (ranges_said (written_ranges t p) (written_said t p unlimited r.denotes.ranges))
+    ∙ ap (λ segments. record (owed_for t p) { segments = segments }) (segments_denoted (window_after t p))
+
+pub owed_is_denoted : OwedIsDenoted
+owed_is_denoted tolerance p before r = denotes_owed (told tolerance before) p r
+
+pub text_denotes_owed : TextDenotesOwed
+text_denotes_owed tolerance p before base g e =
+    let t = told tolerance (refreshed p ∷ before) in
+    text_denotes base (owed_playlist t p) (owed_is_well_formed tolerance p before g e) ∙ ap Ok (denotes_owed t p g.0)

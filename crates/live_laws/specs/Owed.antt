@@ -1,0 +1,26 @@
+-- The playlist that is written, and its text.
+use Rattle.std.specs.Prelude.{ℕ, List, map, max}
+use Rattle.playlist_meaning.specs.declared.DateRange.{DateRange}
+use Rattle.playlist_meaning.specs.declared.Playlist.{Playlist}
+use Rattle.stitcher.specs.Written.{written_item}
+use Rattle.playlist_write.specs.declared.OutPlaylist.{OutPlaylist}
+use Rattle.playlist_write.specs.Owed.{text_of}
+use Rattle.live_meaning.specs.Live.{Told, window_after, written_ranges}
+
+abbrev pub range_text : DateRange → List ℕ
+range_text range = range.text
+
+-- the playlist that is written after this refresh was accepted
+abbrev pub owed_playlist : Told → Playlist → OutPlaylist
+owed_playlist told playlist = record {
+  version = max playlist.version 6;
+  target = playlist.target;
+  kind = playlist.kind;
+  independent = playlist.independent;
+  ended = playlist.ended;
+  ranges = map range_text (written_ranges told playlist);
+  segments = map written_item (window_after told playlist);
+}
+
+abbrev pub owed_text : Told → Playlist → List ℕ
+owed_text told playlist = text_of (owed_playlist told playlist)

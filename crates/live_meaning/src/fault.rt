@@ -1,0 +1,32 @@
+//! Why a refresh of a live playlist is refused.
+use playlist_meaning::PlaylistFault;
+
+/// Why a refresh of a live playlist is refused: it can't be read, or a client that holds the playlist before it may
+/// not be given it (RFC 8216, sections 4.3.3 and 6.2.1).
+#[derive(Clone, Copy, PartialEq, Eq, Debug)]
+pub enum RefreshFault {
+    /// P1 to P25: the text is no playlist that can be read.
+    Playlist(PlaylistFault),
+    /// N1: the version isn't that of the playlist before.
+    VersionChanged,
+    /// N2: the target duration isn't (6.2.1).
+    TargetChanged,
+    /// N3: the playlist type isn't (4.3.3.5).
+    TypeChanged,
+    /// N4: segments have an initialisation section where they had none, or the other way round.
+    MapsChanged,
+    /// N5: the playlist starts at an earlier segment (6.2.2).
+    Back,
+    /// N6: the playlist starts after the segment that follows the last one.
+    Gap,
+    /// N7: the playlist ends at an earlier segment.
+    Shrunk,
+    /// N8: the segment of this number isn't as it was, or its discontinuity number doesn't follow (6.2.1).
+    Changed(u64),
+    /// N9: the playlist before had ended (4.3.3.4).
+    Ended,
+    /// N10: a number of the stitched list would pass 2^64 - 1.
+    NumberRange,
+    /// N11: memory was refused.
+    OutOfMemory,
+}

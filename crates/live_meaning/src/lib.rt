@@ -1,0 +1,67 @@
+//! What is owed for a live playlist whose breaks are filled, after all decisions and refreshes so far, and the laws of
+//! it. The definitions look back over the whole history; what is kept between refreshes is proved to follow it. Each
+//! function's contract is its law; calling it does nothing.
+#![tactic(auto)]
+
+ghost use Rattle.live_meaning.specs.KeptLaws.{KeptFollows, KeptHavePods};
+ghost use Rattle.live_meaning.specs.LiveLaws.{OnlyGrows, EachSucceeds, MarksFollow, HistoriesAreLinked, WindowsFollow, MarksAreKnown, NoFaultSucceeds, NewestFits, MarksHavePods};
+
+mod fault;
+pub mod rows;
+
+pub use fault::RefreshFault;
+
+/// The stitched list only grows, whatever events come.
+pub fn only_grows()
+    ensures { OnlyGrows }
+{}
+
+/// Each written playlist succeeds the one written before it.
+pub fn each_succeeds()
+    ensures { EachSucceeds }
+{}
+
+/// A segment's instant and mark follow from the refresh, the segment before and the last break entered.
+pub fn marks_follow()
+    ensures { MarksFollow }
+{}
+
+/// A segment that goes on a run has its pod.
+pub fn histories_are_linked()
+    ensures { HistoriesAreLinked }
+{}
+
+/// The window follows from the shown segments and the numbers of the first item.
+pub fn windows_follow()
+    ensures { WindowsFollow }
+{}
+
+/// A mark that a refresh carries was known before it.
+pub fn marks_are_known()
+    ensures { MarksAreKnown }
+{}
+
+/// A playlist succeeds another exactly where it has no fault.
+pub fn no_fault_succeeds()
+    ensures { NoFaultSucceeds }
+{}
+
+/// A number passes its range only where the newest item's does.
+pub fn newest_fits()
+    ensures { NewestFits }
+{}
+
+/// The store has the pod of each mark of a shown segment and of the last break entered, used.
+pub fn marks_have_pods()
+    ensures { MarksHavePods }
+{}
+
+/// What is kept of all events, and what is owed, follow from what was kept before.
+pub fn kept_follows()
+    ensures { KeptFollows }
+{}
+
+/// The store has the pod of each mark that is kept, used.
+pub fn kept_have_pods()
+    ensures { KeptHavePods }
+{}
