@@ -4,6 +4,7 @@
 use devices::Counted;
 use http_edge::{Command, command_vod, read_args};
 use std::env;
+use std::fs;
 use std::io::{ErrorKind, Write};
 use std::process::ExitCode;
 
@@ -19,6 +20,37 @@ fn out_of_memory(rt: &HostRuntime) -> ExitCode {
     ExitCode::from(1)
 }
 
+fn cannot_read_decisions(rt: &HostRuntime) -> ExitCode {
+    let _ = rt.stderr().write_all(b"cannot read DECISIONS\n");
+    ExitCode::from(1)
+}
+
+// One playlist from standard input to standard output; the decision file, where there is one, is read first.
+fn vod(rt: &HostRuntime, base: &str, decisions: Option<&str>) -> ExitCode {
+    let Some(path) = decisions else {
+        return vod_with(rt, base, None);
+    };
+    match fs::read(rt, path) {
+        Ok(file) => vod_with(rt, base, Some(file.as_slice())),
+        Err(e) if e.kind() == ErrorKind::OutOfMemory => out_of_memory(rt),
+        Err(_) => cannot_read_decisions(rt),
+    }
+}
+
+fn vod_with(rt: &HostRuntime, base: &str, decisions: Option<&[u8]>) -> ExitCode {
+    let mut input = Counted::new(rt.stdin());
+    let mut output = Counted::new(rt.stdout());
+    let mut faults = Counted::new(rt.stderr());
+    ExitCode::from(command_vod(
+        rt.alloc(),
+        base,
+        decisions,
+        &mut input,
+        &mut output,
+        &mut faults,
+    ))
+}
+
 fn main(rt: HostRuntime) -> ExitCode {
     let words = match env::args(&rt) {
         Ok(words) => words,
@@ -29,19 +61,7 @@ fn main(rt: HostRuntime) -> ExitCode {
         return out_of_memory(&rt);
     };
     match read_args(words.as_slice()) {
-        Some(Command::Vod { base }) => {
-            let mut input = Counted::new(rt.stdin());
-            let mut output = Counted::new(rt.stdout());
-            let mut faults = Counted::new(rt.stderr());
-            ExitCode::from(command_vod(
-                rt.alloc(),
-                base,
-                None,
-                &mut input,
-                &mut output,
-                &mut faults,
-            ))
-        }
+        Some(Command::Vod { base, decisions }) => vod(&rt, base, decisions),
         None => usage(&rt),
     }
 }

@@ -6,6 +6,4 @@ mod reading;
 #[cfg(test)]
 mod runs;
 #[cfg(test)]
-mod stated_runs;
-#[cfg(test)]
 mod writing;

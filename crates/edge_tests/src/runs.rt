@@ -177,7 +177,6 @@ fn shown_faults(rt: HostRuntime) -> Result<(), Fail> {
     let table = [
         (VodFault::TooManyReads, "E3 TooManyReads"),
         (VodFault::OutOfMemory, "E5 OutOfMemory"),
-        (VodFault::BadRun, "BadRun"),
         (VodFault::NumberRange, "N10 NumberRange"),
     ];
     for (fault, text) in table {
@@ -196,20 +195,30 @@ fn words_of(alloc: Global, words: &[&str]) -> Result<Vec<String>, Fail> {
     Ok(found)
 }
 
+// Whether these words ask for `vod` with this base and decision file.
+fn asks_vod(words: &[String], base: &str, decisions: Option<&str>) -> bool {
+    match read_args(words) {
+        Some(Command::Vod {
+            base: found,
+            decisions: file,
+        }) => found == base && file == decisions,
+        None => false,
+    }
+}
+
 #[test]
 fn words(rt: HostRuntime) -> Result<(), Fail> {
     let words = words_of(rt.alloc(), &["vod", BASE])?;
-    match read_args(words.as_slice()) {
-        Some(Command::Vod { base }) => assert_eq!(rt; base, BASE),
-        None => assert!(rt; false, "it is a command"),
-    }
+    assert!(rt; asks_vod(words.as_slice(), BASE, None));
+    let with_file = words_of(rt.alloc(), &["vod", BASE, "decisions.json"])?;
+    assert!(rt; asks_vod(with_file.as_slice(), BASE, Some("decisions.json")));
     let none = words_of(rt.alloc(), &[])?;
     assert!(rt; read_args(none.as_slice()).is_none());
     for other in ["VOD", "live", "vod "] {
         let words = words_of(rt.alloc(), &[other, BASE])?;
         assert!(rt; read_args(words.as_slice()).is_none(), "{other}");
     }
-    let many = words_of(rt.alloc(), &["vod", BASE, "decisions.json"])?;
+    let many = words_of(rt.alloc(), &["vod", BASE, "decisions.json", "x"])?;
     assert!(rt; read_args(many.as_slice()).is_none());
     Ok(())
 }

@@ -5,7 +5,11 @@ use Rattle.std.proofs.lemmas.Bool.{and_parts}
 use Rattle.std.proofs.lemmas.Bool.Decides.{nat_tests}
 use Rattle.playlist_meaning.specs.declared.Segment.{Segment}
 use Rattle.reading_laws.specs.Read.{follows, all_follow, numbers_read}
-use Rattle.http_edge.specs.Stitching.{RiseFromFirst}
+
+-- all others have a greater media number than the first
+abbrev pub RiseFromFirst : List Segment → Type 0
+RiseFromFirst [] = Unit {0}
+RiseFromFirst (s ∷ later) = AllByRecursion (λ (t : Segment). s.number < t.number) later
 
 goes_up : (m : ℕ) (previous next : Segment) → m ≤ previous.number → follows previous next ≡ true → m < next.number
 goes_up m previous next h f = grind (arith, nat_tests)
@@ -18,7 +22,6 @@ all_above m previous (s ∷ later) h f =
     let here : m < s.number = goes_up m previous s h a.0 in
     (here, all_above m s later (omega arith) a.1)
 
--- the first segment's number is the least
 pub rise_from_first : (segments : List Segment) → numbers_read segments ≡ true → RiseFromFirst segments
 rise_from_first [] h = cc
 rise_from_first (s ∷ later) h = all_above s.number s later (omega arith) (and_parts _ _ h).1

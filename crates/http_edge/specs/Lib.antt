@@ -1,10 +1,9 @@
-pub mod Runs
+pub mod Events
+pub mod Rules
 pub mod Owed
-pub mod Meant
+pub mod Filling
+pub mod FaultTexts
+pub mod Arguments
+pub mod Runs
 pub mod Vod
 pub mod Printed
-pub mod Stated
-pub mod Stitching
-pub mod VodStated
-pub mod Arguments
-pub mod FaultTexts

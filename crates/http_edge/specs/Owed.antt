@@ -1,59 +1,55 @@
--- What is owed for an input: the text of the playlist that is written for it.
-use Rattle.std.specs.Prelude.{ℕ, Bool, List, [], map, max, Option, option_map, is_some, Result, if◌then◌else◌}
-use Rattle.std.specs.List.{list_any}
+-- What is written of a playlist, by its segments and date ranges.
+use Rattle.std.specs.Prelude.{ℕ, ℤ, Bool, List, [], map, max, Option, option_map, is_some, Result, if◌then◌else◌}
+use Rattle.std.specs.List.{list_any, zip}
 use Rattle.playlist_meaning.specs.declared.Playlist.{Playlist}
 use Rattle.playlist_meaning.specs.declared.Segment.{Segment}
 use Rattle.playlist_meaning.specs.declared.DateRange.{DateRange}
-use Rattle.timeline.specs.Timed.{timed}
+use Rattle.playlist_meaning.specs.Instants.{instants_of}
 use Rattle.playlist_meaning.specs.Uri.{base_of}
 use Rattle.playlist_meaning.specs.Reading.{Fault, reading, limited}
 use Rattle.stitcher.specs.declared.OutSegment.{OutSegment}
 use Rattle.playlist_write.specs.declared.OutPlaylist.{OutPlaylist}
-use Rattle.playlist_write.specs.Owed.{text_of}
+use Rattle.live_laws.specs.Owed.{range_text}
 
 -- what is read of an input under the base that a text says, if it says one
 abbrev pub read_under : List ℕ → List ℕ → Option (Result Playlist Fault)
 read_under base input = option_map (λ b. reading limited b input) (base_of base)
 
--- ---- the segments
+-- ---- a playlist of which no break is filled
 
--- each segment keeps its numbers
-abbrev pub owed_segment : Segment → OutSegment
-owed_segment s = record { segment = s; media = s.number; discontinuity = s.discontinuity; steps = s.steps; time = s.time }
+-- a segment keeps its numbers, and states the instant at which it begins, where it has one (4.3.2.6)
+abbrev pub owed_segment : Segment × Option ℤ → OutSegment
+owed_segment segment = record {
+  segment = segment.0;
+  media = segment.0.number;
+  discontinuity = segment.0.discontinuity;
+  steps = segment.0.steps;
+  time = segment.1;
+}
 
--- and states the instant at which it begins, where it has one (4.3.2.6)
 abbrev pub owed_segments : List Segment → List OutSegment
-owed_segments segments = map owed_segment (timed segments)
-
--- ---- the date ranges
+owed_segments segments = map owed_segment (zip segments (instants_of segments))
 
 abbrev pub states_time : OutSegment → Bool
 states_time out = is_some out.time
 
-abbrev pub range_text : DateRange → List ℕ
-range_text range = range.text
-
--- the origin's date ranges as they stand, but none where no written segment states a time: a date range has
--- its place by the segments' times alone (4.3.2.7)
-abbrev pub ranges_owed : List OutSegment → List DateRange → List (List ℕ)
-ranges_owed segments ranges = if list_any states_time segments then map range_text ranges else []
+-- the origin's date ranges as they stand, but none where no written segment states a time
+abbrev pub all_ranges_owed : List OutSegment → List DateRange → List (List ℕ)
+all_ranges_owed segments ranges = if list_any states_time segments then map range_text ranges else []
 
 -- ---- the playlist
 
--- a playlist with these segments: the version is at least 6; all else is the origin's
-abbrev pub owed_with : Playlist → List OutSegment → OutPlaylist
-owed_with p segments = record {
+-- a playlist with these date ranges and segments: the version is at least 6; all else is the origin's
+abbrev pub owed_with : Playlist → List (List ℕ) → List OutSegment → OutPlaylist
+owed_with p ranges segments = record {
   version = max p.version 6;
   target = p.target;
   kind = p.kind;
   independent = p.independent;
   ended = p.ended;
-  ranges = ranges_owed segments p.ranges;
+  ranges = ranges;
   segments = segments;
 }
 
-abbrev pub owed_playlist : Playlist → OutPlaylist
-owed_playlist p = owed_with p (owed_segments p.segments)
-
-abbrev pub owed_text : Playlist → List ℕ
-owed_text p = text_of (owed_playlist p)
+abbrev pub owed_alone : Playlist → OutPlaylist
+owed_alone p = owed_with p (all_ranges_owed (owed_segments p.segments) p.ranges) (owed_segments p.segments)

@@ -1,15 +1,20 @@
 -- What a run from an input to an output did.
-use Rattle.std.specs.Prelude.{◌≡◌, ℕ, List, Option, Some, Result, Ok, Err}
+use Rattle.std.specs.Prelude.{◌≡◌, ℕ, List, ◌∷◌, Option, Some, None, Result, Ok, Err, IsOk, IsSome}
 use Rattle.std.specs.Io.KnownBytes.{Appends}
-use Rattle.playlist_meaning.specs.declared.Playlist.{Playlist}
 use Rattle.url.specs.Parts.{Parts}
+use Rattle.playlist_meaning.specs.declared.Playlist.{Playlist}
 use Rattle.playlist_meaning.specs.Reading.{Fault, Denotes}
-use Rattle.http_edge.specs.declared.fault.VodFault.{VodFault}
-use Rattle.http_edge.specs.declared.fault.VodFault.TheVariants.{BadBase, Playlist as PlaylistOf, Read, TooManyReads, Write, OutOfMemory}
+use Rattle.playlist_meaning.specs.Uri.{base_of}
 use Rattle.devices.specs.Handed.{TookFront}
 use Rattle.devices.specs.Stands.{GaveAll}
-use Rattle.http_edge.specs.Owed.{read_under, owed_text}
-use Rattle.http_edge.specs.Meant.{meant}
+use Rattle.live_meaning.specs.declared.fault.RefreshFault.{RefreshFault}
+use Rattle.live_meaning.specs.Live.{Event, refreshed, Told, told, refusal, owed_for}
+use Rattle.live_laws.specs.Owed.{owed_text}
+use Rattle.http_edge.specs.declared.filling.TheConstants.{TOLERANCE}
+use Rattle.http_edge.specs.declared.fault.VodFault.{VodFault}
+use Rattle.http_edge.specs.declared.fault.VodFault.TheVariants.{BadBase, Decision, Playlist as PlaylistOf, NumberRange, Read, TooManyReads, Write, OutOfMemory}
+use Rattle.http_edge.specs.Owed.{read_under}
+use Rattle.http_edge.specs.Events.{events_of}
 
 -- the source gave an input to its end, of which this is read under the base
 pub record HasRead (base : List ℕ) (old new : Option (List ℕ)) (outcome : Result Playlist Fault) : Type 0 where
@@ -17,18 +22,37 @@ pub record HasRead (base : List ℕ) (old new : Option (List ℕ)) (outcome : Re
   pub given : GaveAll old new input
   pub read : read_under base input ≡ Some outcome
 
--- a playlist was read, and the sink took its owed text, which denotes just that playlist, whatever the base
-pub record Writes (base : List ℕ) (source_old source_new sink_old sink_new : Option (List ℕ)) : Type 0 where
+-- the decision file, if any, tells these events, a playlist was read, and this is why it is refused, if it is
+pub record HasJudged (base : List ℕ) (file old new : Option (List ℕ)) (outcome : Option RefreshFault) : Type 0 where
+  pub events : List Event
+  pub decided : events_of file ≡ Ok events
   pub playlist : Playlist
-  pub read : HasRead base source_old source_new (Ok playlist)
-  pub written : Appends sink_old sink_new (owed_text playlist)
-  pub denotes : (other : Parts) → Denotes other (owed_text playlist) (meant playlist)
+  pub read : HasRead base old new (Ok playlist)
+  pub judged : refusal TOLERANCE (told TOLERANCE events) playlist ≡ outcome
 
--- a playlist was read, and the sink took a front of its owed text
-pub record WritesFront (base : List ℕ) (source_old source_new sink_old sink_new : Option (List ℕ)) : Type 0 where
-  pub playlist : Playlist
-  pub read : HasRead base source_old source_new (Ok playlist)
-  pub written : TookFront sink_old sink_new (owed_text playlist)
+-- what is told once the playlist is accepted as the first refresh after these events
+abbrev pub told_with : List Event → Playlist → Told
+told_with events playlist = told TOLERANCE (refreshed playlist ∷ events)
+
+-- a playlist was read and accepted, and the sink took its owed text. Under every base that text denotes the playlist that
+-- was read with the window of the stitched list in place of its segments
+pub record Writes (base : List ℕ) (file source_old source_new sink_old sink_new : Option (List ℕ)) : Type 0 where
+  pub accepted : HasJudged base file source_old source_new None
+  pub written : Appends sink_old sink_new (owed_text (told_with accepted.events accepted.playlist) accepted.playlist)
+  pub denotes : (other : Parts) →
+      Denotes other (owed_text (told_with accepted.events accepted.playlist) accepted.playlist) (owed_for (told_with accepted.events accepted.playlist) accepted.playlist)
+
+-- a playlist was read and accepted, and the sink took a front of its owed text
+pub record WritesFront (base : List ℕ) (file source_old source_new sink_old sink_new : Option (List ℕ)) : Type 0 where
+  pub accepted : HasJudged base file source_old source_new None
+  pub written : TookFront sink_old sink_new (owed_text (told_with accepted.events accepted.playlist) accepted.playlist)
+
+-- the base is judged first, then the decision file: what stands before a fault is well
+abbrev pub IsInOrder : VodFault → List ℕ → Option (List ℕ) → Type 0
+IsInOrder BadBase base file = base_of base ≡ None
+IsInOrder (Decision fault) base file = IsSome (base_of base) × (events_of file ≡ Err fault)
+IsInOrder OutOfMemory base file = Unit {0}
+IsInOrder _ base file = IsSome (base_of base) × IsOk (events_of file)
 
 -- the fault is that of the input, or memory was refused
 abbrev pub RefusesInput : VodFault → Result Playlist Fault → Type 0
@@ -43,16 +67,18 @@ IsOfReading TooManyReads = Unit {0}
 IsOfReading OutOfMemory = Unit {0}
 IsOfReading _ = ⊥
 
--- a fault of the base, of reading or of what was read
+-- a fault of the base, of the decision file, of reading or of what was read
 abbrev pub IsOfInput : VodFault → Type 0
 IsOfInput BadBase = Unit {0}
+IsOfInput (Decision fault) = Unit {0}
 IsOfInput (PlaylistOf fault) = Unit {0}
 IsOfInput Read = Unit {0}
 IsOfInput TooManyReads = Unit {0}
 IsOfInput OutOfMemory = Unit {0}
 IsOfInput _ = ⊥
 
--- a fault of the input, or of writing
+-- a fault of the input, of its numbers, or of writing
 abbrev pub IsOfVod : VodFault → Type 0
 IsOfVod Write = Unit {0}
+IsOfVod NumberRange = Unit {0}
 IsOfVod e = IsOfInput e

@@ -1,8 +1,10 @@
 //! Why no playlist was written, or not the whole of it.
 ghost use Rattle.std.specs.Prelude.{◌≡◌, ◌≤◌, length, Some};
 ghost use Rattle.http_edge.specs.FaultTexts.{vod_fault_text};
+ghost use Rattle.http_edge.specs.Events.{fault_of_decisions};
 
-use playlist_meaning::{FaultText, PlaylistFault};
+use playlist_meaning::PlaylistFault;
+use pod_store::{DecisionFault, DecisionFaultText, DecisionKind};
 use std::alloc::{AllocError, AllocFailed};
 use std::error::Error;
 use std::fmt;
@@ -12,10 +14,10 @@ use std::fmt;
 pub enum VodFault {
     /// C1: the base is no absolute http or https URL.
     BadBase,
+    /// J1 to J7: the first fault of the decision file. J11: it withdraws a break.
+    Decision(DecisionFault),
     /// The first fault of the playlist.
     Playlist(PlaylistFault),
-    /// The stated run goes past the last segment.
-    BadRun,
     /// N10: a media or discontinuity sequence number would pass 2^64 - 1.
     NumberRange,
     /// E1: a read failed.
@@ -48,25 +50,39 @@ impl<T: Drop> From<AllocFailed<T>> for VodFault {
     }
 }
 
+/// Why decisions say nothing or are not taken; every want of memory is one fault.
+impl From<DecisionFault> for VodFault {
+    ghost use Rattle.http_edge.specs.Events.{fault_of_decisions};
+
+    ghost from_gives = { λ fault e. e ≡ fault_of_decisions fault };
+
+    fn from(fault: DecisionFault) -> VodFault {
+        if fault.kind == DecisionKind::OutOfMemory {
+            return VodFault::OutOfMemory;
+        }
+        VodFault::Decision(fault)
+    }
+}
+
 // A text that has room.
-fn short(text: &str) -> FaultText
-    requires { length text.now ≤ 46 }
+fn short(text: &str) -> DecisionFaultText
+    requires { length text.now ≤ 94 }
     ensures { result.bytes ≡ text.now }
 {
-    let mut short = FaultText::new();
+    let mut short = DecisionFaultText::new();
     short.push_str(text);
     short
 }
 
 impl VodFault {
     /// What the program prints of the fault, without its line feed.
-    pub fn text(self) -> FaultText
+    pub fn text(self) -> DecisionFaultText
         ensures { result.bytes ≡ vod_fault_text self }
     {
         match self {
             VodFault::BadBase => short("C1 BadBase"),
-            VodFault::Playlist(fault) => fault.text(),
-            VodFault::BadRun => short("BadRun"),
+            VodFault::Decision(fault) => fault.text(),
+            VodFault::Playlist(fault) => short(fault.text().as_str()),
             VodFault::NumberRange => short("N10 NumberRange"),
             VodFault::Read => short("cannot read input"),
             VodFault::TooManyReads => short("E3 TooManyReads"),

@@ -1,19 +1,23 @@
 //! One input, one playlist: the order of a run.
-ghost use Rattle.std.specs.Prelude.{true, ◌≡◌, ◌≢◌, Ok, Err, Some, None, OnOk, IfOk, IfErr, IsErrOf, IsNone};
+ghost use Rattle.std.specs.Prelude.{◌≡◌, ◌≢◌, Ok, Err, Some, None, OnOk, IfOk, IfErr, IsErrOf};
+ghost use Rattle.std.specs.Option.{option_copied};
 ghost use Rattle.std.specs.Io.KnownBytes.{Appends};
 ghost use Rattle.devices.specs.Handed.{TookFront};
 ghost use Rattle.playlist_meaning.specs.Uri.{base_of};
 ghost use Rattle.playlist_write.specs.Owed.{text_of};
 ghost use Rattle.playlist_meaning.specs.Reading.{reading, limited, Fault};
-ghost use Rattle.reading_laws.specs.Read.{uris_are_text};
-ghost use Rattle.std.specs.List.{list_all};
-ghost use Rattle.http_edge.specs.Vod.{RefusesInput, IsOfInput, IsOfVod, HasRead, Writes, WritesFront};
+ghost use Rattle.live_laws.specs.Laws.{CanBeRead};
+ghost use Rattle.live_meaning.specs.declared.fault.RefreshFault.TheVariants.{NumberRange};
+ghost use Rattle.pod_store.specs.declared.fault.DecisionFault.{DecisionFault};
+ghost use Rattle.http_edge.specs.Events.{events_of};
+ghost use Rattle.http_edge.specs.Vod.{RefusesInput, IsInOrder, IsOfVod, HasJudged, HasRead, Writes, WritesFront};
 ghost use Rattle.devices.specs.Stands.{source_stand, sink_stand};
 ghost use Rattle.http_edge.specs.Runs.{IsFairToSource, IsFairToSink};
 
+use crate::decisions::decided_store;
 use crate::fault::VodFault;
+use crate::filling::owed_playlist;
 use crate::input::read_input;
-use crate::owed::owed_playlist;
 use crate::texts::know_texts;
 use devices::{Sink, Source};
 use playlist_meaning::{Base, BaseFault, FaultKind, Playlist};
@@ -34,7 +38,7 @@ fn base_said(alloc: Global, base: &str) -> Result<Base, VodFault>
 
 fn playlist_read(alloc: Global, input: &[u8], base: &Base) -> Result<Playlist, VodFault>
     ensures ok { IfOk result (λ playlist. reading limited base.now input.now ≡ Ok playlist) }
-    ensures texts { IfOk result (λ playlist. list_all uris_are_text playlist.segments ≡ true) }
+    ensures good { IfOk result CanBeRead }
     ensures err { IfErr result (λ e. RefusesInput e (reading limited base.now input.now)) }
 {
     match read(alloc, input, base) {
@@ -49,26 +53,6 @@ fn playlist_read(alloc: Global, input: &[u8], base: &Base) -> Result<Playlist, V
             Err(VodFault::Playlist(fault))
         }
     }
-}
-
-/// The playlist of an input that is read to its end, under the base that a text says. Its faults are
-/// those of the base, of reading and of the playlist, in that order.
-pub fn read_playlist<S: Source>(
-    alloc: Global,
-    source: &mut S,
-    base: &str,
-) -> Result<Playlist, VodFault>
-    ensures ok { IfOk result (λ playlist. HasRead base.now (S.remaining source.old) (S.remaining source.new) (Ok playlist)) }
-    ensures texts { IfOk result (λ playlist. list_all uris_are_text playlist.segments ≡ true) }
-    ensures input { IfErr result IsOfInput }
-    ensures bad_base { IsErrOf result VodFault.BadBase → base_of base.now ≡ None }
-    ensures unread { base_of base.now ≡ None → source.new ≡ source.old }
-    ensures playlist { IfErr result (λ e. (fault : Fault) → e ≡ VodFault.Playlist fault → HasRead base.now (S.remaining source.old) (S.remaining source.new) (Err fault)) }
-    ensures source { IsFairToSource result (source_stand S.remaining S.called S.failed source.old) (source_stand S.remaining S.called S.failed source.new) }
-{
-    let base = base_said(alloc, base)?;
-    let input = read_input(alloc, source)?;
-    playlist_read(alloc, input.as_slice(), &base)
 }
 
 /// Writes a playlist, as `playlist_write` does.
@@ -89,9 +73,10 @@ pub fn write_playlist<K: Sink>(
     }
 }
 
-#[tactic(auto, using(crate::proofs::Known::known_bytes, crate::proofs::Means::written_means))]
-/// Reads a playlist from an input and writes the controller's playlist, and nothing else. The
-/// decision file's bytes are none until breaks are filled.
+#[tactic(auto, using(crate::proofs::Known::known_bytes))]
+/// Reads a playlist from an input and writes it with its breaks filled: each run of segments that a break of the decision
+/// file marks is replaced by the pod that the file gives it. Without a decision file no break is filled. The faults stand
+/// in this order: the base, the decision file, reading, the playlist, `NumberRange`, writing.
 pub fn vod<S: Source, K: Sink>(
     alloc: Global,
     source: &mut S,
@@ -99,28 +84,31 @@ pub fn vod<S: Source, K: Sink>(
     base: &str,
     decisions: Option<&[u8]>,
 ) -> Result<(), VodFault>
-    requires { IsNone decisions }
-
-    ensures ok { OnOk result (Writes base.now (S.remaining source.old) (S.remaining source.new) (K.contents sink.old) (K.contents sink.new)) }
+    ensures ok { OnOk result (Writes base.now (option_copied decisions.entry) (S.remaining source.old) (S.remaining source.new) (K.contents sink.old) (K.contents sink.new)) }
 
     // Where the sink failed it took a front of the text, and else nothing.
-    ensures write { IsErrOf result VodFault.Write → WritesFront base.now (S.remaining source.old) (S.remaining source.new) (K.contents sink.old) (K.contents sink.new) }
+    ensures write { IsErrOf result VodFault.Write → WritesFront base.now (option_copied decisions.entry) (S.remaining source.old) (S.remaining source.new) (K.contents sink.old) (K.contents sink.new) }
     ensures nothing { IfErr result (λ e. e ≢ VodFault.Write → sink.new ≡ sink.old) }
 
     ensures kind { IfErr result IsOfVod }
 
-    // The base is judged before anything is read.
-    ensures bad_base { IsErrOf result VodFault.BadBase → base_of base.now ≡ None }
+    // The base is judged first and the decision file next, before anything is read.
+    ensures order { IfErr result (λ e. IsInOrder e base.now (option_copied decisions.entry)) }
     ensures unread { base_of base.now ≡ None → source.new ≡ source.old }
+    ensures undecided { (fault : DecisionFault) → events_of (option_copied decisions.entry) ≡ Err fault → source.new ≡ source.old }
 
     // The whole input is judged before anything is written.
     ensures playlist { IfErr result (λ e. (fault : Fault) → e ≡ VodFault.Playlist fault → HasRead base.now (S.remaining source.old) (S.remaining source.new) (Err fault)) }
+    ensures number_range { IsErrOf result VodFault.NumberRange → HasJudged base.now (option_copied decisions.entry) (S.remaining source.old) (S.remaining source.new) (Some NumberRange) }
 
     // A device is blamed exactly where it failed, and is left alone then.
     ensures source { IsFairToSource result (source_stand S.remaining S.called S.failed source.old) (source_stand S.remaining S.called S.failed source.new) }
     ensures sink { IsFairToSink result (sink_stand K.contents K.failed sink.old) (sink_stand K.contents K.failed sink.new) }
 {
-    let playlist = read_playlist(alloc, source, base)?;
-    let owed = owed_playlist(alloc, playlist)?;
+    let base = base_said(alloc, base)?;
+    let store = decided_store(alloc, decisions)?;
+    let input = read_input(alloc, source)?;
+    let playlist = playlist_read(alloc, input.as_slice(), &base)?;
+    let owed = owed_playlist(alloc, playlist, &store)?;
     write_playlist(alloc, &owed, sink)
 }

@@ -1,30 +1,27 @@
 //! What is written of a playlist.
-ghost use Rattle.std.specs.Prelude.{◌≡◌, ◌+◌, nat_lt, [], map, Ok, IfOk, IfErr};
-ghost use Rattle.http_edge.specs.Owed.{owed_playlist, owed_segment, owed_segments, owed_with, range_text, ranges_owed, states_time};
+ghost use Rattle.std.specs.Prelude.{◌≡◌, map, IfOk};
+ghost use Rattle.http_edge.specs.Owed.{all_ranges_owed, owed_alone, owed_segment, owed_segments, owed_with, states_time};
+ghost use Rattle.live_laws.specs.Owed.{range_text};
 ghost use Rattle.std.specs.List.{list_any};
-ghost use Rattle.http_edge.specs.Stated.{IsRun, owed_with_run};
-ghost use Rattle.http_edge.specs.Stitching.{RefusesRun, RiseFromFirst};
 
-use crate::fault::VodFault;
-use crate::stated::StatedRun;
-use crate::stitching::stitched;
-use playlist_meaning::{DateRange, Items, Playlist, Segment, Text};
+use playlist_meaning::{DateRange, Instant, Items, Playlist, Segment, Text};
 use playlist_write::OutPlaylist;
 use std::alloc::{AllocError, Global};
 use stitcher::OutSegment;
-use timeline::{instants, timed, with_time};
+use timeline::instants;
 
 /// The least version that is written: the layout's tags need 6 (RFC 8216, section 7).
 const LEAST_VERSION: u64 = 6;
 
-fn owed_segment(segment: Segment) -> OutSegment
+fn owed_segment(segment: (Segment, Option<Instant>)) -> OutSegment
     ensures { result ≡ owed_segment segment }
 {
+    let (segment, begun) = segment;
     OutSegment {
         media: segment.number,
         discontinuity: segment.discontinuity,
         steps: segment.steps,
-        time: segment.time,
+        time: begun,
         segment,
     }
 }
@@ -36,12 +33,12 @@ fn owed_segments(alloc: Global, segments: Vec<Segment>) -> Result<Vec<OutSegment
     segments
         .into_iter()
         .zip(begun)
-        .map(with_time)
         .map(owed_segment)
         .collect(alloc)
 }
 
-fn is_any_timed(segments: &[OutSegment]) -> bool
+/// Whether a written segment states a time.
+pub fn is_any_timed(segments: &[OutSegment]) -> bool
     ensures { result ≡ list_any states_time segments.now }
 {
     segments.iter().any(|out: &OutSegment| out.time.is_some())
@@ -59,12 +56,12 @@ fn range_texts(alloc: Global, ranges: Vec<DateRange>) -> Result<Vec<Text>, Alloc
     ranges.into_iter().map(range_text).collect(alloc)
 }
 
-fn ranges_owed(
+fn all_ranges_owed(
     alloc: Global,
     segments: &[OutSegment],
     ranges: Vec<DateRange>,
 ) -> Result<Vec<Text>, AllocError>
-    ensures { IfOk result (λ v. v.items ≡ ranges_owed segments.now ranges.items) }
+    ensures { IfOk result (λ v. v.items ≡ all_ranges_owed segments.now ranges.items) }
 {
     if is_any_timed(segments) {
         return range_texts(alloc, ranges);
@@ -72,16 +69,11 @@ fn ranges_owed(
     Ok(Vec::new(alloc))
 }
 
-// A playlist with these segments.
-fn owed_with(
-    alloc: Global,
-    playlist: Playlist,
-    segments: Vec<OutSegment>,
-) -> Result<OutPlaylist, AllocError>
-    ensures { IfOk result (λ out. out ≡ owed_with playlist segments.items) }
+/// A playlist with these date ranges and segments.
+pub fn owed_with(playlist: Playlist, ranges: Vec<Text>, segments: Vec<OutSegment>) -> OutPlaylist
+    ensures { result ≡ owed_with playlist ranges.items segments.items }
 {
-    let ranges = ranges_owed(alloc, segments.as_slice(), playlist.ranges.into_vec())?;
-    Ok(OutPlaylist {
+    OutPlaylist {
         version: playlist.version.max(LEAST_VERSION),
         target: playlist.target,
         kind: playlist.kind,
@@ -89,54 +81,25 @@ fn owed_with(
         ended: playlist.ended,
         ranges: Items::from_vec(ranges),
         segments: Items::from_vec(segments),
-    })
+    }
 }
 
-// A playlist's segments, and all else of it.
-fn split(alloc: Global, playlist: Playlist) -> (Playlist, Vec<Segment>)
-    ensures rest { result.0 ≡ record playlist { segments = [] } }
-    ensures segments { result.1.items ≡ playlist.segments }
+// What a list of a playlist holds, with nothing left in its place.
+fn taken<T: Drop>(alloc: Global, items: &mut Items<T>) -> Vec<T>
+    ensures { result.items ≡ items.old }
+{
+    std::mem::replace(items, Items::from_vec(Vec::new(alloc))).into_vec()
+}
+
+/// The playlist that is written for an origin's of which no break is filled: its segments keep their numbers, and each
+/// states the instant at which it begins, where it has one. Nothing is copied.
+pub fn owed_alone(alloc: Global, playlist: Playlist) -> Result<OutPlaylist, AllocError>
+    ensures { IfOk result (λ out. out ≡ owed_alone playlist) }
 {
     let mut rest = playlist;
-    let segments = std::mem::replace(&mut rest.segments, Items::from_vec(Vec::new(alloc)));
-    (rest, segments.into_vec())
-}
-
-/// The playlist that is written for an origin's: its segments keep their numbers, and each states the
-/// instant at which it begins, where it has one.
-pub fn owed_playlist(alloc: Global, playlist: Playlist) -> Result<OutPlaylist, AllocError>
-    ensures { IfOk result (λ out. out ≡ owed_playlist playlist) }
-{
-    let (rest, segments) = split(alloc, playlist);
-    owed_with(alloc, rest, owed_segments(alloc, segments)?)
-}
-
-// Whether a run goes past the last of so many segments.
-fn goes_past(run: &StatedRun, segments: usize) -> bool
-    ensures { result ≡ nat_lt segments (run.now.first + run.now.count) }
-{
-    match run.first.checked_add(run.count) {
-        Some(end) => segments < end,
-        None => true,
-    }
-}
-
-/// The playlist that is written for an origin's where a pod stands in the place of a run: the window of
-/// the stitched list.
-pub fn owed_with_run(
-    alloc: Global,
-    playlist: Playlist,
-    run: &StatedRun,
-) -> Result<OutPlaylist, VodFault>
-    requires run { IsRun run.now }
-    requires rise { RiseFromFirst playlist.segments }
-    ensures ok { IfOk result (λ out. owed_with_run run.now playlist ≡ Ok out) }
-    ensures err { IfErr result (λ e. RefusesRun e (owed_with_run run.now playlist)) }
-{
-    if goes_past(run, playlist.segments.len()) {
-        return Err(VodFault::BadRun);
-    }
-    let (rest, segments) = split(alloc, playlist);
-    let segments = stitched(alloc, timed(alloc, segments)?, run)?;
-    Ok(owed_with(alloc, rest, segments)?)
+    let segments = taken(alloc, &mut rest.segments);
+    let segments = owed_segments(alloc, segments)?;
+    let ranges = taken(alloc, &mut rest.ranges);
+    let ranges = all_ranges_owed(alloc, segments.as_slice(), ranges)?;
+    Ok(owed_with(rest, ranges, segments))
 }

@@ -1,12 +1,10 @@
-//! That the URIs of a playlist and of a stated pod are texts. Their type says so; here it is handed to contracts, which see a text
-//! as a list of bytes. Nothing of it is left when it runs.
+//! That the URIs of a playlist are texts. Their type says so; here it is handed to contracts, which see a text as a
+//! list of bytes. Nothing of it is left when it runs.
 ghost use Rattle.std.specs.Prelude.{◌≡◌, true};
 ghost use Rattle.std.specs.List.{list_all};
 ghost use Rattle.fitting.specs.Fitting.{if_some};
-ghost use Rattle.http_edge.specs.Stated.{uri_is_text};
 ghost use Rattle.reading_laws.specs.Read.{key_is_text, section_is_text, uris_are_text};
 
-use crate::stated::StatedSegment;
 use playlist_meaning::{InitSection, Key, Segment, Shared};
 
 fn know_keys(keys: &[Key])
@@ -40,14 +38,5 @@ pub fn know_texts(segments: &[Segment])
 {
     for segment in segments {
         know_segment(segment);
-    }
-}
-
-/// Knows that the URIs of a stated pod are UTF-8.
-pub fn know_pod(pod: &[StatedSegment])
-    ensures { list_all uri_is_text pod.now ≡ true }
-{
-    for segment in pod {
-        let _uri = segment.uri.as_str();
     }
 }

@@ -1,0 +1,40 @@
+-- The breaks that segments are marked with, as they are noted.
+use Rattle.std.proofs.Common.{◌≡◌, ℕ, Bool, true, false, cond, ◌||◌, not, List, [], ◌∷◌, ◌++◌, map, filter, Bor, refl, ap, sym, ◌∙◌}
+use Rattle.std.specs.Prelude.{bytes_eq}
+use Rattle.std.specs.List.{list_any}
+use Rattle.std.proofs.lemmas.List.Folds.{list_any-append}
+use Rattle.std.proofs.lemmas.Slice.Eq.{bytes_eq-Decides}
+use Rattle.indexmap.specs.IndexSet.{insert_key}
+use Rattle.playlist_meaning.specs.declared.DateRange.{DateRange}
+use Rattle.stitcher.specs.declared.marked.Marked.{Marked}
+use Rattle.live_laws.specs.Owed.{range_text}
+use Rattle.http_edge.specs.Filling.{is_text, has_text, is_marked_with, is_unmarked, is_of_another, ranges_left}
+
+or_false : (b : Bool) → (b || false) ≡ b
+or_false true = refl
+or_false false = refl
+
+abbrev same_text : Bor (List ℕ) → Bor (List ℕ) → Bool
+same_text a b = bytes_eq a.now b.now
+
+-- a text that is noted stands among those before, or is noted after them
+pub noted : (id : List ℕ) (texts : List (Bor (List ℕ))) (text : Bor (List ℕ)) → has_text (insert_key same_text texts text) id ≡ (has_text texts id || is_text id text)
+noted id texts text = by (list_any (same_text text) texts) refl
+  where
+    there : (b : Bool) → is_text id text ≡ b → list_any (same_text text) texts ≡ true → has_text texts id ≡ (has_text texts id || b)
+    there true e h = let k : has_text texts id ≡ true = ap (has_text texts) ((bytes_eq-Decides id text.now).0 e) ∙ h in rw k refl
+    there false e h = sym (or_false (has_text texts id))
+
+    by : (b : Bool) → list_any (same_text text) texts ≡ b → has_text (cond b texts (texts ++ text ∷ [])) id ≡ (has_text texts id || is_text id text)
+    by true h = there (is_text id text) refl h
+    by false h = list_any-append (is_text id) texts (text ∷ []) ∙ ap (λ b. has_text texts id || b) (or_false (is_text id text))
+
+pub unmarked_left : (texts : List (Bor (List ℕ))) (marked : List Marked) → ((id : List ℕ) → has_text texts id ≡ list_any (is_marked_with id) marked) → (ranges : List DateRange)
+    → ranges_left texts ranges ≡ map range_text (filter (is_of_another marked) ranges)
+unmarked_left texts marked h ranges = ap (map range_text) (left ranges)
+  where
+    left : (ranges : List DateRange) → filter (is_unmarked texts) ranges ≡ filter (is_of_another marked) ranges
+    left [] = refl
+    left (r ∷ later) =
+        ap (λ b. cond (not b) (r ∷ filter (is_unmarked texts) later) (filter (is_unmarked texts) later)) (h r.id)
+        ∙ ap (λ rs. cond (is_of_another marked r) (r ∷ rs) rs) (left later)

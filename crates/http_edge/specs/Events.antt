@@ -1,0 +1,52 @@
+-- What a decision file tells before a playlist is read.
+use Rattle.std.specs.Prelude.{◌≡◌, ℕ, List, [], ◌∷◌, Option, Some, None, Ok, Err}
+use Rattle.std.specs.List.{AllByRecursion}
+use Rattle.pod_store.specs.declared.fault.DecisionFault.{DecisionFault}
+use Rattle.pod_store.specs.declared.fault.DecisionKind.{DecisionKind}
+use Rattle.pod_store.specs.declared.fault.DecisionKind.TheVariants.{OutOfMemory as NoMemory}
+use Rattle.pod_store.specs.declared.Decisions.{Decisions}
+use Rattle.pod_store.specs.Outcome.{Outcome, ◌>>=◌}
+use Rattle.pod_store.specs.Decided.{decisions_of}
+use Rattle.pod_store.specs.Store.{Entry}
+use Rattle.pod_store.specs.Store.{decided as after_decisions}
+use Rattle.live_meaning.specs.Live.{Event, decided, Told, told}
+use Rattle.live_laws.specs.Laws.{CanBeGiven}
+use Rattle.http_edge.specs.declared.filling.TheConstants.{TOLERANCE}
+use Rattle.http_edge.specs.declared.fault.VodFault.{VodFault}
+use Rattle.http_edge.specs.declared.fault.VodFault.TheVariants.{Decision, OutOfMemory}
+
+-- decisions that a store takes in which no break is decided yet
+abbrev pub first_decided : Decisions → Outcome (List Event)
+first_decided decisions = after_decisions [] decisions >>= λ store. Ok (decided decisions ∷ [])
+
+-- what a decision file tells, or its first fault; without a file nothing is told
+abbrev pub events_of : Option (List ℕ) → Outcome (List Event)
+events_of None = Ok []
+events_of (Some bytes) = decisions_of bytes >>= first_decided
+
+-- nothing is told but what stands in this store
+abbrev pub told_store : List Entry → Told
+told_store store = record { accepted = []; history = []; store = store }
+
+-- the file tells something, and this store has the decided breaks then
+pub record HasDecided (file : Option (List ℕ)) (store : List Entry) : Type 0 where
+  pub events : List Event
+  pub said : events_of file ≡ Ok events
+  pub stored : told TOLERANCE events ≡ told_store store
+  pub good : AllByRecursion CanBeGiven events
+
+-- ---- faults
+
+abbrev pub fault_by : DecisionFault → DecisionKind → VodFault
+fault_by fault NoMemory = OutOfMemory
+fault_by fault _ = Decision fault
+
+-- every want of memory is one fault
+abbrev pub fault_of_decisions : DecisionFault → VodFault
+fault_of_decisions fault = fault_by fault fault.kind
+
+-- the fault is that of the file, or memory was refused
+abbrev pub RefusesDecisions : {A : Type 0} → VodFault → Outcome A → Type 0
+RefusesDecisions (Decision fault) outcome = outcome ≡ Err fault
+RefusesDecisions OutOfMemory outcome = Unit {0}
+RefusesDecisions _ outcome = ⊥
