@@ -3,10 +3,9 @@
 
 use devices::Counted;
 use http_edge::{Command, command_vod, read_args};
-use std::env;
-use std::fs;
 use std::io::{ErrorKind, Write};
 use std::process::ExitCode;
+use std::{env, fs};
 
 const USAGE: &str = "usage: adsplice vod BASE [DECISIONS] | adsplice live PORT COUNT\n";
 

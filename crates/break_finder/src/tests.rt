@@ -43,23 +43,23 @@ fn tag(alloc: Global, id: &str, out: &str) -> Result<DateRange, AllocError> {
     })
 }
 
-fn refresh(alloc: Global, ranges: Vec<DateRange>) -> Playlist {
+fn refresh(alloc: Global, date_ranges: Vec<DateRange>) -> Playlist {
     Playlist {
         version: 3,
         target: 10,
         kind: None,
         independent: false,
         ended: false,
-        ranges: Items::from_vec(ranges),
+        date_ranges: Items::from_vec(date_ranges),
         segments: Items::from_vec(Vec::new(alloc)),
     }
 }
 
 // What is known after one refresh with one tag.
 fn known_by(alloc: Global, id: &str, out: &str) -> Result<Knowledge, FindFault> {
-    let mut ranges = Vec::new(alloc);
-    ranges.push(tag(alloc, id, out)?)?;
-    Knowledge::new(alloc).carry(alloc, &refresh(alloc, ranges), None)
+    let mut date_ranges = Vec::new(alloc);
+    date_ranges.push(tag(alloc, id, out)?)?;
+    Knowledge::new(alloc).carry(alloc, &refresh(alloc, date_ranges), None)
 }
 
 // What is known after one more refresh without tags.
@@ -155,12 +155,12 @@ fn a_break_is_forgotten_but_for_its_mark(rt: HostRuntime) -> Result<(), Fail> {
 
 // So many tags of as many breaks.
 fn many_tags(alloc: Global, count: usize) -> Result<Vec<DateRange>, AllocError> {
-    let mut ranges = Vec::new(alloc);
+    let mut date_ranges = Vec::new(alloc);
     for i in 0..count {
         let id = format!(in alloc; "break {i}")?;
-        ranges.push(tag(alloc, id.as_str(), "")?)?;
+        date_ranges.push(tag(alloc, id.as_str(), "")?)?;
     }
-    Ok(ranges)
+    Ok(date_ranges)
 }
 
 #[test]

@@ -17,7 +17,7 @@ use Rattle.live_meaning.specs.declared.fault.RefreshFault.TheVariants.{NumberRan
 use Rattle.http_edge.specs.declared.fault.VodFault.{VodFault}
 use Rattle.http_edge.specs.declared.fault.VodFault.TheVariants.{NumberRange, OutOfMemory}
 use Rattle.http_edge.specs.Owed.{owed_with, owed_alone}
-use Rattle.http_edge.specs.Filling.{IsOwed, RefusesPlaylist, RefusesRange, refusal_of, marked_of, first_numbers_of, ranges_owed}
+use Rattle.http_edge.specs.Filling.{IsOwed, RefusesPlaylist, RefusesRange, refusal_of, marked_of, first_numbers_of, date_ranges_owed}
 use Rattle.http_edge.proofs.Rising.{rise_from_first}
 use Rattle.http_edge.proofs.OneRefresh.{segments_of, owes, accepts, refuses}
 use Rattle.http_edge.proofs.Unmarked.{owed_as_it_is}
@@ -27,15 +27,15 @@ segments_so : (store : List Entry) (p : Playlist) (held : List Marked) (first : 
     → stitched_segments store first held ≡ segments_of store (marked_of store p)
 segments_so store p held first h n = ap (λ f. stitched_segments store f held) n ∙ ap (segments_of store) h
 
-pub filled_is_owed : (store : List Entry) (p : Playlist) → AreRead limited p → (held : List Marked) (first : Numbers) (segments : List OutSegment) (ranges : List (List ℕ)) (out : OutPlaylist)
+pub filled_is_owed : (store : List Entry) (p : Playlist) → AreRead limited p → (held : List Marked) (first : Numbers) (segments : List OutSegment) (date_ranges : List (List ℕ)) (out : OutPlaylist)
     → held ≡ marked_of store p → first ≡ first_numbers_of held → segments ≡ stitched_segments store first held → list_all item_fits segments ≡ true
-    → ranges ≡ ranges_owed held segments p.ranges → out ≡ owed_with p ranges segments → IsOwed store p out
-filled_is_owed store p r held first segments ranges out h n s fit t o =
+    → date_ranges ≡ date_ranges_owed held segments p.date_ranges → out ≡ owed_with p date_ranges segments → IsOwed store p out
+filled_is_owed store p r held first segments date_ranges out h n s fit t o =
     let made : segments ≡ segments_of store (marked_of store p) = s ∙ segments_so store p held first h n in
     record {
       accepted = accepts store p (ap (list_all item_fits) (sym made) ∙ fit);
-      owed = o ∙ (ap (λ rs. owed_with p rs segments) (t ∙ ap (λ x. ranges_owed x segments p.ranges) h)
-          ∙ (ap (λ xs. owed_with p (ranges_owed (marked_of store p) xs p.ranges) xs) made ∙ sym (owes store p (rise_from_first p.segments r.numbers))));
+      owed = o ∙ (ap (λ rs. owed_with p rs segments) (t ∙ ap (λ x. date_ranges_owed x segments p.date_ranges) h)
+          ∙ (ap (λ xs. owed_with p (date_ranges_owed (marked_of store p) xs p.date_ranges) xs) made ∙ sym (owes store p (rise_from_first p.segments r.numbers))));
     }
 
 pub range_refused : (store : List Entry) (p : Playlist) (held : List Marked) (first : Numbers) → held ≡ marked_of store p → first ≡ first_numbers_of held

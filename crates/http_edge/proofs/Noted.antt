@@ -7,7 +7,7 @@ use Rattle.std.proofs.lemmas.Slice.Eq.{bytes_eq-Decides}
 use Rattle.indexmap.specs.IndexSet.{insert_key}
 use Rattle.playlist_meaning.specs.declared.DateRange.{DateRange}
 use Rattle.stitcher.specs.declared.marked.Marked.{Marked}
-use Rattle.live_laws.specs.Owed.{range_text}
+use Rattle.live_laws.specs.Owed.{date_range_text}
 use Rattle.http_edge.specs.Filling.{is_text, has_text, is_marked_with, is_unmarked, is_of_another, ranges_left}
 
 or_false : (b : Bool) → (b || false) ≡ b
@@ -29,11 +29,11 @@ noted id texts text = by (list_any (same_text text) texts) refl
     by true h = there (is_text id text) refl h
     by false h = list_any-append (is_text id) texts (text ∷ []) ∙ ap (λ b. has_text texts id || b) (or_false (is_text id text))
 
-pub unmarked_left : (texts : List (Bor (List ℕ))) (marked : List Marked) → ((id : List ℕ) → has_text texts id ≡ list_any (is_marked_with id) marked) → (ranges : List DateRange)
-    → ranges_left texts ranges ≡ map range_text (filter (is_of_another marked) ranges)
-unmarked_left texts marked h ranges = ap (map range_text) (left ranges)
+pub unmarked_left : (texts : List (Bor (List ℕ))) (marked : List Marked) → ((id : List ℕ) → has_text texts id ≡ list_any (is_marked_with id) marked) → (date_ranges : List DateRange)
+    → ranges_left texts date_ranges ≡ map date_range_text (filter (is_of_another marked) date_ranges)
+unmarked_left texts marked h date_ranges = ap (map date_range_text) (left date_ranges)
   where
-    left : (ranges : List DateRange) → filter (is_unmarked texts) ranges ≡ filter (is_of_another marked) ranges
+    left : (date_ranges : List DateRange) → filter (is_unmarked texts) date_ranges ≡ filter (is_of_another marked) date_ranges
     left [] = refl
     left (r ∷ later) =
         ap (λ b. cond (not b) (r ∷ filter (is_unmarked texts) later) (filter (is_unmarked texts) later)) (h r.id)

@@ -22,7 +22,7 @@ use Rattle.live_meaning.specs.Marking.{Moment, mark_id, last_mark, last_entered,
 use Rattle.live_meaning.specs.Successor.{first_number, fault_if}
 use Rattle.live_meaning.specs.Live.{moment, is_marked, in_use, states_instant, window_after, written_ranges}
 use Rattle.live_meaning.proofs.KeptSteps.{show_first, ranges_same}
-use Rattle.live_laws.specs.Owed.{owed_playlist, range_text}
+use Rattle.live_laws.specs.Owed.{owed_playlist, date_range_text}
 use Rattle.live_laws.proofs.Rest.{window_is_stitched, range_is_stitched}
 use Rattle.live_counters.specs.Marking.{mark_on, next_id}
 use Rattle.live_counters.proofs.Marked.{marks_are_shown}
@@ -30,7 +30,7 @@ use Rattle.playlist_meaning.specs.LookBack.{or_earlier}
 use Rattle.http_edge.specs.declared.filling.TheConstants.{TOLERANCE}
 use Rattle.http_edge.specs.Events.{told_store}
 use Rattle.http_edge.specs.Owed.{states_time, owed_with}
-use Rattle.http_edge.specs.Filling.{told_after, refusal_of, marked_of, first_alone, first_numbers_of, is_marked_with, ranges_owed}
+use Rattle.http_edge.specs.Filling.{told_after, refusal_of, marked_of, first_alone, first_numbers_of, is_marked_with, date_ranges_owed}
 use Rattle.http_edge.proofs.Rising.{RiseFromFirst}
 
 -- ---- the history
@@ -233,28 +233,28 @@ any_written : (items : List Item) → list_any states_time (map written_item ite
 any_written [] = refl
 any_written (item ∷ items) = ap (λ b. is_some item.piece.instant || b) (any_written items)
 
-texts_of : (b : Bool) (ranges : List DateRange) → map range_text (cond b ranges []) ≡ cond b (map range_text ranges) []
-texts_of true ranges = refl
-texts_of false ranges = refl
+texts_of : (b : Bool) (date_ranges : List DateRange) → map date_range_text (cond b date_ranges []) ≡ cond b (map date_range_text date_ranges) []
+texts_of true date_ranges = refl
+texts_of false date_ranges = refl
 
 ranges_alike : (store : List Entry) (p : Playlist) → RiseFromFirst p.segments
-    → map range_text (written_ranges (told_after store p) p) ≡ ranges_owed (marked_of store p) (segments_of store (marked_of store p)) p.ranges
+    → map date_range_text (written_ranges (told_after store p) p) ≡ date_ranges_owed (marked_of store p) (segments_of store (marked_of store p)) p.date_ranges
 ranges_alike store p h =
     let held = marked_of store p in
     let window = window_after (told_after store p) p in
     let stated : list_any states_instant window ≡ list_any states_time (segments_of store held) = sym (any_written window) ∙ ap (list_any states_time) (window_whole store p h) in
-    let left = ranges_same (in_use (first_number p.segments) (told_after store p).history) (λ id. list_any (is_marked_with id) held) p.ranges (λ id. used_alike store p id h) in
+    let left = ranges_same (in_use (first_number p.segments) (told_after store p).history) (λ id. list_any (is_marked_with id) held) p.date_ranges (λ id. used_alike store p id h) in
     texts_of (list_any states_instant window) _
-    ∙ (ap (λ b. cond b (map range_text (filter (λ (r : DateRange). not (in_use (first_number p.segments) (told_after store p).history r.id)) p.ranges)) []) stated
-    ∙ ap (λ rs. cond (list_any states_time (segments_of store held)) (map range_text rs) []) left)
+    ∙ (ap (λ b. cond b (map date_range_text (filter (λ (r : DateRange). not (in_use (first_number p.segments) (told_after store p).history r.id)) p.date_ranges)) []) stated
+    ∙ ap (λ rs. cond (list_any states_time (segments_of store held)) (map date_range_text rs) []) left)
 
 -- ---- the whole
 
-same_parts : (p : Playlist) (ranges ranges' : List (List ℕ)) (segments segments' : List OutSegment) → ranges ≡ ranges' → segments ≡ segments' → owed_with p ranges segments ≡ owed_with p ranges' segments'
-same_parts p ranges ranges' segments segments' h k = cc
+same_parts : (p : Playlist) (date_ranges date_ranges' : List (List ℕ)) (segments segments' : List OutSegment) → date_ranges ≡ date_ranges' → segments ≡ segments' → owed_with p date_ranges segments ≡ owed_with p date_ranges' segments'
+same_parts p date_ranges date_ranges' segments segments' h k = cc
 
 pub owes : (store : List Entry) (p : Playlist) → RiseFromFirst p.segments
-    → owed_playlist (told_after store p) p ≡ owed_with p (ranges_owed (marked_of store p) (segments_of store (marked_of store p)) p.ranges) (segments_of store (marked_of store p))
+    → owed_playlist (told_after store p) p ≡ owed_with p (date_ranges_owed (marked_of store p) (segments_of store (marked_of store p)) p.date_ranges) (segments_of store (marked_of store p))
 owes store p h = same_parts p _ _ _ _ (ranges_alike store p h) (window_whole store p h)
 
 pub accepts : (store : List Entry) (p : Playlist) → list_all item_fits (segments_of store (marked_of store p)) ≡ true → refusal_of store p ≡ None

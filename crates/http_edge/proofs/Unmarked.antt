@@ -23,11 +23,11 @@ use Rattle.reading_laws.specs.Read.{segment_reads, follows, all_follow, numbers_
 use Rattle.live_meaning.specs.Marking.{Moment, limits}
 use Rattle.live_meaning.specs.Live.{moment}
 use Rattle.live_counters.specs.Marking.{mark_on, next_id}
-use Rattle.live_laws.specs.Owed.{range_text}
+use Rattle.live_laws.specs.Owed.{date_range_text}
 use Rattle.http_edge.specs.declared.filling.TheConstants.{TOLERANCE}
 use Rattle.http_edge.specs.Events.{told_store}
 use Rattle.http_edge.specs.Owed.{owed_segment, owed_segments, owed_alone, owed_with, states_time}
-use Rattle.http_edge.specs.Filling.{marked_of, first_numbers_of, is_marked_with, is_of_another, ranges_owed, IsOwed}
+use Rattle.http_edge.specs.Filling.{marked_of, first_numbers_of, is_marked_with, is_of_another, date_ranges_owed, IsOwed}
 use Rattle.http_edge.proofs.Rising.{rise_from_first}
 use Rattle.http_edge.proofs.OneRefresh.{marks_decided, segments_of, owes, accepts}
 
@@ -66,7 +66,7 @@ no_marks : (id : List ℕ) (ended : Option ℤ) (segments : List Segment) → li
 no_marks id ended [] = refl
 no_marks id ended (s ∷ later) = no_marks id (ends_at (begins_at ended s later) s.duration) later
 
-all_left : (ended : Option ℤ) (segments : List Segment) (ranges : List DateRange) → filter (is_of_another (unmarked ended segments)) ranges ≡ ranges
+all_left : (ended : Option ℤ) (segments : List Segment) (date_ranges : List DateRange) → filter (is_of_another (unmarked ended segments)) date_ranges ≡ date_ranges
 all_left ended segments [] = refl
 all_left ended segments (r ∷ later) =
     ap (λ b. cond (not b) (r ∷ filter (is_of_another (unmarked ended segments)) later) (filter (is_of_another (unmarked ended segments)) later)) (no_marks r.id ended segments)
@@ -138,15 +138,15 @@ all_fit ended (s ∷ later) h =
 
 -- ---- the whole
 
-texts_left : (b : Bool) (p : Playlist) → cond b (map range_text (filter (is_of_another (unmarked None p.segments)) p.ranges)) [] ≡ cond b (map range_text p.ranges) []
-texts_left b p = ap (λ rs. cond b (map range_text rs) []) (all_left None p.segments p.ranges)
+texts_left : (b : Bool) (p : Playlist) → cond b (map date_range_text (filter (is_of_another (unmarked None p.segments)) p.date_ranges)) [] ≡ cond b (map date_range_text p.date_ranges) []
+texts_left b p = ap (λ rs. cond b (map date_range_text rs) []) (all_left None p.segments p.date_ranges)
 
 ranges_kept : (p : Playlist) → numbers_read p.segments ≡ true
-    → owed_with p (ranges_owed (marked_of [] p) (segments_of [] (marked_of [] p)) p.ranges) (segments_of [] (marked_of [] p)) ≡ owed_alone p
+    → owed_with p (date_ranges_owed (marked_of [] p) (segments_of [] (marked_of [] p)) p.date_ranges) (segments_of [] (marked_of [] p)) ≡ owed_alone p
 ranges_kept p h =
-    ap (λ outs. owed_with p (ranges_owed (marked_of [] p) outs p.ranges) outs) (keeps_its_place p h)
-    ∙ (ap (λ held. owed_with p (ranges_owed held (owed_segments p.segments) p.ranges) (owed_segments p.segments)) (stay_unmarked p)
-    ∙ ap (λ ranges. owed_with p ranges (owed_segments p.segments)) (texts_left (list_any states_time (owed_segments p.segments)) p))
+    ap (λ outs. owed_with p (date_ranges_owed (marked_of [] p) outs p.date_ranges) outs) (keeps_its_place p h)
+    ∙ (ap (λ held. owed_with p (date_ranges_owed held (owed_segments p.segments) p.date_ranges) (owed_segments p.segments)) (stay_unmarked p)
+    ∙ ap (λ date_ranges. owed_with p date_ranges (owed_segments p.segments)) (texts_left (list_any states_time (owed_segments p.segments)) p))
 
 pub owed_as_it_is : (p : Playlist) → AreRead limited p → IsOwed [] p (owed_alone p)
 owed_as_it_is p r = record {

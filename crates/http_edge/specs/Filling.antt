@@ -16,7 +16,7 @@ use Rattle.live_meaning.specs.Live.{Told, moment, after_refresh, refusal}
 use Rattle.live_meaning.specs.declared.fault.RefreshFault.{RefreshFault}
 use Rattle.live_meaning.specs.declared.fault.RefreshFault.TheVariants.{NumberRange as PassesRange}
 use Rattle.live_counters.specs.Marking.{mark_on}
-use Rattle.live_laws.specs.Owed.{owed_playlist, range_text}
+use Rattle.live_laws.specs.Owed.{owed_playlist, date_range_text}
 use Rattle.http_edge.specs.declared.filling.TheConstants.{TOLERANCE}
 use Rattle.http_edge.specs.declared.fault.VodFault.{VodFault}
 use Rattle.http_edge.specs.declared.fault.VodFault.TheVariants.{NumberRange, OutOfMemory}
@@ -82,12 +82,12 @@ abbrev pub is_unmarked : List (Bor (List ℕ)) → DateRange → Bool
 is_unmarked marks r = not (has_text marks r.id)
 
 abbrev pub ranges_left : List (Bor (List ℕ)) → List DateRange → List (List ℕ)
-ranges_left marks ranges = map range_text (filter (is_unmarked marks) ranges)
+ranges_left marks date_ranges = map date_range_text (filter (is_unmarked marks) date_ranges)
 
 -- it is of no break that marks one of these segments
 abbrev pub is_of_another : List Marked → DateRange → Bool
 is_of_another marked r = not (list_any (is_marked_with r.id) marked)
 
-abbrev pub ranges_owed : List Marked → List OutSegment → List DateRange → List (List ℕ)
-ranges_owed marked segments ranges =
-    if list_any states_time segments then map range_text (filter (is_of_another marked) ranges) else []
+abbrev pub date_ranges_owed : List Marked → List OutSegment → List DateRange → List (List ℕ)
+date_ranges_owed marked segments date_ranges =
+    if list_any states_time segments then map date_range_text (filter (is_of_another marked) date_ranges) else []

@@ -9,7 +9,7 @@ use Rattle.playlist_meaning.specs.Uri.{base_of}
 use Rattle.playlist_meaning.specs.Reading.{Fault, reading, limited}
 use Rattle.stitcher.specs.declared.OutSegment.{OutSegment}
 use Rattle.playlist_write.specs.declared.OutPlaylist.{OutPlaylist}
-use Rattle.live_laws.specs.Owed.{range_text}
+use Rattle.live_laws.specs.Owed.{date_range_text}
 
 -- what is read of an input under the base that a text says, if it says one
 abbrev pub read_under : List ℕ → List ℕ → Option (Result Playlist Fault)
@@ -35,21 +35,21 @@ states_time out = is_some out.time
 
 -- the origin's date ranges as they stand, but none where no written segment states a time
 abbrev pub all_ranges_owed : List OutSegment → List DateRange → List (List ℕ)
-all_ranges_owed segments ranges = if list_any states_time segments then map range_text ranges else []
+all_ranges_owed segments date_ranges = if list_any states_time segments then map date_range_text date_ranges else []
 
 -- ---- the playlist
 
 -- a playlist with these date ranges and segments: the version is at least 6; all else is the origin's
 abbrev pub owed_with : Playlist → List (List ℕ) → List OutSegment → OutPlaylist
-owed_with p ranges segments = record {
+owed_with p date_ranges segments = record {
   version = max p.version 6;
   target = p.target;
   kind = p.kind;
   independent = p.independent;
   ended = p.ended;
-  ranges = ranges;
+  date_ranges = date_ranges;
   segments = segments;
 }
 
 abbrev pub owed_alone : Playlist → OutPlaylist
-owed_alone p = owed_with p (all_ranges_owed (owed_segments p.segments) p.ranges) (owed_segments p.segments)
+owed_alone p = owed_with p (all_ranges_owed (owed_segments p.segments) p.date_ranges) (owed_segments p.segments)

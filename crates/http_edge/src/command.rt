@@ -26,7 +26,7 @@ pub enum Command<'a> {
     },
 }
 
-// `vod` with these words behind it.
+// `vod` with these words after it.
 fn vod_with<'a>(verb: &str, base: &'a str, decisions: Option<&'a str>) -> Option<Command<'a>>
     ensures { option_map asked result ≡ asked_with verb.now base.now (option_copied decisions.entry) }
 {

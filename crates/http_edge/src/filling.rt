@@ -9,7 +9,7 @@ ghost use Rattle.stitcher.specs.StitchedSegments.{AreDecided, item_fits, stitche
 ghost use Rattle.http_edge.specs.Owed.{owed_with};
 ghost use Rattle.pod_store.specs.Store.{pod_for};
 ghost use Rattle.http_edge.specs.Rules.{pod_keeps};
-ghost use Rattle.http_edge.specs.Filling.{IsOwed, RefusesPlaylist, RefusesRange, first_alone, first_numbers_of, has_text, is_marked_with, is_unmarked, marked_of, ranges_left, ranges_owed};
+ghost use Rattle.http_edge.specs.Filling.{IsOwed, RefusesPlaylist, RefusesRange, first_alone, first_numbers_of, has_text, is_marked_with, is_unmarked, marked_of, ranges_left, date_ranges_owed};
 
 use crate::fault::VodFault;
 use crate::owed::{is_any_timed, owed_alone, owed_with};
@@ -182,13 +182,13 @@ fn is_unmarked(marks: &IndexSet<&str>, range: &DateRange) -> bool
 fn texts_left(
     alloc: Global,
     marks: &IndexSet<&str>,
-    ranges: &[DateRange],
+    date_ranges: &[DateRange],
 ) -> Result<Vec<Text>, VodFault>
-    ensures ok { IfOk result (λ texts. texts.items ≡ ranges_left marks.now.keys ranges.now) }
+    ensures ok { IfOk result (λ texts. texts.items ≡ ranges_left marks.now.keys date_ranges.now) }
     ensures err { IfErr result (λ e. e ≡ VodFault.OutOfMemory) }
 {
     let mut texts = Vec::new(alloc);
-    let mut rest = ranges;
+    let mut rest = date_ranges;
     while let Some((range, later)) = rest.split_first() {
         if is_unmarked(marks, range) {
             texts.push(range.text.clone()?)?;
@@ -199,20 +199,20 @@ fn texts_left(
 }
 
 // The date ranges that are written: none of a filled break, and none at all where no written segment states a time.
-fn ranges_owed(
+fn date_ranges_owed(
     alloc: Global,
     marked: &[Marked],
     segments: &[OutSegment],
-    ranges: &[DateRange],
+    date_ranges: &[DateRange],
 ) -> Result<Vec<Text>, VodFault>
-    ensures ok { IfOk result (λ texts. texts.items ≡ ranges_owed marked.now segments.now ranges.now) }
+    ensures ok { IfOk result (λ texts. texts.items ≡ date_ranges_owed marked.now segments.now date_ranges.now) }
     ensures err { IfErr result (λ e. e ≡ VodFault.OutOfMemory) }
 {
     if !is_any_timed(segments) {
         return Ok(Vec::new(alloc));
     }
     let marks = marks_of(alloc, marked)?;
-    texts_left(alloc, &marks, ranges)
+    texts_left(alloc, &marks, date_ranges)
 }
 
 // With the pods of decided breaks in place of their runs.
@@ -224,13 +224,13 @@ fn filled(alloc: Global, playlist: Playlist, store: &PodStore) -> Result<OutPlay
     let marked = marked_segments(alloc, &playlist, store)?;
     let first = first_numbers(marked.as_slice(), store)?;
     let segments = stitched(alloc, marked.as_slice(), store, first)?;
-    let ranges = ranges_owed(
+    let date_ranges = date_ranges_owed(
         alloc,
         marked.as_slice(),
         segments.as_slice(),
-        playlist.ranges.as_slice(),
+        playlist.date_ranges.as_slice(),
     )?;
-    Ok(owed_with(playlist, ranges, segments))
+    Ok(owed_with(playlist, date_ranges, segments))
 }
 
 /// The playlist that is written for an origin's that stands alone, where this store has the decided breaks: each run of

@@ -1,7 +1,7 @@
 //! What is written of a playlist.
 ghost use Rattle.std.specs.Prelude.{◌≡◌, map, IfOk};
 ghost use Rattle.http_edge.specs.Owed.{all_ranges_owed, owed_alone, owed_segment, owed_segments, owed_with, states_time};
-ghost use Rattle.live_laws.specs.Owed.{range_text};
+ghost use Rattle.live_laws.specs.Owed.{date_range_text};
 ghost use Rattle.std.specs.List.{list_any};
 
 use playlist_meaning::{DateRange, Instant, Items, Playlist, Segment, Text};
@@ -44,34 +44,38 @@ pub fn is_any_timed(segments: &[OutSegment]) -> bool
     segments.iter().any(|out: &OutSegment| out.time.is_some())
 }
 
-fn range_text(range: DateRange) -> Text
-    ensures { result ≡ range_text range }
+fn date_range_text(range: DateRange) -> Text
+    ensures { result ≡ date_range_text range }
 {
     range.text
 }
 
-fn range_texts(alloc: Global, ranges: Vec<DateRange>) -> Result<Vec<Text>, AllocError>
-    ensures { IfOk result (λ v. v.items ≡ map range_text ranges.items) }
+fn date_range_texts(alloc: Global, date_ranges: Vec<DateRange>) -> Result<Vec<Text>, AllocError>
+    ensures { IfOk result (λ v. v.items ≡ map date_range_text date_ranges.items) }
 {
-    ranges.into_iter().map(range_text).collect(alloc)
+    date_ranges.into_iter().map(date_range_text).collect(alloc)
 }
 
 fn all_ranges_owed(
     alloc: Global,
     segments: &[OutSegment],
-    ranges: Vec<DateRange>,
+    date_ranges: Vec<DateRange>,
 ) -> Result<Vec<Text>, AllocError>
-    ensures { IfOk result (λ v. v.items ≡ all_ranges_owed segments.now ranges.items) }
+    ensures { IfOk result (λ v. v.items ≡ all_ranges_owed segments.now date_ranges.items) }
 {
     if is_any_timed(segments) {
-        return range_texts(alloc, ranges);
+        return date_range_texts(alloc, date_ranges);
     }
     Ok(Vec::new(alloc))
 }
 
 /// A playlist with these date ranges and segments.
-pub fn owed_with(playlist: Playlist, ranges: Vec<Text>, segments: Vec<OutSegment>) -> OutPlaylist
-    ensures { result ≡ owed_with playlist ranges.items segments.items }
+pub fn owed_with(
+    playlist: Playlist,
+    date_ranges: Vec<Text>,
+    segments: Vec<OutSegment>,
+) -> OutPlaylist
+    ensures { result ≡ owed_with playlist date_ranges.items segments.items }
 {
     OutPlaylist {
         version: playlist.version.max(LEAST_VERSION),
@@ -79,7 +83,7 @@ pub fn owed_with(playlist: Playlist, ranges: Vec<Text>, segments: Vec<OutSegment
         kind: playlist.kind,
         independent: playlist.independent,
         ended: playlist.ended,
-        ranges: Items::from_vec(ranges),
+        date_ranges: Items::from_vec(date_ranges),
         segments: Items::from_vec(segments),
     }
 }
@@ -99,7 +103,7 @@ pub fn owed_alone(alloc: Global, playlist: Playlist) -> Result<OutPlaylist, Allo
     let mut rest = playlist;
     let segments = taken(alloc, &mut rest.segments);
     let segments = owed_segments(alloc, segments)?;
-    let ranges = taken(alloc, &mut rest.ranges);
-    let ranges = all_ranges_owed(alloc, segments.as_slice(), ranges)?;
-    Ok(owed_with(rest, ranges, segments))
+    let date_ranges = taken(alloc, &mut rest.date_ranges);
+    let date_ranges = all_ranges_owed(alloc, segments.as_slice(), date_ranges)?;
+    Ok(owed_with(rest, date_ranges, segments))
 }

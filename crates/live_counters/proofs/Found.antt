@@ -68,9 +68,9 @@ was_there old s t first r e h inside k =
     let found = there (first_number old) s.number old r (omega (arith, e, h)) ∙ (ap (λ n. slice_get old (s.number - n)) (sym e) ∙ at) in
     judged (same_segment s t) (Changed s.number) ∙ sym (ap (λ o. is_none (difference s o)) found)
 
-pub was_behind : (old : List Segment) (s : Segment) (first : ℕ) → AreContiguous old → first ≡ first_number old → first ≤ s.number
+pub was_after : (old : List Segment) (s : Segment) (first : ℕ) → AreContiguous old → first ≡ first_number old → first ≤ s.number
     → false ≡ nat_lt (s.number - first) (length old) → true ≡ is_as_before old s
-was_behind old s first r e h outside =
+was_after old s first r e h outside =
     let at = slice_past old (s.number - first) (ltb-false (s.number - first) (length old) (sym outside)) in
     let found = there (first_number old) s.number old r (omega (arith, e, h)) ∙ (ap (λ n. slice_get old (s.number - n)) (sym e) ∙ at) in
     sym (ap (λ o. is_none (difference s o)) found)

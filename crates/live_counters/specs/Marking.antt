@@ -25,7 +25,7 @@ abbrev pub stays : Moment → Option (List ℕ) → Option ℤ → Bool
 stays m None instant = false
 stays m (Some id) instant = is_still_inside m id instant (pod_for m.store id)
 
--- the break that marks a segment which begins at this instant, behind one of this mark and after this last break entered
+-- the break that marks a segment which begins at this instant, after one of this mark and after this last break entered
 abbrev pub next_id : Moment → Option (List ℕ) → Option (List ℕ) → Option ℤ → Option (List ℕ)
 next_id m newest last instant = if stays m newest instant then newest else entered (limits m last) m.store m.breaks instant
 
@@ -41,7 +41,7 @@ mark_on m newest last (s ∷ later) (instant ∷ instants) =
 abbrev pub reversed_onto : {A : Type 0} → List A → List A → List A
 reversed_onto xs ys = reverse_aux xs ys
 
--- the place of the first item of the run of the last of these segments: behind a run of this mark that begins at
+-- the place of the first item of the run of the last of these segments: after a run of this mark that begins at
 -- the place `start`, where the list has `count` items so far
 abbrev pub place_on : List Entry → Option (List ℕ) → ℕ → ℕ → List Held → ℕ
 place_on store previous start count [] = start

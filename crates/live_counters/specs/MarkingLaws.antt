@@ -11,7 +11,7 @@ use Rattle.live_meaning.specs.Marking.{Moment, newest_end}
 use Rattle.live_meaning.specs.Kept.{show_on}
 use Rattle.live_counters.specs.Marking.{mark_on, reversed_onto, place_on}
 
--- the segments that are marked behind others are those that are shown behind them, and each mark is decided
+-- the segments that are marked after others are those that are shown after them, and each mark is decided
 abbrev pub MarksAreShown : Type 0
 MarksAreShown = (m : Moment) (newest last : Option (List ℕ)) (before : List Marked) (segments : List Segment) → IsDecided m.store newest → newest_mark before ≡ mark_in m.store newest →
     (reversed_onto (map (meant m.store) (mark_on m newest last segments (instants_after (newest_end before) segments))) before ≡ show_on m before last segments)

@@ -92,7 +92,7 @@ fn entered_id(
 }
 
 // The first break but this one that is entered at an instant.
-fn entered_behind(
+fn entered_after(
     alloc: Global,
     limits: &Limits,
     knowledge: &Knowledge,
@@ -116,7 +116,7 @@ fn entered_after(
     ensures { IfOk result (λ id. id ≡ entered (record { tolerance = limits.now.tolerance; target = limits.now.target; mapped = limits.now.mapped; last = last.now }) store.now knowledge.now instant) }
 {
     match last {
-        Some(last) => entered_behind(alloc, limits, knowledge, store, last.as_str(), instant),
+        Some(last) => entered_after(alloc, limits, knowledge, store, last.as_str(), instant),
         None => entered_id(alloc, limits, knowledge, store, None, instant),
     }
 }
@@ -150,7 +150,7 @@ fn or_earlier(text: &Option<Text>, earlier: Option<Text>) -> Result<Option<Text>
     }
 }
 
-/// These segments, which begin at these instants, with their marks: behind a segment of this mark, and after this
+/// These segments, which begin at these instants, with their marks: after a segment of this mark, and after this
 /// last break entered.
 pub fn mark_on(
     alloc: Global,
@@ -170,7 +170,7 @@ pub fn mark_on(
     let mut rest = segments;
     let mut begun = instants;
     while let Some((segment, later)) = rest.split_first() {
-        let Some((instant, behind)) = begun.split_first() else {
+        let Some((instant, after)) = begun.split_first() else {
             return Ok(done);
         };
         let staying = stays(limits, knowledge, store, &before, *instant);
@@ -185,7 +185,7 @@ pub fn mark_on(
             mark,
         })?;
         rest = later;
-        begun = behind;
+        begun = after;
     }
     Ok(done)
 }

@@ -93,7 +93,7 @@ fn first_changed(old: &[Segment], new: &[Segment]) -> Option<u64>
     None
 }
 
-// Whether the one starts directly behind the other, with a discontinuity number that doesn't follow.
+// Whether the one starts directly after the other, with a discontinuity number that doesn't follow.
 fn is_far(old: &[Segment], new: &[Segment]) -> bool
     ensures { result ≡ is_far old.now new.now }
 {

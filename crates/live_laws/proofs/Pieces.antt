@@ -131,7 +131,7 @@ all_written (item ∷ items) = ap (λ b. segment_fits (written_item item) && b) 
 
 -- ---- the numbers follow
 
--- the newest first: each follows the one behind it, and the last has no more steps than its discontinuity number
+-- the newest first: each follows the one after it, and the last has no more steps than its discontinuity number
 abbrev pub all_fall : OutSegment → List OutSegment → Bool
 all_fall x [] = nat_le x.steps x.discontinuity
 all_fall x (y ∷ before) = follows y x && all_fall y before

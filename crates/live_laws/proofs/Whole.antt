@@ -16,7 +16,7 @@ use Rattle.stitcher.specs.declared.OutSegment.{OutSegment}
 use Rattle.stitcher.specs.Written.{written_item}
 use Rattle.fitting.specs.Fitting.{date_range_fits, says_date_range}
 use Rattle.playlist_write.specs.WellFormed.{version_fits, segment_fits, is_mapped, well_formed}
-use Rattle.playlist_write.specs.Denoted.{denoted, denoted_segment, denoted_range, range_said}
+use Rattle.playlist_write.specs.Denoted.{denoted, denoted_segment, denoted_date_range, date_range_told}
 use Rattle.playlist_write.proofs.Whole.{text_denotes}
 use Rattle.reading_laws.specs.Read.{version_reads, IsSaid, text_is_clean}
 use Rattle.live_meaning.specs.declared.fault.RefreshFault.TheVariants.{NumberRange}
@@ -27,9 +27,9 @@ use Rattle.live_meaning.proofs.Numbered.{window_place}
 use Rattle.live_meaning.proofs.Windows.{In}
 use Rattle.live_meaning.proofs.Fills.{Mapped, stitched_mapped, IsAlike}
 use Rattle.live_meaning.proofs.Places.{place_inside, stitched_longer, up_to_within, up_to_some}
-use Rattle.live_meaning.proofs.EachWindow.{all_behind}
+use Rattle.live_meaning.proofs.EachWindow.{all_after}
 use Rattle.live_meaning.proofs.LiveState.{Standing, holds, new_standing}
-use Rattle.live_laws.specs.Owed.{owed_playlist, range_text}
+use Rattle.live_laws.specs.Owed.{owed_playlist, date_range_text}
 use Rattle.live_laws.specs.Laws.{CanBeRead, OwedIsWellFormed, OwedIsDenoted, TextDenotesOwed}
 use Rattle.live_laws.proofs.AllPods.{all_filter}
 use Rattle.live_laws.proofs.Pieces.{list_all-reverse, all_taken, pieces_stand, item_fits, items_fit, all_written, window_numbers, is_mapped_item, agree}
@@ -43,7 +43,7 @@ place_within p history s =
     let n = first_number p.segments in
     let some = up_to_some n (end_number p.segments) history s.falls (omega (arith, s.read.some)) (omega (arith, s.long)) in
     let g = up_to_within n history in
-    let alike = all_behind (IsAlike (successor.is_mapped p.segments)) g.0 (up_to n history) (subst (λ h. AllByRecursion (IsAlike (successor.is_mapped p.segments)) h) g.1 s.alike) in
+    let alike = all_after (IsAlike (successor.is_mapped p.segments)) g.0 (up_to n history) (subst (λ h. AllByRecursion (IsAlike (successor.is_mapped p.segments)) h) g.1 s.alike) in
     let inside = place_inside (successor.is_mapped p.segments) (up_to n history) alike some in
     let longer = stitched_longer (up_to n history) history g in
     omega (arith, inside, longer)
@@ -87,22 +87,22 @@ outs_mapped m (item ∷ items) h = (is_mapped_item item ∙ h.0, outs_mapped m i
 version_owed : (v : ℕ) → version_reads v ≡ true → version_fits (max v 6) ≡ true
 version_owed v h = grind (arith, nat_tests)
 
-ranges_fit : (ranges : List DateRange) → AllByRecursion (IsSaid limited) ranges → list_all text_is_clean ranges ≡ true → list_all date_range_fits (map range_text ranges) ≡ true
+ranges_fit : (date_ranges : List DateRange) → AllByRecursion (IsSaid limited) date_ranges → list_all text_is_clean date_ranges ≡ true → list_all date_range_fits (map date_range_text date_ranges) ≡ true
 ranges_fit [] said clean = refl
 ranges_fit (r ∷ later) (here, rest) clean =
     let c = and_parts _ _ clean in and_from _ _ (and_from _ _ c.0 (ap says_date_range here)) (ranges_fit later rest c.1)
 
-some_said : (P : DateRange → Type 0) (b : Bool) (ranges : List DateRange) → AllByRecursion P ranges → AllByRecursion P (cond b ranges [])
-some_said P true ranges h = h
-some_said P false ranges h = tt
+some_said : (P : DateRange → Type 0) (b : Bool) (date_ranges : List DateRange) → AllByRecursion P date_ranges → AllByRecursion P (cond b date_ranges [])
+some_said P true date_ranges h = h
+some_said P false date_ranges h = tt
 
-some_clean : (b : Bool) (ranges : List DateRange) → list_all text_is_clean ranges ≡ true → list_all text_is_clean (cond b ranges []) ≡ true
-some_clean true ranges h = h
-some_clean false ranges h = refl
+some_clean : (b : Bool) (date_ranges : List DateRange) → list_all text_is_clean date_ranges ≡ true → list_all text_is_clean (cond b date_ranges []) ≡ true
+some_clean true date_ranges h = h
+some_clean false date_ranges h = refl
 
-ranges_said : (ranges : List DateRange) → AllByRecursion (IsSaid unlimited) ranges → flat_map denoted_range (map range_text ranges) ≡ ranges
-ranges_said [] h = refl
-ranges_said (r ∷ later) (here, rest) = ap (λ o. range_said o ++ flat_map denoted_range (map range_text later)) here ∙ ap (λ rs. r ∷ rs) (ranges_said later rest)
+date_ranges_said : (date_ranges : List DateRange) → AllByRecursion (IsSaid unlimited) date_ranges → flat_map denoted_date_range (map date_range_text date_ranges) ≡ date_ranges
+date_ranges_said [] h = refl
+date_ranges_said (r ∷ later) (here, rest) = ap (λ o. date_range_told o ++ flat_map denoted_date_range (map date_range_text later)) here ∙ ap (λ rs. r ∷ rs) (date_ranges_said later rest)
 
 module _ (t : Told) (p : Playlist) where
   abbrev stated : Bool
@@ -111,11 +111,11 @@ module _ (t : Told) (p : Playlist) where
   abbrev others : DateRange → Bool
   others r = not (in_use (first_number p.segments) t.history r.id)
 
-  written_said : (reader : Reader) → AllByRecursion (IsSaid reader) p.ranges → AllByRecursion (IsSaid reader) (written_ranges t p)
-  written_said reader h = some_said (IsSaid reader) stated (filter others p.ranges) (all_filter (IsSaid reader) others p.ranges h)
+  written_said : (reader : Reader) → AllByRecursion (IsSaid reader) p.date_ranges → AllByRecursion (IsSaid reader) (written_ranges t p)
+  written_said reader h = some_said (IsSaid reader) stated (filter others p.date_ranges) (all_filter (IsSaid reader) others p.date_ranges h)
 
-  written_clean : list_all text_is_clean p.ranges ≡ true → list_all text_is_clean (written_ranges t p) ≡ true
-  written_clean h = some_clean stated (filter others p.ranges) (list_filter text_is_clean others p.ranges h)
+  written_clean : list_all text_is_clean p.date_ranges ≡ true → list_all text_is_clean (written_ranges t p) ≡ true
+  written_clean h = some_clean stated (filter others p.date_ranges) (list_filter text_is_clean others p.date_ranges h)
 
 -- ---- well formed
 
@@ -137,7 +137,7 @@ well t p g s r f =
     (all_first (λ (item : Item). is_some item.piece.segment.section ≡ m) n (stitched_list t.history) (items_mapped m first pieces (stitched_mapped m t.history s.alike))) tt) in
     and_from _ _
     (and_from _ _ (and_from _ _ (and_from _ _ (and_from _ _ (version_owed p.version r.limits.version) r.limits.target) numbers) segments) (agree m (map written_item (window_after t p)) mapped))
-    (ranges_fit (written_ranges t p) (written_said t p limited r.limits.ranges) (written_clean t p r.limits.range_texts))
+    (ranges_fit (written_ranges t p) (written_said t p limited r.limits.date_ranges) (written_clean t p r.limits.date_range_texts))
 
 or_none : {A : Type 0} (a b : Option A) → or_earlier a b ≡ None → (a ≡ None) × (b ≡ None)
 or_none None b e = (refl, e)
@@ -176,7 +176,7 @@ segments_denoted (item ∷ items) = ap (λ s. s ∷ map denoted_segment (map wri
 
 pub denotes_owed : (t : Told) (p : Playlist) → CanBeRead p → denoted (owed_playlist t p) ≡ owed_for t p
 denotes_owed t p r =
-    ap (λ ranges. record (denoted (owed_playlist t p)) { ranges = ranges }) (ranges_said (written_ranges t p) (written_said t p unlimited r.denotes.ranges))
+    ap (λ date_ranges. record (denoted (owed_playlist t p)) { date_ranges = date_ranges }) (date_ranges_said (written_ranges t p) (written_said t p unlimited r.denotes.date_ranges))
     ∙ ap (λ segments. record (owed_for t p) { segments = segments }) (segments_denoted (window_after t p))
 
 pub owed_is_denoted : OwedIsDenoted

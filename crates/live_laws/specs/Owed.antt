@@ -7,8 +7,8 @@ use Rattle.playlist_write.specs.declared.OutPlaylist.{OutPlaylist}
 use Rattle.playlist_write.specs.Owed.{text_of}
 use Rattle.live_meaning.specs.Live.{Told, window_after, written_ranges}
 
-abbrev pub range_text : DateRange → List ℕ
-range_text range = range.text
+abbrev pub date_range_text : DateRange → List ℕ
+date_range_text range = range.text
 
 -- the playlist that is written after this refresh was accepted
 abbrev pub owed_playlist : Told → Playlist → OutPlaylist
@@ -18,7 +18,7 @@ owed_playlist told playlist = record {
   kind = playlist.kind;
   independent = playlist.independent;
   ended = playlist.ended;
-  ranges = map range_text (written_ranges told playlist);
+  date_ranges = map date_range_text (written_ranges told playlist);
   segments = map written_item (window_after told playlist);
 }
 

@@ -25,9 +25,9 @@ use Rattle.live_meaning.proofs.Passed.{Passed, passed}
 use Rattle.live_meaning.proofs.LiveState.{Standing, StandingOf, Holds, holds, new_standing}
 use Rattle.live_meaning.proofs.Tops.{above}
 
-pub all_behind : {A : Type 0} (P : A → Type 0) (xs ys : List A) → AllByRecursion P (xs ++ ys) → AllByRecursion P ys
-all_behind P [] ys h = h
-all_behind P (x ∷ xs) ys h = all_behind P xs ys h.1
+pub all_after : {A : Type 0} (P : A → Type 0) (xs ys : List A) → AllByRecursion P (xs ++ ys) → AllByRecursion P ys
+all_after P [] ys h = h
+all_after P (x ∷ xs) ys h = all_after P xs ys h.1
 
 -- the place where the new window begins, against the end of the old list
 pub record Fits (later : ℕ) (old new : List Piece) : Type 0 where
@@ -38,7 +38,7 @@ old_fits : (m : Bool) (number : ℕ) (history : List Marked) (new : List Piece) 
     → Fits (newest_place (up_to number history)) (stitched history) new
 old_fits m number history new a h =
     let g = up_to_within number history in
-    let inside = place_inside m (up_to number history) (all_behind (IsAlike m) g.0 (up_to number history) (subst (λ h. AllByRecursion (IsAlike m) h) g.1 a)) h in
+    let inside = place_inside m (up_to number history) (all_after (IsAlike m) g.0 (up_to number history) (subst (λ h. AllByRecursion (IsAlike m) h) g.1 a)) h in
     let longer = stitched_longer (up_to number history) history g in
     record { within = omega (arith, inside, longer); above = λ e. absurd (omega (arith, inside, longer, e)) }
 
@@ -73,11 +73,11 @@ fits_step : (m : Bool) (number : ℕ) (newest : Marked) (before more : List Mark
 fits_step m number newest before more a near some (stays p) =
     let history = newest ∷ before in
     subst (λ h. Fits (newest_place h) (stitched history) (stitched (more ++ history))) (sym p)
-    (old_fits m number history (stitched (more ++ history)) (all_behind (IsAlike m) more history a) (omega (arith, some, ap length p)))
+    (old_fits m number history (stitched (more ++ history)) (all_after (IsAlike m) more history a) (omega (arith, some, ap length p)))
 fits_step m number newest before more a near some (next x later p q r) =
     let history = newest ∷ before in
     let list : more ++ history ≡ later ++ (x ∷ history) = ap (λ xs. xs ++ history) p ∙ append_assoc later (x ∷ []) history in
-    let all = all_behind (IsAlike m) later (x ∷ history) (subst (λ h. AllByRecursion (IsAlike m) h) list a) in
+    let all = all_after (IsAlike m) later (x ∷ history) (subst (λ h. AllByRecursion (IsAlike m) h) list a) in
     subst (λ h. Fits (newest_place h) (stitched history) (stitched (more ++ history))) (sym r)
     (subst (λ h. Fits (newest_place (x ∷ history)) (stitched history) (stitched h)) (sym list)
     (next_fits m later x history all.0 all.1 (omega arith) (near later x p q)))
@@ -109,9 +109,9 @@ window_follows m last playlist (newest ∷ before) s p t =
     let on = place_grows (up_to n history) (up_to k (g.0 ++ history)) (up_to_grows n k g.0 history p.not_back) in
     let longer = stitched_longer history (g.0 ++ history) (g.0, refl) in
     let a = up_to_within n history in
-    let inside = place_inside b (up_to n history) (all_behind (IsAlike b) a.0 (up_to n history) (subst (λ h. AllByRecursion (IsAlike b) h) a.1 s.alike)) some_old in
+    let inside = place_inside b (up_to n history) (all_after (IsAlike b) a.0 (up_to n history) (subst (λ h. AllByRecursion (IsAlike b) h) a.1 s.alike)) some_old in
     let c = up_to_within k (g.0 ++ history) in
-    let later_inside = place_inside b (up_to k (g.0 ++ history)) (all_behind (IsAlike b) c.0 (up_to k (g.0 ++ history)) (subst (λ h. AllByRecursion (IsAlike b) h) c.1 whole)) some_new in
+    let later_inside = place_inside b (up_to k (g.0 ++ history)) (all_after (IsAlike b) c.0 (up_to k (g.0 ++ history)) (subst (λ h. AllByRecursion (IsAlike b) h) c.1 whole)) some_new in
     let done = follows b (first_numbers history) (stitched history) (stitched (g.0 ++ history)) (window_place n history) (window_place k (g.0 ++ history))
     (stitched_grows g.0 history) (stitched_mapped b history s.alike) (stitched_mapped b (g.0 ++ history) whole)
     (omega (arith, inside, stitched_longer (up_to n history) history a)) on fits.within

@@ -22,7 +22,7 @@ history_grows m history (s ∷ later) =
     let here = next_shown m history s later in
     goes_on_through history (here ∷ history) (show_all m (here ∷ history) later) (here ∷ [], refl) (history_grows m (here ∷ history) later)
 
--- what stands behind is as it was
+-- what stands after is as it was
 pub stitched_grows : (more history : List Marked) → GoesOn (stitched history) (stitched (more ++ history))
 stitched_grows [] history = goes_nowhere (stitched history)
 stitched_grows (s ∷ more) history =

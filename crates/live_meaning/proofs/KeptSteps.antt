@@ -44,10 +44,10 @@ show_grows m front entered (s ∷ later) =
     let here = marked_on m front entered s later in
     goes_on_through front (here ∷ front) (show_on m (here ∷ front) (entered_with here.mark entered) later) (here ∷ [], refl) (show_grows m (here ∷ front) (entered_with here.mark entered) later)
 
-pub show_behind : (m : Moment) (newer : List Marked) (s : Marked) (gone : List Marked) (segments : List Segment)
+pub show_after : (m : Moment) (newer : List Marked) (s : Marked) (gone : List Marked) (segments : List Segment)
     → show_all m (newer ++ (s ∷ gone)) segments ≡ show_on m (newer ++ (s ∷ [])) (last_entered (newer ++ (s ∷ gone))) segments ++ gone
-show_behind m [] s gone segments = show_split m s [] gone (last_entered (s ∷ gone)) segments refl
-show_behind m (x ∷ newer) s gone segments =
+show_after m [] s gone segments = show_split m s [] gone (last_entered (s ∷ gone)) segments refl
+show_after m (x ∷ newer) s gone segments =
     let list : (newer ++ (s ∷ [])) ++ gone ≡ newer ++ (s ∷ gone) = append_assoc newer (s ∷ []) gone in
     ap (λ h. show_all m (x ∷ h) segments) (sym list)
     ∙ show_split m x (newer ++ (s ∷ [])) gone (last_entered (x ∷ (newer ++ (s ∷ gone)))) segments (ap (λ h. last_entered (x ∷ h)) (sym list))
@@ -164,8 +164,8 @@ store_same f g (e ∷ store) h =
     step true k = ap (λ u. record e { used = u } ∷ store_after f store) (h e.id) ∙ ap (λ es. record e { used = g e.id } ∷ es) k
     step false k = k
 
-pub ranges_same : (f g : List ℕ → Bool) (ranges : List DateRange) → ((id : List ℕ) → f id ≡ g id) → filter (λ (r : DateRange). not (f r.id)) ranges ≡ filter (λ (r : DateRange). not (g r.id)) ranges
+pub ranges_same : (f g : List ℕ → Bool) (date_ranges : List DateRange) → ((id : List ℕ) → f id ≡ g id) → filter (λ (r : DateRange). not (f r.id)) date_ranges ≡ filter (λ (r : DateRange). not (g r.id)) date_ranges
 ranges_same f g [] h = refl
-ranges_same f g (r ∷ ranges) h =
-    ap (λ b. cond (not b) (r ∷ filter (λ (x : DateRange). not (f x.id)) ranges) (filter (λ (x : DateRange). not (f x.id)) ranges)) (h r.id)
-    ∙ ap (λ rs. cond (not (g r.id)) (r ∷ rs) rs) (ranges_same f g ranges h)
+ranges_same f g (r ∷ date_ranges) h =
+    ap (λ b. cond (not b) (r ∷ filter (λ (x : DateRange). not (f x.id)) date_ranges) (filter (λ (x : DateRange). not (f x.id)) date_ranges)) (h r.id)
+    ∙ ap (λ rs. cond (not (g r.id)) (r ∷ rs) rs) (ranges_same f g date_ranges h)

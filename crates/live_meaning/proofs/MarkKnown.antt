@@ -65,7 +65,7 @@ still_known t playlist None e c k = tt
 still_known t playlist (Some f) e c k =
     let r = acceptance t playlist in
     let carried : is_this f.id r.carried ≡ true = rw e (same_bytes f.id) in
-    let s : stands r f.id ≡ true = or_right (list_any (is_tag_of f.id) playlist.ranges) (is_this f.id r.carried) carried in
+    let s : stands r f.id ≡ true = or_right (list_any (is_tag_of f.id) playlist.date_ranges) (is_this f.id r.carried) carried in
     let old : 0 < age t.accepted f.id = known_stood t.accepted f.id (some_in t.accepted f.id (known_ids t.accepted) k) in
     let a : age (r ∷ t.accepted) f.id ≡ age t.accepted f.id + 1 = ap (λ b. cond b (age t.accepted f.id + 1) 0) s in
     in_some (r ∷ t.accepted) f.id (known_ids (r ∷ t.accepted)) (stood_known (r ∷ t.accepted) f.id c (omega (arith, a)))

@@ -7,7 +7,7 @@ use Rattle.live_meaning.specs.LiveLaws.{HasPod}
 use Rattle.live_meaning.specs.Sound.{IsSoundEvent}
 use Rattle.live_meaning.specs.Live.{Event, refreshed, told, refusal, window_after, written_ranges, owed_for}
 use Rattle.live_meaning.specs.Marking.{is_new}
-use Rattle.live_meaning.specs.Kept.{kept_of, kept_refusal, kept_after, kept_window, ranges_after, kept_owed}
+use Rattle.live_meaning.specs.Kept.{kept_of, kept_refusal, kept_after, kept_window, date_ranges_after, kept_owed}
 
 -- whether a refresh is refused, what is kept after it, the window and the date ranges that are written, and so
 -- what is owed, follow from what is kept
@@ -18,8 +18,8 @@ pub record Follows (tolerance : ℕ) (playlist : Playlist) (before : List Event)
       kept_after tolerance (kept_of (told tolerance before)) playlist ≡ kept_of (told tolerance (refreshed playlist ∷ before))
   pub window : refusal tolerance (told tolerance before) playlist ≡ None →
       kept_window tolerance (kept_of (told tolerance before)) playlist ≡ window_after (told tolerance (refreshed playlist ∷ before)) playlist
-  pub ranges : refusal tolerance (told tolerance before) playlist ≡ None →
-      ranges_after tolerance (kept_of (told tolerance before)) playlist ≡ written_ranges (told tolerance (refreshed playlist ∷ before)) playlist
+  pub date_ranges : refusal tolerance (told tolerance before) playlist ≡ None →
+      date_ranges_after tolerance (kept_of (told tolerance before)) playlist ≡ written_ranges (told tolerance (refreshed playlist ∷ before)) playlist
   pub owed : refusal tolerance (told tolerance before) playlist ≡ None →
       kept_owed tolerance (kept_of (told tolerance before)) playlist ≡ owed_for (told tolerance (refreshed playlist ∷ before)) playlist
 

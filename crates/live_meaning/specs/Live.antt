@@ -132,7 +132,7 @@ window_after told playlist = window (first_number playlist.segments) told.histor
 abbrev pub written_ranges : Told → Playlist → List DateRange
 written_ranges told playlist =
     if list_any states_instant (window_after told playlist)
-    then filter (λ (r : DateRange). not (in_use (first_number playlist.segments) told.history r.id)) playlist.ranges
+    then filter (λ (r : DateRange). not (in_use (first_number playlist.segments) told.history r.id)) playlist.date_ranges
     else []
 
 -- the playlist owed after this refresh was accepted: the window in place of the segments, of version 6 at least,
@@ -144,7 +144,7 @@ owed_for told playlist = record {
   kind = playlist.kind;
   independent = playlist.independent;
   ended = playlist.ended;
-  ranges = written_ranges told playlist;
+  date_ranges = written_ranges told playlist;
   segments = map item_segment (window_after told playlist);
 }
 

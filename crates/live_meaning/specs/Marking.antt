@@ -16,7 +16,7 @@ abbrev pub newest_end : List Marked → Option ℤ
 newest_end [] = None
 newest_end (s ∷ before) = ends_at s.instant s.segment.duration
 
--- the instant of a segment behind this history; `later` are those after it in the refresh
+-- the instant of a segment after this history; `later` are those after it in the refresh
 abbrev pub instant_of : List Marked → Segment → List Segment → Option ℤ
 instant_of before s later = begins_at (newest_end before) s later
 
@@ -57,7 +57,7 @@ limits m last = record { tolerance = m.tolerance; target = m.target; mapped = m.
 abbrev pub entered : Moment → Option ℤ → Option (List ℕ) → Option Mark
 entered m instant last = entering.mark_of m.store (entering.entered (limits m last) m.store m.breaks instant)
 
--- the mark of a segment that begins at this instant, behind a segment of this mark and after that last break entered
+-- the mark of a segment that begins at this instant, after a segment of this mark and after that last break entered
 abbrev pub next_mark : Moment → Option Mark → Option (List ℕ) → Option ℤ → Option Mark
 next_mark m newest last instant = or_earlier (continued m instant newest) (entered m instant last)
 

@@ -37,7 +37,7 @@ pub record Known : Type 0 where
   pub keys : List Key
   pub section : Option InitSection
   pub extent : Option Extent
-  pub ranges : List DateRange
+  pub date_ranges : List DateRange
   pub segments : List Segment
 
 abbrev pub known_at : List Said → Known
@@ -58,7 +58,7 @@ known_at before = record {
   keys = keys_at before;
   section = section_at before;
   extent = last_extent before;
-  ranges = date_ranges_of before;
+  date_ranges = date_ranges_of before;
   segments = segments_of before;
 }
 
@@ -102,7 +102,7 @@ step k no_keys = record k { keys = [] }
 step k (key j) = record k { keys = put_key j k.keys }
 step k (section uri part) = record k { section = Some (record { uri = uri; range = part; keys = k.keys }) }
 step k (time t) = record k { time = Some t }
-step k (date_range r) = record k { ranges = k.ranges ++ r ∷ [] }
+step k (date_range r) = record k { date_ranges = k.date_ranges ++ r ∷ [] }
 step k (media uri) = record k {
   count = k.count + 1;
   steps = 0;
@@ -194,7 +194,7 @@ module _ (base : Parts) where
   line_reads independent before f a = lines.independent_line base before
   line_reads (duration n title) before f a = lines.duration_line base before n title f.0 (lines.clean_is title f.1)
   line_reads (range n None) before f a = absurd f
-  line_reads (range n (Some o)) before f a = lines.range_line base before n o f
+  line_reads (range n (Some o)) before f a = lines.ended_date_range_line base before n o f
   line_reads discontinuity before f a = lines.discontinuity_line base before a
   line_reads no_keys before f a = lines.no_keys_line base before
   line_reads (key k) before f a = lines.key_line base before k f

@@ -10,8 +10,8 @@ pub mod laws;
 mod making;
 mod marked;
 
-pub use fault::StitchFault;
 pub use copies::copied_segment;
+pub use fault::StitchFault;
 pub use key_tags::{is_new, keeps_formats, transition};
 pub use making::stitch;
 pub use marked::{Marked, Numbers};

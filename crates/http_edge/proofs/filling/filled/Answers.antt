@@ -1,6 +1,6 @@
 use Rattle.std.proofs.Common.{refl, ap, sym, ◌∙◌, subst}
 use Rattle.stitcher.specs.StitchedSegments.{AreDecided}
-use Rattle.http_edge.specs.Filling.{first_numbers_of, ranges_owed}
+use Rattle.http_edge.specs.Filling.{first_numbers_of, date_ranges_owed}
 use Rattle.http_edge.proofs.OneRefresh.{marks_decided}
 use Rattle.http_edge.proofs.Filled.{filled_is_owed, range_refused, handed_on}
 use Rattle.http_edge.proofs.filling.filled.Goals as goal
@@ -35,8 +35,8 @@ returns-clause-ok c =
     let held = c.as_slice-2.result.now in
     let segments = c.in_ok-segments.segments.items in
     let first = c.in_ok-first.ensures.ok ∙ ap first_numbers_of (c.as_slice.ensures.value ∙ sym c.as_slice-2.ensures.value) in
-    let ranges = c.in_ok-ranges.ensures.ok
-    ∙ (ap (λ marked. ranges_owed marked c.as_slice-4.result.now c.as_slice-5.result.now) (c.as_slice-3.ensures.value ∙ sym c.as_slice-2.ensures.value)
-    ∙ (ap (λ outs. ranges_owed held outs c.as_slice-5.result.now) c.as_slice-4.ensures.value ∙ ap (ranges_owed held segments) c.as_slice-5.ensures)) in
-    filled_is_owed store p c.requires held c.in_ok-first.first segments c.in_ok-ranges.ranges.items c.owed_with.result
-    (c.as_slice-2.ensures.value ∙ c.in_ok-marked.ensures.ok) first c.in_ok-segments.ensures.ok.0 c.in_ok-segments.ensures.ok.1 ranges c.owed_with.ensures
+    let date_ranges = c.in_ok-date_ranges.ensures.ok
+    ∙ (ap (λ marked. date_ranges_owed marked c.as_slice-4.result.now c.as_slice-5.result.now) (c.as_slice-3.ensures.value ∙ sym c.as_slice-2.ensures.value)
+    ∙ (ap (λ outs. date_ranges_owed held outs c.as_slice-5.result.now) c.as_slice-4.ensures.value ∙ ap (date_ranges_owed held segments) c.as_slice-5.ensures)) in
+    filled_is_owed store p c.requires held c.in_ok-first.first segments c.in_ok-date_ranges.date_ranges.items c.owed_with.result
+    (c.as_slice-2.ensures.value ∙ c.in_ok-marked.ensures.ok) first c.in_ok-segments.ensures.ok.0 c.in_ok-segments.ensures.ok.1 date_ranges c.owed_with.ensures
