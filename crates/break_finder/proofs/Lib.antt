@@ -1,0 +1,6 @@
+pub mod Members
+pub mod Carried
+pub mod KeptLaws
+pub mod Walked
+pub mod OnLiterals
+pub mod TagIds

@@ -1,0 +1,19 @@
+use Rattle.std.proofs.Common.{ap, ◌∙◌, ◌||◌, map, filter, String, string_bytes}
+use Rattle.std.specs.Option.{option_copied}
+use Rattle.std.specs.declared.alloc.Global.{Global}
+use Rattle.break_finder.specs.declared.said.Said.{Said}
+use Rattle.break_finder.specs.Kept.{break_at, is_kept_with}
+use Rattle.break_finder.specs.Known.{break_stands, stands_in, is_this}
+use Rattle.break_finder.proofs.KeptLaws.{filtered, cloned}
+use Rattle.break_finder.proofs.TagIds.{filter_same}
+use Rattle.break_finder.proofs.carry.standing.Goals as goal
+
+pub returns-clause-standing : goal.returns-clause-standing
+returns-clause-standing c =
+    let ranges = c.args.ranges.now in
+    let carried = option_copied c.args.carried in
+    let es = c.in_ok-kept.kept.entries in
+    let same = filter_same (is_kept_with c.in_ok-ids.ids.keys carried) (λ (e : String Global × Said). stands_in ranges carried (string_bytes e.0))
+    (λ e. ap (λ b. b || is_this (string_bytes e.0) carried) (c.in_ok-ids.ensures (string_bytes e.0))) es in
+    ap (map break_at) (c.keep_standing.ensures.standing ∙ same) ∙ filtered ranges carried es
+    ∙ ap (filter (break_stands ranges carried)) (cloned c.args.breaks.now.entries es c.in_ok-kept.ensures.cases)

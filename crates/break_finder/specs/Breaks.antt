@@ -1,0 +1,81 @@
+-- What is known of a break, and where it ends.
+use Rattle.std.specs.Prelude.{ℕ, Bool, true, false, ◌&&◌, List, find, ℤ, pos, ◌+ℤ◌, ◌-ℤ◌, int_le, int_lt, Option, Some, None, option_map, is_some, bytes_eq, if◌then◌else◌}
+use Rattle.playlist_meaning.specs.declared.DateRange.{DateRange}
+use Rattle.playlist_meaning.specs.LookBack.{or_earlier}
+use Rattle.break_finder.specs.declared.said.Said.{Said}
+use Rattle.break_finder.specs.Signals.{signal_of, is_leaving, is_returning, signal_nanos}
+
+-- a break with the first value of each of its attributes
+pub record Break : Type 0 where
+  pub id : List ℕ
+  pub said : Said
+
+abbrev pub is_named : List ℕ → Break → Bool
+is_named id b = bytes_eq id b.id
+
+abbrev pub break_of : List Break → List ℕ → Option Break
+break_of breaks id = find (is_named id) breaks
+
+abbrev pub said_in : Break → Said
+said_in b = b.said
+
+-- what is said of the break of an ID, where it is known
+abbrev pub said_of : List Break → List ℕ → Option Said
+said_of breaks id = option_map said_in (break_of breaks id)
+
+abbrev pub nothing_said : Said
+nothing_said = record { start = None; end = None; duration = None; planned = None; out = None; back = None }
+
+-- what is said with one tag more: a value that stands, stays
+abbrev pub and_tag : Said → DateRange → Said
+and_tag said tag = record {
+  start = or_earlier said.start tag.start;
+  end = or_earlier said.end tag.end;
+  duration = or_earlier said.duration tag.duration;
+  planned = or_earlier said.planned tag.planned;
+  out = or_earlier said.out (option_map signal_of tag.out);
+  back = or_earlier said.back (option_map signal_of tag.back);
+}
+
+-- ---- what a break says
+
+abbrev pub is_signalled : Said → Bool
+is_signalled said = is_some said.start && is_leaving said.out
+
+-- where a break ends: at an instant; or it is closed, and no segment more is inside
+pub data End : Type 0 where
+  at : ℤ → End
+  closed : End
+
+abbrev pub end_after : Option ℤ → Option ℕ → Option End
+end_after (Some start) (Some duration) = Some (at (start +ℤ pos duration))
+end_after (Some start) None = None
+end_after None duration = None
+
+-- the first end that is known: END-DATE; START-DATE with DURATION; a valid SCTE35-IN; START-DATE with
+-- PLANNED-DURATION; with the duration of its splice section; with that of its pod
+abbrev pub end_of : Said → ℕ → Option End
+end_of said length =
+    or_earlier (option_map at said.end)
+    (or_earlier (end_after said.start said.duration)
+    (or_earlier (if is_returning said.back then Some closed else None)
+    (or_earlier (end_after said.start said.planned)
+    (or_earlier (end_after said.start (signal_nanos said.out))
+    (end_after said.start (Some length))))))
+
+-- a segment at this instant is before the end; none is before the end of a closed break
+abbrev pub is_before_end : ℤ → ℕ → Option End → Bool
+is_before_end instant tolerance (Some (at end)) = int_lt (instant +ℤ pos tolerance) end
+is_before_end instant tolerance (Some closed) = false
+is_before_end instant tolerance None = false
+
+-- a closed break, or one without an end, can still be entered
+abbrev pub is_not_past : ℤ → ℕ → Option End → Bool
+is_not_past instant tolerance (Some (at end)) = int_lt (instant +ℤ pos tolerance) end
+is_not_past instant tolerance (Some closed) = true
+is_not_past instant tolerance None = true
+
+-- the instant and the start differ by at most the tolerance
+abbrev pub is_near : ℤ → ℕ → Option ℤ → Bool
+is_near instant tolerance (Some start) = int_le (instant -ℤ start) (pos tolerance) && int_le (start -ℤ instant) (pos tolerance)
+is_near instant tolerance None = false

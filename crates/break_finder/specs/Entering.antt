@@ -1,0 +1,101 @@
+-- Which break a segment is inside, or enters.
+use Rattle.std.specs.Prelude.{ℕ, Bool, false, not, ◌&&◌, List, find, ℤ, Option, Some, None, option_map, is_none, if◌then◌else◌}
+use Rattle.playlist_meaning.specs.LookBack.{or_earlier}
+use Rattle.playlist_meaning.specs.Pods.{Pod}
+use Rattle.playlist_meaning.specs.Marks.{Mark}
+use Rattle.pod_store.specs.Pods.{total, pod_fits}
+use Rattle.pod_store.specs.Store.{Entry, pod_for, fits}
+use Rattle.break_finder.specs.declared.why.Why.{Why}
+use Rattle.break_finder.specs.declared.why.Why.TheVariants.{Filled, NotKnown, NoStart, NotSignalled, NotDecided, DoesNotFit, Waiting}
+use Rattle.break_finder.specs.Signals.{is_leaving}
+use Rattle.break_finder.specs.declared.said.Said.{Said}
+use Rattle.break_finder.specs.Breaks.{Break, said_of, is_signalled, end_of, is_before_end, is_not_past, is_near}
+use Rattle.break_finder.specs.Known.{is_this}
+
+-- ---- inside
+
+abbrev pub is_inside_said : Option ℤ → ℕ → Pod → Option Said → Bool
+is_inside_said None tolerance pod said = false
+is_inside_said (Some instant) tolerance pod None = false
+is_inside_said (Some instant) tolerance pod (Some said) = is_before_end instant tolerance (end_of said (total pod))
+
+-- a segment at this instant is inside the break of this ID, which has this pod
+abbrev pub is_inside : List Break → List ℕ → Option ℤ → ℕ → Pod → Bool
+is_inside breaks id instant tolerance pod = is_inside_said instant tolerance pod (said_of breaks id)
+
+-- ---- entering
+
+-- what breaks are entered by: the tolerance, the target, whether the origin's segments have sections, and
+-- the last break entered
+pub record Moment : Type 0 where
+  pub tolerance : ℕ
+  pub target : ℕ
+  pub mapped : Bool
+  pub last : Option (List ℕ)
+
+-- the break is signalled, and the instant is near its start
+abbrev pub starts_at : Moment → ℤ → Said → Bool
+starts_at m instant said = is_signalled said && is_near instant m.tolerance said.start
+
+-- and it is before the end of the break, which lasts so long by its pod
+abbrev pub is_at : Moment → ℤ → Said → ℕ → Bool
+is_at m instant said length = starts_at m instant said && is_not_past instant m.tolerance (end_of said length)
+
+-- a segment at this instant enters the break, if it has this pod
+abbrev pub can_enter : Moment → ℤ → Break → Pod → Bool
+can_enter m instant b pod = is_at m instant b.said (total pod) && pod_fits m.target m.mapped pod && not (is_this b.id m.last)
+
+abbrev pub enters_with : Moment → ℤ → Break → Option Pod → Bool
+enters_with m instant b None = false
+enters_with m instant b (Some pod) = can_enter m instant b pod
+
+-- it is signalled, decided and fitting, the segment is near its start and before its end, and it isn't the
+-- last one entered
+abbrev pub enters_break : Moment → List Entry → ℤ → Break → Bool
+enters_break m store instant b = enters_with m instant b (pod_for store b.id)
+
+abbrev pub id_of : Break → List ℕ
+id_of b = b.id
+
+-- the first known break that a segment at this instant enters
+abbrev pub entered : Moment → List Entry → List Break → Option ℤ → Option (List ℕ)
+entered m store breaks None = None
+entered m store breaks (Some instant) = option_map id_of (find (enters_break m store instant) breaks)
+
+-- ---- marks
+
+-- the mark of the segment before, where this one is inside that break
+abbrev pub continued : Moment → List Break → Option ℤ → Option Mark → Option Mark
+continued m breaks instant None = None
+continued m breaks instant (Some mark) = if is_inside breaks mark.id instant m.tolerance mark.pod then Some mark else None
+
+abbrev pub mark_with : List ℕ → Option Pod → Option Mark
+mark_with id None = None
+mark_with id (Some pod) = Some (record { id = id; pod = pod })
+
+abbrev pub mark_of : List Entry → Option (List ℕ) → Option Mark
+mark_of store None = None
+mark_of store (Some id) = mark_with id (pod_for store id)
+
+-- a segment's mark, from that of the segment before
+abbrev pub next_mark : Moment → List Entry → List Break → Option ℤ → Option Mark → Option Mark
+next_mark m store breaks instant before =
+    or_earlier (continued m breaks instant before) (mark_of store (entered m store breaks instant))
+
+-- ---- why
+
+-- why a known break that isn't filled isn't
+abbrev pub why_said : Said → List ℕ → ℕ → Bool → List Entry → Why
+why_said said id target mapped store =
+    if is_none said.start then NoStart
+    else (if not (is_leaving said.out) then NotSignalled
+    else (if is_none (pod_for store id) then NotDecided
+    else (if not (fits store id target mapped) then DoesNotFit else Waiting)))
+
+abbrev pub why_known : Option Said → List ℕ → ℕ → Bool → List Entry → Why
+why_known None id target mapped store = NotKnown
+why_known (Some said) id target mapped store = why_said said id target mapped store
+
+-- the first word that holds
+abbrev pub why : List Break → List ℕ → ℕ → Bool → List Entry → Bool → Why
+why breaks id target mapped store filled = if filled then Filled else why_known (said_of breaks id) id target mapped store

@@ -1,0 +1,80 @@
+-- What the worked values of breaks are given.
+use Rattle.std.specs.Prelude.{ℕ, ◌*◌, Bool, true, false, List, [], ◌∷◌, codes, ℤ, pos, ◌+ℤ◌, Option, Some, None, option_map}
+use Rattle.playlist_meaning.specs.declared.DateRange.{DateRange}
+use Rattle.playlist_meaning.specs.declared.Playlist.{Playlist}
+use Rattle.playlist_meaning.specs.Pods.{Pod}
+use Rattle.playlist_meaning.specs.Marks.{Mark}
+use Rattle.pod_store.specs.Rows.{pod_ab, clear, segment}
+use Rattle.pod_store.specs.Store.{Entry}
+use Rattle.break_finder.specs.declared.why.Why.{Why}
+use Rattle.break_finder.specs.Breaks.{Break}
+use Rattle.break_finder.specs.Known.{known}
+use Rattle.break_finder.specs.Entering.{Moment, entered, is_inside, next_mark, why}
+
+-- T+n in nanoseconds
+abbrev pub at_nanos : ℕ → ℤ
+at_nanos n = pos 1714564800000000000 +ℤ pos n
+
+abbrev pub at_seconds : ℕ → ℤ
+at_seconds n = at_nanos (n * 1000000000)
+
+-- the 35 bytes that leave the network for 30 s
+abbrev pub out_30 : List ℕ
+out_30 = codes "0xFC302000000000000000FFF00F05000000017FFFFE002932E000010000000000000000"
+
+-- the 30 bytes that return to it
+abbrev pub back_in : List ℕ
+back_in = codes "0xFC301B00000000000000FFF00A05000000017F5F00010000000000000000"
+
+abbrev pub tag : List ℕ → ℕ → Option (List ℕ) → DateRange
+tag id seconds out = record { id = id; start = Some (at_seconds seconds); end = None; duration = None; planned = None; out = out; back = None; text = [] }
+
+abbrev pub lasting : ℕ → DateRange → DateRange
+lasting seconds t = record t { duration = Some (seconds * 1000000000) }
+
+abbrev pub plays : List DateRange → Playlist
+plays ranges = record { version = 3; target = 10; kind = None; independent = false; ended = true; ranges = ranges; segments = [] }
+
+abbrev pub known_of : List DateRange → List Break
+known_of ranges = known (record { playlist = plays ranges; carried = None } ∷ [])
+
+abbrev pub b1 : DateRange
+b1 = tag (codes "b1") 10 (Some out_30)
+
+abbrev pub store : List Entry
+store = record { id = codes "b1"; pod = pod_ab; used = false } ∷ []
+
+abbrev pub moment : Bool → Option (List ℕ) → Moment
+moment mapped last = record { tolerance = 100000000; target = 10; mapped = mapped; last = last }
+
+-- the break that is entered at T+n
+abbrev pub entered_at : Bool → List DateRange → ℕ → Option (List ℕ)
+entered_at mapped ranges nanos = entered (moment mapped None) store (known_of ranges) (Some (at_nanos nanos))
+
+abbrev pub inside_at : List DateRange → ℕ → Bool
+inside_at ranges seconds = is_inside (known_of ranges) (codes "b1") (Some (at_seconds seconds)) 100000000 pod_ab
+
+abbrev pub why_of : List DateRange → Bool → Why
+why_of ranges mapped = why (known_of ranges) (codes "b1") 10 mapped store false
+
+-- ---- two breaks
+
+abbrev pub x0 : Pod
+x0 = clear (segment (codes "http://ads.example/x0.ts") 10000000000 ∷ [])
+
+abbrev pub y0 : Pod
+y0 = clear (segment (codes "http://ads.example/y0.ts") 10000000000 ∷ [])
+
+abbrev pub two_stored : List Entry
+two_stored = record { id = codes "b1"; pod = x0; used = false } ∷ record { id = codes "b2"; pod = y0; used = false } ∷ []
+
+abbrev pub two_known : List Break
+two_known = known_of (lasting 10 b1 ∷ lasting 10 (tag (codes "b2") 20 (Some out_30)) ∷ [])
+
+-- the mark at T+n behind this mark, where this break was entered last
+abbrev pub marked_at : ℕ → Option Mark → Option (List ℕ) → Option (List ℕ)
+marked_at seconds before last =
+    option_map (λ (m : Mark). m.id) (next_mark (moment false last) two_stored two_known (Some (at_seconds seconds)) before)
+
+abbrev pub b1_mark : Option Mark
+b1_mark = Some (record { id = codes "b1"; pod = x0 })

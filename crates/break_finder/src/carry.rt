@@ -1,0 +1,125 @@
+//! What a refresh adds to what is known.
+ghost use Rattle.std.specs.Prelude.{◌≡◌, ◌||◌, ℕ, List, map, filter, fold, IfOk, OnOk, string_bytes, string_eq};
+ghost use Rattle.std.specs.List.{list_any};
+ghost use Rattle.std.specs.Option.{option_copied};
+ghost use Rattle.indexmap.specs.IndexMap.{IsUnique};
+ghost use Rattle.break_finder.specs.Kept.{break_at, kept_for, said_or_nothing, has_text, stands_with, is_kept_with};
+ghost use Rattle.break_finder.specs.Known.{break_stands, is_tag_of, is_this, with_tag};
+
+use crate::fault::FindFault;
+use crate::kept::kept_for;
+use crate::said::{Said, and_tag, nothing_said};
+use indexmap::{IndexMap, IndexSet};
+use playlist_meaning::DateRange;
+use std::alloc::Global;
+
+fn is_this(id: &str, other: Option<&str>) -> bool
+    ensures { result ≡ is_this id.now (option_copied other.entry) }
+{
+    match other {
+        Some(other) => id == other,
+        None => false,
+    }
+}
+
+// Notes the ID of a tag.
+fn add_id<'a>(ids: &mut IndexSet<&'a str>, tag: &'a DateRange) -> Result<(), FindFault>
+    ensures { OnOk result ((id : List ℕ) → has_text ids.new.keys id ≡ (has_text ids.old.keys id || is_tag_of id tag.now)) }
+{
+    ids.insert(tag.id.as_str())?;
+    Ok(())
+}
+
+// The IDs of these tags.
+fn ids_of<'a>(alloc: Global, ranges: &'a [DateRange]) -> Result<IndexSet<&'a str>, FindFault>
+    ensures { IfOk result (λ ids. (id : List ℕ) → has_text ids.keys id ≡ list_any (is_tag_of id) ranges.now) }
+{
+    let mut ids: IndexSet<&str> = IndexSet::new(alloc);
+    let mut rest = ranges;
+    while let Some((tag, later)) = rest.split_first() {
+        add_id(&mut ids, tag)?;
+        rest = later;
+    }
+    Ok(ids)
+}
+
+fn has_id(ids: &IndexSet<&str>, id: &str) -> bool
+    ensures { result ≡ has_text ids.now.keys id.now }
+{
+    ids.contains(id)
+}
+
+fn stands_with(ids: &IndexSet<&str>, carried: Option<&str>, id: &str) -> bool
+    ensures { result ≡ stands_with ids.now.keys (option_copied carried.entry) id.now }
+{
+    has_id(ids, id) || is_this(id, carried)
+}
+
+// Forgets the breaks that are none of these IDs and are not carried.
+fn keep_standing(kept: &mut IndexMap<String, Said>, ids: &IndexSet<&str>, carried: Option<&str>)
+    ensures standing { kept.new.entries ≡ filter (is_kept_with ids.now.keys (option_copied carried.entry)) kept.old.entries }
+    ensures unique { IsUnique string_eq kept.new }
+{
+    kept.retain(
+        |id: &String, said: &mut Said| -> bool
+            ensures { (result ≡ stands_with ids.entry.now.keys (option_copied carried.entry) (string_bytes id.now)) × (said.new ≡ said.old) }
+        { stands_with(ids, carried, id.as_str()) },
+    );
+}
+
+// What is said of a break so far.
+fn said_so_far(breaks: &IndexMap<String, Said>, id: &str) -> Said
+    ensures { result ≡ said_or_nothing (kept_for id.now breaks.now.entries) }
+{
+    match kept_for(breaks, id) {
+        Some(said) => said,
+        None => nothing_said(),
+    }
+}
+
+// A tag of a break that is known says more of it; another break is known from now on.
+fn add_tag(
+    alloc: Global,
+    breaks: &mut IndexMap<String, Said>,
+    tag: &DateRange,
+) -> Result<(), FindFault>
+    ensures { OnOk result (map break_at breaks.new.entries ≡ with_tag (map break_at breaks.old.entries) tag.now) }
+{
+    let id = tag.id.as_str();
+    let said = and_tag(alloc, said_so_far(breaks, id), tag)?;
+    let key = String::from_str(alloc, id)?;
+    breaks.insert(key, said)?;
+    Ok(())
+}
+
+/// The breaks with what these tags say.
+pub fn add_tags(
+    alloc: Global,
+    breaks: &mut IndexMap<String, Said>,
+    ranges: &[DateRange],
+) -> Result<(), FindFault>
+    ensures { OnOk result (map break_at breaks.new.entries ≡ fold with_tag (map break_at breaks.old.entries) ranges.now) }
+{
+    let mut rest = ranges;
+    while let Some((tag, later)) = rest.split_first() {
+        add_tag(alloc, breaks, tag)?;
+        rest = later;
+    }
+    Ok(())
+}
+
+/// Copies of the breaks that stand in these tags, or are carried.
+pub fn standing(
+    alloc: Global,
+    breaks: &IndexMap<String, Said>,
+    ranges: &[DateRange],
+    carried: Option<&str>,
+) -> Result<IndexMap<String, Said>, FindFault>
+    ensures standing { IfOk result (λ kept. map break_at kept.entries ≡ filter (break_stands ranges.now (option_copied carried.entry)) (map break_at breaks.now.entries)) }
+    ensures unique { IfOk result (IsUnique string_eq) }
+{
+    let ids = ids_of(alloc, ranges)?;
+    let mut kept = breaks.clone()?;
+    keep_standing(&mut kept, &ids, carried);
+    Ok(kept)
+}

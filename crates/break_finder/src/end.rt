@@ -1,0 +1,135 @@
+//! Where a break ends, and whether a segment is before that.
+ghost use Rattle.std.specs.Prelude.{◌≡◌, ◌<◌, ◌^◌, option_map, Some, None, IfSome, if◌then◌else◌, pos, ◌-ℤ◌, int_le};
+ghost use Rattle.break_finder.specs.Breaks.{at, closed, end_after, end_of, is_before_end, is_not_past, is_near};
+ghost use Rattle.break_finder.specs.Signals.{ticks_nanos, signal_nanos, is_returning};
+ghost use Rattle.break_finder.specs.Ends.{end_view};
+
+use crate::said::{Said, is_returning};
+use crate::signal::Signal;
+use fixed_duration::Nanos;
+use playlist_meaning::Instant;
+
+/// Where a break ends.
+#[derive(Clone, Copy)]
+pub enum End {
+    /// At this instant, in nanoseconds from 1970; it may lie outside the range of instants.
+    At(i128),
+    /// No segment more is inside.
+    Closed,
+}
+
+fn ticks_nanos(ticks: u64) -> u128
+    ensures value { result ≡ ticks_nanos ticks }
+    ensures bound { result < 2 ^ 96 }
+{
+    u128::from(ticks) * 100_000 / 9
+}
+
+fn signal_nanos(signal: Option<Signal>) -> Option<u128>
+    ensures value { result ≡ signal_nanos signal }
+    ensures bound { IfSome result (λ nanos. nanos < 2 ^ 96) }
+{
+    match signal {
+        Some(Signal::Leaves(Some(ticks))) => Some(ticks_nanos(ticks)),
+        Some(Signal::Returns(Some(ticks))) => Some(ticks_nanos(ticks)),
+        _ => None,
+    }
+}
+
+fn end_after_wide(start: Option<Instant>, nanos: u128) -> Option<End>
+    requires { nanos < 2 ^ 96 }
+    ensures { option_map end_view result ≡ end_after start (Some nanos) }
+{
+    match start {
+        Some(start) => Some(End::At(i128::from(start.0) + nanos as i128)),
+        None => None,
+    }
+}
+
+fn end_after(start: Option<Instant>, duration: Option<Nanos>) -> Option<End>
+    ensures { option_map end_view result ≡ end_after start duration }
+{
+    match duration {
+        Some(duration) => end_after_wide(start, u128::from(duration.0)),
+        None => None,
+    }
+}
+
+fn end_after_signal(start: Option<Instant>, signal: Option<Signal>) -> Option<End>
+    ensures { option_map end_view result ≡ end_after start (signal_nanos signal) }
+{
+    match signal_nanos(signal) {
+        Some(nanos) => end_after_wide(start, nanos),
+        None => None,
+    }
+}
+
+fn stated_end(end: Option<Instant>) -> Option<End>
+    ensures { option_map end_view result ≡ option_map at end }
+{
+    match end {
+        Some(end) => Some(End::At(i128::from(end.0))),
+        None => None,
+    }
+}
+
+fn closed_end(back: Option<Signal>) -> Option<End>
+    ensures { option_map end_view result ≡ (if is_returning back then Some closed else None) }
+{
+    if is_returning(back) {
+        Some(End::Closed)
+    } else {
+        None
+    }
+}
+
+/// Where a break ends whose pod lasts this long: the first end that is known.
+pub fn end_of(said: &Said, total: Nanos) -> Option<End>
+    ensures { option_map end_view result ≡ end_of said.now total }
+{
+    stated_end(said.end)
+        .or(end_after(said.start, said.duration))
+        .or(closed_end(said.back))
+        .or(end_after(said.start, said.planned))
+        .or(end_after_signal(said.start, said.out))
+        .or(end_after(said.start, Some(total)))
+}
+
+/// Whether a segment at this instant is before the end of a break.
+pub fn is_before_end(instant: Instant, tolerance: Nanos, end: Option<End>) -> bool
+    ensures { result ≡ is_before_end instant tolerance (option_map end_view end) }
+{
+    match end {
+        Some(End::At(end)) => i128::from(instant.0) + i128::from(tolerance.0) < end,
+        Some(End::Closed) => false,
+        None => false,
+    }
+}
+
+/// Whether a break can still be entered at this instant.
+pub fn is_not_past(instant: Instant, tolerance: Nanos, end: Option<End>) -> bool
+    ensures { result ≡ is_not_past instant tolerance (option_map end_view end) }
+{
+    match end {
+        Some(End::At(end)) => i128::from(instant.0) + i128::from(tolerance.0) < end,
+        Some(End::Closed) => true,
+        None => true,
+    }
+}
+
+// Whether one instant is at most the tolerance behind another.
+fn is_within(later: Instant, earlier: Instant, tolerance: Nanos) -> bool
+    ensures { result ≡ int_le (later -ℤ earlier) (pos tolerance) }
+{
+    i128::from(later.0) - i128::from(earlier.0) <= i128::from(tolerance.0)
+}
+
+/// Whether an instant and a start differ by at most the tolerance.
+pub fn is_near(instant: Instant, tolerance: Nanos, start: Option<Instant>) -> bool
+    ensures { result ≡ is_near instant tolerance start }
+{
+    match start {
+        Some(start) => is_within(instant, start, tolerance) && is_within(start, instant, tolerance),
+        None => false,
+    }
+}

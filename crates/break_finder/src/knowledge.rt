@@ -1,0 +1,165 @@
+//! What is known of breaks.
+ghost use Rattle.std.specs.Prelude.{List, [], ◌∷◌, ◌≡◌, ◌<◌, ◌^◌, option_map, slice_get, IfOk};
+ghost use Rattle.std.specs.Option.{option_copied};
+ghost use Rattle.pod_store.specs.Store.{pod_for, fits};
+ghost use Rattle.break_finder.specs.Breaks.{said_of};
+ghost use Rattle.break_finder.specs.Known.{Accepted, carry, known};
+ghost use Rattle.break_finder.specs.Laws.{CarriesKnown};
+ghost use Rattle.break_finder.specs.Entering.{entered, is_inside, is_inside_said, id_of, why, why_said};
+ghost use Rattle.break_finder.specs.Signals.{is_leaving};
+
+use crate::carry::{add_tags, standing};
+use crate::end::{end_of, is_before_end};
+use crate::entering::{Moment, first_entered};
+use crate::fault::FindFault;
+use crate::kept::kept_for;
+use crate::said::{Said, is_leaving};
+use crate::why::Why;
+use fixed_duration::Nanos;
+use indexmap::IndexMap;
+use playlist_meaning::{Instant, Playlist};
+use pod_store::{Pod, PodStore};
+use std::alloc::Global;
+use std::marker::Model;
+
+fn is_inside_said(instant: Option<Instant>, tolerance: Nanos, pod: &Pod, said: Option<Said>) -> bool
+    ensures { result ≡ is_inside_said instant tolerance pod.now said }
+{
+    let Some(instant) = instant else {
+        return false;
+    };
+    match said {
+        Some(said) => is_before_end(instant, tolerance, end_of(&said, pod.total())),
+        None => false,
+    }
+}
+
+fn why_said(said: &Said, id: &str, target: u64, mapped: bool, store: &PodStore) -> Why
+    ensures { result ≡ why_said said.now id.now target mapped store.now }
+{
+    if said.start.is_none() {
+        return Why::NoStart;
+    }
+    if !is_leaving(said.out) {
+        return Why::NotSignalled;
+    }
+    if store.get(id).is_none() {
+        return Why::NotDecided;
+    }
+    if !store.fits(id, target, mapped) {
+        return Why::DoesNotFit;
+    }
+    Why::Waiting
+}
+
+/// The known breaks, in the order in which they became known.
+#[derive(Drop)]
+pub struct Knowledge {
+    breaks: IndexMap<String, Said>,
+}
+
+impl Model for Knowledge {
+    ghost use Rattle.std.specs.Prelude.{List, map};
+    ghost use Rattle.break_finder.specs.Breaks.{Break};
+    ghost use Rattle.break_finder.specs.Kept.{break_at};
+
+    ghost Value = { List Break };
+
+    ghost view = { λ a. map break_at a.breaks.entries };
+}
+
+impl Knowledge {
+    /// Nothing is known: no refresh was accepted.
+    pub fn new(alloc: Global) -> Knowledge
+        ensures empty { result ≡ [] }
+        ensures known { result ≡ known [] }
+    {
+        Knowledge {
+            breaks: IndexMap::new(alloc),
+        }
+    }
+
+    fn said(&self, id: &str) -> Option<Said>
+        ensures { result ≡ said_of self.now id.now }
+    {
+        kept_for(&self.breaks, id)
+    }
+
+    /// Whether a segment at this instant is inside a break, which has this pod: false where the break isn't
+    /// known, is closed, or has no end.
+    pub fn inside(&self, id: &str, instant: Option<Instant>, tolerance: Nanos, pod: &Pod) -> bool
+        ensures { result ≡ is_inside self.now id.now instant tolerance pod.now }
+    {
+        is_inside_said(instant, tolerance, pod, self.said(id))
+    }
+
+    /// Why a break is filled or not.
+    pub fn why(&self, id: &str, target: u64, mapped: bool, store: &PodStore, filled: bool) -> Why
+        ensures { result ≡ why self.now id.now target mapped store.now filled }
+    {
+        if filled {
+            return Why::Filled;
+        }
+        match self.said(id) {
+            Some(said) => why_said(&said, id, target, mapped, store),
+            None => Why::NotKnown,
+        }
+    }
+
+    /// The ID of the known break at a place, from 0.
+    pub fn ids(&self, place: usize) -> Option<&str>
+        ensures { option_map (λ id. id.now) result ≡ option_map id_of (slice_get self.now place) }
+    {
+        match self.breaks.get_index(place) {
+            Some((id, _)) => Some(id.as_str()),
+            None => None,
+        }
+    }
+
+    /// The ID of the first known break, in the order of the IDs, that a segment at this instant enters: it is
+    /// signalled, its pod is decided and fits, the instant differs from its start by at most the tolerance and
+    /// is so much before its end, and it isn't the last one entered. Takes no memory.
+    pub fn enters(
+        &self,
+        instant: Option<Instant>,
+        tolerance: Nanos,
+        target: u64,
+        mapped: bool,
+        store: &PodStore,
+        last: Option<&str>,
+    ) -> Option<&str>
+        ensures { option_map (λ id. id.now) result ≡ entered (record { tolerance = tolerance; target = target; mapped = mapped; last = option_copied last.entry }) store.now self.now instant }
+    {
+        let moment = Moment {
+            tolerance,
+            target,
+            mapped,
+            last,
+        };
+        match instant {
+            Some(instant) => first_entered(&moment, store, instant, &self.breaks),
+            None => None,
+        }
+    }
+
+    /// What is known after a refresh, where this is known before it, and the newest segment of the refresh before
+    /// is marked with this break. A break that stands in neither is forgotten; of each attribute the first value
+    /// stays; the breaks that come new stand last, by their first tags. Fails only where memory is refused.
+    pub fn carry(
+        &self,
+        alloc: Global,
+        playlist: &Playlist,
+        newest: Option<&str>,
+    ) -> Result<Knowledge, FindFault>
+        ensures carried { IfOk result (λ after. after ≡ carry (record { playlist = playlist.now; carried = option_copied newest.entry }) self.now) }
+
+        // So it is what looking back over all refreshes gives, wherever that was so before.
+        ensures known { (before : List Accepted) → CarriesKnown before → self.now ≡ known before
+            → IfOk result (λ after. after ≡ known (record { playlist = playlist.now; carried = option_copied newest.entry } ∷ before)) }
+    {
+        let ranges = playlist.ranges.as_slice();
+        let mut breaks = standing(alloc, &self.breaks, ranges, newest)?;
+        add_tags(alloc, &mut breaks, ranges)?;
+        Ok(Knowledge { breaks })
+    }
+}

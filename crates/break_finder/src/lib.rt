@@ -1,0 +1,19 @@
+//! The breaks that a live playlist's date ranges signal, what is known of them from refresh to refresh, and
+//! which of them a segment enters.
+#![tactic(auto)]
+
+mod carry;
+mod end;
+mod entering;
+mod fault;
+mod kept;
+mod knowledge;
+pub mod laws;
+mod rows;
+mod said;
+mod signal;
+mod why;
+
+pub use fault::FindFault;
+pub use knowledge::Knowledge;
+pub use why::Why;
