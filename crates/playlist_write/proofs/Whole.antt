@@ -13,13 +13,14 @@ use Rattle.playlist_meaning.specs.declared.InitSection.{InitSection}
 use Rattle.playlist_meaning.specs.Said.{Said, nothing, date_range, date_range_said}
 use Rattle.playlist_meaning.specs.LookBack.{latest, the_target, is_media, segments_of}
 use Rattle.playlist_meaning.specs.Reading.{unlimited, whole, whole_fault, and_whole, of_lines, reading, are_mixed, has_section, Denotes, has}
+use Rattle.playlist_meaning.specs.Numbering.{follows, all_follow}
 use Rattle.playlist_meaning.proofs.SaidCounts.{counted_some}
 use Rattle.stitcher.specs.declared.OutSegment.{OutSegment}
 use Rattle.playlist_write.specs.declared.OutPlaylist.{OutPlaylist}
 use Rattle.playlist_write.specs.Spelling.{spelled, date_range_line}
 use Rattle.playlist_write.specs.Owed.{none_yet, header_owed, type_owed, independent_owed, ended_owed, segments_owed, first_number, first_discontinuity, line_of, said_text, range_line, ranges_text, text_of}
 use Rattle.fitting.specs.Fitting.{is_clean, says_date_range, date_range_fits}
-use Rattle.playlist_write.specs.WellFormed.{is_word, version_fits, segment_fits, follows, all_follow, numbers_fit, is_mapped, sections_agree, well_formed}
+use Rattle.playlist_write.specs.WellFormed.{is_word, version_fits, segment_fits, out_numbers, numbers_fit, is_mapped, sections_agree, well_formed}
 use Rattle.playlist_write.specs.Denoted.{denoted, denoted_segment, denoted_range, range_said}
 use Rattle.playlist_write.specs.Laws.{TextDenotes}
 use Rattle.playlist_write.proofs.CleanTexts.{text, AllClean, clean_printable, lines_of_text, utf8_text}
@@ -134,10 +135,10 @@ whole_reads said k e t n m =
     let c : are_mixed (segments_of said) ≡ false = ap (λ x. are_mixed x.segments) e ∙ m in
     rw (a, b, c) (ap (λ x. Ok (playlist_known x)) e)
 
-numbers_after : (previous : OutSegment) (outs : List OutSegment) → all_follow previous outs ≡ true → numbers_go_on (previous.media + 1) previous.discontinuity outs ≡ true
+numbers_after : (previous : OutSegment) (outs : List OutSegment) → all_follow out_numbers previous outs ≡ true → numbers_go_on (previous.media + 1) previous.discontinuity outs ≡ true
 numbers_after previous [] h = refl
 numbers_after previous (out ∷ outs) h =
-    let a : (follows previous out ≡ true) × (all_follow out outs ≡ true) = and_parts _ _ h in
+    let a : (follows (out_numbers previous) (out_numbers out) ≡ true) × (all_follow out_numbers out outs ≡ true) = and_parts _ _ h in
     let b : ((out.media == previous.media + 1) ≡ true) × ((out.discontinuity == previous.discontinuity + out.steps) ≡ true) = and_parts _ _ a.0 in
     let m : out.media ≡ previous.media + 1 = eqb-true _ _ b.0 in
     and_from _ _ a.0 (subst (λ n. numbers_go_on (n + 1) out.discontinuity outs ≡ true) m (numbers_after out outs a.1))
@@ -145,7 +146,7 @@ numbers_after previous (out ∷ outs) h =
 numbers_start : (outs : List OutSegment) → numbers_fit outs ≡ true → numbers_go_on (first_number outs) (first_discontinuity outs) outs ≡ true
 numbers_start [] h = refl
 numbers_start (out ∷ outs) h =
-    let a : (nat_le out.steps out.discontinuity ≡ true) × (all_follow out outs ≡ true) = and_parts _ _ h in
+    let a : (nat_le out.steps out.discontinuity ≡ true) × (all_follow out_numbers out outs ≡ true) = and_parts _ _ h in
     let l : out.steps ≤ out.discontinuity = leb-true _ _ a.0 in
     let d : (out.discontinuity == out.discontinuity - out.steps + out.steps) ≡ true = eq-eqb out.discontinuity (out.discontinuity - out.steps + out.steps) (omega arith) in
     and_from _ _ (and_from _ _ (eq-eqb out.media out.media refl) d) (numbers_after out outs a.1)
