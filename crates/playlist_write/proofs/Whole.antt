@@ -63,34 +63,37 @@ goes_ranges (text ∷ texts) k h =
 start : Known
 start = known_at (nothing ∷ [])
 
-header_known : OutPlaylist → Known
+-- after the version, the target duration and the numbers
+numbers_known : OutPlaylist → Known
 unfolding start
-header_known p = record start {
-  version = Some p.version;
-  target = Some p.target;
-  sequence = Some (first_number p.segments);
-  dseq = Some (first_discontinuity p.segments);
-  kind = p.kind;
-  independent = p.independent;
+numbers_known p = record start {
+  heading = record start.heading { version = Some p.version; target = Some p.target; has_sequence = true; has_discontinuity_sequence = true };
+  standing = record start.standing { sequence = first_number p.segments; discontinuity_sequence = first_discontinuity p.segments };
 }
 
-goes_type : (kind : Option PlaylistKind) (k : Known) → k.kind ≡ None → Goes k (type_owed kind) (record k { kind = kind })
-goes_type None k e = record { allowed = tt; leads = ap (λ x. record k { kind = x }) e }
+header_known : OutPlaylist → Known
+unfolding start numbers_known
+header_known p = record (numbers_known p) {
+  heading = record (numbers_known p).heading { kind = p.kind; independent = p.independent };
+}
+
+goes_type : (kind : Option PlaylistKind) (k : Known) → k.heading.kind ≡ None → Goes k (type_owed kind) (record k { heading = record k.heading { kind = kind } })
+goes_type None k e = record { allowed = tt; leads = ap (λ x. record k { heading = record k.heading { kind = x } }) e }
 goes_type (Some kind) k e = record { allowed = (tt, ap is_some e, tt); leads = refl }
 
-goes_independent : (b : Bool) (k : Known) → k.independent ≡ false → Goes k (independent_owed b) (record k { independent = b })
-goes_independent false k e = record { allowed = tt; leads = ap (λ x. record k { independent = x }) e }
+goes_independent : (b : Bool) (k : Known) → k.heading.independent ≡ false → Goes k (independent_owed b) (record k { heading = record k.heading { independent = b } })
+goes_independent false k e = record { allowed = tt; leads = ap (λ x. record k { heading = record k.heading { independent = x } }) e }
 goes_independent true k e = record { allowed = (tt, tt, tt); leads = refl }
 
-goes_ended : (b : Bool) (k : Known) → k.ended ≡ false → Goes k (ended_owed b) (record k { ended = b })
-goes_ended false k e = record { allowed = tt; leads = ap (λ x. record k { ended = x }) e }
+goes_ended : (b : Bool) (k : Known) → k.heading.ended ≡ false → Goes k (ended_owed b) (record k { heading = record k.heading { ended = b } })
+goes_ended false k e = record { allowed = tt; leads = ap (λ x. record k { heading = record k.heading { ended = x } }) e }
 goes_ended true k e = record { allowed = (tt, e, tt); leads = refl }
 
 goes_header : (p : OutPlaylist) → (p.version == 6 || p.version == 7) ≡ true → p.target < 2 ^ 64 → first_number p.segments < 2 ^ 64 → first_discontinuity p.segments < 2 ^ 64 → Goes start (header_owed p) (header_known p)
-unfolding start header_known
+unfolding start numbers_known header_known
 goes_header p v t s d =
-    let numbers : Known = record start { version = Some p.version; target = Some p.target; sequence = Some (first_number p.segments); dseq = Some (first_discontinuity p.segments) } in
-    let rest = goes-append _ _ numbers _ _ (goes_type p.kind numbers refl) (goes_independent p.independent (record numbers { kind = p.kind }) refl) in
+    let numbers = numbers_known p in
+    let rest = goes-append _ _ numbers _ _ (goes_type p.kind numbers refl) (goes_independent p.independent (record numbers { heading = record numbers.heading { kind = p.kind } }) refl) in
     record { allowed = (v, refl, (t, refl, (s, (refl, refl), (d, (refl, refl, refl), rest.allowed)))); leads = rest.leads }
 
 -- ---- the whole
@@ -118,20 +121,20 @@ unmixed false outs h = and_left _ _ (alike_any outs h)
 -- what a reading that has come to an end is
 playlist_known : Known → Playlist
 playlist_known k = record {
-  version = unwrap_or k.version 1;
-  target = unwrap_or k.target 0;
-  kind = k.kind;
-  independent = k.independent;
-  ended = k.ended;
+  version = unwrap_or k.heading.version 1;
+  target = unwrap_or k.heading.target 0;
+  kind = k.heading.kind;
+  independent = k.heading.independent;
+  ended = k.heading.ended;
   ranges = k.ranges;
   segments = k.segments;
 }
 
-whole_reads : (said : List Said) (k : Known) → known_at said ≡ k → is_some k.target ≡ true → 0 < k.count → are_mixed k.segments ≡ false → whole (whole_fault said) said ≡ Ok (playlist_known k)
+whole_reads : (said : List Said) (k : Known) → known_at said ≡ k → is_some k.heading.target ≡ true → 0 < k.standing.media_count → are_mixed k.segments ≡ false → whole (whole_fault said) said ≡ Ok (playlist_known k)
 unfolding playlist_known
 whole_reads said k e t n m =
-    let a : is_some (latest the_target said) ≡ true = ap (λ x. is_some x.target) e ∙ t in
-    let b : has is_media said ≡ true = counted_some is_media said (subst (λ x. 0 < x.count) (sym e) n) in
+    let a : is_some (latest the_target said) ≡ true = ap (λ x. is_some x.heading.target) e ∙ t in
+    let b : has is_media said ≡ true = counted_some is_media said (subst (λ x. 0 < x.standing.media_count) (sym e) n) in
     let c : are_mixed (segments_of said) ≡ false = ap (λ x. are_mixed x.segments) e ∙ m in
     rw (a, b, c) (ap (λ x. Ok (playlist_known x)) e)
 
@@ -221,13 +224,13 @@ module _ (base : Parts) (p : OutPlaylist) where
   record Arrives : Type 0 where
     end : Known
     goes : Goes start (owed p) end
-    target : is_some end.target ≡ true
-    some : 0 < end.count
+    target : is_some end.heading.target ≡ true
+    some : 0 < end.standing.media_count
     unmixed : are_mixed end.segments ≡ false
     playlist : playlist_known end ≡ denoted p
 
   arrives : well_formed p ≡ true → Arrives
-  unfolding start header_known playlist_known
+  unfolding start numbers_known header_known playlist_known
   arrives w =
       let a = and_parts _ _ w in let b = and_parts _ _ a.0 in let c = and_parts _ _ b.0 in let d = and_parts _ _ c.0 in
       let f : (version_fits p.version ≡ true) × (is_word p.target ≡ true) = and_parts _ _ d.0 in
@@ -242,7 +245,7 @@ module _ (base : Parts) (p : OutPlaylist) where
       let four = goes_ended p.ended between refl in
       let counted : 0 < three.count = omega (arith, three.counted) in
       record {
-        end = record between { ended = p.ended };
+        end = record between { heading = record between.heading { ended = p.ended } };
         goes = goes-append _ _ start (header_known p) _ one (goes-append _ _ (header_known p) h _ two (goes-append _ _ h between _ three.goes four));
         target = refl;
         some = counted;
