@@ -16,6 +16,7 @@ mod base;
 mod fault;
 mod in_force;
 mod items;
+mod limits;
 mod same;
 
 pub use base::{Base, BaseFault, has_quote, has_scheme, same_resource};
@@ -23,6 +24,7 @@ pub use fault::FaultText;
 pub use in_force::is_iv_needed;
 pub use instants::{Instant, TimeFault, read_instant, write_instant};
 pub use items::{Items, Shared, Text};
+pub use limits::{MOST_BYTES, MOST_FORMATS, MOST_SEGMENTS};
 pub use same::{is_same_key, is_same_section, same_segment};
 
 /// Why a text is no playlist that can be read.
