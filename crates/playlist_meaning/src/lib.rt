@@ -6,7 +6,6 @@ ghost use Rattle.std.specs.Prelude.{MatchResult, IsTrue};
 ghost use Rattle.std.specs.Str.{is_utf8};
 ghost use Rattle.std.specs.List.{list_all};
 ghost use Rattle.playlist_meaning.specs.Lines.{has_control, is_printable};
-ghost use Rattle.playlist_meaning.specs.Laws.{KeysAreTheLast, KeysAreSorted, ReadsWhatIsDenoted, LinesAreSlices};
 
 use fixed_duration::Nanos;
 use std::alloc::{AllocError, AllocFailed, Global};
@@ -16,6 +15,7 @@ mod base;
 mod fault;
 mod in_force;
 mod items;
+pub mod laws;
 mod limits;
 mod same;
 
@@ -289,23 +289,3 @@ pub fn text_of(bytes: &[u8]) -> Result<&str, FaultKind>
         Err(_) => Err(FaultKind::NotUtf8),
     }
 }
-
-/// The key in force of a format is the last one since METHOD=NONE.
-pub fn keys_law()
-    ensures { KeysAreTheLast }
-{}
-
-/// The keys in force are sorted by the bytes of their format, with one key for each.
-pub fn sorted_keys_law()
-    ensures { KeysAreSorted }
-{}
-
-/// What a reader with limits reads is what the bytes denote.
-pub fn limits_law()
-    ensures { ReadsWhatIsDenoted }
-{}
-
-/// The lines of a text are slices of it.
-pub fn lines_law()
-    ensures { LinesAreSlices }
-{}
