@@ -11,12 +11,13 @@ use Rattle.playlist_meaning.specs.declared.Playlist.{Playlist}
 use Rattle.instants.specs.Instant.{in_range}
 use Rattle.playlist_meaning.specs.Instants.{begins_at, ends_at, instants_after}
 use Rattle.playlist_meaning.specs.Reading.{reading, limited, has_section, Denotes}
+use Rattle.playlist_meaning.specs.Numbering.{segment_numbers, all_follow}
 use Rattle.playlist_meaning.specs.Uri.{base_of}
 use Rattle.timeline.specs.Timed.{with_time}
 use Rattle.timeline.proofs.RangeLaws.{found_in_range}
 use Rattle.fitting.specs.Fitting.{if_some, date_range_fits, says_date_range}
 use Rattle.playlist_write.specs.WellFormed as written
-use Rattle.playlist_write.specs.WellFormed.{version_fits, segment_fits, numbers_fit, is_mapped, well_formed}
+use Rattle.playlist_write.specs.WellFormed.{out_numbers, version_fits, segment_fits, numbers_fit, is_mapped, well_formed}
 use Rattle.playlist_write.specs.Denoted.{denoted}
 use Rattle.playlist_write.proofs.Whole.{text_denotes}
 use Rattle.stitcher.specs.declared.OutSegment.{OutSegment}
@@ -33,8 +34,8 @@ version_owed v h = grind (arith, nat_tests)
 abbrev owed_after : Option ℤ → List Segment → List OutSegment
 owed_after ended segments = map owed_segment (map with_time (zip segments (instants_after ended segments)))
 
-follow : (ended begun : Option ℤ) (previous : Segment) (later : List Segment) → read.all_follow previous later ≡ true
-    → written.all_follow (owed_segment (with_time (previous, begun))) (owed_after ended later) ≡ true
+follow : (ended begun : Option ℤ) (previous : Segment) (later : List Segment) → all_follow segment_numbers previous later ≡ true
+    → all_follow out_numbers (owed_segment (with_time (previous, begun))) (owed_after ended later) ≡ true
 follow ended begun previous [] h = refl
 follow ended begun previous (s ∷ later) h =
     let a = and_parts _ _ h in and_from _ _ a.0 (follow (ends_at (begins_at ended s later) s.duration) (begins_at ended s later) s later a.1)

@@ -15,14 +15,14 @@ use Rattle.instants.specs.Instant.{in_range}
 use Rattle.playlist_meaning.specs.Instants.{begins_at, ends_at, instants_after}
 use Rattle.playlist_meaning.specs.Lines.{has_control}
 use Rattle.playlist_meaning.specs.Marks.{Mark}
+use Rattle.playlist_meaning.specs.Numbering.{all_follow}
 use Rattle.playlist_meaning.specs.Reading.{limited, has_section, Denotes}
 use Rattle.playlist_meaning.specs.Stitched.{Piece, is_kept, pod_pieces, Numbers, numbers_from}
 use Rattle.playlist_meaning.specs.Uri.{base_of, has_scheme}
 use Rattle.timeline.specs.Timed.{timed, with_time}
 use Rattle.timeline.proofs.RangeLaws.{found_in_range}
 use Rattle.fitting.specs.Fitting.{if_some, is_clean, uri_fits, effective_keys_fit, section_fits}
-use Rattle.playlist_write.specs.WellFormed as written
-use Rattle.playlist_write.specs.WellFormed.{resource_fits, duration_fits, segment_fits, numbers_fit, is_mapped, well_formed}
+use Rattle.playlist_write.specs.WellFormed.{out_numbers, resource_fits, duration_fits, segment_fits, numbers_fit, is_mapped, well_formed}
 use Rattle.playlist_write.specs.declared.OutPlaylist.{OutPlaylist}
 use Rattle.playlist_write.specs.Denoted.{denoted}
 use Rattle.playlist_write.specs.Owed.{text_of}
@@ -159,7 +159,7 @@ same : (n : ℕ) → (n == n) ≡ true
 same n = grind (arith, nat_tests)
 
 follow : (first : Numbers) (q : Piece) (n : Numbers) (pieces : List Piece)
-    → written.all_follow (written_item (record { piece = q; numbers = n })) (map written_item (counted first (Some (last_of q n)) pieces)) ≡ true
+    → all_follow out_numbers (written_item (record { piece = q; numbers = n })) (map written_item (counted first (Some (last_of q n)) pieces)) ≡ true
 follow first q n [] = refl
 follow first q n (p ∷ later) =
     let m = numbers_behind first (Some (last_of q n)) p in

@@ -1,6 +1,7 @@
 -- What is meant by what is written for a playlist, in that playlist's own words.
 use Rattle.std.specs.Prelude.{Bool, List, [], map, max, is_some, if◌then◌else◌}
 use Rattle.std.specs.List.{list_any}
+use Rattle.http_edge.specs.declared.owed.TheConstants.{LEAST_VERSION}
 use Rattle.playlist_meaning.specs.declared.Playlist.{Playlist}
 use Rattle.playlist_meaning.specs.declared.Segment.{Segment}
 use Rattle.playlist_meaning.specs.declared.DateRange.{DateRange}
@@ -16,7 +17,7 @@ ranges_meant segments ranges = if list_any is_timed segments then ranges else []
 
 -- the playlist with these segments, and of version 6 at least, which the written tags need (7)
 abbrev pub with_segments : List Segment → Playlist → Playlist
-with_segments segments p = record p { version = max p.version 6; segments = segments; ranges = ranges_meant segments p.ranges }
+with_segments segments p = record p { version = max p.version LEAST_VERSION; segments = segments; ranges = ranges_meant segments p.ranges }
 
 -- the playlist itself, each of its segments with the instant at which it begins, where it has one (4.3.2.6)
 abbrev pub meant : Playlist → Playlist

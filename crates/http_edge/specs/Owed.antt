@@ -1,6 +1,7 @@
 -- What is owed for an input: the text of the playlist that is written for it.
 use Rattle.std.specs.Prelude.{ℕ, Bool, List, [], map, max, Option, option_map, is_some, Result, if◌then◌else◌}
 use Rattle.std.specs.List.{list_any}
+use Rattle.http_edge.specs.declared.owed.TheConstants.{LEAST_VERSION}
 use Rattle.playlist_meaning.specs.declared.Playlist.{Playlist}
 use Rattle.playlist_meaning.specs.declared.Segment.{Segment}
 use Rattle.playlist_meaning.specs.declared.DateRange.{DateRange}
@@ -43,7 +44,7 @@ ranges_owed segments ranges = if list_any states_time segments then map range_te
 -- a playlist with these segments: the version is at least 6; all else is the origin's
 abbrev pub owed_with : Playlist → List OutSegment → OutPlaylist
 owed_with p segments = record {
-  version = max p.version 6;
+  version = max p.version LEAST_VERSION;
   target = p.target;
   kind = p.kind;
   independent = p.independent;

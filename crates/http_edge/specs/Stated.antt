@@ -9,6 +9,7 @@ use Rattle.playlist_meaning.specs.declared.Segment.{Segment}
 use Rattle.playlist_meaning.specs.Pods.{PodSegment, Ad}
 use Rattle.playlist_meaning.specs.Marks.{Mark, Marked}
 use Rattle.playlist_meaning.specs.Stitched.{Piece, is_kept, Numbers, Item, fits, stitched_list, window}
+use Rattle.fitting.specs.Fitting.{duration_fits}
 use Rattle.stitcher.specs.declared.OutSegment.{OutSegment}
 use Rattle.playlist_write.specs.declared.OutPlaylist.{OutPlaylist}
 use Rattle.http_edge.specs.declared.fault.VodFault.{VodFault}
@@ -22,7 +23,7 @@ use Rattle.http_edge.specs.Owed.{owed_with}
 
 -- what a playlist can state: a URI with a scheme and no control character, and less than 1,000,000 s
 abbrev pub can_be_stated : StatedSegment → Bool
-can_be_stated s = has_scheme s.uri && not (has_control s.uri) && nat_lt s.duration (1000000 * 10 ^ 9)
+can_be_stated s = has_scheme s.uri && not (has_control s.uri) && duration_fits s.duration
 
 -- its URI is a text
 abbrev pub uri_is_text : StatedSegment → Bool
