@@ -31,7 +31,7 @@ abbrev pub steps_back : Option ℕ → ℕ → ℕ
 steps_back None discontinuity = 1
 steps_back (Some before) discontinuity = discontinuity - before
 
--- the numbers of an item so many steps behind the last; without a last, those of the first
+-- the numbers of an item so many steps after the last; without a last, those of the first
 abbrev pub numbers_with : Numbers → Option Last → ℕ → Numbers
 numbers_with first None steps = first
 numbers_with first (Some last) steps = next_numbers last.numbers steps
@@ -68,17 +68,17 @@ counted first last (p ∷ later) =
     record { piece = p; numbers = numbers_after first last p }
     ∷ counted first (Some (last_of p (numbers_after first last p))) later
 
--- what it comes to with these pieces behind it
+-- what it comes to with these pieces after it
 abbrev pub comes_to : Made → List Piece → List OutSegment
 comes_to made pieces = made.items ++ map written_item (counted made.first made.last pieces)
 
--- these pieces were put behind it: it comes to the same, and its numbers fit where they did
+-- these pieces were put after it: it comes to the same, and its numbers fit where they did
 pub record Puts (old new : Made) (pieces : List Piece) : Type 0 where
   pub first : new.first ≡ old.first
   pub comes : (later : List Piece) → comes_to old (pieces ++ later) ≡ comes_to new later
   pub fit : list_all item_fits old.items ≡ true → list_all item_fits new.items ≡ true
 
--- a number does not fit, whatever stands behind these pieces
+-- a number does not fit, whatever stands after these pieces
 abbrev pub Passes : Made → List Piece → Type 0
 Passes made pieces = (later : List Piece) → list_all item_fits (comes_to made (pieces ++ later)) ≡ false
 
@@ -101,7 +101,7 @@ abbrev pub begun : List Entry → Marked → Option (List ℕ) → List Piece
 begun store m None = plain m ∷ []
 begun store m (Some id) = pod_with id (pod_for store id)
 
--- what stands for a segment behind one of this mark
+-- what stands for a segment after one of this mark
 abbrev pub pieces_at : List Entry → Option (List ℕ) → Marked → List Piece
 pieces_at store previous m = if is_same_run m.mark previous then [] else begun store m m.mark
 

@@ -52,7 +52,7 @@ fn numbers_of(media: u64, discontinuity: u64, steps: u64) -> Numbers
     }
 }
 
-// The numbers of an item so many steps behind one with these.
+// The numbers of an item so many steps after one with these.
 fn next_numbers(numbers: Numbers, steps: u64) -> Result<Numbers, StitchFault>
     ensures ok { IfOk result (λ n. (n ≡ next_numbers numbers steps) × (numbers_fit n ≡ true)) }
     ensures err { IfErr result (λ e. (e ≡ StitchFault.NumberRange) × (numbers_fit (next_numbers numbers steps) ≡ false)) }
@@ -132,7 +132,7 @@ impl Stitching {
         Ok(())
     }
 
-    // Puts a segment of the origin behind.
+    // Puts a segment of the origin at the end.
     fn keep(&mut self, alloc: Global, marked: &Marked) -> Result<(), StitchFault>
         requires { numbers_fit self.old.first ≡ true }
         ensures ok { OnOk result (Puts self.old self.new (plain marked.now ∷ [])) }
@@ -144,7 +144,7 @@ impl Stitching {
         self.push(segment, marked.instant, numbers, Some(origin))
     }
 
-    // Puts a segment of an ad behind.
+    // Puts a segment of an ad at the end.
     fn put(
         &mut self,
         alloc: Global,
@@ -194,7 +194,7 @@ impl Stitching {
         Ok(())
     }
 
-    // Puts behind what stands for a segment behind one of this mark.
+    // Puts at the end what stands for a segment after one of this mark.
     fn put_marked(
         &mut self,
         alloc: Global,
