@@ -68,7 +68,7 @@ starts_with_pair text name rest value after quoted h v = record {
   ended = v.2;
 }
 
--- ---- the text goes on behind a pair
+-- ---- the text goes on after a pair
 
 pub first_pair : (text : List ℕ) (pair : Pair) (after : List ℕ) → StartsWithPair text pair after → first_piece text ≡ pair_spelling pair
 first_pair text pair after s =

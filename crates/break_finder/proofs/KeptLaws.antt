@@ -42,12 +42,12 @@ filtered_cond : (b : Bool) (e : String Global × Said) (es : Pairs) (more : List
 filtered_cond true e es more h = ap (λ xs. break_at e ∷ xs) h
 filtered_cond false e es more h = h
 
-pub filtered : (ranges : List DateRange) (carried : Option (List ℕ)) (es : Pairs)
-    → map break_at (filter (λ (e : String Global × Said). stands_in ranges carried (string_bytes e.0)) es) ≡ filter (break_stands ranges carried) (map break_at es)
-filtered ranges carried [] = refl
-filtered ranges carried (e ∷ es) =
-    filtered_cond (stands_in ranges carried (string_bytes e.0)) e (filter (λ (e : String Global × Said). stands_in ranges carried (string_bytes e.0)) es)
-    (filter (break_stands ranges carried) (map break_at es)) (filtered ranges carried es)
+pub filtered : (date_ranges : List DateRange) (carried : Option (List ℕ)) (es : Pairs)
+    → map break_at (filter (λ (e : String Global × Said). stands_in date_ranges carried (string_bytes e.0)) es) ≡ filter (break_stands date_ranges carried) (map break_at es)
+filtered date_ranges carried [] = refl
+filtered date_ranges carried (e ∷ es) =
+    filtered_cond (stands_in date_ranges carried (string_bytes e.0)) e (filter (λ (e : String Global × Said). stands_in date_ranges carried (string_bytes e.0)) es)
+    (filter (break_stands date_ranges carried) (map break_at es)) (filtered date_ranges carried es)
 
 -- a clone has the same breaks
 pub cloned : (es fs : Pairs) → AllZip (λ (p q : String Global × Said). (string_bytes q.0 ≡ string_bytes p.0) × (q.1 ≡ p.1)) es fs → map break_at fs ≡ map break_at es
@@ -82,10 +82,10 @@ pub fits_kept : (es : Pairs) → IsDistinct string_eq (keys_of es) → Fits (λ 
 fits_kept es d = fits_from (λ id. true) es (all_true (keys_of es)) d
 
 -- the breaks that stand, with the tags added, are those that are carried on
-pub carried_on : (r : Accepted) (breaks new : List Break) (tags : List DateRange) (es kept : Pairs) → map break_at es ≡ breaks → tags ≡ r.playlist.ranges
+pub carried_on : (r : Accepted) (breaks new : List Break) (tags : List DateRange) (es kept : Pairs) → map break_at es ≡ breaks → tags ≡ r.playlist.date_ranges
     → map break_at kept ≡ filter (break_stands tags r.carried) (map break_at es) → IsDistinct string_eq (keys_of kept)
     → new ≡ fold with_tag (map break_at kept) tags → new ≡ carry r breaks
 carried_on r breaks new tags es kept view_is tags_are stands distinct new_is =
-    let kept_are = stands ∙ ap (λ ts. filter (break_stands ts r.carried) (map break_at es)) tags_are ∙ ap (filter (break_stands r.playlist.ranges r.carried)) view_is in
-    new_is ∙ ap (fold with_tag (map break_at kept)) tags_are ∙ ap (λ bs. fold with_tag bs r.playlist.ranges) kept_are
+    let kept_are = stands ∙ ap (λ ts. filter (break_stands ts r.carried) (map break_at es)) tags_are ∙ ap (filter (break_stands r.playlist.date_ranges r.carried)) view_is in
+    new_is ∙ ap (fold with_tag (map break_at kept)) tags_are ∙ ap (λ bs. fold with_tag bs r.playlist.date_ranges) kept_are
     ∙ walked_is_carried r breaks (subst (Fits (λ id. true)) kept_are (fits_kept kept distinct))

@@ -18,7 +18,7 @@ or_grouped false b c = refl
 abbrev same_text : Bor (List ℕ) → Bor (List ℕ) → Bool
 same_text a b = bytes_eq a.now b.now
 
--- a text that is noted stands among those before, or is noted behind them
+-- a text that is noted stands among those before, or is noted after them
 pub noted : (id : List ℕ) (texts : List (Bor (List ℕ))) (text : Bor (List ℕ)) → has_text (insert_key same_text texts text) id ≡ (has_text texts id || is_text id text)
 noted id texts text = by (list_any (same_text text) texts) refl
   where

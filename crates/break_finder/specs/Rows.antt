@@ -33,10 +33,10 @@ abbrev pub lasting : ℕ → DateRange → DateRange
 lasting seconds t = record t { duration = Some (seconds * 1000000000) }
 
 abbrev pub plays : List DateRange → Playlist
-plays ranges = record { version = 3; target = 10; kind = None; independent = false; ended = true; ranges = ranges; segments = [] }
+plays date_ranges = record { version = 3; target = 10; kind = None; independent = false; ended = true; date_ranges = date_ranges; segments = [] }
 
 abbrev pub known_of : List DateRange → List Break
-known_of ranges = known (record { playlist = plays ranges; carried = None } ∷ [])
+known_of date_ranges = known (record { playlist = plays date_ranges; carried = None } ∷ [])
 
 abbrev pub b1 : DateRange
 b1 = tag (codes "b1") 10 (Some out_30)
@@ -49,13 +49,13 @@ moment mapped last = record { tolerance = 100000000; target = 10; mapped = mappe
 
 -- the break that is entered at T+n
 abbrev pub entered_at : Bool → List DateRange → ℕ → Option (List ℕ)
-entered_at mapped ranges nanos = entered (moment mapped None) store (known_of ranges) (Some (at_nanos nanos))
+entered_at mapped date_ranges nanos = entered (moment mapped None) store (known_of date_ranges) (Some (at_nanos nanos))
 
 abbrev pub inside_at : List DateRange → ℕ → Bool
-inside_at ranges seconds = is_inside (known_of ranges) (codes "b1") (Some (at_seconds seconds)) 100000000 pod_ab
+inside_at date_ranges seconds = is_inside (known_of date_ranges) (codes "b1") (Some (at_seconds seconds)) 100000000 pod_ab
 
 abbrev pub why_of : List DateRange → Bool → Why
-why_of ranges mapped = why (known_of ranges) (codes "b1") 10 mapped store false
+why_of date_ranges mapped = why (known_of date_ranges) (codes "b1") 10 mapped store false
 
 -- ---- two breaks
 
@@ -71,7 +71,7 @@ two_stored = record { id = codes "b1"; pod = x0; used = false } ∷ record { id 
 abbrev pub two_known : List Break
 two_known = known_of (lasting 10 b1 ∷ lasting 10 (tag (codes "b2") 20 (Some out_30)) ∷ [])
 
--- the mark at T+n behind this mark, where this break was entered last
+-- the mark at T+n after this mark, where this break was entered last
 abbrev pub marked_at : ℕ → Option Mark → Option (List ℕ) → Option (List ℕ)
 marked_at seconds before last =
     option_map (λ (m : Mark). m.id) (next_mark (moment false last) two_stored two_known (Some (at_seconds seconds)) before)

@@ -31,11 +31,11 @@ fn add_id<'a>(ids: &mut IndexSet<&'a str>, tag: &'a DateRange) -> Result<(), Fin
 }
 
 // The IDs of these tags.
-fn ids_of<'a>(alloc: Global, ranges: &'a [DateRange]) -> Result<IndexSet<&'a str>, FindFault>
-    ensures { IfOk result (λ ids. (id : List ℕ) → has_text ids.keys id ≡ list_any (is_tag_of id) ranges.now) }
+fn ids_of<'a>(alloc: Global, date_ranges: &'a [DateRange]) -> Result<IndexSet<&'a str>, FindFault>
+    ensures { IfOk result (λ ids. (id : List ℕ) → has_text ids.keys id ≡ list_any (is_tag_of id) date_ranges.now) }
 {
     let mut ids: IndexSet<&str> = IndexSet::new(alloc);
-    let mut rest = ranges;
+    let mut rest = date_ranges;
     while let Some((tag, later)) = rest.split_first() {
         add_id(&mut ids, tag)?;
         rest = later;
@@ -96,11 +96,11 @@ fn add_tag(
 pub fn add_tags(
     alloc: Global,
     breaks: &mut IndexMap<String, Said>,
-    ranges: &[DateRange],
+    date_ranges: &[DateRange],
 ) -> Result<(), FindFault>
-    ensures { OnOk result (map break_at breaks.new.entries ≡ fold with_tag (map break_at breaks.old.entries) ranges.now) }
+    ensures { OnOk result (map break_at breaks.new.entries ≡ fold with_tag (map break_at breaks.old.entries) date_ranges.now) }
 {
-    let mut rest = ranges;
+    let mut rest = date_ranges;
     while let Some((tag, later)) = rest.split_first() {
         add_tag(alloc, breaks, tag)?;
         rest = later;
@@ -112,13 +112,13 @@ pub fn add_tags(
 pub fn standing(
     alloc: Global,
     breaks: &IndexMap<String, Said>,
-    ranges: &[DateRange],
+    date_ranges: &[DateRange],
     carried: Option<&str>,
 ) -> Result<IndexMap<String, Said>, FindFault>
-    ensures standing { IfOk result (λ kept. map break_at kept.entries ≡ filter (break_stands ranges.now (option_copied carried.entry)) (map break_at breaks.now.entries)) }
+    ensures standing { IfOk result (λ kept. map break_at kept.entries ≡ filter (break_stands date_ranges.now (option_copied carried.entry)) (map break_at breaks.now.entries)) }
     ensures unique { IfOk result (IsUnique string_eq) }
 {
-    let ids = ids_of(alloc, ranges)?;
+    let ids = ids_of(alloc, date_ranges)?;
     let mut kept = breaks.clone()?;
     keep_standing(&mut kept, &ids, carried);
     Ok(kept)

@@ -117,7 +117,7 @@ pub fn is_not_past(instant: Instant, tolerance: Nanos, end: Option<End>) -> bool
     }
 }
 
-// Whether one instant is at most the tolerance behind another.
+// Whether one instant is at most the tolerance after another.
 fn is_within(later: Instant, earlier: Instant, tolerance: Nanos) -> bool
     ensures { result ≡ int_le (later -ℤ earlier) (pos tolerance) }
 {

@@ -157,9 +157,9 @@ impl Knowledge {
         ensures known { (before : List Accepted) → CarriesKnown before → self.now ≡ known before
             → IfOk result (λ after. after ≡ known (record { playlist = playlist.now; carried = option_copied newest.entry } ∷ before)) }
     {
-        let ranges = playlist.ranges.as_slice();
-        let mut breaks = standing(alloc, &self.breaks, ranges, newest)?;
-        add_tags(alloc, &mut breaks, ranges)?;
+        let date_ranges = playlist.date_ranges.as_slice();
+        let mut breaks = standing(alloc, &self.breaks, date_ranges, newest)?;
+        add_tags(alloc, &mut breaks, date_ranges)?;
         Ok(Knowledge { breaks })
     }
 }

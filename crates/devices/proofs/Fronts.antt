@@ -17,12 +17,11 @@ take_step x ys k m e = rw e refl
 take_same : (k n : ℕ) (bytes : List ℕ) → k ≡ n → take k bytes ≡ take n bytes
 take_same k n bytes e = rw e refl
 
-take_behind : (old bytes : List ℕ) (n : ℕ) → take (length old + n) (old ++ bytes) ≡ old ++ take n bytes
-take_behind [] bytes n = take_same (0 + n) n bytes (omega arith)
-take_behind (x ∷ xs) bytes n = take_step x (xs ++ bytes) (length xs + n) (length (x ∷ xs) + n) (omega arith) ∙ ap (λ ys. x ∷ ys) (take_behind xs bytes n)
+take_after : (old bytes : List ℕ) (n : ℕ) → take (length old + n) (old ++ bytes) ≡ old ++ take n bytes
+take_after [] bytes n = take_same (0 + n) n bytes (omega arith)
+take_after (x ∷ xs) bytes n = take_step x (xs ++ bytes) (length xs + n) (length (x ∷ xs) + n) (omega arith) ∙ ap (λ ys. x ∷ ys) (take_after xs bytes n)
 
 front : (old new rest bytes : List ℕ) → new ++ rest ≡ old ++ bytes → length old ≤ length new → new ≡ old ++ take (length new - length old) bytes
 front old new rest bytes h l =
     let n : length old + (length new - length old) ≡ length new = omega arith in
-    sym (take_at new rest (length new) refl) ∙ ap (take (length new)) h ∙ ap (λ k. take k (old ++ bytes)) (sym n) ∙ take_behind old bytes (length new - length old)
-
+    sym (take_at new rest (length new) refl) ∙ ap (take (length new)) h ∙ ap (λ k. take k (old ++ bytes)) (sym n) ∙ take_after old bytes (length new - length old)

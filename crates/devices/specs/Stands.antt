@@ -49,10 +49,10 @@ pub record TookAll (old new : SinkStand) (bytes : List ℕ) : Type 0 where
   pub failures : NoneFailed old.failed new.failed
 
 -- it took a front of these bytes, and failed
-pub record FailedBehindFront (old new : SinkStand) (bytes : List ℕ) : Type 0 where
+pub record FailedAfterFront (old new : SinkStand) (bytes : List ℕ) : Type 0 where
   pub front : TookFront old.contents new.contents bytes
   pub failed : FailedAtLast old.failed new.failed
 
 -- it took these bytes, or a front of them where it failed
 abbrev pub WasHanded : SinkStand → SinkStand → List ℕ → Type 0
-WasHanded old new bytes = TookAll old new bytes ⊎ FailedBehindFront old new bytes
+WasHanded old new bytes = TookAll old new bytes ⊎ FailedAfterFront old new bytes

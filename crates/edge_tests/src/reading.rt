@@ -114,7 +114,7 @@ fn date_ranges(rt: HostRuntime) -> Result<(), Fail> {
     let text =
         b"#EXTM3U\n#EXT-X-TARGETDURATION:10\n#EXT-X-DATERANGE:ID=\"b1\",START-DATE=\"2024-05-01T12:00:10Z\",END-DATE=\"2024-05-01T12:00:20Z\",DURATION=10,PLANNED-DURATION=9.5,SCTE35-OUT=0xFC,SCTE35-IN=0xFD\n#EXTINF:10,\ns0.ts\n#EXT-X-DATERANGE:ID=\"b2\"\n";
     let playlist = read(rt.alloc(), text, &base)?;
-    let [first, second] = playlist.ranges.as_slice() else {
+    let [first, second] = playlist.date_ranges.as_slice() else {
         return Err(Fail::from("two date ranges"));
     };
     assert!(rt; is_first(first));

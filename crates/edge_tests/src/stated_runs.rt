@@ -123,7 +123,7 @@ fn a_run_at_the_end(rt: HostRuntime) -> Result<(), Fail> {
     Ok(())
 }
 
-// The origin's discontinuities right before the run, within it and right behind it are gone, and the
+// The origin's discontinuities right before the run, within it and right after it are gone, and the
 // later one stays.
 #[test]
 fn discontinuities_of_the_origin(rt: HostRuntime) -> Result<(), Fail> {

@@ -164,7 +164,7 @@ fn playlist(alloc: Global) -> Result<OutPlaylist, AllocError> {
         kind: Some(PlaylistKind::Event),
         independent: true,
         ended: true,
-        ranges: Items::from_vec(vec![in alloc; text(alloc, DATE_RANGE)?]?),
+        date_ranges: Items::from_vec(vec![in alloc; text(alloc, DATE_RANGE)?]?),
         segments,
     })
 }
@@ -176,7 +176,7 @@ fn well_formed(rt: HostRuntime) -> Result<(), Fail> {
     playlist.version = 5;
     assert!(rt; !playlist.well_formed(rt.alloc())?);
     playlist.version = 6;
-    playlist.ranges = Items::from_vec(vec![in rt.alloc(); text(rt.alloc(), "START-DATE=x")?]?);
+    playlist.date_ranges = Items::from_vec(vec![in rt.alloc(); text(rt.alloc(), "START-DATE=x")?]?);
     assert!(rt; !playlist.well_formed(rt.alloc())?);
     Ok(())
 }

@@ -20,7 +20,7 @@ duration_of text =
     else (if nat_le (10 ^ 6) (seconds_of text) then Err TooLarge
     else Ok (seconds_of text * 10 ^ 9 + fraction_of text)))
 
--- a point (46) and the digits behind it, up to the last that is not 0; nothing where all nine are 0
+-- a point (46) and the digits after it, up to the last that is not 0; nothing where all nine are 0
 abbrev pub fraction_text : ℕ → List ℕ
 fraction_text nanos = if nanos == 0 then [] else 46 ∷ fraction_digits 9 nanos
 

@@ -61,7 +61,7 @@ impl Model for Nanos {
 }
 
 impl Nanos {
-    /// Reads a text of decimal seconds, below 1,000,000 s. Digits after the ninth behind the point are dropped.
+    /// Reads a text of decimal seconds, below 1,000,000 s. Digits past the ninth after the point are dropped.
     pub fn read(text: &str) -> Result<Nanos, DurationFault>
         ensures { result ≡ duration_of text.now }
     {
@@ -156,7 +156,7 @@ fn seconds_of(digits: &[u8]) -> Option<u64>
     Some(value)
 }
 
-/// The nanoseconds that the digits behind the point of a number of seconds stand for. Digits after the
+/// The nanoseconds that the digits after the point of a number of seconds stand for. Digits after the
 /// ninth are dropped.
 pub fn nanos_of_fraction(digits: &[u8]) -> u32
     requires { IsTrue (are_digits digits.now) }

@@ -12,7 +12,7 @@ same_back false before discontinuity = refl
 same_steps : (q p : Piece) (n : Numbers) → steps_between q p ≡ steps_of (Some (last_of q n)) p
 same_steps q p n = ap (λ k. cond (is_kept p) k (cond p.first_of_ad 1 0)) (same_back (is_kept q) q.segment.discontinuity p.segment.discontinuity)
 
--- behind the numbers `n` of the newest, q
+-- after the numbers `n` of the newest, q
 counted_on : (first : Numbers) (later : List Piece) (q : Piece) (before : List Piece)
     → numbered first (reverse_aux later (q ∷ before))
     ≡ reverse_aux (counted first (Some (last_of q (numbers_at first q before))) later) (numbered first (q ∷ before))

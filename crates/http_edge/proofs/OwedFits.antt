@@ -25,7 +25,7 @@ use Rattle.reading_laws.specs.Read as read
 use Rattle.reading_laws.specs.Read.{version_reads, segment_reads, uris_are_text, segment_can_be_written, numbers_read, IsSaid, text_is_clean, AreRead}
 use Rattle.reading_laws.proofs.Texts.{segment_is_written}
 use Rattle.reading_laws.proofs.Whole.{can_be_written}
-use Rattle.http_edge.specs.Owed.{read_under, owed_segment, owed_playlist, owed_text, range_text, states_time}
+use Rattle.http_edge.specs.Owed.{read_under, owed_segment, owed_playlist, owed_text, date_range_text, states_time}
 
 pub version_owed : (v : ℕ) → version_reads v ≡ true → version_fits (max v 6) ≡ true
 version_owed v h = grind (arith, nat_tests)
@@ -68,21 +68,21 @@ any_mapped ended (s ∷ later) = ap (λ b. has_section s || b) (any_mapped (ends
 sections_owed : (segments : List Segment) → read.sections_agree segments ≡ true → written.sections_agree (owed_after None segments) ≡ true
 sections_owed segments h = ap (λ b. b || not (list_any is_mapped (owed_after None segments))) (all_mapped None segments) ∙ ap (λ b. list_all has_section segments || not b) (any_mapped None segments) ∙ h
 
-pub ranges_fit : (ranges : List DateRange) → AllByRecursion (IsSaid limited) ranges → list_all text_is_clean ranges ≡ true → list_all date_range_fits (map range_text ranges) ≡ true
+pub ranges_fit : (date_ranges : List DateRange) → AllByRecursion (IsSaid limited) date_ranges → list_all text_is_clean date_ranges ≡ true → list_all date_range_fits (map date_range_text date_ranges) ≡ true
 ranges_fit [] said clean = refl
 ranges_fit (r ∷ later) (here, rest) clean =
     let c = and_parts _ _ clean in and_from _ _ (and_from _ _ c.0 (ap says_date_range here)) (ranges_fit later rest c.1)
 
-pub some_ranges : (b : Bool) (ranges : List DateRange) → list_all date_range_fits (map range_text ranges) ≡ true → list_all date_range_fits (cond b (map range_text ranges) []) ≡ true
-some_ranges true ranges h = h
-some_ranges false ranges h = refl
+pub some_ranges : (b : Bool) (date_ranges : List DateRange) → list_all date_range_fits (map date_range_text date_ranges) ≡ true → list_all date_range_fits (cond b (map date_range_text date_ranges) []) ≡ true
+some_ranges true date_ranges h = h
+some_ranges false date_ranges h = refl
 
 pub owed_is_well_formed : (p : Playlist) → AreRead limited p → list_all uris_are_text p.segments ≡ true → well_formed (owed_playlist p) ≡ true
 owed_is_well_formed p r t =
     let out = owed_after None p.segments in
     and_from _ _
     (and_from _ _ (and_from _ _ (and_from _ _ (and_from _ _ (version_owed p.version r.version) r.target) (numbers_owed p.segments r.numbers)) (segments_owed None p.segments r.segments t)) (sections_owed p.segments r.sections))
-    (some_ranges (list_any states_time out) p.ranges (ranges_fit p.ranges r.ranges r.range_texts))
+    (some_ranges (list_any states_time out) p.date_ranges (ranges_fit p.date_ranges r.date_ranges r.date_range_texts))
 
 pub under : (o : Option Parts) (input : List ℕ) (p : Playlist) → option_map (λ base. reading limited base input) o ≡ Some (Ok p) → AreRead limited p
 under None input p h = cc

@@ -1,4 +1,4 @@
--- What a list comes to when pieces are put behind it.
+-- What a list comes to when pieces are put after it.
 use Rattle.std.proofs.Common.{◌≡◌, ℕ, ◌+◌, ◌<◌, Bool, true, false, List, [], ◌∷◌, ◌++◌, map, length, take, drop, get_or, refl, ap, sym, ◌∙◌, subst, append_assoc}
 use Rattle.std.specs.Prelude.{Some, ◌&&◌}
 use Rattle.std.specs.List.{list_all}
@@ -8,7 +8,7 @@ use Rattle.playlist_meaning.specs.Stitched.{Piece, Numbers, Item, ad_piece, ad_p
 use Rattle.http_edge.specs.declared.stated.StatedRun.{StatedRun}
 use Rattle.http_edge.specs.declared.stated.StatedSegment.{StatedSegment}
 use Rattle.http_edge.specs.Stated.{pod_segment, stated_ad, stated_mark, written_item, written_segment}
-use Rattle.http_edge.specs.Stitching.{Made, numbers_fit, item_fits, numbers_behind, last_of, origin_of, counted, comes_to, Puts, Passes, pushed, stated_piece}
+use Rattle.http_edge.specs.Stitching.{Made, numbers_fit, item_fits, numbers_after, last_of, origin_of, counted, comes_to, Puts, Passes, pushed, stated_piece}
 
 false_and : (a b c : Bool) → a ≡ true → b ≡ true → (a && (b && true)) ≡ true
 false_and true true c p q = refl
@@ -20,7 +20,7 @@ abbrev numbered_piece : Piece → Numbers → Item
 numbered_piece p n = record { piece = p; numbers = n }
 
 -- one piece more, whose numbers fit
-pub puts_one : (made : Made) (p : Piece) (n : Numbers) → p.instant ≡ (written_segment p n).time → n ≡ numbers_behind made.first made.last p → numbers_fit n ≡ true
+pub puts_one : (made : Made) (p : Piece) (n : Numbers) → p.instant ≡ (written_segment p n).time → n ≡ numbers_after made.first made.last p → numbers_fit n ≡ true
     → Puts made (pushed made (written_segment p n) n (origin_of p)) (p ∷ [])
 puts_one made p n untimed same fits = record {
   first = refl;

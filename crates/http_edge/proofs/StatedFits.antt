@@ -39,7 +39,7 @@ use Rattle.http_edge.specs.Owed.{read_under, owed_with, states_time}
 use Rattle.http_edge.specs.Meant.{meant_with}
 use Rattle.http_edge.proofs.Means.{items_mean}
 use Rattle.http_edge.specs.Stated.{can_be_stated, uri_is_text, is_in, stated_mark, written_item, stated_window, all_fit, goes_past, owed_with_run}
-use Rattle.http_edge.specs.Stitching.{item_fits, numbers_behind, last_of, counted, plain, stated_piece, pieces_at, pieces_on, begun, stitched_segments}
+use Rattle.http_edge.specs.Stitching.{item_fits, numbers_after, last_of, counted, plain, stated_piece, pieces_at, pieces_on, begun, stitched_segments}
 use Rattle.http_edge.proofs.Putting.{pod_of}
 use Rattle.http_edge.proofs.WholeWindow.{window_is_whole, fit_as_written}
 use Rattle.http_edge.proofs.Owing.{rises, timed_rise}
@@ -79,7 +79,7 @@ items_fit : (first : Numbers) (last : Option Last) (pieces : List Piece) → lis
 items_fit first last [] h t = refl
 items_fit first last (p ∷ later) h t =
     let a = and_parts _ _ h in let b = and_parts _ _ t in
-    let n = numbers_behind first last p in
+    let n = numbers_after first last p in
     and_from _ _ (numbered_fits (is_kept p) _ p.segment n p.instant b.0 a.0) (items_fit first (Some (last_of p n)) later a.1 b.1)
 
 plain_ones : (items : List OutSegment) → list_all is_plain items ≡ true → (list_all segment_fits items ≡ true) × (list_any is_mapped items ≡ false)
@@ -162,7 +162,7 @@ follow : (first : Numbers) (q : Piece) (n : Numbers) (pieces : List Piece)
     → all_follow out_numbers (written_item (record { piece = q; numbers = n })) (map written_item (counted first (Some (last_of q n)) pieces)) ≡ true
 follow first q n [] = refl
 follow first q n (p ∷ later) =
-    let m = numbers_behind first (Some (last_of q n)) p in
+    let m = numbers_after first (Some (last_of q n)) p in
     and_from _ _ (and_from _ _ (same (n.media + 1)) (same m.discontinuity)) (follow first p m later)
 
 counted_fit : (first : Numbers) (pieces : List Piece) → nat_le first.steps first.discontinuity ≡ true → 0 < length pieces → numbers_fit (map written_item (counted first None pieces)) ≡ true
@@ -221,7 +221,7 @@ module _ (run : StatedRun) (filled : 0 < length run.pod) (can : list_all can_be_
       let parts = plain_ones items (items_fit (begun run (timed p.segments)) None (pieces_on run 0 (timed p.segments)) pieces fit) in
       and_from _ _
       (and_from _ _ (and_from _ _ (and_from _ _ (and_from _ _ (version_owed p.version r.version) r.target) (numbers_stated run p.segments r.numbers pod.1)) parts.0) (none_mapped (list_all is_mapped items) items parts.1))
-      (some_ranges (list_any states_time items) p.ranges (ranges_fit p.ranges r.ranges r.range_texts))
+      (some_ranges (list_any states_time items) p.date_ranges (ranges_fit p.date_ranges r.date_ranges r.date_range_texts))
 
   -- what is written denotes what was read with the window in place of its segments, whatever the base
   pub stated_denotes : (base input : List ℕ) (p : Playlist) → read_under base input ≡ Some (Ok p) → list_all uris_are_text p.segments ≡ true

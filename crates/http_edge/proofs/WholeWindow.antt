@@ -36,7 +36,7 @@ greater n m h = grind (arith, nat_tests)
 not_less : (n : ℕ) → nat_lt n n ≡ false
 not_less n = grind (arith, nat_tests)
 
--- segments of greater numbers are behind
+-- segments of greater numbers come later
 up_to_first : (number : ℕ) (run : StatedRun) (place : ℕ) (segments : List Segment) (before : List Marked)
     → AllByRecursion (λ (t : Segment). number < t.number) segments
     → up_to number (reverse_aux (marked_from run place segments) before) ≡ up_to number before

@@ -12,12 +12,12 @@ abbrev pub is_timed : Segment → Bool
 is_timed s = is_some s.time
 
 -- date ranges have their place by the segments' times alone (4.3.2.7)
-abbrev pub ranges_meant : List Segment → List DateRange → List DateRange
-ranges_meant segments ranges = if list_any is_timed segments then ranges else []
+abbrev pub date_ranges_meant : List Segment → List DateRange → List DateRange
+date_ranges_meant segments date_ranges = if list_any is_timed segments then date_ranges else []
 
 -- the playlist with these segments, and of version 6 at least, which the written tags need (7)
 abbrev pub with_segments : List Segment → Playlist → Playlist
-with_segments segments p = record p { version = max p.version LEAST_VERSION; segments = segments; ranges = ranges_meant segments p.ranges }
+with_segments segments p = record p { version = max p.version LEAST_VERSION; segments = segments; date_ranges = date_ranges_meant segments p.date_ranges }
 
 -- the playlist itself, each of its segments with the instant at which it begins, where it has one (4.3.2.6)
 abbrev pub meant : Playlist → Playlist

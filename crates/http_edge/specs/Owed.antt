@@ -31,13 +31,13 @@ owed_segments segments = map owed_segment (timed segments)
 abbrev pub states_time : OutSegment → Bool
 states_time out = is_some out.time
 
-abbrev pub range_text : DateRange → List ℕ
-range_text range = range.text
+abbrev pub date_range_text : DateRange → List ℕ
+date_range_text range = range.text
 
 -- the origin's date ranges as they stand, but none where no written segment states a time: a date range has
 -- its place by the segments' times alone (4.3.2.7)
-abbrev pub ranges_owed : List OutSegment → List DateRange → List (List ℕ)
-ranges_owed segments ranges = if list_any states_time segments then map range_text ranges else []
+abbrev pub date_ranges_owed : List OutSegment → List DateRange → List (List ℕ)
+date_ranges_owed segments date_ranges = if list_any states_time segments then map date_range_text date_ranges else []
 
 -- ---- the playlist
 
@@ -49,7 +49,7 @@ owed_with p segments = record {
   kind = p.kind;
   independent = p.independent;
   ended = p.ended;
-  ranges = ranges_owed segments p.ranges;
+  date_ranges = date_ranges_owed segments p.date_ranges;
   segments = segments;
 }
 

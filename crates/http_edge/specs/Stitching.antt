@@ -34,7 +34,7 @@ abbrev pub steps_back : Option ℕ → ℕ → ℕ
 steps_back None discontinuity = 1
 steps_back (Some before) discontinuity = discontinuity - before
 
--- the numbers of an item so many steps behind the last; without a last, those of the first
+-- the numbers of an item so many steps after the last; without a last, those of the first
 abbrev pub numbers_with : Numbers → Option Last → ℕ → Numbers
 numbers_with first None steps = first
 numbers_with first (Some last) steps = next_numbers last.numbers steps
@@ -50,8 +50,8 @@ ad_steps first = if first then 1 else 0
 abbrev pub steps_of : Option Last → Piece → ℕ
 steps_of last p = if is_kept p then steps_from last p.segment.discontinuity else ad_steps p.first_of_ad
 
-abbrev pub numbers_behind : Numbers → Option Last → Piece → Numbers
-numbers_behind first last p = numbers_with first last (steps_of last p)
+abbrev pub numbers_after : Numbers → Option Last → Piece → Numbers
+numbers_after first last p = numbers_with first last (steps_of last p)
 
 -- the list with one more item
 abbrev pub pushed : Made → Segment → Numbers → Option ℕ → Made
@@ -68,8 +68,8 @@ last_of p n = record { numbers = n; origin = origin_of p }
 abbrev pub counted : Numbers → Option Last → List Piece → List Item
 counted first last [] = []
 counted first last (p ∷ later) =
-    record { piece = p; numbers = numbers_behind first last p }
-    ∷ counted first (Some (last_of p (numbers_behind first last p))) later
+    record { piece = p; numbers = numbers_after first last p }
+    ∷ counted first (Some (last_of p (numbers_after first last p))) later
 
 -- ---- pieces
 
@@ -97,17 +97,17 @@ begun run (s ∷ later) = numbers_from s (mark_at run 0)
 
 -- ---- what becomes of it
 
--- what it comes to with these pieces behind it
+-- what it comes to with these pieces after it
 abbrev pub comes_to : Made → List Piece → List OutSegment
 comes_to made pieces = made.items ++ map written_item (counted made.first made.last pieces)
 
--- these pieces were put behind it: it comes to the same, and its numbers fit where they did
+-- these pieces were put after it: it comes to the same, and its numbers fit where they did
 pub record Puts (old new : Made) (pieces : List Piece) : Type 0 where
   pub first : new.first ≡ old.first
   pub comes : (later : List Piece) → comes_to old (pieces ++ later) ≡ comes_to new later
   pub fit : list_all item_fits old.items ≡ true → list_all item_fits new.items ≡ true
 
--- a number does not fit, whatever stands behind these pieces
+-- a number does not fit, whatever stands after these pieces
 abbrev pub Passes : Made → List Piece → Type 0
 Passes made pieces = (later : List Piece) → list_all item_fits (comes_to made (pieces ++ later)) ≡ false
 

@@ -1,6 +1,6 @@
 //! What is written of a playlist.
 ghost use Rattle.std.specs.Prelude.{◌≡◌, ◌+◌, nat_lt, [], map, Ok, IfOk, IfErr};
-ghost use Rattle.http_edge.specs.Owed.{owed_playlist, owed_segment, owed_segments, owed_with, range_text, ranges_owed, states_time};
+ghost use Rattle.http_edge.specs.Owed.{owed_playlist, owed_segment, owed_segments, owed_with, date_range_text, date_ranges_owed, states_time};
 ghost use Rattle.std.specs.List.{list_any};
 ghost use Rattle.http_edge.specs.Stated.{IsRun, owed_with_run};
 ghost use Rattle.http_edge.specs.Stitching.{RefusesRun, RiseFromFirst};
@@ -47,27 +47,27 @@ fn is_any_timed(segments: &[OutSegment]) -> bool
     segments.iter().any(|out: &OutSegment| out.time.is_some())
 }
 
-fn range_text(range: DateRange) -> Text
-    ensures { result ≡ range_text range }
+fn date_range_text(range: DateRange) -> Text
+    ensures { result ≡ date_range_text range }
 {
     range.text
 }
 
-fn range_texts(alloc: Global, ranges: Vec<DateRange>) -> Result<Vec<Text>, AllocError>
-    ensures { IfOk result (λ v. v.items ≡ map range_text ranges.items) }
+fn date_range_texts(alloc: Global, date_ranges: Vec<DateRange>) -> Result<Vec<Text>, AllocError>
+    ensures { IfOk result (λ v. v.items ≡ map date_range_text date_ranges.items) }
 {
-    ranges.into_iter().map(range_text).collect(alloc)
+    date_ranges.into_iter().map(date_range_text).collect(alloc)
 }
 
-fn ranges_owed(
+fn date_ranges_owed(
     alloc: Global,
     segments: &[OutSegment],
-    ranges: Vec<DateRange>,
+    date_ranges: Vec<DateRange>,
 ) -> Result<Vec<Text>, AllocError>
-    ensures { IfOk result (λ v. v.items ≡ ranges_owed segments.now ranges.items) }
+    ensures { IfOk result (λ v. v.items ≡ date_ranges_owed segments.now date_ranges.items) }
 {
     if is_any_timed(segments) {
-        return range_texts(alloc, ranges);
+        return date_range_texts(alloc, date_ranges);
     }
     Ok(Vec::new(alloc))
 }
@@ -80,14 +80,18 @@ fn owed_with(
 ) -> Result<OutPlaylist, AllocError>
     ensures { IfOk result (λ out. out ≡ owed_with playlist segments.items) }
 {
-    let ranges = ranges_owed(alloc, segments.as_slice(), playlist.ranges.into_vec())?;
+    let date_ranges = date_ranges_owed(
+        alloc,
+        segments.as_slice(),
+        playlist.date_ranges.into_vec(),
+    )?;
     Ok(OutPlaylist {
         version: playlist.version.max(LEAST_VERSION),
         target: playlist.target,
         kind: playlist.kind,
         independent: playlist.independent,
         ended: playlist.ended,
-        ranges: Items::from_vec(ranges),
+        date_ranges: Items::from_vec(date_ranges),
         segments: Items::from_vec(segments),
     })
 }

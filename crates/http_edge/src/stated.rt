@@ -53,7 +53,7 @@ pub fn is_in(run: &StatedRun, place: usize) -> bool
 #[tactic(auto, using(crate::proofs::Known::known_bytes))]
 /// Reads a playlist from an input and writes it with a pod in the place of one run of its segments, and
 /// nothing else. The written numbers count on from the origin's first (RFC 8216, sections 4.3.3.2 and
-/// 4.3.3.3), with one discontinuity before the pod and one behind it. The faults stand in this order: the
+/// 4.3.3.3), with one discontinuity before the pod and one after it. The faults stand in this order: the
 /// base, reading, the playlist, `BadRun`, `NumberRange`, writing.
 pub fn vod_stated<S: Source, K: Sink>(
     alloc: Global,

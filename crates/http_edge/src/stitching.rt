@@ -68,7 +68,7 @@ fn numbers_of(media: u64, discontinuity: u64, steps: u64) -> Numbers
     }
 }
 
-// The numbers of an item so many steps behind one with these.
+// The numbers of an item so many steps after one with these.
 fn next_numbers(numbers: Numbers, steps: u64) -> Result<Numbers, VodFault>
     ensures ok { IfOk result (λ n. (n ≡ next_numbers numbers steps) × (numbers_fit n ≡ true)) }
     ensures err { IfErr result (λ e. (e ≡ VodFault.NumberRange) × (numbers_fit (next_numbers numbers steps) ≡ false)) }
@@ -175,7 +175,7 @@ impl Stitching {
         Ok(())
     }
 
-    // Puts a segment of the origin behind.
+    // Puts a segment of the origin at the end.
     fn keep(&mut self, segment: Segment) -> Result<(), VodFault>
         requires { numbers_fit self.old.first ≡ true }
         ensures ok { OnOk result (Puts self.old self.new (plain segment ∷ [])) }
@@ -186,7 +186,7 @@ impl Stitching {
         self.push(segment, numbers, Some(origin))
     }
 
-    // Puts a segment of the pod behind.
+    // Puts a segment of the pod at the end.
     fn put(&mut self, alloc: Global, segment: &StatedSegment, first: bool) -> Result<(), VodFault>
         requires { numbers_fit self.old.first ≡ true }
         ensures ok { OnOk result ((run : StatedRun) → Puts self.old self.new (stated_piece run first segment.now ∷ [])) }
@@ -212,7 +212,7 @@ impl Stitching {
         Ok(())
     }
 
-    // Puts behind what stands for the segment at a place.
+    // Puts at the end what stands for the segment at a place.
     fn put_at(
         &mut self,
         alloc: Global,

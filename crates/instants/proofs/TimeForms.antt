@@ -33,16 +33,16 @@ front_passes : (p : ℕ → Bool) (xs : List ℕ) → list_all p (take (prefix_l
 front_passes p [] = refl
 front_passes p (x ∷ xs) = front_step (p x) p x xs (prefix_len p xs) refl (front_passes p xs)
 
-behind_point : (b : Bool) (x : ℕ) (xs : List ℕ) → list_all is_ascii_digit (drop 1 (take (cond b (prefix_len is_ascii_digit xs + 1) 0) (x ∷ xs))) ≡ true
-behind_point true x xs =
+after_point : (b : Bool) (x : ℕ) (xs : List ℕ) → list_all is_ascii_digit (drop 1 (take (cond b (prefix_len is_ascii_digit xs + 1) 0) (x ∷ xs))) ≡ true
+after_point true x xs =
     let more : prefix_len is_ascii_digit xs + 1 ≡ suc (prefix_len is_ascii_digit xs) = omega arith in
     rw more (front_passes is_ascii_digit xs)
-behind_point false x xs = refl
+after_point false x xs = refl
 
--- behind the point of a fraction there are digits
+-- after the point of a fraction there are digits
 pub fraction_digits : (rest : List ℕ) → list_all is_ascii_digit (drop 1 (take (fraction_len rest) rest)) ≡ true
 fraction_digits [] = refl
-fraction_digits (x ∷ xs) = behind_point (x == 46) x xs
+fraction_digits (x ∷ xs) = after_point (x == 46) x xs
 
 -- ---- the whole text
 

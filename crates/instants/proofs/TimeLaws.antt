@@ -152,7 +152,7 @@ text_reads n h =
     let found = year_after 300 1900 days in
     let y : InYear 1900 300 days found = in_year 300 1900 days (in_years days few) in
     let in_this : found.1 < days_before_month found.0 13 = subst (λ x. found.1 < x) (sym (year_months found.0)) y.day in
-    let m : InMonth found.0 1 12 found.1 (month_after 12 found.0 1 found.1) = in_month 12 found.0 1 found.1 (omega arith) (zero_behind found.1 (days_before_month found.0 13) in_this) in
+    let m : InMonth found.0 1 12 found.1 (month_after 12 found.0 1 found.1) = in_month 12 found.0 1 found.1 (omega arith) (zero_after found.1 (days_before_month found.0 13) in_this) in
     let month = month_after 12 found.0 1 found.1 in
     let day_small : days_in_month found.0 month.0 ≤ 31 = month_small found.0 month.0 in
     let q = n / 1000000000 % 86400 in
@@ -172,8 +172,8 @@ text_reads n h =
     stamp_reads found.0 month.0 (month.1 + 1) (q / 3600) (q / 60 % 60) (q % 60) (46 ∷ (decimals (n % 1000000000) ++ 90 ∷ [])) ok d.fraction
     ∙ d.says _ ∙ ap (λ s. instant_at s (n % 1000000000) (Some (pos 0))) (ap (λ x. x * 86400 + q / 3600 * 3600 + q / 60 % 60 * 60 + q % 60) date ∙ sum_is n)
   where
-    zero_behind : (a b : ℕ) → a < b → 0 + a < b
-    zero_behind a b h = omega arith
+    zero_after : (a b : ℕ) → a < b → 0 + a < b
+    zero_after a b h = omega arith
 
     in_years : (days : ℕ) → days < 109573 → days_before_year 1900 + days < days_before_year (1900 + 300)
     in_years days h = omega arith

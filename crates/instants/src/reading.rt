@@ -48,7 +48,7 @@ fn instant_of(text: &[u8]) -> Option<Instant>
         return None;
     }
     let (fraction, zone) = rest.split_at(len);
-    let nanos = nanos_of_fraction(behind_first(fraction));
+    let nanos = nanos_of_fraction(after_point_of(fraction));
     let offset = zone_offset(zone)?;
     instant_at(seconds_from_1970(day, clock, offset), nanos)
 }
@@ -182,7 +182,7 @@ fn digits_len(text: &[u8]) -> usize
     text.iter().take_while(|b| b.is_ascii_digit()).count()
 }
 
-// The bytes of a point and the digits behind it.
+// The bytes of a point and the digits after it.
 fn fraction_len(text: &[u8]) -> usize
     ensures value { result ≡ fraction_len text.now }
     ensures bound { result ≤ length text.now }
@@ -199,7 +199,7 @@ fn is_fraction(len: usize) -> bool
     len == 0 || (2 <= len && len <= 10)
 }
 
-fn behind_first(bytes: &[u8]) -> &[u8]
+fn after_point_of(bytes: &[u8]) -> &[u8]
     ensures { result.now ≡ drop 1 bytes.now }
 {
     match bytes {
@@ -208,7 +208,7 @@ fn behind_first(bytes: &[u8]) -> &[u8]
     }
 }
 
-// The seconds of an offset behind its sign.
+// The seconds of an offset after its sign.
 fn offset_seconds(text: &[u8]) -> Option<u32>
     ensures value { result ≡ offset_seconds text.now }
     ensures bound { IfSome result (λ seconds. seconds < 86400) }

@@ -83,7 +83,7 @@ const FILES: [(&str, &str); 32] = [
     ),
 ];
 
-/// Ads that are refused, with what is printed behind the place of the break.
+/// Ads that are refused, with what is printed after the place of the break.
 const ADS: [(&str, &str); 42] = [
     ("{}", "J2 Shape break 0 ad 0"),
     ("{\"segments\":7}", "J2 Shape break 0 ad 0"),
@@ -375,7 +375,7 @@ fn repeated(
     Ok(text)
 }
 
-// A file of one break with so many segments in its second ad, behind one in its first.
+// A file of one break with so many segments in its second ad, after one in its first.
 fn second_ad_of(alloc: Global, count: usize) -> Result<String, AllocError> {
     let first =
         "{\"breaks\":[{\"id\":\"b\",\"ads\":[{\"segments\":[{\"uri\":\"http://a\",\"duration\":\"1\"}]},{\"segments\":[";
@@ -421,7 +421,7 @@ fn bytes_of_an_id(rt: HostRuntime) -> Result<(), Fail> {
     Ok(())
 }
 
-// A file of so many breaks, and behind them one more with the ID of the first.
+// A file of so many breaks, and after them one more with the ID of the first.
 fn many_breaks(alloc: Global, count: usize, again: bool) -> Result<String, AllocError> {
     let mut text = String::from_str(alloc, "{\"breaks\":[")?;
     for i in 0..count {

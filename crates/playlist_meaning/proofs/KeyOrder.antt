@@ -43,8 +43,8 @@ differ x k h = let e = is_less _ h in sym (is_eq-slice_cmp x.format k.format) �
 pub like : (y x k : Key) → bytes_eq x.format y.format ≡ true → is_before x k ≡ true → is_before y k ≡ true
 like y x k e h = subst (λ f. is_lt (slice_cmp nat_cmp f k.format) ≡ true) ((bytes_eq-Decides x.format y.format).0 e) h
 
-pub like_behind : (y x k : Key) → bytes_eq x.format k.format ≡ true → is_before y k ≡ true → is_before y x ≡ true
-like_behind y x k e h = subst (λ f. is_lt (slice_cmp nat_cmp y.format f) ≡ true) (sym ((bytes_eq-Decides x.format k.format).0 e)) h
+pub like_after : (y x k : Key) → bytes_eq x.format k.format ≡ true → is_before y k ≡ true → is_before y x ≡ true
+like_after y x k e h = subst (λ f. is_lt (slice_cmp nat_cmp y.format f) ≡ true) (sym ((bytes_eq-Decides x.format k.format).0 e)) h
 
 pub chained : (x y k : Key) → is_before x y ≡ true → is_before y k ≡ true → is_before x k ≡ true
 chained x y k h g = ap is_lt (nat_list_cmp_total.trans x.format y.format k.format (is_less _ h) (is_less _ g))

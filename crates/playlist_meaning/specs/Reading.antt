@@ -156,7 +156,7 @@ playlist_of said = record {
   kind = latest the_type said;
   independent = has is_independent said;
   ended = has is_ended said;
-  ranges = date_ranges_of said;
+  date_ranges = date_ranges_of said;
   segments = segments_of said;
 }
 

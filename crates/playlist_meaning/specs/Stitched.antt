@@ -82,7 +82,7 @@ steps_between before p =
 abbrev pub next_numbers : Numbers → ℕ → Numbers
 next_numbers n steps = record { media = n.media + 1; discontinuity = n.discontinuity + steps; steps = steps }
 
--- the numbers of a piece behind these, the very first of which has the numbers `first`
+-- the numbers of a piece after these, the very first of which has the numbers `first`
 abbrev pub numbers_at : Numbers → Piece → List Piece → Numbers
 numbers_at first p [] = first
 numbers_at first p (q ∷ before) = next_numbers (numbers_at first q before) (steps_between q p)

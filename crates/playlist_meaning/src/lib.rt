@@ -44,7 +44,7 @@ pub enum FaultKind {
     Version,
     /// P7: a tag stands again that may stand once.
     Repeated,
-    /// P8: EXT-X-MEDIA-SEQUENCE stands behind a segment, or EXT-X-DISCONTINUITY-SEQUENCE behind a segment or a
+    /// P8: EXT-X-MEDIA-SEQUENCE stands after a segment, or EXT-X-DISCONTINUITY-SEQUENCE after a segment or a
     /// discontinuity (sections 4.3.3.2 and 4.3.3.3).
     Misplaced,
     /// P9: a tag's value isn't one that it may have, or a number passes 2^64 - 1.
@@ -200,7 +200,7 @@ pub struct Segment {
     pub section: Option<Shared<InitSection>>,
     /// How long it lasts (EXTINF).
     pub duration: Nanos,
-    /// What stands behind the duration and a comma.
+    /// What stands after the duration and a comma.
     pub title: Text,
     /// When its first sample is, where EXT-X-PROGRAM-DATE-TIME states that.
     pub time: Option<Instant>,
@@ -241,7 +241,7 @@ pub struct Playlist {
     /// Whether no segment will follow: EXT-X-ENDLIST.
     pub ended: bool,
     /// The date ranges, in their order.
-    pub ranges: Items<DateRange>,
+    pub date_ranges: Items<DateRange>,
     /// The segments, in their order.
     pub segments: Items<Segment>,
 }

@@ -18,7 +18,7 @@ fn plain_row()
           kind = None;
           independent = false;
           ended = true;
-          ranges = [];
+          date_ranges = [];
           segments =
               record { number = 0; discontinuity = 0; steps = 0; uri = codes "http://origin.example/ch/s0.ts"; range = None; keys = []; section = None; duration = 10000000000; title = []; time = None }
               ∷ record { number = 1; discontinuity = 0; steps = 0; uri = codes "http://origin.example/ch/s1.ts"; range = None; keys = []; section = None; duration = 10000000000; title = []; time = None }
@@ -54,7 +54,7 @@ fn range_rows()
           kind = None;
           independent = false;
           ended = false;
-          ranges = [];
+          date_ranges = [];
           segments =
               record { number = 0; discontinuity = 0; steps = 0; uri = codes "http://origin.example/ch/a.ts"; range = Some (record { length = 100; offset = 0 }); keys = []; section = None; duration = 10000000000; title = []; time = None }
               ∷ record { number = 1; discontinuity = 0; steps = 0; uri = codes "http://origin.example/ch/a.ts"; range = Some (record { length = 100; offset = 100 }); keys = []; section = None; duration = 10000000000; title = []; time = None }
@@ -86,7 +86,7 @@ fn effective_row()
           kind = None;
           independent = false;
           ended = false;
-          ranges = [];
+          date_ranges = [];
           segments =
               record {
                 number = 7;

@@ -23,7 +23,7 @@ fn window_rows()
         ≡ (1000 ∷ 1 ∷ 1 ∷ 1 ∷ []) ∷ (1001 ∷ 2 ∷ 1 ∷ 0 ∷ []) ∷ (4 ∷ 3 ∷ 2 ∷ 1 ∷ []) ∷ [] }
     ensures last { shown_from 3 (unmarked (plain 4) ∷ marked two (plain 3) ∷ marked two (plain 2) ∷ marked two (plain 1) ∷ unmarked (plain 0) ∷ [])
         ≡ (1000 ∷ 1 ∷ 1 ∷ 1 ∷ []) ∷ (1001 ∷ 2 ∷ 1 ∷ 0 ∷ []) ∷ (4 ∷ 3 ∷ 2 ∷ 1 ∷ []) ∷ [] }
-    ensures behind { shown_from 4 (unmarked (plain 4) ∷ marked two (plain 3) ∷ marked two (plain 2) ∷ marked two (plain 1) ∷ unmarked (plain 0) ∷ [])
+    ensures after { shown_from 4 (unmarked (plain 4) ∷ marked two (plain 3) ∷ marked two (plain 2) ∷ marked two (plain 1) ∷ unmarked (plain 0) ∷ [])
         ≡ (4 ∷ 3 ∷ 2 ∷ 1 ∷ []) ∷ [] }
 {}
 

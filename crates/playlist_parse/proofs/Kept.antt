@@ -27,9 +27,9 @@ says_then : {A : Type 0} (o : Outcome A) (f : A → Outcome Said) → ((x : A) �
 says_then (Ok x) f h = h x
 says_then (Err e) f h = record {}
 
-says_behind : (o : Outcome Said) (f : Said → Outcome Said) → Says o → ((said : Said) → Keeps said → Says (f said)) → Says (o >>= f)
-says_behind (Ok said) f o_says h = h said o_says
-says_behind (Err e) f o_says h = record {}
+says_after : (o : Outcome Said) (f : Said → Outcome Said) → Says o → ((said : Said) → Keeps said → Says (f said)) → Says (o >>= f)
+says_after (Ok said) f o_says h = h said o_says
+says_after (Err e) f o_says h = record {}
 
 says_either : (b : Bool) (x y : Outcome Said) → Says x → Says y → Says (if b then x else y)
 says_either true x y h k = h
@@ -61,11 +61,11 @@ says_section reader base rest =
 
 pub key_tag_says : (reader : Reader) (base : Parts) (before : List Said) (rest : List ℕ) → Says (said_by_tag reader base before key_tag rest)
 key_tag_says reader base before rest =
-    says_behind (key_said reader base rest) (within_formats reader before) (says_key reader base rest) (λ said h. says_unless _ _ (Ok said) h)
+    says_after (key_said reader base rest) (within_formats reader before) (says_key reader base rest) (λ said h. says_unless _ _ (Ok said) h)
 
 pub map_tag_says : (reader : Reader) (base : Parts) (before : List Said) (rest : List ℕ) → Says (said_by_tag reader base before map_tag rest)
 map_tag_says reader base before rest =
-    says_behind (section_said reader base rest) (with_ivs before) (says_section reader base rest) (λ said h. says_unless _ _ (Ok said) h)
+    says_after (section_said reader base rest) (with_ivs before) (says_section reader base rest) (λ said h. says_unless _ _ (Ok said) h)
 
 pub time_tag_says : (reader : Reader) (base : Parts) (before : List Said) (rest : List ℕ) → Says (said_by_tag reader base before time_tag rest)
 time_tag_says reader base before rest = says_then (or_fault fault.BadTime (instant_of rest)) _ (λ t. λ b lines. refl)

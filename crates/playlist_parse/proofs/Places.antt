@@ -59,7 +59,7 @@ one_more : (start : ℕ) (piece : List ℕ) (pieces : List (List ℕ)) → 1 ≤
 one_more start piece [] h = absurd (omega (arith, h))
 one_more start piece (next ∷ later) h = refl
 
--- a line, and those behind its line feed
+-- a line, and those after its line feed
 pub next_line : (start : ℕ) (text : List ℕ) → position_or_len is_feed text < length text
     → lines_from start text ≡ with_end (start, strip_carriage_return (before_first is_feed text)) ∷ lines_from (start + length (before_first is_feed text) + 1) (after_first is_feed text)
 next_line start text h =
@@ -92,9 +92,9 @@ rest_begins text h =
     let back : length (drop (n + 1) text) ≡ length text - (n + 1) = length-drop (n + 1) text in
     omega (arith, front, back, h)
 
-map_behind : {A B : Type 0} (f : A → B) (xs : List A) (y : A) (zs : List B) → map f (xs ++ y ∷ []) ++ zs ≡ map f xs ++ (f y ∷ zs)
-map_behind f [] y zs = refl
-map_behind f (x ∷ xs) y zs = ap (λ ys. f x ∷ ys) (map_behind f xs y zs)
+map_after : {A B : Type 0} (f : A → B) (xs : List A) (y : A) (zs : List B) → map f (xs ++ y ∷ []) ++ zs ≡ map f xs ++ (f y ∷ zs)
+map_after f [] y zs = refl
+map_after f (x ∷ xs) y zs = ap (λ ys. f x ∷ ys) (map_after f xs y zs)
 
 -- one line more is found
 pub found_next : (found : List Placed) (p : Placed) (start : ℕ) (rest piece later line : List ℕ) (all : List ((ℕ × ℕ) × List ℕ))
@@ -103,7 +103,7 @@ pub found_next : (found : List Placed) (p : Placed) (start : ℕ) (rest piece la
     → map placed_view (found ++ p ∷ []) ++ lines_from (start + (length piece + 1)) later ≡ all
 found_next found p start rest piece later line all h some piece_is later_is line_is p_is =
     let place : start + (length piece + 1) ≡ start + length piece + 1 = omega arith in
-    map_behind placed_view found p _
+    map_after placed_view found p _
     ∙ ap (λ q. map placed_view found ++ (q ∷ lines_from (start + (length piece + 1)) later)) (p_is ∙ ap (λ l. with_end (start, l)) line_is)
     ∙ ap (λ n. map placed_view found ++ (with_end (start, strip_carriage_return piece) ∷ lines_from n later)) place
     ∙ ap (λ (q : List ℕ × List ℕ). map placed_view found ++ (with_end (start, strip_carriage_return q.0) ∷ lines_from (start + length q.0 + 1) q.1)) (pair piece_is later_is)
@@ -116,19 +116,19 @@ pub place_next : (start whole : ℕ) (rest piece later : List ℕ) → start + l
     → piece ≡ before_first is_feed rest → later ≡ after_first is_feed rest → start + (length piece + 1) + length later ≡ whole
 place_next start whole rest piece later h some piece_is later_is = omega (arith, h, ap length piece_is, ap length later_is, rest_begins rest some)
 
-nothing_behind : {A : Type 0} (xs : List A) → xs ++ [] ≡ xs
-nothing_behind [] = refl
-nothing_behind (x ∷ xs) = ap (λ ys. x ∷ ys) (nothing_behind xs)
+nothing_after : {A : Type 0} (xs : List A) → xs ++ [] ≡ xs
+nothing_after [] = refl
+nothing_after (x ∷ xs) = ap (λ ys. x ∷ ys) (nothing_after xs)
 
 -- no line is left
 pub found_all : (found : List Placed) (start : ℕ) (rest : List ℕ) (all : List ((ℕ × ℕ) × List ℕ)) → map placed_view found ++ lines_from start rest ≡ all → length rest ≡ 0 → map placed_view found ≡ all
-found_all found start rest all h none = sym (ap (λ lines. map placed_view found ++ lines) (no_line start rest none) ∙ nothing_behind _) ∙ h
+found_all found start rest all h none = sym (ap (λ lines. map placed_view found ++ lines) (no_line start rest none) ∙ nothing_after _) ∙ h
 
 -- one line is left, without a line feed
 pub found_last : (found : List Placed) (p : Placed) (start : ℕ) (rest : List ℕ) (all : List ((ℕ × ℕ) × List ℕ)) → map placed_view found ++ lines_from start rest ≡ all
     → position_or_len is_feed rest ≡ length rest → (length rest == 0) ≡ false → placed_view p ≡ with_end (start, rest) → map placed_view (found ++ p ∷ []) ≡ all
 found_last found p start rest all h none some p_is =
-    sym (nothing_behind _) ∙ map_behind placed_view found p [] ∙ ap (λ q. map placed_view found ++ (q ∷ [])) p_is
+    sym (nothing_after _) ∙ map_after placed_view found p [] ∙ ap (λ q. map placed_view found ++ (q ∷ [])) p_is
     ∙ ap (λ lines. map placed_view found ++ lines) (sym (last_line start rest none some)) ∙ h
 
 -- ---- slices of the text

@@ -6,15 +6,15 @@ use Rattle.playlist_meaning.specs.Said.{Name, version_tag, target_tag, sequence_
 use Rattle.playlist_parse.specs.declared.line.Line.{Line}
 use Rattle.playlist_parse.specs.declared.line.Line.TheVariants as line
 use Rattle.playlist_parse.specs.declared.line.Placed.{Placed}
-use Rattle.playlist_parse.specs.declared.line.Slices.{Slices}
-use Rattle.playlist_parse.specs.declared.line.Slices.TheVariants as slices
+use Rattle.playlist_parse.specs.declared.line.LineKind.{LineKind}
+use Rattle.playlist_parse.specs.declared.line.LineKind.TheVariants as line_kind
 use Rattle.playlist_parse.specs.declared.tag.Tag.{Tag}
 use Rattle.playlist_parse.specs.declared.tag.Tag.TheVariants as tag_name
 
-abbrev pub slices_view : Slices → Kind
-slices_view slices.Ignored = ignored
-slices_view (slices.Uri text) = uri text.now
-slices_view (slices.Tag name rest colon) = tag name.now rest.now colon
+abbrev pub line_kind_view : LineKind → Kind
+line_kind_view line_kind.Ignored = ignored
+line_kind_view (line_kind.Uri text) = uri text.now
+line_kind_view (line_kind.Tag name rest colon) = tag name.now rest.now colon
 
 -- a kind of line, without whether a tag has a colon
 pub data Shown : Type 0 where

@@ -15,7 +15,7 @@ pub record Progress : Type 0 where
   pub base : Parts
   pub heading : Heading
   pub standing : Standing
-  pub ranges : List DateRange
+  pub date_ranges : List DateRange
   pub segments : List Segment
 
 -- what is read when the lines have said this, the last first
@@ -24,7 +24,7 @@ progress_at base before = record {
   base = base;
   heading = heading_at before;
   standing = standing_at before;
-  ranges = date_ranges_of before;
+  date_ranges = date_ranges_of before;
   segments = segments_of before;
 }
 

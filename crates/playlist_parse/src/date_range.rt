@@ -12,7 +12,7 @@ use playlist_meaning::{DateRange, FaultKind, Instant, Text, read_instant};
 use segment_state::attributes::{attributes_of, required};
 use std::alloc::{AllocError, Global};
 
-/// The date range that the text behind `#EXT-X-DATERANGE:` states. The faults, in this order:
+/// The date range that the text after `#EXT-X-DATERANGE:` states. The faults, in this order:
 /// `BadAttributes` where the text is no attribute list, `MissingAttribute` without ID, `BadAttributes`
 /// where ID stands without quotes, `BadTime` for START-DATE and END-DATE, `BadDuration` for DURATION
 /// and PLANNED-DURATION.

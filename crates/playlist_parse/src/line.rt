@@ -3,7 +3,7 @@ ghost use Rattle.std.specs.Prelude.{◌≡◌, map, Ok, IfOk, ◌==◌, ◌+◌,
 ghost use Rattle.std.specs.Str.Lines.{lines, strip_carriage_return};
 ghost use Rattle.attr_list.specs.Attributes.{slices_at};
 ghost use Rattle.playlist_meaning.specs.Lines.{kind_of, is_blank, placed_lines};
-ghost use Rattle.playlist_parse.specs.LineViews.{slices_view, line_view, line_span, placed_line, placed_view, with_end, lines_view};
+ghost use Rattle.playlist_parse.specs.LineViews.{line_kind_view, line_view, line_span, placed_line, placed_view, with_end, lines_view};
 
 use attr_list::Span;
 use playlist_meaning::Text;
@@ -11,12 +11,12 @@ use std::alloc::{AllocError, Global};
 
 /// A line of a playlist, as slices of its text.
 #[derive(Clone, Copy)]
-pub enum Slices<'a> {
+pub enum LineKind<'a> {
     /// A blank line or a comment.
     Ignored,
     /// The reference of a media segment.
     Uri(&'a str),
-    /// A tag: its name without `#`, what stands behind the first colon, and whether there is one.
+    /// A tag: its name without `#`, what stands after the first colon, and whether there is one.
     Tag {
         name: &'a str,
         rest: &'a str,
@@ -32,7 +32,7 @@ pub enum Line {
     Ignored { span: Span },
     /// The reference of a media segment.
     Uri { text: Text, span: Span },
-    /// A tag: its name runs from behind `#` to the first `:`, its rest is what follows.
+    /// A tag: its name runs from after `#` to the first `:`, its rest is what follows.
     Tag { name: Text, rest: Text, span: Span },
 }
 
@@ -51,27 +51,27 @@ fn is_blank(line: &str) -> bool
 
 #[tactic(auto, using(crate::proofs::LineLemmas::tag_without_colon, crate::proofs::LineLemmas::tag_with_colon))]
 /// What kind of line a text without a line feed is.
-pub fn slices_of(line: &str) -> Slices<'_>
-    ensures { slices_view result ≡ kind_of line.now }
+pub fn kind_of(line: &str) -> LineKind<'_>
+    ensures { line_kind_view result ≡ kind_of line.now }
 {
     if is_blank(line) {
-        return Slices::Ignored;
+        return LineKind::Ignored;
     }
     if !line.starts_with("#EXT") {
         return if line.starts_with("#") {
-            Slices::Ignored
+            LineKind::Ignored
         } else {
-            Slices::Uri(line)
+            LineKind::Uri(line)
         };
     }
     let text = &line[1..];
     match text.split_once(':') {
-        Some((name, rest)) => Slices::Tag {
+        Some((name, rest)) => LineKind::Tag {
             name,
             rest,
             colon: true,
         },
-        None => Slices::Tag {
+        None => LineKind::Tag {
             name: text,
             rest: "",
             colon: false,
@@ -127,13 +127,13 @@ fn owned(alloc: Global, placed: Placed<'_>) -> Result<Line, AllocError>
     ensures { IfOk result (λ line. line_view line ≡ placed_line (placed_view placed.entry)) }
 {
     let span = placed.span;
-    match slices_of(placed.text) {
-        Slices::Ignored => Ok(Line::Ignored { span }),
-        Slices::Uri(text) => Ok(Line::Uri {
+    match kind_of(placed.text) {
+        LineKind::Ignored => Ok(Line::Ignored { span }),
+        LineKind::Uri(text) => Ok(Line::Uri {
             text: Text::copy_of(alloc, text)?,
             span,
         }),
-        Slices::Tag { name, rest, .. } => Ok(Line::Tag {
+        LineKind::Tag { name, rest, .. } => Ok(Line::Tag {
             name: Text::copy_of(alloc, name)?,
             rest: Text::copy_of(alloc, rest)?,
             span,

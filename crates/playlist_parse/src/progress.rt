@@ -9,7 +9,7 @@ ghost use Rattle.playlist_meaning.specs.Reading.{limited};
 ghost use Rattle.playlist_parse.specs.Progress.{progress_at, Takes, Ends};
 
 use crate::date_range::date_range_of;
-use crate::line::{Slices, slices_of};
+use crate::line::{LineKind, kind_of};
 use crate::tag::{Tag, tag_of};
 use attr_list::read_decimal;
 use playlist_meaning::{
@@ -32,7 +32,7 @@ pub struct Progress<'a> {
     has_discontinuity_sequence: bool,
     has_media: bool,
     state: State<'a>,
-    ranges: Vec<DateRange>,
+    date_ranges: Vec<DateRange>,
     segments: Vec<Segment>,
 }
 
@@ -61,7 +61,7 @@ impl<'a> Progress<'a> {
             has_discontinuity_sequence: false,
             has_media: false,
             state: State::new(alloc, base),
-            ranges: Vec::new(alloc),
+            date_ranges: Vec::new(alloc),
             segments: Vec::new(alloc),
         }
     }
@@ -73,10 +73,10 @@ impl<'a> Progress<'a> {
         if has_control(line) {
             return Err(FaultKind::Control);
         }
-        match slices_of(line) {
-            Slices::Ignored => Ok(()),
-            Slices::Uri(uri) => self.uri(uri),
-            Slices::Tag { name, rest, colon } => self.tag(name, rest, colon),
+        match kind_of(line) {
+            LineKind::Ignored => Ok(()),
+            LineKind::Uri(uri) => self.uri(uri),
+            LineKind::Tag { name, rest, colon } => self.tag(name, rest, colon),
         }
     }
 
@@ -161,7 +161,7 @@ impl<'a> Progress<'a> {
         ensures { Takes (λ base before. said_by_tag limited base before said.date_range_tag rest.now) self.old self.new result }
     {
         let range = date_range_of(self.alloc, rest)?;
-        self.ranges.push(range)?;
+        self.date_ranges.push(range)?;
         Ok(())
     }
 
@@ -258,7 +258,7 @@ impl<'a> Progress<'a> {
             kind: self.kind,
             independent: self.independent,
             ended: self.ended,
-            ranges: Items::from_vec(self.ranges),
+            date_ranges: Items::from_vec(self.date_ranges),
             segments: Items::from_vec(self.segments),
         })
     }

@@ -49,7 +49,7 @@ fn flag(tag: Tag, colon: bool) -> Tag
     if colon { Tag::Unknown } else { tag }
 }
 
-/// The tag of this name, with or without a colon behind it.
+/// The tag of this name, with or without a colon after it.
 pub fn tag_of(name: &str, colon: bool) -> Tag
     ensures { tag_view result ≡ name_of name.now colon }
 {

@@ -57,19 +57,19 @@ unlimited_read : (text : List ℕ) (s : Said) → date_range_said few text ≡ O
 unlimited_read text s h = unlimited_step text s (attributes_of (Some 64) text) refl h
 
 -- a text that says one date range
-pub record OneRange (text : List ℕ) : Type 0 where
+pub record OneDateRange (text : List ℕ) : Type 0 where
   pub range : DateRange
   pub says : date_range_said unlimited text ≡ Ok (date_range range)
 
-range_in : (text : List ℕ) (o : Outcome Said) → date_range_said few text ≡ o → says_date_range o ≡ true → OneRange text
-range_in text (Ok (date_range r)) e h = record { range = r; says = unlimited_read text (date_range r) e }
-range_in text (Ok _) e h = cc
-range_in text (Err d) e h = cc
+date_range_in : (text : List ℕ) (o : Outcome Said) → date_range_said few text ≡ o → says_date_range o ≡ true → OneDateRange text
+date_range_in text (Ok (date_range r)) e h = record { range = r; says = unlimited_read text (date_range r) e }
+date_range_in text (Ok _) e h = cc
+date_range_in text (Err d) e h = cc
 
-pub one_range : (text : List ℕ) → date_range_fits text ≡ true → OneRange text
-one_range text h =
+pub one_date_range : (text : List ℕ) → date_range_fits text ≡ true → OneDateRange text
+one_date_range text h =
     let a : (is_clean text ≡ true) × (says_date_range (date_range_said few text) ≡ true) = and_parts _ _ h in
-    range_in text (date_range_said few text) refl a.1
+    date_range_in text (date_range_said few text) refl a.1
 
 -- ---- one by one
 

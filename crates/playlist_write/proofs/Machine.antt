@@ -22,14 +22,14 @@ use Rattle.playlist_write.proofs.SaidLines as lines
 pub record Known : Type 0 where
   pub heading : Heading
   pub standing : Standing
-  pub ranges : List DateRange
+  pub date_ranges : List DateRange
   pub segments : List Segment
 
 abbrev pub known_at : List Said → Known
 known_at before = record {
   heading = heading_at before;
   standing = standing_at before;
-  ranges = date_ranges_of before;
+  date_ranges = date_ranges_of before;
   segments = segments_of before;
 }
 
@@ -88,9 +88,9 @@ standing_after s (media uri) = record s {
 }
 standing_after s _ = s
 
-abbrev pub ranges_after : List DateRange → Said → List DateRange
-ranges_after ranges (date_range r) = ranges ++ r ∷ []
-ranges_after ranges _ = ranges
+abbrev pub date_ranges_after : List DateRange → Said → List DateRange
+date_ranges_after date_ranges (date_range r) = date_ranges ++ r ∷ []
+date_ranges_after date_ranges _ = date_ranges
 
 abbrev pub segments_after : Known → Said → List Segment
 segments_after k (media uri) = k.segments ++ segment_known k.standing uri ∷ []
@@ -100,7 +100,7 @@ abbrev pub step : Known → Said → Known
 step k s = record {
   heading = heading_after k.heading s;
   standing = standing_after k.standing s;
-  ranges = ranges_after k.ranges s;
+  date_ranges = date_ranges_after k.date_ranges s;
   segments = segments_after k s;
 }
 
@@ -187,7 +187,7 @@ module _ (base : Parts) where
   line_reads independent before f a = lines.independent_line base before
   line_reads (duration n title) before f a = lines.duration_line base before n title f.0 (lines.clean_is title f.1)
   line_reads (range n None) before f a = absurd f
-  line_reads (range n (Some o)) before f a = lines.range_line base before n o f
+  line_reads (range n (Some o)) before f a = lines.ended_date_range_line base before n o f
   line_reads discontinuity before f a = lines.discontinuity_line base before a
   line_reads no_keys before f a = lines.no_keys_line base before
   line_reads (key k) before f a = lines.key_line base before k f

@@ -116,8 +116,8 @@ module _ (base : Parts) (before : List Said) where
   pub clean_range : (n o : ℕ) → n + o < 2 ^ 64 → Clean (decimal n ++ 64 ∷ decimal o)
   clean_range n o h = clean-append (decimal n) (64 ∷ decimal o) (clean_number _ (decimal_bytes n (omega arith))) (clean-append (64 ∷ []) (decimal o) (clean_printable _ refl) (clean_number _ (decimal_bytes o (omega arith))))
 
-  pub range_line : (n o : ℕ) → n + o < 2 ^ 64 → IsRead (range n (Some o))
-  range_line n o h =
+  pub ended_date_range_line : (n o : ℕ) → n + o < 2 ^ 64 → IsRead (range n (Some o))
+  ended_date_range_line n o h =
       let line = clean-append (codes "#EXT-X-BYTERANGE:") _ (clean_printable _ refl) (clean_range n o h) in
       as_written (codes "#EXT-X-BYTERANGE:" ++ (decimal n ++ 64 ∷ decimal o)) (range_of (decimal n ++ 64 ∷ decimal o) >>= λ r. Ok (range r.0 r.1)) _ line
       (ap (λ x. x >>= λ r. Ok (range r.0 r.1)) (range_reads n o h))

@@ -18,45 +18,45 @@ use Rattle.playlist_meaning.proofs.SaidCounts.{counted_some}
 use Rattle.stitcher.specs.declared.OutSegment.{OutSegment}
 use Rattle.playlist_write.specs.declared.OutPlaylist.{OutPlaylist}
 use Rattle.playlist_write.specs.Spelling.{spelled, date_range_line}
-use Rattle.playlist_write.specs.Owed.{none_yet, header_owed, type_owed, independent_owed, ended_owed, segments_owed, first_number, first_discontinuity, line_of, said_text, range_line, ranges_text, text_of}
+use Rattle.playlist_write.specs.Owed.{none_yet, header_owed, type_owed, independent_owed, ended_owed, segments_owed, first_number, first_discontinuity, line_of, said_text, ended_date_range_line, date_ranges_text, text_of}
 use Rattle.fitting.specs.Fitting.{is_clean, says_date_range, date_range_fits}
 use Rattle.playlist_write.specs.WellFormed.{is_word, version_fits, segment_fits, out_numbers, numbers_fit, is_mapped, sections_agree, well_formed}
-use Rattle.playlist_write.specs.Denoted.{denoted, denoted_segment, denoted_range, range_said}
+use Rattle.playlist_write.specs.Denoted.{denoted, denoted_segment, denoted_date_range, date_range_told}
 use Rattle.playlist_write.specs.Laws.{TextDenotes}
 use Rattle.playlist_write.proofs.CleanTexts.{text, AllClean, clean_printable, lines_of_text, utf8_text}
-use Rattle.playlist_write.proofs.DateRangeReads.{few, one_range, is_kept}
+use Rattle.playlist_write.proofs.DateRangeReads.{few, one_date_range, is_kept}
 use Rattle.playlist_write.proofs.Machine.{Known, known_at, onto, known_onto, said_onto}
 use Rattle.playlist_write.proofs.Groups.{numbers_go_on, sections_alike, Goes, goes-append, ready, goes_segments, segment_parts}
 
 -- what the lines of the date ranges say, and what all lines say
-abbrev ranges_owed : List (List ℕ) → List Said
-ranges_owed texts = map date_range (flat_map denoted_range texts)
+abbrev date_ranges_owed : List (List ℕ) → List Said
+date_ranges_owed texts = map date_range (flat_map denoted_date_range texts)
 
 abbrev owed : OutPlaylist → List Said
-owed p = header_owed p ++ (ranges_owed p.ranges ++ (segments_owed none_yet p.segments ++ ended_owed p.ended))
+owed p = header_owed p ++ (date_ranges_owed p.date_ranges ++ (segments_owed none_yet p.segments ++ ended_owed p.ended))
 
 -- ---- date ranges
 
-ranges_step : (text : List ℕ) (ranges : List DateRange) (r : DateRange) → ranges ≡ r ∷ [] → r.text ≡ text → is_clean text ≡ true → date_range_said unlimited text ≡ Ok (date_range r) → (k : Known) (rest : List Said) (to : Known)
-    → Goes (record k { ranges = k.ranges ++ ranges }) rest to → Goes k (map date_range ranges ++ rest) to
-ranges_step text ranges r e t c says k rest to next =
+date_ranges_step : (text : List ℕ) (date_ranges : List DateRange) (r : DateRange) → date_ranges ≡ r ∷ [] → r.text ≡ text → is_clean text ≡ true → date_range_said unlimited text ≡ Ok (date_range r) → (k : Known) (rest : List Said) (to : Known)
+    → Goes (record k { date_ranges = k.date_ranges ++ date_ranges }) rest to → Goes k (map date_range date_ranges ++ rest) to
+date_ranges_step text date_ranges r e t c says k rest to next =
     let fits : (is_clean r.text ≡ true) × (date_range_said unlimited r.text ≡ Ok (date_range r)) = (ap is_clean t ∙ c, ap (date_range_said unlimited) t ∙ says) in
-    let here : Goes (record k { ranges = k.ranges ++ r ∷ [] }) rest to = subst (λ x. Goes (record k { ranges = k.ranges ++ x }) rest to) e next in
+    let here : Goes (record k { date_ranges = k.date_ranges ++ r ∷ [] }) rest to = subst (λ x. Goes (record k { date_ranges = k.date_ranges ++ x }) rest to) e next in
     rw e (record { allowed = (fits, tt, here.allowed); leads = here.leads })
 
 map_joined : (xs ys : List DateRange) → map date_range (xs ++ ys) ≡ map date_range xs ++ map date_range ys
 map_joined [] ys = refl
 map_joined (x ∷ xs) ys = ap (λ l. date_range x ∷ l) (map_joined xs ys)
 
-goes_ranges : (texts : List (List ℕ)) (k : Known) → list_all date_range_fits texts ≡ true → Goes k (ranges_owed texts) (record k { ranges = k.ranges ++ flat_map denoted_range texts })
-goes_ranges [] k h = record { allowed = tt; leads = ap (λ rs. record k { ranges = rs }) (sym (append-nil k.ranges)) }
-goes_ranges (text ∷ texts) k h =
+goes_date_ranges : (texts : List (List ℕ)) (k : Known) → list_all date_range_fits texts ≡ true → Goes k (date_ranges_owed texts) (record k { date_ranges = k.date_ranges ++ flat_map denoted_date_range texts })
+goes_date_ranges [] k h = record { allowed = tt; leads = ap (λ rs. record k { date_ranges = rs }) (sym (append-nil k.date_ranges)) }
+goes_date_ranges (text ∷ texts) k h =
     let a = and_parts _ _ h in let b : (is_clean text ≡ true) × (says_date_range (date_range_said few text) ≡ true) = and_parts _ _ a.0 in
-    let one = one_range text a.0 in
-    let next = goes_ranges texts (record k { ranges = k.ranges ++ denoted_range text }) a.1 in
-    subst (λ l. Goes k l (record k { ranges = k.ranges ++ (denoted_range text ++ flat_map denoted_range texts) })) (sym (map_joined (denoted_range text) (flat_map denoted_range texts)))
-    (ranges_step text (denoted_range text) one.range (ap range_said one.says) (is_kept text one.range one.says) b.0 one.says k (ranges_owed texts) _
-    (record { allowed = next.allowed; leads = next.leads ∙ ap (λ rs. record k { ranges = rs }) (append_assoc k.ranges (denoted_range text) (flat_map denoted_range texts)) }))
+    let one = one_date_range text a.0 in
+    let next = goes_date_ranges texts (record k { date_ranges = k.date_ranges ++ denoted_date_range text }) a.1 in
+    subst (λ l. Goes k l (record k { date_ranges = k.date_ranges ++ (denoted_date_range text ++ flat_map denoted_date_range texts) })) (sym (map_joined (denoted_date_range text) (flat_map denoted_date_range texts)))
+    (date_ranges_step text (denoted_date_range text) one.range (ap date_range_told one.says) (is_kept text one.range one.says) b.0 one.says k (date_ranges_owed texts) _
+    (record { allowed = next.allowed; leads = next.leads ∙ ap (λ rs. record k { date_ranges = rs }) (append_assoc k.date_ranges (denoted_date_range text) (flat_map denoted_date_range texts)) }))
 
 -- ---- the header
 
@@ -126,7 +126,7 @@ playlist_known k = record {
   kind = k.heading.kind;
   independent = k.heading.independent;
   ended = k.heading.ended;
-  ranges = k.ranges;
+  date_ranges = k.date_ranges;
   segments = k.segments;
 }
 
@@ -192,32 +192,32 @@ joined_text (s ∷ says) rest =
     append_assoc (spelled s ++ 10 ∷ []) (said_text says) (text rest) ∙ append_assoc (spelled s) (10 ∷ []) (said_text says ++ text rest)
     ∙ ap (λ t. spelled s ++ 10 ∷ t) (joined_text says rest)
 
-joined_ranges : (texts : List (List ℕ)) (rest : List (List ℕ)) → list_all date_range_fits texts ≡ true → ranges_text texts ++ text rest ≡ text (map spelled (ranges_owed texts) ++ rest)
-unfolding range_line
-joined_ranges [] rest h = refl
-joined_ranges (line ∷ texts) rest h =
-    let a = and_parts _ _ h in let one = one_range line a.0 in
-    append_assoc (date_range_line line ++ 10 ∷ []) (ranges_text texts) (text rest) ∙ append_assoc (date_range_line line) (10 ∷ []) (ranges_text texts ++ text rest)
-    ∙ ap (λ t. date_range_line line ++ 10 ∷ t) (joined_ranges texts rest a.1)
-    ∙ by (denoted_range line) one.range (ap range_said one.says) (is_kept line one.range one.says)
+joined_date_ranges : (texts : List (List ℕ)) (rest : List (List ℕ)) → list_all date_range_fits texts ≡ true → date_ranges_text texts ++ text rest ≡ text (map spelled (date_ranges_owed texts) ++ rest)
+unfolding ended_date_range_line
+joined_date_ranges [] rest h = refl
+joined_date_ranges (line ∷ texts) rest h =
+    let a = and_parts _ _ h in let one = one_date_range line a.0 in
+    append_assoc (date_range_line line ++ 10 ∷ []) (date_ranges_text texts) (text rest) ∙ append_assoc (date_range_line line) (10 ∷ []) (date_ranges_text texts ++ text rest)
+    ∙ ap (λ t. date_range_line line ++ 10 ∷ t) (joined_date_ranges texts rest a.1)
+    ∙ by (denoted_date_range line) one.range (ap date_range_told one.says) (is_kept line one.range one.says)
   where
-    by : (ranges : List DateRange) (r : DateRange) → ranges ≡ r ∷ [] → r.text ≡ line → text (date_range_line line ∷ (map spelled (ranges_owed texts) ++ rest)) ≡ text (map spelled (map date_range (ranges ++ flat_map denoted_range texts)) ++ rest)
-    by ranges r e t = rw e (ap (λ l. text (date_range_line l ∷ (map spelled (ranges_owed texts) ++ rest))) (sym t))
+    by : (date_ranges : List DateRange) (r : DateRange) → date_ranges ≡ r ∷ [] → r.text ≡ line → text (date_range_line line ∷ (map spelled (date_ranges_owed texts) ++ rest)) ≡ text (map spelled (map date_range (date_ranges ++ flat_map denoted_date_range texts)) ++ rest)
+    by date_ranges r e t = rw e (ap (λ l. text (date_range_line l ∷ (map spelled (date_ranges_owed texts) ++ rest))) (sym t))
 
 map_spelled : (xs ys : List Said) → map spelled (xs ++ ys) ≡ map spelled xs ++ map spelled ys
 map_spelled [] ys = refl
 map_spelled (x ∷ xs) ys = ap (λ l. spelled x ∷ l) (map_spelled xs ys)
 
-text_in_lines : (p : OutPlaylist) → list_all date_range_fits p.ranges ≡ true → text_of p ≡ text (codes "#EXTM3U" ∷ map spelled (owed p))
+text_in_lines : (p : OutPlaylist) → list_all date_range_fits p.date_ranges ≡ true → text_of p ≡ text (codes "#EXTM3U" ∷ map spelled (owed p))
 text_in_lines p h =
     let header = header_owed p in let segments = segments_owed none_yet p.segments in let ends = ended_owed p.ended in
     let last : said_text ends ≡ text (map spelled ends) = sym (append-nil (said_text ends)) ∙ joined_text ends [] ∙ ap text (append-nil (map spelled ends)) in
     let four : said_text segments ++ said_text ends ≡ text (map spelled (segments ++ ends)) = ap (λ t. said_text segments ++ t) last ∙ joined_text segments (map spelled ends) ∙ ap text (sym (map_spelled segments ends)) in
-    let three : ranges_text p.ranges ++ (said_text segments ++ said_text ends) ≡ text (map spelled (ranges_owed p.ranges ++ (segments ++ ends)))
-    = ap (λ t. ranges_text p.ranges ++ t) four ∙ joined_ranges p.ranges (map spelled (segments ++ ends)) h ∙ ap text (sym (map_spelled (ranges_owed p.ranges) (segments ++ ends))) in
-    let two : said_text header ++ (ranges_text p.ranges ++ (said_text segments ++ said_text ends)) ≡ text (map spelled (owed p))
-    = ap (λ t. said_text header ++ t) three ∙ joined_text header (map spelled (ranges_owed p.ranges ++ (segments ++ ends))) ∙ ap text (sym (map_spelled header (ranges_owed p.ranges ++ (segments ++ ends)))) in
-    append_assoc (codes "#EXTM3U") (10 ∷ []) (said_text header ++ (ranges_text p.ranges ++ (said_text segments ++ said_text ends))) ∙ ap (λ t. codes "#EXTM3U" ++ 10 ∷ t) two
+    let three : date_ranges_text p.date_ranges ++ (said_text segments ++ said_text ends) ≡ text (map spelled (date_ranges_owed p.date_ranges ++ (segments ++ ends)))
+    = ap (λ t. date_ranges_text p.date_ranges ++ t) four ∙ joined_date_ranges p.date_ranges (map spelled (segments ++ ends)) h ∙ ap text (sym (map_spelled (date_ranges_owed p.date_ranges) (segments ++ ends))) in
+    let two : said_text header ++ (date_ranges_text p.date_ranges ++ (said_text segments ++ said_text ends)) ≡ text (map spelled (owed p))
+    = ap (λ t. said_text header ++ t) three ∙ joined_text header (map spelled (date_ranges_owed p.date_ranges ++ (segments ++ ends))) ∙ ap text (sym (map_spelled header (date_ranges_owed p.date_ranges ++ (segments ++ ends)))) in
+    append_assoc (codes "#EXTM3U") (10 ∷ []) (said_text header ++ (date_ranges_text p.date_ranges ++ (said_text segments ++ said_text ends))) ∙ ap (λ t. codes "#EXTM3U" ++ 10 ∷ t) two
 
 module _ (base : Parts) (p : OutPlaylist) where
   -- where all lines lead
@@ -237,9 +237,9 @@ module _ (base : Parts) (p : OutPlaylist) where
       let some = some_segments p.segments d.1 in
       let numbers = numbers_start p.segments d.1 in let firsts = first_fits p.segments c.1 in
       let same = alike p.segments b.1 in
-      let h : Known = record (header_known p) { ranges = flat_map denoted_range p.ranges } in
+      let h : Known = record (header_known p) { date_ranges = flat_map denoted_date_range p.date_ranges } in
       let one = goes_header p f.0 (ltb-true _ _ f.1) firsts.0 firsts.1 in
-      let two = goes_ranges p.ranges (header_known p) a.1 in
+      let two = goes_date_ranges p.date_ranges (header_known p) a.1 in
       let three = goes_segments h (first_is_mapped p.segments) p.segments none_yet 0 0 (first_number p.segments) (first_discontinuity p.segments) None [] c.1 same numbers (omega arith) (omega arith) refl (λ m. refl) in
       let between : Known = ready h three.current three.count three.discontinuities three.last (map denoted_segment p.segments) in
       let four = goes_ended p.ended between refl in
@@ -253,7 +253,7 @@ module _ (base : Parts) (p : OutPlaylist) where
         playlist = refl;
       }
 
-  denotes : list_all date_range_fits p.ranges ≡ true → Arrives → Denotes base (text_of p) (denoted p)
+  denotes : list_all date_range_fits p.date_ranges ≡ true → Arrives → Denotes base (text_of p) (denoted p)
   unfolding start
   denotes r h =
       let said = onto (nothing ∷ []) (owed p) in
@@ -267,4 +267,4 @@ module _ (base : Parts) (p : OutPlaylist) where
 
 pub text_denotes : TextDenotes
 text_denotes base p w =
-    let a : (_ ≡ true) × (list_all date_range_fits p.ranges ≡ true) = and_parts _ _ w in denotes base p a.1 (arrives base p w)
+    let a : (_ ≡ true) × (list_all date_range_fits p.date_ranges ≡ true) = and_parts _ _ w in denotes base p a.1 (arrives base p w)

@@ -13,13 +13,13 @@ use Rattle.playlist_write.specs.declared.OutPlaylist.{OutPlaylist}
 abbrev pub denoted_segment : OutSegment → Segment
 denoted_segment out = record out.segment { number = out.media; discontinuity = out.discontinuity; steps = out.steps; time = out.time }
 
-abbrev pub range_said : Outcome Said → List DateRange
-range_said (Ok (date_range r)) = r ∷ []
-range_said _ = []
+abbrev pub date_range_told : Outcome Said → List DateRange
+date_range_told (Ok (date_range r)) = r ∷ []
+date_range_told _ = []
 
 -- the date range that a text says to a reader
-abbrev pub denoted_range : List ℕ → List DateRange
-denoted_range text = range_said (date_range_said unlimited text)
+abbrev pub denoted_date_range : List ℕ → List DateRange
+denoted_date_range text = date_range_told (date_range_said unlimited text)
 
 abbrev pub denoted : OutPlaylist → Playlist
 denoted p = record {
@@ -28,6 +28,6 @@ denoted p = record {
   kind = p.kind;
   independent = p.independent;
   ended = p.ended;
-  ranges = flat_map denoted_range p.ranges;
+  date_ranges = flat_map denoted_date_range p.date_ranges;
   segments = map denoted_segment p.segments;
 }

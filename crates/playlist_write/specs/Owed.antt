@@ -118,17 +118,17 @@ abbrev pub section_line : InitSection → List ℕ
 section_line s = line_of (section s.uri s.range)
 
 -- date ranges stand as they are
-unfoldable pub range_line : List ℕ → List ℕ
-range_line text = with_feed (date_range_line text)
+unfoldable pub ended_date_range_line : List ℕ → List ℕ
+ended_date_range_line text = with_feed (date_range_line text)
 
-abbrev pub ranges_text : List (List ℕ) → List ℕ
-ranges_text ranges = flat_map range_line ranges
+abbrev pub date_ranges_text : List (List ℕ) → List ℕ
+date_ranges_text date_ranges = flat_map ended_date_range_line date_ranges
 
 -- the text of a playlist: the header, the date ranges, the segments and the end
 abbrev pub text_of : OutPlaylist → List ℕ
 text_of p =
     with_feed (codes "#EXTM3U")
     ++ (said_text (header_owed p)
-    ++ (ranges_text p.ranges
+    ++ (date_ranges_text p.date_ranges
     ++ (said_text (segments_owed none_yet p.segments)
     ++ said_text (ended_owed p.ended))))

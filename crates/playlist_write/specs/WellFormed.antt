@@ -46,10 +46,10 @@ sections_agree segments = list_all is_mapped segments || not (list_any is_mapped
 abbrev pub version_fits : ℕ → Bool
 version_fits version = version == 6 || version == 7
 
-abbrev pub fits_without_ranges : OutPlaylist → Bool
-fits_without_ranges p =
+abbrev pub fits_without_date_ranges : OutPlaylist → Bool
+fits_without_date_ranges p =
     version_fits p.version && is_word p.target && numbers_fit p.segments && list_all segment_fits p.segments
     && sections_agree p.segments
 
 abbrev pub well_formed : OutPlaylist → Bool
-well_formed p = fits_without_ranges p && list_all date_range_fits p.ranges
+well_formed p = fits_without_date_ranges p && list_all date_range_fits p.date_ranges

@@ -2,7 +2,7 @@
 ghost use Rattle.std.specs.Prelude.{◌≡◌, ◌++◌, OnOk, string_bytes};
 ghost use Rattle.playlist_meaning.specs.Said as Said;
 ghost use Rattle.playlist_write.specs.Spelling.{type_text};
-ghost use Rattle.playlist_write.specs.Owed.{line_of, range_line, said_text, numbers_owed, header_owed, type_owed, independent_owed, ended_owed, first_number, first_discontinuity, ranges_text};
+ghost use Rattle.playlist_write.specs.Owed.{line_of, ended_date_range_line, said_text, numbers_owed, header_owed, type_owed, independent_owed, ended_owed, first_number, first_discontinuity, date_ranges_text};
 
 use crate::OutPlaylist;
 use crate::lines::{push_line, push_line_of, push_number_line};
@@ -109,18 +109,18 @@ pub fn push_header(out: &mut String, playlist: &OutPlaylist) -> Result<(), Alloc
     push_independent(out, playlist.independent)
 }
 
-#[tactic(auto, unfolding(crate::specs::Owed::range_line))]
+#[tactic(auto, unfolding(crate::specs::Owed::ended_date_range_line))]
 fn push_date_range(out: &mut String, text: &str) -> Result<(), AllocError>
-    ensures { OnOk result (string_bytes out.new ≡ string_bytes out.old ++ range_line text.now) }
+    ensures { OnOk result (string_bytes out.new ≡ string_bytes out.old ++ ended_date_range_line text.now) }
 {
     push_line_of(out, "#EXT-X-DATERANGE:", text)
 }
 
 /// Appends the date ranges as they stand.
-pub fn push_date_ranges(out: &mut String, ranges: &[Text]) -> Result<(), AllocError>
-    ensures { OnOk result (string_bytes out.new ≡ string_bytes out.old ++ ranges_text ranges.now) }
+pub fn push_date_ranges(out: &mut String, date_ranges: &[Text]) -> Result<(), AllocError>
+    ensures { OnOk result (string_bytes out.new ≡ string_bytes out.old ++ date_ranges_text date_ranges.now) }
 {
-    for range in ranges {
+    for range in date_ranges {
         push_date_range(out, range.as_str())?;
     }
     Ok(())

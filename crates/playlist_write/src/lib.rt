@@ -41,8 +41,8 @@ pub struct OutPlaylist {
     pub independent: bool,
     /// Whether no segment will follow: EXT-X-ENDLIST.
     pub ended: bool,
-    /// What stands behind `#EXT-X-DATERANGE:`, for each date range.
-    pub ranges: Items<Text>,
+    /// What stands after `#EXT-X-DATERANGE:`, for each date range.
+    pub date_ranges: Items<Text>,
     /// The segments, in their order.
     pub segments: Items<OutSegment>,
 }
@@ -79,7 +79,7 @@ impl From<SinkFailed> for WriteFault {
 // About as much room as the text takes.
 fn room_for(playlist: &OutPlaylist) -> usize {
     let mut room: usize = 256;
-    for range in playlist.ranges.as_slice() {
+    for range in playlist.date_ranges.as_slice() {
         room = room.saturating_add(range.as_str().len()).saturating_add(24);
     }
     for next in playlist.segments.as_slice() {
@@ -101,7 +101,7 @@ fn make_text(alloc: Global, playlist: &OutPlaylist) -> Result<String, AllocError
     let mut text = String::with_capacity(alloc, room_for(playlist))?;
     push_line(&mut text, "#EXTM3U")?;
     push_header(&mut text, playlist)?;
-    push_date_ranges(&mut text, playlist.ranges.as_slice())?;
+    push_date_ranges(&mut text, playlist.date_ranges.as_slice())?;
     push_segments(&mut text, playlist.segments.as_slice())?;
     push_end(&mut text, playlist.ended)?;
     Ok(text)

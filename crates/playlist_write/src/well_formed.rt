@@ -4,7 +4,7 @@ ghost use Rattle.std.specs.List.{list_all, list_any};
 ghost use Rattle.instants.specs.Instant.{in_range};
 ghost use Rattle.fitting.specs.Fitting.{if_some, section_fits};
 ghost use Rattle.playlist_meaning.specs.Numbering.{follows, all_follow};
-ghost use Rattle.playlist_write.specs.WellFormed.{well_formed, fits_without_ranges, numbers_are_words, resource_fits, segment_fits, out_numbers, numbers_fit, is_mapped, sections_agree, version_fits, is_word};
+ghost use Rattle.playlist_write.specs.WellFormed.{well_formed, fits_without_date_ranges, numbers_are_words, resource_fits, segment_fits, out_numbers, numbers_fit, is_mapped, sections_agree, version_fits, is_word};
 
 use crate::OutPlaylist;
 use crate::date_ranges::date_ranges_fit;
@@ -140,8 +140,8 @@ fn version_fits(version: u64) -> bool
 }
 
 // Whether a playlist can be written, apart from its date ranges.
-fn fits_without_ranges(playlist: &OutPlaylist) -> bool
-    ensures { result ≡ fits_without_ranges playlist.now }
+fn fits_without_date_ranges(playlist: &OutPlaylist) -> bool
+    ensures { result ≡ fits_without_date_ranges playlist.now }
 {
     let segments = playlist.segments.as_slice();
     version_fits(playlist.version)
@@ -165,9 +165,9 @@ impl OutPlaylist {
     pub fn well_formed(&self, alloc: Global) -> Result<bool, AllocError>
         ensures { IfOk result (λ b. b ≡ well_formed self.now) }
     {
-        if !fits_without_ranges(self) {
+        if !fits_without_date_ranges(self) {
             return Ok(false);
         }
-        date_ranges_fit(alloc, self.ranges.as_slice())
+        date_ranges_fit(alloc, self.date_ranges.as_slice())
     }
 }

@@ -61,7 +61,7 @@ module _ (xs : List ℕ) (b : ℕ) (ys : List ℕ) (low : b < 128) where
       let rest : (list_any is_control (chars (b ∷ [])) || list_any is_control (chars ys)) ≡ false = sym (list_any-append is_control (chars (b ∷ [])) (chars ys)) ∙ a.1 in
       (record { utf8 = u.0; free = a.0 }, record { utf8 = u.1; free = (or_parts _ _ rest).1 })
 
--- ---- what stands behind the first byte that passes a test
+-- ---- what stands after the first byte that passes a test
 
 -- a text with such a byte is a front, the byte and what stands after it
 record IsCut (p : ℕ → Bool) (text : List ℕ) : Type 0 where

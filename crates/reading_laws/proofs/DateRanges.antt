@@ -103,11 +103,11 @@ all_append P [] x h p = (p, tt)
 all_append P (y ∷ ys) x h p = (h.0, all_append P ys x h.1 p)
 
 -- the date ranges are those that their texts say
-pub ranges_said : (reader : Reader) (said : List Said) → AllByRecursion (Says reader) said → AllByRecursion (IsSaid reader) (date_ranges_of said)
+pub date_ranges_said : (reader : Reader) (said : List Said) → AllByRecursion (Says reader) said → AllByRecursion (IsSaid reader) (date_ranges_of said)
 unfolding Says
-ranges_said reader [] h = tt
-ranges_said reader (date_range r ∷ before) h = all_append (IsSaid reader) (date_ranges_of before) r (ranges_said reader before h.1) h.0
-ranges_said reader (_ ∷ before) h = ranges_said reader before h.1
+date_ranges_said reader [] h = tt
+date_ranges_said reader (date_range r ∷ before) h = all_append (IsSaid reader) (date_ranges_of before) r (date_ranges_said reader before h.1) h.0
+date_ranges_said reader (_ ∷ before) h = date_ranges_said reader before h.1
 
 pub first_says : (reader : Reader) → AllByRecursion (Says reader) (nothing ∷ [])
 unfolding Says

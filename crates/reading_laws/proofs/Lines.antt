@@ -86,7 +86,7 @@ is_section _ = false
 is_fit_section : Said → Bool
 is_fit_section said = is_section said && is_fit said
 
--- a line's reference, or what stands behind its tag, has no control character
+-- a line's reference, or what stands after its tag, has no control character
 abbrev pub KindClean : Kind → Type 0
 KindClean ignored = Unit {0}
 KindClean (uri reference) = Clean reference

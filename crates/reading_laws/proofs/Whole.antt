@@ -18,7 +18,7 @@ use Rattle.reading_laws.proofs.Lines.{is_fit, all_good, good_from, all_fit}
 use Rattle.reading_laws.proofs.Numbers.{numbers_rise}
 use Rattle.reading_laws.proofs.Segments.{latest_fits, or_default, segments_fit, texts_clean}
 use Rattle.reading_laws.proofs.CleanCuts.{lines_are_utf8}
-use Rattle.reading_laws.proofs.DateRanges.{says_from, ranges_said, first_says}
+use Rattle.reading_laws.proofs.DateRanges.{says_from, date_ranges_said, first_says}
 
 says_version : (x : Said) → is_fit x ≡ true → if_some version_reads (the_version x) ≡ true
 says_version (version n) h = h
@@ -81,10 +81,10 @@ text_was reader base bytes p h =
     by false long e f o h = cc
 
 -- what holds of the date ranges of a playlist
-ranges_are : (reader : Reader) (base : Parts) (texts : List (List ℕ)) (p : Playlist) → Lines reader base texts p → AllByRecursion (IsSaid reader) p.ranges
+ranges_are : (reader : Reader) (base : Parts) (texts : List (List ℕ)) (p : Playlist) → Lines reader base texts p → AllByRecursion (IsSaid reader) p.date_ranges
 ranges_are reader base texts p l =
-    subst (λ (q : Playlist). AllByRecursion (IsSaid reader) q.ranges) l.whole
-    (ranges_said reader l.said (says_from reader base (nothing ∷ []) l.later l.said (first_says reader) l.from))
+    subst (λ (q : Playlist). AllByRecursion (IsSaid reader) q.date_ranges) l.whole
+    (date_ranges_said reader l.said (says_from reader base (nothing ∷ []) l.later l.said (first_says reader) l.from))
 
 pub can_be_written : (reader : Reader) (base : Parts) (bytes : List ℕ) (p : Playlist) → reading reader base bytes ≡ Ok p → AreRead reader p
 can_be_written reader base bytes p h =
@@ -99,6 +99,6 @@ can_be_written reader base bytes p h =
       numbers = subst (λ (q : Playlist). numbers_read q.segments ≡ true) l.whole (numbers_rise l.said good t.0);
       segments = subst (λ (q : Playlist). list_all segment_reads q.segments ≡ true) l.whole (segments_fit l.said good);
       sections = subst (λ (q : Playlist). sections_agree q.segments ≡ true) l.whole (agreed (list_any has_section (segments_of l.said)) (list_all has_section (segments_of l.said)) t.1);
-      range_texts = subst (λ (q : Playlist). list_all text_is_clean q.ranges ≡ true) l.whole (texts_clean l.said fit);
-      ranges = ranges_are reader base (lines bytes) p (text_was reader base bytes p h).1;
+      date_range_texts = subst (λ (q : Playlist). list_all text_is_clean q.date_ranges ≡ true) l.whole (texts_clean l.said fit);
+      date_ranges = ranges_are reader base (lines bytes) p (text_was reader base bytes p h).1;
     }

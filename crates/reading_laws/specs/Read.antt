@@ -107,5 +107,5 @@ pub record AreRead (reader : Reader) (p : Playlist) : Type 0 where
   pub numbers : numbers_read p.segments ≡ true
   pub segments : list_all segment_reads p.segments ≡ true
   pub sections : sections_agree p.segments ≡ true
-  pub ranges : AllByRecursion (IsSaid reader) p.ranges
-  pub range_texts : list_all text_is_clean p.ranges ≡ true
+  pub date_ranges : AllByRecursion (IsSaid reader) p.date_ranges
+  pub date_range_texts : list_all text_is_clean p.date_ranges ≡ true

@@ -101,7 +101,7 @@ bits_high (suc k) n =
     ∙ ap (λ (bs : List Bool). lowest_bits 8 (n / 2 ^ (8 * k)) ++ bs) (bits_high k n)
     ∙ sym (lowest_parts 8 (8 * k) n) ∙ ap (λ (m : ℕ). lowest_bits m n) (sym more)
 
--- ---- The CRC_32 of bytes with theirs behind them
+-- ---- The CRC_32 of bytes with theirs after them
 
 same_bit : (b : Bool) → differ b b ≡ false
 same_bit true = refl

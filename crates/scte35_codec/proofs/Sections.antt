@@ -120,11 +120,11 @@ command_by false command_length kind bytes c rest is fits e =
     let g = guard_ok (ltb (length bytes) command_length) CommandLength (take command_length bytes, drop command_length bytes) a.0 a.1 in
     let long : command_length ≤ length bytes = ltb-false _ _ g.0 in
     let front : a.0.0 ≡ take command_length bytes = ap (λ (p : List ℕ × List ℕ). p.0) (sym g.1) in
-    let behind : drop command_length bytes ≡ a.0.1 = ap (λ (p : List ℕ × List ℕ). p.1) g.1 in
+    let what_follows : drop command_length bytes ≡ a.0.1 = ap (λ (p : List ℕ × List ℕ). p.1) g.1 in
     let m : measured_of kind (take command_length bytes) ≡ Ok b.0 = ap (measured_of kind) (sym front) ∙ b.1 in
     let t = measured_by (eqb kind 5) command_length kind bytes b.0 refl long fits m in
     subst (λ (x : Command × List ℕ). TakesCommand command_length kind x.0 bytes x.1) {x = (b.0, a.0.1)} (ok_is (b.0, a.0.1) (c, rest) b.2)
-    (subst (λ (r : List ℕ). TakesCommand command_length kind b.0 bytes r) behind t)
+    (subst (λ (r : List ℕ). TakesCommand command_length kind b.0 bytes r) what_follows t)
 
 pub command_takes : (command_length kind : ℕ) (bytes : List ℕ) (c : Command) (rest : List ℕ) → IsBytes bytes → command_at command_length kind bytes ≡ Ok (c, rest) → TakesCommand command_length kind c bytes rest
 unfolding command_at

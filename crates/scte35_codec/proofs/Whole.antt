@@ -18,7 +18,7 @@ use Rattle.scte35_codec.proofs.Fields.{width-append, number_fits}
 use Rattle.scte35_codec.proofs.Takes.{bind_ok, guard_ok, ok_is, test-flag, Takes, Takes-then, number_takes, group_takes, Lies, group_again, parts}
 use Rattle.scte35_codec.proofs.Sections.{width_of_bytes, bytes_are, bytes_taken, command_takes, command_again, passed, whole_width}
 
--- ---- What stands behind the command
+-- ---- What stands after the command
 
 abbrev count_fields : List ℕ → List Field
 count_fields ds = (16, Is (length ds)) ∷ []
@@ -201,7 +201,7 @@ head_takes bytes s fits long protocol clear pts cw tier kind =
     let b4 = Takes-then (protocol_fields ++ adjustment_fields s.pts_adjustment ++ byte_fields s.cw_index) (tier_fields s.tier (n3 % 2 ^ 12)) (drop 3 bytes) (drop 10 bytes) (drop 13 bytes) b3 a4 in
     Takes-then (protocol_fields ++ adjustment_fields s.pts_adjustment ++ byte_fields s.cw_index ++ tier_fields s.tier (n3 % 2 ^ 12)) (byte_fields (command_type s.command)) (drop 3 bytes) (drop 13 bytes) (drop 14 bytes) b4 a5
 
--- the whole, where all behind section_length is there
+-- the whole, where all after section_length is there
 whole_is : (s : Section) (n : ℕ) (bytes : List ℕ) → IsBytes bytes → 20 ≤ length bytes → number_in 0 1 bytes ≡ 0xFC → number_in 1 2 bytes % 2 ^ 12 + 3 ≡ length bytes
     → Takes (after_length s n) (drop 3 bytes) [] → Holds IsRead (section s n) bytes
 unfolding section
@@ -249,10 +249,10 @@ reading_is bytes s fits e = (reading_says bytes s fits e).0
 -- ---- And again
 
 -- what follows section_length, a field group at a time
-abbrev behind : Section → ℕ → List Field
-behind s n = begins s n ++ (command_fields s.command ++ tail_fields s.descriptors s.stuffing s.crc)
+abbrev what_follows : Section → ℕ → List Field
+what_follows s n = begins s n ++ (command_fields s.command ++ tail_fields s.descriptors s.stuffing s.crc)
 
-section-regrouped : (s : Section) (n : ℕ) → section s n ≡ table_fields ++ (length_fields (width (after_length s n) / 8) ++ behind s n)
+section-regrouped : (s : Section) (n : ℕ) → section s n ≡ table_fields ++ (length_fields (width (after_length s n) / 8) ++ what_follows s n)
 unfolding section
 section-regrouped s n =
     let b = begins s n in
@@ -283,9 +283,9 @@ heads_are : (s : Section) (n : ℕ) (bytes : List ℕ) → Lies (section s n) by
 heads_are s n bytes lies =
     let contents = command_fields s.command ++ tail_fields s.descriptors s.stuffing s.crc in
     let counted = width (after_length s n) / 8 in
-    let whole : Lies (table_fields ++ (length_fields counted ++ behind s n)) bytes = subst (λ (fs : List Field). Lies fs bytes) (section-regrouped s n) lies in
-    let a1 = at_again 0 1 table_fields (length_fields counted ++ behind s n) bytes refl whole in
-    let a2 = at_again 1 2 (length_fields counted) (behind s n) bytes refl a1.lies in
+    let whole : Lies (table_fields ++ (length_fields counted ++ what_follows s n)) bytes = subst (λ (fs : List Field). Lies fs bytes) (section-regrouped s n) lies in
+    let a1 = at_again 0 1 table_fields (length_fields counted ++ what_follows s n) bytes refl whole in
+    let a2 = at_again 1 2 (length_fields counted) (what_follows s n) bytes refl a1.lies in
     let pts = adjustment_fields s.pts_adjustment in
     let cw = byte_fields s.cw_index in
     let tier = tier_fields s.tier n in

@@ -22,7 +22,7 @@ are_pairs digits = length digits % 2 == 0 && list_all is_ascii_hexdigit digits
 abbrev pub is_hex_text : List ℕ → Bool
 is_hex_text text = is_marked text && are_pairs (drop 2 text)
 
--- the digits behind `0x` or `0X`
+-- the digits after `0x` or `0X`
 abbrev pub digits_of : List ℕ → Result (List ℕ) SpliceFault
 digits_of text = if is_hex_text text then Ok (drop 2 text) else Err NotHex
 

@@ -148,7 +148,7 @@ ending_at bytes =
     if nat_lt (length bytes) 4 then Err CommandLength
     else Ok (take (length bytes - 4) bytes, number (drop (length bytes - 4) bytes))
 
--- the descriptors, the stuffing and the CRC, which stand behind the command
+-- the descriptors, the stuffing and the CRC, which stand after the command
 unfoldable pub tail_at : List ℕ → Result (List ℕ × List ℕ × ℕ) SpliceFault
 tail_at bytes = do
   count ← number_at 2 bytes

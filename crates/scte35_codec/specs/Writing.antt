@@ -53,7 +53,7 @@ command_fits (Other kind bytes) = not (kind == 5)
 abbrev pub command_length : Section → ℕ
 command_length s = width (command_fields s.command) / 8
 
--- the bytes behind section_length, which it counts
+-- the bytes after section_length, which it counts
 abbrev pub section_length : Section → ℕ
 section_length s = width (after_length s (command_length s)) / 8
 

@@ -25,7 +25,7 @@ pub fn refuses_what_has_no_section()
         → IsTrue (has_section s) }
 {}
 
-/// The CRC_32 of bytes with their CRC_32 behind them is 0, as ISO/IEC 13818-1, Annex A, has it.
+/// The CRC_32 of bytes with their CRC_32 after them is 0, as ISO/IEC 13818-1, Annex A, has it.
 pub fn crc_with_its_crc_is_zero()
     ensures { (bytes : List ℕ) → crc_of (bytes ++ bytes_high_first 4 (crc_of bytes)) ≡ 0 }
 {}

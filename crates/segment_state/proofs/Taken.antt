@@ -11,7 +11,7 @@ use Rattle.playlist_meaning.specs.declared.InitSection.{InitSection}
 use Rattle.playlist_meaning.specs.Said.{Said, media, uri_of}
 use Rattle.playlist_meaning.specs.LookBack.{Standing, standing_at, number_at, own_duration, effective_key, range_at, range_from, count, is_media, segment_at, extent_with}
 use Rattle.playlist_meaning.specs.Reading.{said_by_uri, limited, passes}
-use Rattle.segment_state.specs.Running.{running_at, behind_segment}
+use Rattle.segment_state.specs.Running.{running_at, after_segment}
 
 not_past : (n : ℕ) → n < 2 ^ 64 → passes n ≡ false
 not_past n h = grind (arith, nat_tests)
@@ -52,14 +52,14 @@ segment_is : (before : List Said) (uri : List ℕ) (range : Option ByteRange) (o
     → segment_from (standing_at before) uri range own ≡ segment_at before uri
 segment_is before uri range own is part = rw (is, part) refl
 
-behind_is : (base : Parts) (before : List Said) (uri : List ℕ) (range : Option ByteRange) → range_at before uri ≡ Ok range
-    → behind_segment (running_at base before) (extent_with uri range) ≡ running_at base (media uri ∷ before)
-behind_is base before uri range part = rw part refl
+after_is : (base : Parts) (before : List Said) (uri : List ℕ) (range : Option ByteRange) → range_at before uri ≡ Ok range
+    → after_segment (running_at base before) (extent_with uri range) ≡ running_at base (media uri ∷ before)
+after_is base before uri range part = rw part refl
 
--- then it says its resource, its segment is the one that stands there, and so is what stands behind it
+-- then it says its resource, its segment is the one that stands there, and so is what stands after it
 pub taken : (s : Standing) (base : Parts) (before : List Said) (reference uri : List ℕ) (range : Option ByteRange) (own : ℕ × List ℕ) → Taken s base reference uri range own → s ≡ standing_at before
     → (said_by_uri limited base before reference ≡ Ok (media uri)) × (segment_from s uri range own ≡ segment_at before uri)
-    × (behind_segment (record { base = base; standing = s }) (extent_with uri range) ≡ running_at base (media uri ∷ before))
+    × (after_segment (record { base = base; standing = s }) (extent_with uri range) ≡ running_at base (media uri ∷ before))
 taken s base before reference uri range own t e =
     let room = ap (λ (x : Standing). nat_lt MOST_SEGMENTS (x.media_count + 1)) (sym e) ∙ t.room in
     let is = ap (λ (x : Standing). x.duration) (sym e) ∙ t.own_is in
@@ -67,5 +67,5 @@ taken s base before reference uri range own t e =
     let part = ap (λ (x : Standing). range_from x.range uri x.extent) (sym e) ∙ t.part in (
       said_by base before reference uri range own room is number t.resource part,
       ap (λ x. segment_from x uri range own) e ∙ segment_is before uri range own is part,
-      ap (λ x. behind_segment (record { base = base; standing = x }) (extent_with uri range)) e ∙ behind_is base before uri range part,
+      ap (λ x. after_segment (record { base = base; standing = x }) (extent_with uri range)) e ∙ after_is base before uri range part,
     )

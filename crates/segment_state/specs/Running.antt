@@ -16,9 +16,9 @@ pub record Running : Type 0 where
 abbrev pub running_at : Parts → List Said → Running
 running_at base before = record { base = base; standing = standing_at before }
 
--- what stands behind a URI line: the tags of its segment stand no more
-abbrev pub behind_segment : Running → Option Extent → Running
-behind_segment old last = record old {
+-- what stands after a URI line: the tags of its segment stand no more
+abbrev pub after_segment : Running → Option Extent → Running
+after_segment old last = record old {
   standing = record old.standing {
     media_count = old.standing.media_count + 1;
     steps = 0;

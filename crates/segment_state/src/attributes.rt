@@ -10,7 +10,7 @@ use attr_list::{AttrFault, AttrList};
 use playlist_meaning::FaultKind;
 use std::alloc::Global;
 
-/// The attributes that stand behind a tag's colon. `BadAttributes` exactly where that text is no
+/// The attributes that stand after a tag's colon. `BadAttributes` exactly where that text is no
 /// attribute list of at most 64 attributes; want of memory apart.
 pub fn attributes_of(alloc: Global, rest: &str) -> Result<AttrList, FaultKind>
     ensures { Gives pairs_of result (attributes limited rest.now) }

@@ -10,7 +10,7 @@ ghost use Rattle.playlist_meaning.specs.Reading.{limited, said_by_tag, said_by_u
 ghost use Rattle.playlist_meaning.specs.Said as said;
 ghost use Rattle.playlist_meaning.specs.Said.{uri_of};
 ghost use Rattle.playlist_meaning.specs.Refusals.{Gives};
-ghost use Rattle.segment_state.specs.Running.{running_at, behind_segment, Follows, Takes, TakesExactly, TakesSegment};
+ghost use Rattle.segment_state.specs.Running.{running_at, after_segment, Follows, Takes, TakesExactly, TakesSegment};
 ghost use Rattle.segment_state.specs.Views.{extent_of};
 
 use crate::keys::{copied_keys, effective_keys, put_key};
@@ -231,10 +231,10 @@ impl<'a> State<'a> {
         Ok(Items::from_vec(effective_keys(self.alloc, self.keys.as_slice(), number)?))
     }
 
-    // What stands behind the URI line of this segment.
+    // What stands after the URI line of this segment.
     fn segment_stands(&mut self, last: Option<Extent>)
         requires { self.old.standing.media_count < MOST_SEGMENTS }
-        ensures { self.new ≡ behind_segment self.old (option_map extent_of last) }
+        ensures { self.new ≡ after_segment self.old (option_map extent_of last) }
     {
         self.media += 1;
         self.steps = 0;

@@ -8,7 +8,7 @@ use Rattle.attr_list.proofs.Elements.{all_from, none_from}
 use Rattle.playlist_meaning.specs.declared.Key.{Key}
 use Rattle.playlist_meaning.specs.LookBack.{put_key, insert_key, is_before, are_sorted}
 use Rattle.playlist_meaning.proofs.ListTests.{all_with, all_filter, filter_like, filter_all}
-use Rattle.playlist_meaning.proofs.KeyOrder.{not_back, differ_back, differ, like, like_behind, chained}
+use Rattle.playlist_meaning.proofs.KeyOrder.{not_back, differ_back, differ, like, like_after, chained}
 use Rattle.playlist_meaning.specs.declared.KeyTag.TheVariants.{End, Set}
 use Rattle.playlist_meaning.specs.Same.{same_key}
 use Rattle.stitcher.specs.KeyTags.{has_its_format, is_new, keeps_formats, transition, after_tags}
@@ -60,7 +60,7 @@ dropped_step : (k y : Key) (ys : List Key) → bytes_eq k.format y.format ≡ fa
 dropped_step k y ys e h = rw e at h
 
 after_step : (y x k : Key) (ys : List Key) → (bytes_eq x.format k.format ≡ true) ⊎ (has_its_format ys x ≡ true) → is_before y k ≡ true → (has_its_format ys x ≡ true → is_before y x ≡ true) → is_before y x ≡ true
-after_step y x k ys (inl e) b ih = like_behind y x k e b
+after_step y x k ys (inl e) b ih = like_after y x k e b
 after_step y x k ys (inr e) b ih = ih e
 
 -- a key whose format is another's in a list that stands after y stands after y

@@ -15,11 +15,11 @@ below d = grind (arith)
 -- ---- walking back
 
 pub begun : (segments : List Segment) (stack : List (Option ℤ)) → stack ≡ [] → Walked segments segments stack None
-begun segments stack h = record { later = []; whole = behind segments; stack_is = h; behind_is = refl }
+begun segments stack h = record { later = []; whole = after segments; stack_is = h; after_is = refl }
   where
-    behind : (xs : List Segment) → xs ++ [] ≡ xs
-    behind [] = refl
-    behind (x ∷ xs) = ap (λ ys. x ∷ ys) (behind xs)
+    after : (xs : List Segment) → xs ++ [] ≡ xs
+    after [] = refl
+    after (x ∷ xs) = ap (λ ys. x ∷ ys) (after xs)
 
 -- ---- walking on
 
@@ -29,8 +29,8 @@ pub record Timed (segments rest : List Segment) (stack found : List (Option ℤ)
   pub stack_is : stack ≡ stack_of rest
 
 pub found_all : {segments rest : List Segment} {stack found : List (Option ℤ)} {ended : Option ℤ} (t : Timed segments rest stack found ended) → rest ≡ [] → found ≡ instants_of segments
-found_all {found = found} {ended = ended} t none = sym (nothing_behind found) ∙ ap (λ r. found ++ instants_after ended r) (sym none) ∙ t.all
+found_all {found = found} {ended = ended} t none = sym (nothing_after found) ∙ ap (λ r. found ++ instants_after ended r) (sym none) ∙ t.all
   where
-    nothing_behind : (xs : List (Option ℤ)) → xs ++ [] ≡ xs
-    nothing_behind [] = refl
-    nothing_behind (x ∷ xs) = ap (λ ys. x ∷ ys) (nothing_behind xs)
+    nothing_after : (xs : List (Option ℤ)) → xs ++ [] ≡ xs
+    nothing_after [] = refl
+    nothing_after (x ∷ xs) = ap (λ ys. x ∷ ys) (nothing_after xs)

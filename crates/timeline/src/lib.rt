@@ -42,13 +42,13 @@ fn earlier(nanos: i128, duration: u64) -> i128
 }
 
 // The first time that is stated from this segment on, less the durations before it.
-fn reckoned_here(segment: &Segment, behind: Option<i128>) -> Option<i128>
-    ensures { result ≡ option_map clamped (or_earlier segment.now.time (option_map (λ nanos. nanos -ℤ pos segment.now.duration) behind)) }
+fn reckoned_here(segment: &Segment, after: Option<i128>) -> Option<i128>
+    ensures { result ≡ option_map clamped (or_earlier segment.now.time (option_map (λ nanos. nanos -ℤ pos segment.now.duration) after)) }
 {
     if let Some(time) = segment.time {
         return Some(i128::from(time.0).max(FIRST_INSTANT - 1));
     }
-    match behind {
+    match after {
         Some(nanos) => Some(earlier(nanos, segment.duration.0)),
         None => None,
     }
@@ -78,11 +78,11 @@ fn reckoned_stack(alloc: Global, segments: &[Segment]) -> Result<Vec<Option<i128
     ensures { IfOk result (λ v. v.items ≡ stack_of segments.now) }
 {
     let mut stack = Vec::with_capacity(alloc, segments.len())?;
-    let mut behind: Option<i128> = None;
+    let mut after: Option<i128> = None;
     let mut rest = segments;
     while let Some((segment, before)) = rest.split_last() {
-        behind = reckoned_here(segment, behind);
-        stack.push(behind)?;
+        after = reckoned_here(segment, after);
+        stack.push(after)?;
         rest = before;
     }
     Ok(stack)

@@ -10,10 +10,10 @@ use Rattle.break_finder.proofs.carry.standing.Goals as goal
 
 pub returns-clause-standing : goal.returns-clause-standing
 returns-clause-standing c =
-    let ranges = c.args.ranges.now in
+    let date_ranges = c.args.date_ranges.now in
     let carried = option_copied c.args.carried in
     let es = c.in_ok-kept.kept.entries in
-    let same = filter_same (is_kept_with c.in_ok-ids.ids.keys carried) (λ (e : String Global × Said). stands_in ranges carried (string_bytes e.0))
+    let same = filter_same (is_kept_with c.in_ok-ids.ids.keys carried) (λ (e : String Global × Said). stands_in date_ranges carried (string_bytes e.0))
     (λ e. ap (λ b. b || is_this (string_bytes e.0) carried) (c.in_ok-ids.ensures (string_bytes e.0))) es in
-    ap (map break_at) (c.keep_standing.ensures.standing ∙ same) ∙ filtered ranges carried es
-    ∙ ap (filter (break_stands ranges carried)) (cloned c.args.breaks.now.entries es c.in_ok-kept.ensures.cases)
+    ap (map break_at) (c.keep_standing.ensures.standing ∙ same) ∙ filtered date_ranges carried es
+    ∙ ap (filter (break_stands date_ranges carried)) (cloned c.args.breaks.now.entries es c.in_ok-kept.ensures.cases)

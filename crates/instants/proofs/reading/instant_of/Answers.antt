@@ -18,7 +18,7 @@ returns-then-not-is_fraction c =
 
 pub nanos_of_fraction-nanos-requires : goal.nanos_of_fraction-nanos-requires
 nanos_of_fraction-nanos-requires c =
-    ap (list_all is_ascii_digit) (c.behind_first.ensures ∙ ap (drop 1) (c.split_at.ensures.front ∙ ap (λ n. take n c.in_ok-rest.rest.now) c.fraction_len-len.ensures.value))
+    ap (list_all is_ascii_digit) (c.after_point_of.ensures ∙ ap (drop 1) (c.split_at.ensures.front ∙ ap (λ n. take n c.in_ok-rest.rest.now) c.fraction_len-len.ensures.value))
     ∙ fraction_digits c.in_ok-rest.rest.now
 
 pub returns-in_err-offset : goal.returns-in_err-offset
@@ -36,7 +36,7 @@ returns c =
     let rest = c.in_ok-rest.ensures.lookup.0.2 ∙ rest_is text in
     let fraction = ap (λ r. is_fraction (fraction_len r)) (sym rest) ∙ ap is_fraction (sym c.fraction_len-len.ensures.value) ∙ sym c.if-not-is_fraction.ensures in
     let zone = c.in_ok-offset.ensures.value ∙ ap zone_offset (c.split_at.ensures.back ∙ ap (λ n. drop n c.in_ok-rest.rest.now) c.fraction_len-len.ensures.value) in
-    let digits = c.behind_first.ensures ∙ ap (drop 1) (c.split_at.ensures.front ∙ ap (λ n. take n c.in_ok-rest.rest.now) c.fraction_len-len.ensures.value) in
+    let digits = c.after_point_of.ensures ∙ ap (drop 1) (c.split_at.ensures.front ∙ ap (λ n. take n c.in_ok-rest.rest.now) c.fraction_len-len.ensures.value) in
     let nanos = c.nanos_of_fraction-nanos.ensures.value ∙ ap fraction_nanos digits in
     let day = c.in_ok-day.ensures.bound in
     let offset = c.in_ok-offset.ensures.bound in

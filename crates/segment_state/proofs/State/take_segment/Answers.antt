@@ -2,7 +2,7 @@ use Rattle.std.proofs.Common.{◌≡◌, ◌+◌, map, ◌∙◌, ap, sym, rules
 use Rattle.playlist_meaning.specs.LookBack.{effective_key, extent_with}
 use Rattle.std.specs.Prelude.{option_map}
 use Rattle.segment_state.specs.Views.{extent_of}
-use Rattle.segment_state.specs.Running.{Running, behind_segment}
+use Rattle.segment_state.specs.Running.{Running, after_segment}
 use Rattle.segment_state.proofs.Taken.{Taken, taken, built}
 use Rattle.segment_state.proofs.State.take_segment.Goals as goal
 
@@ -23,7 +23,7 @@ returns c = λ before e.
     let discontinuity : c.discontinuity_number.result ≡ c.args.self.now.standing.discontinuity_sequence + c.args.self.now.standing.discontinuities = search rules in
     let steps : c.self-2.inside.steps ≡ c.args.self.now.standing.steps = search rules in
     let time : c.self-2.inside.time ≡ c.args.self.now.standing.time = search rules in
-    let last : c.segment_stands.new.self ≡ behind_segment c.args.self.now (extent_with c.in_ok-uri.uri c.in_ok-range.range) =
-    c.segment_stands.ensures ∙ ap (λ (r : Running). behind_segment r (option_map extent_of c.in_ok-last.last)) v
-    ∙ ap (behind_segment c.args.self.now) (c.in_ok-last.ensures ∙ ap (λ u. extent_with u c.in_ok-range.range) c.as_str-2.ensures.text) in
+    let last : c.segment_stands.new.self ≡ after_segment c.args.self.now (extent_with c.in_ok-uri.uri c.in_ok-range.range) =
+    c.segment_stands.ensures ∙ ap (λ (r : Running). after_segment r (option_map extent_of c.in_ok-last.last)) v
+    ∙ ap (after_segment c.args.self.now) (c.in_ok-last.ensures ∙ ap (λ u. extent_with u c.in_ok-range.range) c.as_str-2.ensures.text) in
     (all.0, built c.args.self.now.standing _ _ _ _ _ _ _ _ _ number discontinuity steps keys section time ∙ all.1, last ∙ all.2)
