@@ -35,7 +35,7 @@ impl Model for AttrList {
 }
 
 impl AttrList {
-    /// Reads a text as an attribute list of at most 64 attributes.
+    /// Reads a text as an attribute list of at most [`MOST_ATTRIBUTES`] attributes.
     ///
     /// The first faulty attribute decides the fault, and in it the order TooMany, BadName, NoEquals,
     /// Twice, OpenQuote, BadValue. The first attribute is judged before any memory is taken.
@@ -43,16 +43,16 @@ impl AttrList {
         // What is read is in the grammar.
         ensures list { IfOk result (λ list. IsAttributeList text.now (map attr_pair list)) }
         // What is in the grammar is read, up to the limit.
-        ensures reads { (pairs : List Pair) → IsAttributeList text.now pairs → length pairs ≤ 64
+        ensures reads { (pairs : List Pair) → IsAttributeList text.now pairs → length pairs ≤ MOST_ATTRIBUTES
             → MatchResult result (λ list. map attr_pair list ≡ pairs) (λ e. e ≡ AttrFault.OutOfMemory) }
 
         // Exactly the answer of the reading, with its first fault.
-        ensures ok { IfOk result (λ list. attributes_of (Some 64) text.now ≡ Ok (map attr_pair list)) }
+        ensures ok { IfOk result (λ list. attributes_of (Some MOST_ATTRIBUTES) text.now ≡ Ok (map attr_pair list)) }
         ensures fault { IfErr result
-            (λ e. (e ≡ AttrFault.OutOfMemory) ⊎ (attributes_of (Some 64) text.now ≡ Err e)) }
+            (λ e. (e ≡ AttrFault.OutOfMemory) ⊎ (attributes_of (Some MOST_ATTRIBUTES) text.now ≡ Err e)) }
 
         // The first attribute's fault is told whatever memory there is: that of an empty text, too.
-        ensures told { (e : AttrFault) → pair_of (Some 64) [] (first_piece text.now) ≡ Err e → result ≡ Err e }
+        ensures told { (e : AttrFault) → pair_of (Some MOST_ATTRIBUTES) [] (first_piece text.now) ≡ Err e → result ≡ Err e }
 
         // Each attribute's place, where its spelling stands.
         ensures spans { IfOk result (λ list. map attr_span list ≡ spans_from 0 (pieces text.now)) }
@@ -91,10 +91,10 @@ impl AttrList {
 
 // The attributes of a text, in one pass.
 fn read_attrs(alloc: Global, text: &str) -> Result<Vec<Attr>, AttrFault>
-    ensures ok { IfOk result (λ v. attributes_of (Some 64) text.now ≡ Ok (map attr_pair v.items)) }
+    ensures ok { IfOk result (λ v. attributes_of (Some MOST_ATTRIBUTES) text.now ≡ Ok (map attr_pair v.items)) }
     ensures fault { IfErr result
-        (λ e. (e ≡ AttrFault.OutOfMemory) ⊎ (attributes_of (Some 64) text.now ≡ Err e)) }
-    ensures told { (e : AttrFault) → pair_of (Some 64) [] (first_piece text.now) ≡ Err e → result ≡ Err e }
+        (λ e. (e ≡ AttrFault.OutOfMemory) ⊎ (attributes_of (Some MOST_ATTRIBUTES) text.now ≡ Err e)) }
+    ensures told { (e : AttrFault) → pair_of (Some MOST_ATTRIBUTES) [] (first_piece text.now) ≡ Err e → result ≡ Err e }
     ensures spans { IfOk result (λ v. map attr_span v.items ≡ spans_from 0 (pieces text.now)) }
 {
     let mut attrs: Vec<Attr> = Vec::new(alloc);
@@ -128,8 +128,8 @@ fn read_pair<'a>(text: &'a str, before: &[Attr]) -> Result<PairText<'a>, AttrFau
     ensures { MatchResult result
         (λ p. let pair : Pair = record { name = p.name.now; value = p.value.now; quoted = p.quoted } in
         StartsWithPair text.now pair p.after.now
-        × (pair_of (Some 64) (map attr_pair before.now) (pair_spelling pair) ≡ Ok pair))
-        (λ e. pair_of (Some 64) (map attr_pair before.now) (first_piece text.now) ≡ Err e) }
+        × (pair_of (Some MOST_ATTRIBUTES) (map attr_pair before.now) (pair_spelling pair) ≡ Ok pair))
+        (λ e. pair_of (Some MOST_ATTRIBUTES) (map attr_pair before.now) (first_piece text.now) ≡ Err e) }
 {
     if before.len() >= MOST_ATTRIBUTES {
         return Err(AttrFault::TooMany);

@@ -17,6 +17,3 @@ mod why;
 pub use fault::FindFault;
 pub use knowledge::Knowledge;
 pub use why::Why;
-
-#[cfg(test)]
-mod tests;

@@ -1,6 +1,7 @@
 -- What is written of a playlist, by its segments and date ranges.
 use Rattle.std.specs.Prelude.{ℕ, ℤ, Bool, List, [], map, max, Option, option_map, is_some, Result, if◌then◌else◌}
 use Rattle.std.specs.List.{list_any, zip}
+use Rattle.http_edge.specs.declared.owed.TheConstants.{LEAST_VERSION}
 use Rattle.playlist_meaning.specs.declared.Playlist.{Playlist}
 use Rattle.playlist_meaning.specs.declared.Segment.{Segment}
 use Rattle.playlist_meaning.specs.declared.DateRange.{DateRange}
@@ -42,7 +43,7 @@ all_ranges_owed segments date_ranges = if list_any states_time segments then map
 -- a playlist with these date ranges and segments: the version is at least 6; all else is the origin's
 abbrev pub owed_with : Playlist → List (List ℕ) → List OutSegment → OutPlaylist
 owed_with p date_ranges segments = record {
-  version = max p.version 6;
+  version = max p.version LEAST_VERSION;
   target = p.target;
   kind = p.kind;
   independent = p.independent;

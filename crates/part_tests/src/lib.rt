@@ -11,6 +11,8 @@ mod decision_files;
 mod durations;
 #[cfg(test)]
 mod key_tags;
+#[cfg(test)]
+mod known_breaks;
 pub mod made;
 #[cfg(test)]
 mod meaning;

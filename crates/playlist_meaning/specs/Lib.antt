@@ -4,6 +4,7 @@ pub mod Said
 pub mod LookBack
 pub mod Instants
 pub mod Reading
+pub mod Heading
 pub mod Rows
 pub mod Refusals
 pub mod Laws
@@ -11,5 +12,6 @@ pub mod FaultTexts
 pub mod Same
 pub mod Pods
 pub mod Marks
+pub mod Numbering
 pub mod Stitched
 pub mod StitchedRows

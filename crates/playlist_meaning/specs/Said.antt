@@ -225,10 +225,9 @@ length_of pair = mended fault.BadDuration (duration_of pair.value)
 abbrev pub value_of : Pair → List ℕ
 value_of pair = pair.value
 
--- EXT-X-DATERANGE (4.3.2.7; 4.3.2.7.1 for SCTE35-OUT and SCTE35-IN)
-abbrev pub date_range_said : Reader → List ℕ → Outcome Said
-date_range_said reader rest =
-    attributes reader rest >>= λ pairs.
+-- EXT-X-DATERANGE (4.3.2.7; 4.3.2.7.1 for SCTE35-OUT and SCTE35-IN): what its attributes say, beside its whole text
+abbrev pub date_range_of : List ℕ → List Pair → Outcome Said
+date_range_of text pairs =
     required true (attribute pairs (codes "ID")) >>= λ id.
     optional time_of (attribute pairs (codes "START-DATE")) >>= λ start.
     optional time_of (attribute pairs (codes "END-DATE")) >>= λ end.
@@ -242,5 +241,8 @@ date_range_said reader rest =
       planned = planned;
       out = option_map value_of (attribute pairs (codes "SCTE35-OUT"));
       back = option_map value_of (attribute pairs (codes "SCTE35-IN"));
-      text = rest;
+      text = text;
     }))
+
+abbrev pub date_range_said : Reader → List ℕ → Outcome Said
+date_range_said reader rest = attributes reader rest >>= date_range_of rest

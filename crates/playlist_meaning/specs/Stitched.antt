@@ -6,6 +6,8 @@ use Rattle.playlist_meaning.specs.declared.Key.{Key}
 use Rattle.playlist_meaning.specs.declared.InitSection.{InitSection}
 use Rattle.playlist_meaning.specs.Pods.{PodSegment, Ad}
 use Rattle.playlist_meaning.specs.Marks.{Mark, Marked, continues}
+pub use Rattle.playlist_meaning.specs.Numbering.{Numbers}
+use Rattle.playlist_meaning.specs.Numbering.{segment_numbers}
 
 -- ---- the pieces
 
@@ -69,11 +71,6 @@ stitched (s ∷ before) = (if continues s before then [] else run_pieces s s.mar
 
 -- ---- the numbers
 
-pub record Numbers : Type 0 where
-  pub media : ℕ
-  pub discontinuity : ℕ
-  pub steps : ℕ
-
 -- the discontinuities between a piece and the one before it: those of the origin between two of its
 -- segments, one where the origin comes back after a pod, and one before each ad
 abbrev pub steps_between : Piece → Piece → ℕ
@@ -93,7 +90,7 @@ numbers_at first p (q ∷ before) = next_numbers (numbers_at first q before) (st
 -- the numbers that the first item has, whose segment is the first of the origin: that segment's own, or one
 -- discontinuity more where it is marked and a pod stands first
 abbrev pub numbers_from : Segment → Option Mark → Numbers
-numbers_from s None = record { media = s.number; discontinuity = s.discontinuity; steps = s.steps }
+numbers_from s None = segment_numbers s
 numbers_from s (Some mark) = record { media = s.number; discontinuity = s.discontinuity + 1; steps = 1 }
 
 abbrev pub first_numbers : List Marked → Numbers

@@ -6,7 +6,6 @@ ghost use Rattle.std.specs.Prelude.{MatchResult, IsTrue};
 ghost use Rattle.std.specs.Str.{is_utf8};
 ghost use Rattle.std.specs.List.{list_all};
 ghost use Rattle.playlist_meaning.specs.Lines.{has_control, is_printable};
-ghost use Rattle.playlist_meaning.specs.Laws.{KeysAreTheLast, KeysAreSorted, ReadsWhatIsDenoted, LinesAreSlices};
 
 use fixed_duration::Nanos;
 use std::alloc::{AllocError, AllocFailed, Global};
@@ -16,6 +15,8 @@ mod base;
 mod fault;
 mod in_force;
 mod items;
+pub mod laws;
+mod limits;
 mod same;
 
 pub use base::{Base, BaseFault, has_quote, has_scheme, same_resource};
@@ -23,6 +24,7 @@ pub use fault::FaultText;
 pub use in_force::is_iv_needed;
 pub use instants::{Instant, TimeFault, read_instant, write_instant};
 pub use items::{Items, Shared, Text};
+pub use limits::{MOST_BYTES, MOST_FORMATS, MOST_SEGMENTS};
 pub use same::{is_same_key, is_same_section, same_segment};
 
 /// Why a text is no playlist that can be read.
@@ -287,23 +289,3 @@ pub fn text_of(bytes: &[u8]) -> Result<&str, FaultKind>
         Err(_) => Err(FaultKind::NotUtf8),
     }
 }
-
-/// The key in force of a format is the last one since METHOD=NONE.
-pub fn keys_law()
-    ensures { KeysAreTheLast }
-{}
-
-/// The keys in force are sorted by the bytes of their format, with one key for each.
-pub fn sorted_keys_law()
-    ensures { KeysAreSorted }
-{}
-
-/// What a reader with limits reads is what the bytes denote.
-pub fn limits_law()
-    ensures { ReadsWhatIsDenoted }
-{}
-
-/// The lines of a text are slices of it.
-pub fn lines_law()
-    ensures { LinesAreSlices }
-{}

@@ -1,38 +1,15 @@
 -- How far a playlist has been read.
-use Rattle.std.specs.Prelude.{◌≡◌, ℕ, Bool, List, Option, None, Some, Result, IsOk, MatchResult}
+use Rattle.std.specs.Prelude.{◌≡◌, List, None, Some, Result, IsOk, MatchResult}
 use Rattle.url.specs.Parts.{Parts}
 use Rattle.playlist_meaning.specs.declared.FaultKind.{FaultKind}
-use Rattle.playlist_meaning.specs.declared.PlaylistKind.{PlaylistKind}
 use Rattle.playlist_meaning.specs.declared.DateRange.{DateRange}
 use Rattle.playlist_meaning.specs.declared.Segment.{Segment}
 use Rattle.playlist_meaning.specs.declared.Playlist.{Playlist}
 use Rattle.playlist_meaning.specs.Refusals.{Refuses}
 use Rattle.playlist_meaning.specs.Said.{Said, Outcome}
-use Rattle.playlist_meaning.specs.LookBack.{Standing, standing_at, latest, the_version, the_target, the_sequence, the_discontinuity_sequence, the_type, is_media, is_independent, is_ended, segments_of, date_ranges_of, with_said}
-use Rattle.playlist_meaning.specs.Reading.{is_set, has, whole_fault, playlist_of}
-
--- what the header's tags have said, and whether the tags stood that they may not follow
-pub record Heading : Type 0 where
-  pub version : Option ℕ
-  pub target : Option ℕ
-  pub kind : Option PlaylistKind
-  pub independent : Bool
-  pub ended : Bool
-  pub has_sequence : Bool
-  pub has_discontinuity_sequence : Bool
-  pub has_media : Bool
-
-abbrev pub heading_at : List Said → Heading
-heading_at before = record {
-  version = latest the_version before;
-  target = latest the_target before;
-  kind = latest the_type before;
-  independent = has is_independent before;
-  ended = has is_ended before;
-  has_sequence = is_set the_sequence before;
-  has_discontinuity_sequence = is_set the_discontinuity_sequence before;
-  has_media = has is_media before;
-}
+use Rattle.playlist_meaning.specs.LookBack.{Standing, standing_at, segments_of, date_ranges_of, with_said}
+use Rattle.playlist_meaning.specs.Reading.{whole_fault, playlist_of}
+use Rattle.playlist_meaning.specs.Heading.{Heading, heading_at}
 
 pub record Progress : Type 0 where
   pub base : Parts

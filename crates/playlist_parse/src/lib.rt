@@ -8,4 +8,5 @@ mod reader;
 mod tag;
 
 pub use line::{Line, lines};
-pub use reader::{MOST_BYTES, read};
+pub use playlist_meaning::MOST_BYTES;
+pub use reader::read;

@@ -7,11 +7,8 @@ ghost use Rattle.playlist_parse.specs.Answers.{Answers, fault_at};
 
 use crate::line::texts;
 use crate::progress::Progress;
-use playlist_meaning::{Base, FaultKind, Playlist, PlaylistFault, text_of};
+use playlist_meaning::{Base, FaultKind, MOST_BYTES, Playlist, PlaylistFault, text_of};
 use std::alloc::Global;
-
-/// How many bytes a playlist may have.
-pub const MOST_BYTES: usize = 4_194_304;
 
 // A fault at a line. Want of memory stands at none.
 fn fault_at(kind: FaultKind, line: u64) -> PlaylistFault

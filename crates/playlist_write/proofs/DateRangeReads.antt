@@ -1,6 +1,6 @@
 -- What a text says as a date range.
 use Rattle.std.proofs.Common.{◌≡◌, ℕ, Bool, true, false, List, refl, ap, sym, ◌∙◌, Ok, Err, Some, None}
-use Rattle.std.specs.Prelude.{◌&&◌, ℤ, Option, Result, codes, option_map, is_some, is_ok}
+use Rattle.std.specs.Prelude.{◌&&◌, ℤ, Option, Result, codes, is_some, is_ok}
 use Rattle.std.specs.Option.{ok_or}
 use Rattle.std.proofs.lemmas.Bool.{and_parts}
 use Rattle.attr_list.specs.declared.AttrFault.{AttrFault}
@@ -10,7 +10,7 @@ use Rattle.fixed_duration.specs.Duration.{duration_of}
 use Rattle.playlist_meaning.specs.declared.FaultKind.TheVariants as fault
 use Rattle.playlist_meaning.specs.declared.DateRange.{DateRange}
 use Rattle.instants.specs.Instant.{instant_of}
-use Rattle.playlist_meaning.specs.Said.{mended, or_fault, required, optional, some_value, value_if, time_of, length_of, value_of, Said, Reader, date_range, Outcome, ◌>>=◌, date_range_said}
+use Rattle.playlist_meaning.specs.Said.{mended, or_fault, required, optional, some_value, value_if, time_of, length_of, Said, Reader, date_range, Outcome, ◌>>=◌, date_range_of, date_range_said}
 use Rattle.playlist_meaning.specs.Reading.{limited, unlimited}
 use Rattle.fitting.specs.Fitting.{if_some, is_clean, says_date_range, date_range_fits}
 use Rattle.playlist_write.specs.DateRangeParts.{is_id, says_time, says_duration, is_date_range}
@@ -18,25 +18,6 @@ use Rattle.playlist_write.specs.DateRangeParts.{is_id, says_time, says_duration,
 -- a reader of at most 64 attributes
 abbrev pub few : Reader
 few = limited
-
--- what a date range's attributes say
-abbrev pub pairs_said : List ℕ → List Pair → Outcome Said
-pairs_said text pairs =
-    required true (attribute pairs (codes "ID")) >>= λ id.
-    optional time_of (attribute pairs (codes "START-DATE")) >>= λ start.
-    optional time_of (attribute pairs (codes "END-DATE")) >>= λ end.
-    optional length_of (attribute pairs (codes "DURATION")) >>= λ duration.
-    optional length_of (attribute pairs (codes "PLANNED-DURATION")) >>= λ planned.
-    Ok (date_range (record {
-      id = id;
-      start = start;
-      end = end;
-      duration = duration;
-      planned = planned;
-      out = option_map value_of (attribute pairs (codes "SCTE35-OUT"));
-      back = option_map value_of (attribute pairs (codes "SCTE35-IN"));
-      text = text;
-    }))
 
 Keeps : List ℕ → Outcome Said → Type 0
 Keeps text o = (r : DateRange) → o ≡ Ok (date_range r) → r.text ≡ text
@@ -50,28 +31,22 @@ keeps_ok : (r : DateRange) → Keeps r.text (Ok (date_range r))
 unfolding Keeps
 keeps_ok r q e = let f : r ≡ q = cc in ap (λ x. x.text) (sym f)
 
-text_kept : (text : List ℕ) → Keeps text (date_range_said unlimited text)
-text_kept text =
-    keeps_bind {A = List Pair} text (mended fault.BadAttributes (attributes_of None text)) _ (λ pairs. keeps_bind {A = List ℕ} text (required true (attribute pairs (codes "ID"))) _ (λ id.
+pairs_kept : (text : List ℕ) (pairs : List Pair) → Keeps text (date_range_of text pairs)
+pairs_kept text pairs =
+    keeps_bind {A = List ℕ} text (required true (attribute pairs (codes "ID"))) _ (λ id.
     keeps_bind {A = Option ℤ} text (optional time_of (attribute pairs (codes "START-DATE"))) _ (λ start. keeps_bind {A = Option ℤ} text (optional time_of (attribute pairs (codes "END-DATE"))) _ (λ end.
     keeps_bind {A = Option ℕ} text (optional length_of (attribute pairs (codes "DURATION"))) _ (λ duration. keeps_bind {A = Option ℕ} text (optional length_of (attribute pairs (codes "PLANNED-DURATION"))) _ (λ planned.
-    keeps_ok (record {
-      id = id;
-      start = start;
-      end = end;
-      duration = duration;
-      planned = planned;
-      out = option_map value_of (attribute pairs (codes "SCTE35-OUT"));
-      back = option_map value_of (attribute pairs (codes "SCTE35-IN"));
-      text = text;
-    })))))))
+    keeps_ok _)))))
+
+text_kept : (text : List ℕ) → Keeps text (date_range_said unlimited text)
+text_kept text = keeps_bind {A = List Pair} text (mended fault.BadAttributes (attributes_of None text)) _ (pairs_kept text)
 
 pub is_kept : (text : List ℕ) (r : DateRange) → date_range_said unlimited text ≡ Ok (date_range r) → r.text ≡ text
 unfolding Keeps
 is_kept text r e = text_kept text r e
 
 abbrev said_of : List ℕ → Result (List Pair) AttrFault → Outcome Said
-said_of text o = mended fault.BadAttributes o >>= λ pairs. pairs_said text pairs
+said_of text o = mended fault.BadAttributes o >>= date_range_of text
 
 unlimited_step : (text : List ℕ) (s : Said) (o : Result (List Pair) AttrFault) → attributes_of (Some 64) text ≡ o → said_of text o ≡ Ok s → said_of text (attributes_of None text) ≡ Ok s
 unlimited_step text s (Ok pairs) e h = ap (said_of text) (limited_is_read 64 text pairs e).0 ∙ h
@@ -126,7 +101,7 @@ duration_is : (o : Option Pair) → is_ok (optional length_of o) ≡ if_some say
 duration_is None = refl
 duration_is (Some pair) = some_duration (duration_of pair.value)
 
-pairs_are : (text : List ℕ) (pairs : List Pair) → says_date_range (pairs_said text pairs) ≡ is_date_range pairs
+pairs_are : (text : List ℕ) (pairs : List Pair) → says_date_range (date_range_of text pairs) ≡ is_date_range pairs
 pairs_are text pairs =
     let a = attribute pairs (codes "ID") in let b = attribute pairs (codes "START-DATE") in let c = attribute pairs (codes "END-DATE") in
     let d = attribute pairs (codes "DURATION") in let e = attribute pairs (codes "PLANNED-DURATION") in

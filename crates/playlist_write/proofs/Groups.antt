@@ -1,15 +1,15 @@
 -- Where groups of lines lead.
 use Rattle.std.proofs.Common.{◌≡◌, ℕ, zero, suc, ◌+◌, ◌^◌, ◌<◌, Bool, true, false, cond, List, [], ◌∷◌, ◌++◌, map, length, replicate, refl, ap, sym, ◌∙◌, subst, arith, Some, None}
-use Rattle.std.specs.Prelude.{◌&&◌, ◌==◌, ℤ, Option, is_some, is_none, unwrap_or, filter}
+use Rattle.std.specs.Prelude.{◌&&◌, ◌==◌, ℤ, Option, is_some, is_none, nat_lt, filter}
 use Rattle.std.specs.List.{list_any, list_all}
-use Rattle.std.proofs.lemmas.Bool.{and_parts, not-true, ltb-true, lt-leb, cond-false, eqb-true}
+use Rattle.std.proofs.lemmas.Bool.{and_parts, not-true, ltb-true, lt-leb, lt-ltb, cond-false, eqb-true}
 use Rattle.std.proofs.lemmas.List.{append-nil, append_assoc}
 use Rattle.playlist_meaning.specs.declared.Key.{Key}
 use Rattle.playlist_meaning.specs.declared.ByteRange.{ByteRange}
 use Rattle.playlist_meaning.specs.declared.InitSection.{InitSection}
 use Rattle.playlist_meaning.specs.declared.Segment.{Segment}
 use Rattle.playlist_meaning.specs.Said.{Said, discontinuity, no_keys, key, key_tag_said, duration, media}
-use Rattle.playlist_meaning.specs.LookBack.{or_earlier, put_key, Extent, extent_with, effective_key, are_sorted}
+use Rattle.playlist_meaning.specs.LookBack.{or_earlier, put_key, Extent, Standing, extent_with, effective_key, are_sorted}
 use Rattle.playlist_meaning.specs.Reading.{passes, needs_iv}
 use Rattle.instants.specs.Instant.{in_range}
 use Rattle.playlist_meaning.proofs.ListTests.{all_filter}
@@ -58,24 +58,28 @@ goes-append xs ys a b c h g = record {
 
 -- ---- discontinuities
 
-goes_steps : (n : ℕ) (k : Known) → discontinuity_known k + n < 2 ^ 64 → Goes k (replicate n discontinuity) (record k { discontinuities = k.discontinuities + n; steps = k.steps + n })
-goes_steps zero k h = record { allowed = tt; leads = same k (k.discontinuities + 0) (k.steps + 0) (omega arith) (omega arith) }
+goes_steps : (n : ℕ) (k : Known) → discontinuity_known k.standing + n < 2 ^ 64
+    → Goes k (replicate n discontinuity) (record k { standing = record k.standing { discontinuities = k.standing.discontinuities + n; steps = k.standing.steps + n } })
+goes_steps zero k h = record { allowed = tt; leads = ap (λ s. record k { standing = s }) (same k.standing (k.standing.discontinuities + 0) (k.standing.steps + 0) (omega arith) (omega arith)) }
   where
-    same : (k : Known) (d s : ℕ) → d ≡ k.discontinuities → s ≡ k.steps → k ≡ record k { discontinuities = d; steps = s }
-    same k d s e g = ap (λ x. record k { discontinuities = x }) (sym e) ∙ ap (λ x. record k { discontinuities = d; steps = x }) (sym g)
+    same : (at : Standing) (d s : ℕ) → d ≡ at.discontinuities → s ≡ at.steps → at ≡ record at { discontinuities = d; steps = s }
+    same at d s e g = ap (λ x. record at { discontinuities = x }) (sym e) ∙ ap (λ x. record at { discontinuities = d; steps = x }) (sym g)
 goes_steps (suc n) k h =
-    let below : discontinuity_known k + 1 < 2 ^ 64 = omega (arith, h) in
+    let below : discontinuity_known k.standing + 1 < 2 ^ 64 = omega (arith, h) in
     let next = goes_steps n (step k discontinuity) (omega (arith, h)) in record {
       allowed = (tt, lt-leb _ _ below, next.allowed);
-      leads = next.leads ∙ ap (λ d. record k { discontinuities = d; steps = k.steps + 1 + n }) (omega arith) ∙ ap (λ s. record k { discontinuities = k.discontinuities + suc n; steps = s }) (omega arith);
+      leads = next.leads ∙ ap (λ d. record k { standing = record k.standing { discontinuities = d; steps = k.standing.steps + 1 + n } }) (omega arith) ∙ ap (λ s. record k { standing = record k.standing { discontinuities = k.standing.discontinuities + suc n; steps = s } }) (omega arith);
     }
 
 -- ---- keys
 
-run_tags : (tags : List KeyTag) (k : Known) → run k (map key_tag_said tags) ≡ record k { keys = after_tags k.keys tags }
+abbrev with_keys : Known → List Key → Known
+with_keys k keys = record k { standing = record k.standing { keys = keys } }
+
+run_tags : (tags : List KeyTag) (k : Known) → run k (map key_tag_said tags) ≡ with_keys k (after_tags k.standing.keys tags)
 run_tags [] k = refl
-run_tags (End ∷ tags) k = run_tags tags (record k { keys = [] })
-run_tags (Set j ∷ tags) k = run_tags tags (record k { keys = put_key j k.keys })
+run_tags (End ∷ tags) k = run_tags tags (with_keys k [])
+run_tags (Set j ∷ tags) k = run_tags tags (with_keys k (put_key j k.standing.keys))
 
 sets_allowed : (keys : List Key) (k : Known) → list_all key_fits keys ≡ true → Allowed k (map key_tag_said (map Set keys))
 sets_allowed [] k h = tt
@@ -85,18 +89,21 @@ tags_allowed : (b : Bool) (old new : List Key) (k : Known) → list_all key_fits
 tags_allowed true old new k h = sets_allowed (filter (is_new old) new) k (all_filter key_fits (is_new old) new h)
 tags_allowed false old new k h = (tt, tt, sets_allowed new (step k no_keys) h)
 
-goes_keys : (old new : List Key) (k : Known) → k.keys ≡ old → keys_fit old ≡ true → keys_fit new ≡ true → Goes k (keys_owed old new) (record k { keys = new })
+goes_keys : (old new : List Key) (k : Known) → k.standing.keys ≡ old → keys_fit old ≡ true → keys_fit new ≡ true → Goes k (keys_owed old new) (with_keys k new)
 goes_keys old new k e h g =
     let a : (list_all key_fits old ≡ true) × (are_sorted old ≡ true) = and_parts _ _ h in
     let b : (list_all key_fits new ≡ true) × (are_sorted new ≡ true) = and_parts _ _ g in record {
       allowed = tags_allowed (keeps_formats old new) old new k b.0;
-      leads = run_tags (transition old new) k ∙ ap (λ ks. record k { keys = ks }) (ap (λ ks. after_tags ks (transition old new)) e ∙ transition_leads old new a.1 b.1);
+      leads = run_tags (transition old new) k ∙ ap (with_keys k) (ap (λ ks. after_tags ks (transition old new)) e ∙ transition_leads old new a.1 b.1);
     }
 
 -- ---- the section
 
-with_both : (k : Known) (ks : List Key) (s : Option InitSection) → k.keys ≡ ks → k.section ≡ s → k ≡ record k { keys = ks; section = s }
-with_both k ks s e g = ap (λ x. record k { keys = x }) e ∙ ap (λ x. record k { keys = ks; section = x }) g
+abbrev with_section : Known → List Key → Option InitSection → Known
+with_section k keys section = record k { standing = record k.standing { keys = keys; section = section } }
+
+with_both : (k : Known) (ks : List Key) (s : Option InitSection) → k.standing.keys ≡ ks → k.standing.section ≡ s → k ≡ with_section k ks s
+with_both k ks s e g = ap (with_keys k) e ∙ ap (with_section k ks) g
 
 record SectionParts (s : InitSection) : Type 0 where
   uri : quoted_uri_fits s.uri ≡ true
@@ -113,15 +120,15 @@ section_parts s h =
 abbrev written : Bool → InitSection → Option InitSection
 written same new = cond same None (Some new)
 
-section_step : (same : Bool) (cur : Current) (new : InitSection) (k : Known) → same_option same_section (Some new) cur.section ≡ same → k.keys ≡ cur.keys → k.section ≡ cur.section → keys_fit cur.keys ≡ true → section_fits new ≡ true
-    → Goes k (section_owed cur.keys (written same new)) (record k { keys = keys_then cur.keys (written same new); section = Some new })
+section_step : (same : Bool) (cur : Current) (new : InitSection) (k : Known) → same_option same_section (Some new) cur.section ≡ same → k.standing.keys ≡ cur.keys → k.standing.section ≡ cur.section → keys_fit cur.keys ≡ true → section_fits new ≡ true
+    → Goes k (section_owed cur.keys (written same new)) (with_section k (keys_then cur.keys (written same new)) (Some new))
 section_step true cur new k e ke se h f = record { allowed = tt; leads = with_both k cur.keys (Some new) ke (se ∙ section_is new cur.section e) }
 section_step false cur new k e ke se h f =
     let p = section_parts new f in
-    goes-append _ _ k (record k { keys = new.keys }) _ (goes_keys cur.keys new.keys k ke h p.keys) (record { allowed = ((p.uri, p.range), p.ivs, tt); leads = refl })
+    goes-append _ _ k (with_keys k new.keys) _ (goes_keys cur.keys new.keys k ke h p.keys) (record { allowed = ((p.uri, p.range), p.ivs, tt); leads = refl })
 
-goes_section : (cur : Current) (sec : Option InitSection) (k : Known) → k.keys ≡ cur.keys → k.section ≡ cur.section → keys_fit cur.keys ≡ true → if_some section_fits sec ≡ true
-    → Goes k (section_owed cur.keys (changed_section cur.section sec)) (record k { keys = keys_then cur.keys (changed_section cur.section sec); section = or_earlier sec cur.section })
+goes_section : (cur : Current) (sec : Option InitSection) (k : Known) → k.standing.keys ≡ cur.keys → k.standing.section ≡ cur.section → keys_fit cur.keys ≡ true → if_some section_fits sec ≡ true
+    → Goes k (section_owed cur.keys (changed_section cur.section sec)) (with_section k (keys_then cur.keys (changed_section cur.section sec)) (or_earlier sec cur.section))
 goes_section cur None k ke se h f = record { allowed = tt; leads = with_both k cur.keys cur.section ke se }
 goes_section cur (Some new) k ke se h f = section_step _ cur new k refl ke se h f
 
@@ -135,15 +142,15 @@ then_fit cur (Some new) h f = then_step (same_option same_section (Some new) cur
 
 -- ---- the rest of a segment's lines
 
-abbrev segment_with : Known → OutSegment → Segment
-segment_with k out = record {
-  number = number_known k;
-  discontinuity = discontinuity_known k;
-  steps = k.steps;
+abbrev segment_with : Standing → OutSegment → Segment
+segment_with s out = record {
+  number = number_known s;
+  discontinuity = discontinuity_known s;
+  steps = s.steps;
   uri = out.segment.uri;
   range = out.segment.range;
-  keys = map (effective_key (number_known k)) k.keys;
-  section = k.section;
+  keys = map (effective_key (number_known s)) s.keys;
+  section = s.section;
   duration = out.segment.duration;
   title = out.segment.title;
   time = out.time;
@@ -151,17 +158,20 @@ segment_with k out = record {
 
 abbrev ended_segment : Known → OutSegment → Known
 ended_segment k out = record k {
-  count = k.count + 1;
-  steps = 0;
-  duration = None;
-  range = None;
-  time = None;
-  extent = extent_with out.segment.uri out.segment.range;
-  segments = k.segments ++ segment_with k out ∷ [];
+  heading = record k.heading { has_media = true };
+  standing = record k.standing {
+    media_count = k.standing.media_count + 1;
+    steps = 0;
+    duration = None;
+    range = None;
+    time = None;
+    extent = extent_with out.segment.uri out.segment.range;
+  };
+  segments = k.segments ++ segment_with k.standing out ∷ [];
 }
 
 abbrev fresh : Known → Known
-fresh k = record k { duration = None; range = None; time = None }
+fresh k = record k { standing = record k.standing { duration = None; range = None; time = None } }
 
 -- one segment's own parts, apart from its keys and its section
 record TailFits (out : OutSegment) : Type 0 where
@@ -174,7 +184,7 @@ record TailFits (out : OutSegment) : Type 0 where
 tail : (out : OutSegment) (t : Option ℤ) (r : Option ByteRange) → List Said
 tail out t r = time_owed t ++ (duration out.segment.duration out.segment.title ∷ (range_owed r ++ media out.segment.uri ∷ []))
 
-goes_tail : (out : OutSegment) (t : Option ℤ) (r : Option ByteRange) → out.time ≡ t → out.segment.range ≡ r → (k : Known) → TailFits out → passes (number_known k) ≡ false
+goes_tail : (out : OutSegment) (t : Option ℤ) (r : Option ByteRange) → out.time ≡ t → out.segment.range ≡ r → (k : Known) → TailFits out → passes (number_known k.standing) ≡ false
     → Goes (fresh k) (tail out t r) (ended_segment (fresh k) out)
 unfolding tail
 goes_tail out None None te re k f n = rw (te, re) (record { allowed = ((f.duration, f.title), tt, (f.uri, (refl, n, None, refl), tt)); leads = refl })
@@ -194,15 +204,18 @@ goes_tail out (Some t) (Some r) te re k f n =
 -- between two segments
 abbrev pub ready : Known → Current → ℕ → ℕ → Option Extent → List Segment → Known
 ready h cur n d extent segments = record h {
-  count = n;
-  discontinuities = d;
-  steps = 0;
-  duration = None;
-  range = None;
-  time = None;
-  keys = cur.keys;
-  section = cur.section;
-  extent = extent;
+  heading = record h.heading { has_media = nat_lt 0 n };
+  standing = record h.standing {
+    media_count = n;
+    discontinuities = d;
+    steps = 0;
+    duration = None;
+    range = None;
+    time = None;
+    keys = cur.keys;
+    section = cur.section;
+    extent = extent;
+  };
   segments = segments;
 }
 
@@ -246,24 +259,27 @@ extent_of out = extent_with out.segment.uri out.segment.range
 
 module _ (h : Known) where
   goes_segment : (cur : Current) (n d : ℕ) (extent : Option Extent) (segments : List Segment) (out : OutSegment) → SegmentFits out → keys_fit cur.keys ≡ true
-      → or_earlier out.segment.section cur.section ≡ out.segment.section → unwrap_or h.sequence 0 + n ≡ out.media → unwrap_or h.dseq 0 + d + out.steps ≡ out.discontinuity
+      → or_earlier out.segment.section cur.section ≡ out.segment.section → h.standing.sequence + n ≡ out.media → h.standing.discontinuity_sequence + d + out.steps ≡ out.discontinuity
       → Goes (ready h cur n d extent segments) (segment_owed cur out) (ready h (after_segment cur out) (n + 1) (d + out.steps) (extent_of out) (segments ++ denoted_segment out ∷ []))
   unfolding extent_of tail
   goes_segment cur n d extent segments out f kf se media_is disc_is =
       let k0 = ready h cur n d extent segments in
-      let k1 : Known = record k0 { discontinuities = d + out.steps; steps = 0 + out.steps } in
+      let k1 : Known = record k0 { standing = record k0.standing { discontinuities = d + out.steps; steps = 0 + out.steps } } in
       let changed = changed_section cur.section out.segment.section in
       let ms = f.media in let ds = f.discontinuity in
-      let k2 : Known = record k1 { keys = keys_then cur.keys changed; section = or_earlier out.segment.section cur.section } in
-      let k3 : Known = record k2 { keys = out.segment.keys } in
+      let k2 = with_section k1 (keys_then cur.keys changed) (or_earlier out.segment.section cur.section) in
+      let k3 = with_keys k2 out.segment.keys in
       let one = goes_steps out.steps k0 (omega arith) in
       let two = goes_section cur out.segment.section k1 refl refl kf f.section in
       let three = goes_keys (keys_then cur.keys changed) out.segment.keys k2 refl (then_fit cur out.segment.section kf f.section) f.keys in
       let four = goes_tail out out.time out.segment.range refl refl k3 f.tail (lt-leb _ _ (omega arith)) in
-      let same = segment_ext out (unwrap_or h.sequence 0 + n) (unwrap_or h.dseq 0 + (d + out.steps)) (0 + out.steps) (map (effective_key (unwrap_or h.sequence 0 + n)) out.segment.keys) (or_earlier out.segment.section cur.section)
-      media_is (omega arith) (omega arith) (effective (unwrap_or h.sequence 0 + n) out.segment.keys f.ivs) se in
+      let same = segment_ext out (h.standing.sequence + n) (h.standing.discontinuity_sequence + (d + out.steps)) (0 + out.steps) (map (effective_key (h.standing.sequence + n)) out.segment.keys) (or_earlier out.segment.section cur.section)
+      media_is (omega arith) (omega arith) (effective (h.standing.sequence + n) out.segment.keys f.ivs) se in
       let all = goes-append _ _ k0 k1 _ one (goes-append _ _ k1 k2 _ two (goes-append _ _ k2 k3 _ three four)) in
-      record { allowed = all.allowed; leads = all.leads ∙ ap (λ s. ready h (after_segment cur out) (n + 1) (d + out.steps) (extent_of out) (segments ++ s ∷ [])) same }
+      let there = ready h (after_segment cur out) (n + 1) (d + out.steps) (extent_of out) in
+      let with_media : Bool → Segment → Known = λ b s. record (there (segments ++ s ∷ [])) { heading = record h.heading { has_media = b } } in
+      let stood : nat_lt 0 (n + 1) ≡ true = lt-ltb _ _ (omega arith) in
+      record { allowed = all.allowed; leads = all.leads ∙ ap (with_media true) same ∙ ap (λ b. with_media b (denoted_segment out)) (sym stood) }
 
   -- ---- all segments
 
@@ -286,7 +302,7 @@ module _ (h : Known) where
   still_none false (Some s) cur e g m = cc
 
   pub goes_segments : (mapped : Bool) (outs : List OutSegment) (cur : Current) (n d number disc : ℕ) (extent : Option Extent) (segments : List Segment) → list_all segment_fits outs ≡ true → sections_alike mapped outs ≡ true
-      → numbers_go_on number disc outs ≡ true → number ≡ unwrap_or h.sequence 0 + n → disc ≡ unwrap_or h.dseq 0 + d → keys_fit cur.keys ≡ true → (mapped ≡ false → cur.section ≡ None) → After cur n d extent segments outs
+      → numbers_go_on number disc outs ≡ true → number ≡ h.standing.sequence + n → disc ≡ h.standing.discontinuity_sequence + d → keys_fit cur.keys ≡ true → (mapped ≡ false → cur.section ≡ None) → After cur n d extent segments outs
   goes_segments mapped [] cur n d number disc extent segments f a g ne de kf sn =
       record { current = cur; count = n; discontinuities = d; last = extent; counted = omega arith; goes = record { allowed = tt; leads = ap (ready h cur n d extent) (sym (append-nil segments)) } }
   goes_segments mapped (out ∷ outs) cur n d number disc extent segments f a g ne de kf sn =

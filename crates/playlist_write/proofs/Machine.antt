@@ -1,116 +1,107 @@
 -- All that a reading has come to, line by line.
-use Rattle.std.proofs.Common.{◌≡◌, ℕ, ◌+◌, ◌^◌, ◌<◌, Bool, true, false, List, [], ◌∷◌, ◌++◌, map, length, refl, ap, sym, ◌∙◌, subst, Ok, Some, None}
-use Rattle.std.specs.Prelude.{◌||◌, ◌==◌, ℤ, Option, is_some, is_none, unwrap_or}
+use Rattle.std.proofs.Common.{◌≡◌, ℕ, ◌+◌, ◌^◌, ◌<◌, true, false, List, [], ◌∷◌, ◌++◌, map, length, refl, ap, sym, ◌∙◌, subst, Ok, Some, None}
+use Rattle.std.specs.Prelude.{◌||◌, ◌==◌, Option, is_some, is_none, unwrap_or}
 use Rattle.std.specs.List.{list_any}
 use Rattle.std.specs.Result.{result_unwrap_or}
 use Rattle.url.specs.Parts.{Parts}
-use Rattle.playlist_meaning.specs.declared.PlaylistKind.{PlaylistKind}
-use Rattle.playlist_meaning.specs.declared.Key.{Key}
 use Rattle.playlist_meaning.specs.declared.ByteRange.{ByteRange}
-use Rattle.playlist_meaning.specs.declared.InitSection.{InitSection}
 use Rattle.playlist_meaning.specs.declared.Segment.{Segment}
 use Rattle.playlist_meaning.specs.declared.DateRange.{DateRange}
 use Rattle.instants.specs.Instant.{in_range}
 use Rattle.playlist_meaning.specs.Said.{Said, nothing, version, target, sequence, discontinuity_sequence, playlist_type, ended, independent, duration, range, discontinuity, no_keys, key, section, time, date_range, media, Outcome, date_range_said}
-use Rattle.playlist_meaning.specs.LookBack.{latest, the_version, the_target, the_sequence, the_discontinuity_sequence, the_type, is_media, is_discontinuity, is_ended, is_independent, count, own_duration, own_range, own_time, steps_at, keys_at, put_key, effective_key, section_at, Extent, extent_with, range_from, last_extent, segments_of, date_ranges_of}
-use Rattle.playlist_meaning.specs.Reading.{said_by, said_from, at_line, unlimited, passes, needs_iv, has}
+use Rattle.playlist_meaning.specs.LookBack.{is_media, is_discontinuity, put_key, effective_key, extent_with, range_from, Standing, standing_at, segments_of, date_ranges_of}
+use Rattle.playlist_meaning.specs.Heading.{Heading, heading_at}
+use Rattle.playlist_meaning.specs.Reading.{said_by, said_from, at_line, unlimited, passes, needs_iv}
 use Rattle.playlist_meaning.proofs.SaidCounts.{counted_none}
 use Rattle.playlist_write.specs.Spelling.{spelled}
 use Rattle.fitting.specs.Fitting.{is_clean, uri_fits, quoted_uri_fits, if_some, range_fits, key_fits}
 use Rattle.playlist_write.proofs.CleanTexts.{Clean, AllClean}
 use Rattle.playlist_write.proofs.SaidLines as lines
 
+-- what the lines have said, the last first
 pub record Known : Type 0 where
-  pub version : Option ℕ
-  pub target : Option ℕ
-  pub sequence : Option ℕ
-  pub dseq : Option ℕ
-  pub kind : Option PlaylistKind
-  pub independent : Bool
-  pub ended : Bool
-  pub count : ℕ
-  pub discontinuities : ℕ
-  pub steps : ℕ
-  pub duration : Option (ℕ × List ℕ)
-  pub range : Option (ℕ × Option ℕ)
-  pub time : Option ℤ
-  pub keys : List Key
-  pub section : Option InitSection
-  pub extent : Option Extent
+  pub heading : Heading
+  pub standing : Standing
   pub date_ranges : List DateRange
   pub segments : List Segment
 
 abbrev pub known_at : List Said → Known
 known_at before = record {
-  version = latest the_version before;
-  target = latest the_target before;
-  sequence = latest the_sequence before;
-  dseq = latest the_discontinuity_sequence before;
-  kind = latest the_type before;
-  independent = has is_independent before;
-  ended = has is_ended before;
-  count = count is_media before;
-  discontinuities = count is_discontinuity before;
-  steps = steps_at before;
-  duration = own_duration before;
-  range = own_range before;
-  time = own_time before;
-  keys = keys_at before;
-  section = section_at before;
-  extent = last_extent before;
+  heading = heading_at before;
+  standing = standing_at before;
   date_ranges = date_ranges_of before;
   segments = segments_of before;
 }
 
-abbrev pub number_known : Known → ℕ
-number_known k = unwrap_or k.sequence 0 + k.count
+abbrev pub number_known : Standing → ℕ
+number_known s = s.sequence + s.media_count
 
-abbrev pub discontinuity_known : Known → ℕ
-discontinuity_known k = unwrap_or k.dseq 0 + k.discontinuities
+abbrev pub discontinuity_known : Standing → ℕ
+discontinuity_known s = s.discontinuity_sequence + s.discontinuities
 
-abbrev pub range_known : Known → List ℕ → Outcome (Option ByteRange)
-range_known k uri = range_from k.range uri k.extent
+abbrev pub range_known : Standing → List ℕ → Outcome (Option ByteRange)
+range_known s uri = range_from s.range uri s.extent
 
-abbrev pub segment_known : Known → List ℕ → Segment
-segment_known k uri = record {
-  number = number_known k;
-  discontinuity = discontinuity_known k;
-  steps = k.steps;
+abbrev pub segment_known : Standing → List ℕ → Segment
+segment_known s uri = record {
+  number = number_known s;
+  discontinuity = discontinuity_known s;
+  steps = s.steps;
   uri = uri;
-  range = result_unwrap_or (range_known k uri) None;
-  keys = map (effective_key (number_known k)) k.keys;
-  section = k.section;
-  duration = (unwrap_or k.duration (0, [])).0;
-  title = (unwrap_or k.duration (0, [])).1;
-  time = k.time;
+  range = result_unwrap_or (range_known s uri) None;
+  keys = map (effective_key (number_known s)) s.keys;
+  section = s.section;
+  duration = (unwrap_or s.duration (0, [])).0;
+  title = (unwrap_or s.duration (0, [])).1;
+  time = s.time;
 }
 
 -- after one more line
-abbrev pub step : Known → Said → Known
-step k nothing = k
-step k (version n) = record k { version = Some n }
-step k (target n) = record k { target = Some n }
-step k (sequence n) = record k { sequence = Some n }
-step k (discontinuity_sequence n) = record k { dseq = Some n }
-step k (playlist_type kind) = record k { kind = Some kind }
-step k ended = record k { ended = true }
-step k independent = record k { independent = true }
-step k (duration n title) = record k { duration = Some (n, title) }
-step k (range n o) = record k { range = Some (n, o) }
-step k discontinuity = record k { discontinuities = k.discontinuities + 1; steps = k.steps + 1 }
-step k no_keys = record k { keys = [] }
-step k (key j) = record k { keys = put_key j k.keys }
-step k (section uri part) = record k { section = Some (record { uri = uri; range = part; keys = k.keys }) }
-step k (time t) = record k { time = Some t }
-step k (date_range r) = record k { date_ranges = k.date_ranges ++ r ∷ [] }
-step k (media uri) = record k {
-  count = k.count + 1;
+abbrev pub heading_after : Heading → Said → Heading
+heading_after h (version n) = record h { version = Some n }
+heading_after h (target n) = record h { target = Some n }
+heading_after h (sequence n) = record h { has_sequence = true }
+heading_after h (discontinuity_sequence n) = record h { has_discontinuity_sequence = true }
+heading_after h (playlist_type kind) = record h { kind = Some kind }
+heading_after h ended = record h { ended = true }
+heading_after h independent = record h { independent = true }
+heading_after h (media uri) = record h { has_media = true }
+heading_after h _ = h
+
+abbrev pub standing_after : Standing → Said → Standing
+standing_after s (sequence n) = record s { sequence = n }
+standing_after s (discontinuity_sequence n) = record s { discontinuity_sequence = n }
+standing_after s (duration n title) = record s { duration = Some (n, title) }
+standing_after s (range n o) = record s { range = Some (n, o) }
+standing_after s discontinuity = record s { discontinuities = s.discontinuities + 1; steps = s.steps + 1 }
+standing_after s no_keys = record s { keys = [] }
+standing_after s (key j) = record s { keys = put_key j s.keys }
+standing_after s (section uri part) = record s { section = Some (record { uri = uri; range = part; keys = s.keys }) }
+standing_after s (time t) = record s { time = Some t }
+standing_after s (media uri) = record s {
+  media_count = s.media_count + 1;
   steps = 0;
   duration = None;
   range = None;
   time = None;
-  extent = extent_with uri (result_unwrap_or (range_known k uri) None);
-  segments = k.segments ++ segment_known k uri ∷ [];
+  extent = extent_with uri (result_unwrap_or (range_known s uri) None);
+}
+standing_after s _ = s
+
+abbrev pub date_ranges_after : List DateRange → Said → List DateRange
+date_ranges_after date_ranges (date_range r) = date_ranges ++ r ∷ []
+date_ranges_after date_ranges _ = date_ranges
+
+abbrev pub segments_after : Known → Said → List Segment
+segments_after k (media uri) = k.segments ++ segment_known k.standing uri ∷ []
+segments_after k _ = k.segments
+
+abbrev pub step : Known → Said → Known
+step k s = record {
+  heading = heading_after k.heading s;
+  standing = standing_after k.standing s;
+  date_ranges = date_ranges_after k.date_ranges s;
+  segments = segments_after k s;
 }
 
 -- the look-back definitions say the same
@@ -150,15 +141,17 @@ known_onto (s ∷ later) before = known_onto later (s ∷ before) ∙ ap (λ k. 
 -- ---- when a line can stand, and what it can say
 
 abbrev pub Allows : Known → Said → Type 0
-Allows k (version n) = is_some k.version ≡ false
-Allows k (target n) = is_some k.target ≡ false
-Allows k (sequence n) = (is_some k.sequence ≡ false) × (k.count ≡ 0)
-Allows k (discontinuity_sequence n) = (is_some k.dseq ≡ false) × (k.count ≡ 0) × (k.discontinuities ≡ 0)
-Allows k (playlist_type kind) = is_some k.kind ≡ false
-Allows k ended = k.ended ≡ false
-Allows k discontinuity = passes (discontinuity_known k + 1) ≡ false
-Allows k (section uri part) = list_any needs_iv k.keys ≡ false
-Allows k (media uri) = (is_none k.duration ≡ false) × (passes (number_known k) ≡ false) × (r : Option ByteRange) × (range_known k uri ≡ Ok r)
+Allows k (version n) = is_some k.heading.version ≡ false
+Allows k (target n) = is_some k.heading.target ≡ false
+Allows k (sequence n) = (k.heading.has_sequence ≡ false) × (k.standing.media_count ≡ 0)
+Allows k (discontinuity_sequence n) =
+    (k.heading.has_discontinuity_sequence ≡ false) × (k.standing.media_count ≡ 0) × (k.standing.discontinuities ≡ 0)
+Allows k (playlist_type kind) = is_some k.heading.kind ≡ false
+Allows k ended = k.heading.ended ≡ false
+Allows k discontinuity = passes (discontinuity_known k.standing + 1) ≡ false
+Allows k (section uri part) = list_any needs_iv k.standing.keys ≡ false
+Allows k (media uri) =
+    (is_none k.standing.duration ≡ false) × (passes (number_known k.standing) ≡ false) × (r : Option ByteRange) × (range_known k.standing uri ≡ Ok r)
 Allows k _ = Unit {0}
 
 abbrev pub Fits : Said → Type 0

@@ -13,13 +13,14 @@ use Rattle.playlist_meaning.specs.declared.InitSection.{InitSection}
 use Rattle.playlist_meaning.specs.Said.{Said, nothing, date_range, date_range_said}
 use Rattle.playlist_meaning.specs.LookBack.{latest, the_target, is_media, segments_of}
 use Rattle.playlist_meaning.specs.Reading.{unlimited, whole, whole_fault, and_whole, of_lines, reading, are_mixed, has_section, Denotes, has}
+use Rattle.playlist_meaning.specs.Numbering.{follows, all_follow}
 use Rattle.playlist_meaning.proofs.SaidCounts.{counted_some}
 use Rattle.stitcher.specs.declared.OutSegment.{OutSegment}
 use Rattle.playlist_write.specs.declared.OutPlaylist.{OutPlaylist}
 use Rattle.playlist_write.specs.Spelling.{spelled, date_range_line}
 use Rattle.playlist_write.specs.Owed.{none_yet, header_owed, type_owed, independent_owed, ended_owed, segments_owed, first_number, first_discontinuity, line_of, said_text, ended_date_range_line, date_ranges_text, text_of}
 use Rattle.fitting.specs.Fitting.{is_clean, says_date_range, date_range_fits}
-use Rattle.playlist_write.specs.WellFormed.{is_word, version_fits, segment_fits, follows, all_follow, numbers_fit, is_mapped, sections_agree, well_formed}
+use Rattle.playlist_write.specs.WellFormed.{is_word, version_fits, segment_fits, out_numbers, numbers_fit, is_mapped, sections_agree, well_formed}
 use Rattle.playlist_write.specs.Denoted.{denoted, denoted_segment, denoted_date_range, date_range_told}
 use Rattle.playlist_write.specs.Laws.{TextDenotes}
 use Rattle.playlist_write.proofs.CleanTexts.{text, AllClean, clean_printable, lines_of_text, utf8_text}
@@ -62,34 +63,37 @@ goes_date_ranges (text ∷ texts) k h =
 start : Known
 start = known_at (nothing ∷ [])
 
-header_known : OutPlaylist → Known
+-- after the version, the target duration and the numbers
+numbers_known : OutPlaylist → Known
 unfolding start
-header_known p = record start {
-  version = Some p.version;
-  target = Some p.target;
-  sequence = Some (first_number p.segments);
-  dseq = Some (first_discontinuity p.segments);
-  kind = p.kind;
-  independent = p.independent;
+numbers_known p = record start {
+  heading = record start.heading { version = Some p.version; target = Some p.target; has_sequence = true; has_discontinuity_sequence = true };
+  standing = record start.standing { sequence = first_number p.segments; discontinuity_sequence = first_discontinuity p.segments };
 }
 
-goes_type : (kind : Option PlaylistKind) (k : Known) → k.kind ≡ None → Goes k (type_owed kind) (record k { kind = kind })
-goes_type None k e = record { allowed = tt; leads = ap (λ x. record k { kind = x }) e }
+header_known : OutPlaylist → Known
+unfolding start numbers_known
+header_known p = record (numbers_known p) {
+  heading = record (numbers_known p).heading { kind = p.kind; independent = p.independent };
+}
+
+goes_type : (kind : Option PlaylistKind) (k : Known) → k.heading.kind ≡ None → Goes k (type_owed kind) (record k { heading = record k.heading { kind = kind } })
+goes_type None k e = record { allowed = tt; leads = ap (λ x. record k { heading = record k.heading { kind = x } }) e }
 goes_type (Some kind) k e = record { allowed = (tt, ap is_some e, tt); leads = refl }
 
-goes_independent : (b : Bool) (k : Known) → k.independent ≡ false → Goes k (independent_owed b) (record k { independent = b })
-goes_independent false k e = record { allowed = tt; leads = ap (λ x. record k { independent = x }) e }
+goes_independent : (b : Bool) (k : Known) → k.heading.independent ≡ false → Goes k (independent_owed b) (record k { heading = record k.heading { independent = b } })
+goes_independent false k e = record { allowed = tt; leads = ap (λ x. record k { heading = record k.heading { independent = x } }) e }
 goes_independent true k e = record { allowed = (tt, tt, tt); leads = refl }
 
-goes_ended : (b : Bool) (k : Known) → k.ended ≡ false → Goes k (ended_owed b) (record k { ended = b })
-goes_ended false k e = record { allowed = tt; leads = ap (λ x. record k { ended = x }) e }
+goes_ended : (b : Bool) (k : Known) → k.heading.ended ≡ false → Goes k (ended_owed b) (record k { heading = record k.heading { ended = b } })
+goes_ended false k e = record { allowed = tt; leads = ap (λ x. record k { heading = record k.heading { ended = x } }) e }
 goes_ended true k e = record { allowed = (tt, e, tt); leads = refl }
 
 goes_header : (p : OutPlaylist) → (p.version == 6 || p.version == 7) ≡ true → p.target < 2 ^ 64 → first_number p.segments < 2 ^ 64 → first_discontinuity p.segments < 2 ^ 64 → Goes start (header_owed p) (header_known p)
-unfolding start header_known
+unfolding start numbers_known header_known
 goes_header p v t s d =
-    let numbers : Known = record start { version = Some p.version; target = Some p.target; sequence = Some (first_number p.segments); dseq = Some (first_discontinuity p.segments) } in
-    let rest = goes-append _ _ numbers _ _ (goes_type p.kind numbers refl) (goes_independent p.independent (record numbers { kind = p.kind }) refl) in
+    let numbers = numbers_known p in
+    let rest = goes-append _ _ numbers _ _ (goes_type p.kind numbers refl) (goes_independent p.independent (record numbers { heading = record numbers.heading { kind = p.kind } }) refl) in
     record { allowed = (v, refl, (t, refl, (s, (refl, refl), (d, (refl, refl, refl), rest.allowed)))); leads = rest.leads }
 
 -- ---- the whole
@@ -117,27 +121,27 @@ unmixed false outs h = and_left _ _ (alike_any outs h)
 -- what a reading that has come to an end is
 playlist_known : Known → Playlist
 playlist_known k = record {
-  version = unwrap_or k.version 1;
-  target = unwrap_or k.target 0;
-  kind = k.kind;
-  independent = k.independent;
-  ended = k.ended;
+  version = unwrap_or k.heading.version 1;
+  target = unwrap_or k.heading.target 0;
+  kind = k.heading.kind;
+  independent = k.heading.independent;
+  ended = k.heading.ended;
   date_ranges = k.date_ranges;
   segments = k.segments;
 }
 
-whole_reads : (said : List Said) (k : Known) → known_at said ≡ k → is_some k.target ≡ true → 0 < k.count → are_mixed k.segments ≡ false → whole (whole_fault said) said ≡ Ok (playlist_known k)
+whole_reads : (said : List Said) (k : Known) → known_at said ≡ k → is_some k.heading.target ≡ true → 0 < k.standing.media_count → are_mixed k.segments ≡ false → whole (whole_fault said) said ≡ Ok (playlist_known k)
 unfolding playlist_known
 whole_reads said k e t n m =
-    let a : is_some (latest the_target said) ≡ true = ap (λ x. is_some x.target) e ∙ t in
-    let b : has is_media said ≡ true = counted_some is_media said (subst (λ x. 0 < x.count) (sym e) n) in
+    let a : is_some (latest the_target said) ≡ true = ap (λ x. is_some x.heading.target) e ∙ t in
+    let b : has is_media said ≡ true = counted_some is_media said (subst (λ x. 0 < x.standing.media_count) (sym e) n) in
     let c : are_mixed (segments_of said) ≡ false = ap (λ x. are_mixed x.segments) e ∙ m in
     rw (a, b, c) (ap (λ x. Ok (playlist_known x)) e)
 
-numbers_after : (previous : OutSegment) (outs : List OutSegment) → all_follow previous outs ≡ true → numbers_go_on (previous.media + 1) previous.discontinuity outs ≡ true
+numbers_after : (previous : OutSegment) (outs : List OutSegment) → all_follow out_numbers previous outs ≡ true → numbers_go_on (previous.media + 1) previous.discontinuity outs ≡ true
 numbers_after previous [] h = refl
 numbers_after previous (out ∷ outs) h =
-    let a : (follows previous out ≡ true) × (all_follow out outs ≡ true) = and_parts _ _ h in
+    let a : (follows (out_numbers previous) (out_numbers out) ≡ true) × (all_follow out_numbers out outs ≡ true) = and_parts _ _ h in
     let b : ((out.media == previous.media + 1) ≡ true) × ((out.discontinuity == previous.discontinuity + out.steps) ≡ true) = and_parts _ _ a.0 in
     let m : out.media ≡ previous.media + 1 = eqb-true _ _ b.0 in
     and_from _ _ a.0 (subst (λ n. numbers_go_on (n + 1) out.discontinuity outs ≡ true) m (numbers_after out outs a.1))
@@ -145,7 +149,7 @@ numbers_after previous (out ∷ outs) h =
 numbers_start : (outs : List OutSegment) → numbers_fit outs ≡ true → numbers_go_on (first_number outs) (first_discontinuity outs) outs ≡ true
 numbers_start [] h = refl
 numbers_start (out ∷ outs) h =
-    let a : (nat_le out.steps out.discontinuity ≡ true) × (all_follow out outs ≡ true) = and_parts _ _ h in
+    let a : (nat_le out.steps out.discontinuity ≡ true) × (all_follow out_numbers out outs ≡ true) = and_parts _ _ h in
     let l : out.steps ≤ out.discontinuity = leb-true _ _ a.0 in
     let d : (out.discontinuity == out.discontinuity - out.steps + out.steps) ≡ true = eq-eqb out.discontinuity (out.discontinuity - out.steps + out.steps) (omega arith) in
     and_from _ _ (and_from _ _ (eq-eqb out.media out.media refl) d) (numbers_after out outs a.1)
@@ -220,13 +224,13 @@ module _ (base : Parts) (p : OutPlaylist) where
   record Arrives : Type 0 where
     end : Known
     goes : Goes start (owed p) end
-    target : is_some end.target ≡ true
-    some : 0 < end.count
+    target : is_some end.heading.target ≡ true
+    some : 0 < end.standing.media_count
     unmixed : are_mixed end.segments ≡ false
     playlist : playlist_known end ≡ denoted p
 
   arrives : well_formed p ≡ true → Arrives
-  unfolding start header_known playlist_known
+  unfolding start numbers_known header_known playlist_known
   arrives w =
       let a = and_parts _ _ w in let b = and_parts _ _ a.0 in let c = and_parts _ _ b.0 in let d = and_parts _ _ c.0 in
       let f : (version_fits p.version ≡ true) × (is_word p.target ≡ true) = and_parts _ _ d.0 in
@@ -241,7 +245,7 @@ module _ (base : Parts) (p : OutPlaylist) where
       let four = goes_ended p.ended between refl in
       let counted : 0 < three.count = omega (arith, three.counted) in
       record {
-        end = record between { ended = p.ended };
+        end = record between { heading = record between.heading { ended = p.ended } };
         goes = goes-append _ _ start (header_known p) _ one (goes-append _ _ (header_known p) h _ two (goes-append _ _ h between _ three.goes four));
         target = refl;
         some = counted;

@@ -1,8 +1,9 @@
 -- Which playlists can be written so that the text says them.
-use Rattle.std.specs.Prelude.{ℕ, ◌+◌, ◌^◌, Bool, true, false, not, ◌&&◌, ◌||◌, ◌==◌, nat_lt, nat_le, List, [], ◌∷◌, is_some}
+use Rattle.std.specs.Prelude.{ℕ, ◌^◌, Bool, not, ◌&&◌, ◌||◌, ◌==◌, nat_lt, List, is_some}
 use Rattle.std.specs.List.{list_any, list_all}
 use Rattle.instants.specs.Instant.{in_range}
 use Rattle.playlist_meaning.specs.declared.Segment.{Segment}
+use Rattle.playlist_meaning.specs.Numbering.{Numbers, numbers_rise}
 use Rattle.stitcher.specs.declared.OutSegment.{OutSegment}
 use Rattle.playlist_write.specs.declared.OutPlaylist.{OutPlaylist}
 pub use Rattle.fitting.specs.Fitting.{duration_fits}
@@ -27,18 +28,11 @@ segment_fits out =
 
 -- ---- numbers (4.3.3.2, 4.3.3.3)
 
--- media numbers go up by one, discontinuity numbers by the steps between
-abbrev pub follows : OutSegment → OutSegment → Bool
-follows previous next = next.media == previous.media + 1 && next.discontinuity == previous.discontinuity + next.steps
+abbrev pub out_numbers : OutSegment → Numbers
+out_numbers out = record { media = out.media; discontinuity = out.discontinuity; steps = out.steps }
 
-abbrev pub all_follow : OutSegment → List OutSegment → Bool
-all_follow previous [] = true
-all_follow previous (next ∷ later) = follows previous next && all_follow next later
-
--- there is a first segment, its discontinuity number is at least its steps, and the others follow
 abbrev pub numbers_fit : List OutSegment → Bool
-numbers_fit [] = false
-numbers_fit (first ∷ later) = nat_le first.steps first.discontinuity && all_follow first later
+numbers_fit = numbers_rise out_numbers
 
 -- ---- the whole
 

@@ -3,7 +3,8 @@ ghost use Rattle.std.specs.Prelude.{◌≡◌, ◌==◌, ◌+◌, IfOk, true, fa
 ghost use Rattle.std.specs.List.{list_all, list_any};
 ghost use Rattle.instants.specs.Instant.{in_range};
 ghost use Rattle.fitting.specs.Fitting.{if_some, section_fits};
-ghost use Rattle.playlist_write.specs.WellFormed.{well_formed, fits_without_date_ranges, numbers_are_words, resource_fits, segment_fits, follows, all_follow, numbers_fit, is_mapped, sections_agree, version_fits, is_word};
+ghost use Rattle.playlist_meaning.specs.Numbering.{follows, all_follow};
+ghost use Rattle.playlist_write.specs.WellFormed.{well_formed, fits_without_date_ranges, numbers_are_words, resource_fits, segment_fits, out_numbers, numbers_fit, is_mapped, sections_agree, version_fits, is_word};
 
 use crate::OutPlaylist;
 use crate::date_ranges::date_ranges_fit;
@@ -80,14 +81,14 @@ fn is_sum(sum: u64, one: u64, other: u64) -> bool
 
 // Whether the media number goes up by one, and the discontinuity number by the steps.
 fn follows(previous: &OutSegment, next: &OutSegment) -> bool
-    ensures { result ≡ follows previous.now next.now }
+    ensures { result ≡ follows (out_numbers previous.now) (out_numbers next.now) }
 {
     is_sum(next.media, previous.media, 1)
         && is_sum(next.discontinuity, previous.discontinuity, next.steps)
 }
 
 fn all_follow(first: &OutSegment, later: &[OutSegment]) -> bool
-    ensures { result ≡ all_follow first.now later.now }
+    ensures { result ≡ all_follow out_numbers first.now later.now }
 {
     let mut previous = first;
     for next in later {

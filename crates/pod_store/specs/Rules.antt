@@ -5,7 +5,7 @@ use Rattle.playlist_meaning.specs.declared.ByteRange.{ByteRange}
 use Rattle.playlist_meaning.specs.declared.InitSection.{InitSection}
 use Rattle.playlist_meaning.specs.declared.Key.{Key}
 use Rattle.playlist_meaning.specs.Pods.{PodSegment, Ad}
-use Rattle.fitting.specs.Fitting.{iv_fits}
+use Rattle.fitting.specs.Fitting.{iv_fits, duration_fits}
 use Rattle.pod_store.specs.Pods.{is_uri, is_method, is_format, segment_count}
 
 abbrev pub range_fits : Option ByteRange → Bool
@@ -14,7 +14,7 @@ range_fits (Some r) = nat_lt (r.length + r.offset) (2 ^ 64)
 
 -- a URI, a range that ends below 2^64, less than 1,000,000 s
 abbrev pub segment_keeps : PodSegment → Bool
-segment_keeps s = is_uri s.uri && range_fits s.range && nat_lt s.duration (10 ^ 15)
+segment_keeps s = is_uri s.uri && range_fits s.range && duration_fits s.duration
 
 -- an IV of 128 bits
 abbrev pub iv_keeps : Option ℕ → Bool

@@ -8,7 +8,8 @@ use Rattle.playlist_meaning.specs.LookBack.{latest, the_sequence, the_discontinu
 use Rattle.playlist_meaning.specs.Reading.{has}
 use Rattle.playlist_meaning.proofs.SaidCounts.{none_counted, some_counted}
 use Rattle.playlist_write.specs.WellFormed.{is_word}
-use Rattle.reading_laws.specs.Read.{all_follow, numbers_read}
+use Rattle.playlist_meaning.specs.Numbering.{segment_numbers, all_follow}
+use Rattle.reading_laws.specs.Read.{numbers_read}
 use Rattle.reading_laws.proofs.Lines.{is_good, all_good}
 
 pub first_number : List Said → ℕ
@@ -79,7 +80,7 @@ unfolding first_number first_discontinuity Runs
 numbered [] h = record { last = 0; runs = refl; stands = refl; counted = refl }
 numbered (said ∷ before) h = let a = and_parts _ _ h in next before said (numbered before a.1) a.0
 
-all_rise : (number : ℕ) (s : Segment) (later : List Segment) (last : ℕ) → number ≡ s.number + 1 → Runs number s.discontinuity later last → all_follow s later ≡ true
+all_rise : (number : ℕ) (s : Segment) (later : List Segment) (last : ℕ) → number ≡ s.number + 1 → Runs number s.discontinuity later last → all_follow segment_numbers s later ≡ true
 unfolding Runs
 all_rise number s [] last h r = refl
 all_rise number s (t ∷ later) last h (a, b, rest) =

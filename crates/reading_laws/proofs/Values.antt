@@ -1,17 +1,12 @@
 -- What the values of keys, sections, ranges and URIs are that are read.
-use Rattle.std.proofs.Common.{◌≡◌, ℕ, ◌<◌, ◌≤◌, ◌^◌, Bool, true, false, not, cond, List, [], ◌∷◌, map, drop, length, refl, ap, sym, ◌∙◌, arith}
-use Rattle.std.specs.Prelude.{Ok, Err, Option, Some, None, unwrap_or, codes, ◌&&◌, ◌==◌, filter}
-use Rattle.std.specs.List.{list_any, list_all, before_first, after_first}
-use Rattle.std.specs.Char.{is_ascii_hexdigit, digit_value}
-use Rattle.std.specs.Str.Parse.{digits_value, AllDigits}
-use Rattle.std.proofs.lemmas.Bool.{and_from, and_parts, lt-ltb, leb-true, not_from_false, not-false}
-use Rattle.std.proofs.lemmas.Bool.Decides.{nat_tests}
-use Rattle.std.proofs.lemmas.Int.Digits.{digits_value-lt}
-use Rattle.std.proofs.Math.Nat.{pow-le-pow_right}
+use Rattle.std.proofs.Common.{◌≡◌, ℕ, Bool, true, false, not, cond, List, [], map, refl, ap, sym, ◌∙◌}
+use Rattle.std.specs.Prelude.{Ok, Err, Option, Some, None, unwrap_or, codes, ◌==◌, filter}
+use Rattle.std.specs.List.{list_any, before_first, after_first}
+use Rattle.std.proofs.lemmas.Bool.{and_from, and_parts, not_from_false, not-false}
 use Rattle.url.specs.Parts.{Parts, serialize}
 use Rattle.url.specs.Parser.{Parsed, parse_url}
 use Rattle.attr_list.specs.Attributes.{Pair, is_value}
-use Rattle.attr_list.specs.Numbers.{decimal_of, hex_of, has_up_to, has_hex_prefix}
+use Rattle.attr_list.specs.Numbers.{decimal_of, hex_of}
 use Rattle.playlist_meaning.specs.declared.FaultKind.TheVariants as fault
 use Rattle.playlist_meaning.specs.Uri.{has_scheme, can_be_written, joined, resolved}
 use Rattle.playlist_meaning.specs.Said.{or_fault, value_if, iv_of, quoted_of, uri_of, range_of, section_range, range_end_fits, key_attr, is_key_attribute}

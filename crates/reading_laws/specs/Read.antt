@@ -1,5 +1,5 @@
 -- What holds of each playlist that is read, in the terms in which one can be written (RFC 8216, section 4.3).
-use Rattle.std.specs.Prelude.{◌≡◌, ℕ, ◌+◌, Bool, true, false, not, ◌&&◌, ◌||◌, ◌==◌, nat_le, List, [], ◌∷◌, Ok}
+use Rattle.std.specs.Prelude.{◌≡◌, ℕ, Bool, true, not, ◌&&◌, ◌||◌, nat_le, List, Ok}
 use Rattle.std.specs.List.{list_any, list_all, AllByRecursion}
 use Rattle.std.specs.Str.{is_utf8}
 use Rattle.attr_list.specs.Attributes.{is_value}
@@ -10,6 +10,7 @@ use Rattle.instants.specs.Instant.{in_range}
 use Rattle.playlist_meaning.specs.Said.{Reader, date_range, date_range_said}
 use Rattle.playlist_meaning.specs.Reading.{has_section, needs_iv}
 use Rattle.playlist_meaning.specs.LookBack.{are_sorted}
+use Rattle.playlist_meaning.specs.Numbering.{segment_numbers, numbers_rise}
 use Rattle.playlist_meaning.specs.Lines.{has_control}
 use Rattle.playlist_meaning.specs.Uri.{has_scheme}
 use Rattle.playlist_meaning.specs.declared.Key.{Key}
@@ -84,18 +85,8 @@ segment_can_be_written s =
 
 -- ---- numbers (4.3.3.2, 4.3.3.3)
 
--- media numbers go up by one, discontinuity numbers by the segment's own steps
-abbrev pub follows : Segment → Segment → Bool
-follows previous next = next.number == previous.number + 1 && next.discontinuity == previous.discontinuity + next.steps
-
-abbrev pub all_follow : Segment → List Segment → Bool
-all_follow previous [] = true
-all_follow previous (next ∷ later) = follows previous next && all_follow next later
-
--- there is a first segment, its discontinuity number is at least its steps, and the others follow
 abbrev pub numbers_read : List Segment → Bool
-numbers_read [] = false
-numbers_read (first ∷ later) = nat_le first.steps first.discontinuity && all_follow first later
+numbers_read = numbers_rise segment_numbers
 
 -- ---- the whole
 

@@ -3,6 +3,7 @@ use Rattle.std.proofs.Common.{◌≡◌, ℕ, ◌+◌, ◌^◌, ◌<◌, false, 
 use Rattle.std.specs.Prelude.{ℤ, Option, nat_lt}
 use Rattle.std.proofs.lemmas.Bool.Decides.{nat_tests}
 use Rattle.url.specs.Parts.{Parts}
+use Rattle.playlist_meaning.specs.declared.limits.TheConstants.{MOST_SEGMENTS}
 use Rattle.playlist_meaning.specs.declared.Key.{Key}
 use Rattle.playlist_meaning.specs.declared.ByteRange.{ByteRange}
 use Rattle.playlist_meaning.specs.declared.Segment.{Segment}
@@ -37,13 +38,13 @@ built s uri range own number discontinuity steps keys section time n d t k c w =
 
 -- a URI line whose segment is not one too many, which has a duration, a number, a resource and a range
 pub record Taken (s : Standing) (base : Parts) (reference uri : List ℕ) (range : Option ByteRange) (own : ℕ × List ℕ) : Type 0 where
-  pub room : nat_lt 10000 (s.media_count + 1) ≡ false
+  pub room : nat_lt MOST_SEGMENTS (s.media_count + 1) ≡ false
   pub own_is : s.duration ≡ Some own
   pub number : s.sequence + s.media_count < 2 ^ 64
   pub resource : uri_of base reference ≡ Ok uri
   pub part : range_from s.range uri s.extent ≡ Ok range
 
-said_by : (base : Parts) (before : List Said) (reference uri : List ℕ) (range : Option ByteRange) (own : ℕ × List ℕ) → nat_lt 10000 (count is_media before + 1) ≡ false → own_duration before ≡ Some own → passes (number_at before) ≡ false
+said_by : (base : Parts) (before : List Said) (reference uri : List ℕ) (range : Option ByteRange) (own : ℕ × List ℕ) → nat_lt MOST_SEGMENTS (count is_media before + 1) ≡ false → own_duration before ≡ Some own → passes (number_at before) ≡ false
     → uri_of base reference ≡ Ok uri → range_at before uri ≡ Ok range → said_by_uri limited base before reference ≡ Ok (media uri)
 said_by base before reference uri range own room is number resource part = rw (room, is, number, resource, part) refl
 
@@ -60,7 +61,7 @@ pub taken : (s : Standing) (base : Parts) (before : List Said) (reference uri : 
     → (said_by_uri limited base before reference ≡ Ok (media uri)) × (segment_from s uri range own ≡ segment_at before uri)
     × (after_segment (record { base = base; standing = s }) (extent_with uri range) ≡ running_at base (media uri ∷ before))
 taken s base before reference uri range own t e =
-    let room = ap (λ (x : Standing). nat_lt 10000 (x.media_count + 1)) (sym e) ∙ t.room in
+    let room = ap (λ (x : Standing). nat_lt MOST_SEGMENTS (x.media_count + 1)) (sym e) ∙ t.room in
     let is = ap (λ (x : Standing). x.duration) (sym e) ∙ t.own_is in
     let number = ap (λ (x : Standing). passes (x.sequence + x.media_count)) (sym e) ∙ not_past _ t.number in
     let part = ap (λ (x : Standing). range_from x.range uri x.extent) (sym e) ∙ t.part in (

@@ -6,6 +6,7 @@ use Rattle.playlist_meaning.specs.declared.Key.{Key}
 use Rattle.playlist_meaning.specs.declared.KeyAttr.{KeyAttr}
 use Rattle.playlist_meaning.specs.Said.{Said, section, Outcome, refuse_if, over, is_key_attribute, key_attr}
 use Rattle.playlist_meaning.specs.LookBack.{put_key}
+use Rattle.playlist_meaning.specs.Reading.{limited}
 use Rattle.segment_state.specs.Attributes.{pairs_of}
 use Rattle.segment_state.specs.declared.tags.SectionTag.{SectionTag}
 
@@ -16,6 +17,6 @@ section_tag_said tag = section tag.uri tag.range
 abbrev pub others_of : List Attr → List KeyAttr
 others_of attrs = map key_attr (filter (λ pair. not (is_key_attribute pair)) (pairs_of attrs))
 
--- the keys in force after one more, where at most 16 formats are in force then
+-- the keys in force after one more, where no more formats than the limit are in force then
 abbrev pub with_key : Key → List Key → Outcome (List Key)
-with_key k keys = refuse_if (over (Some 16) (length (put_key k keys))) fault.TooMany (Ok (put_key k keys))
+with_key k keys = refuse_if (over limited.formats (length (put_key k keys))) fault.TooMany (Ok (put_key k keys))

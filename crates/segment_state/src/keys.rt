@@ -5,11 +5,8 @@ ghost use Rattle.playlist_meaning.specs.LookBack.{effective_key, is_before, with
 ghost use Rattle.playlist_meaning.specs.Refusals.{Refuses};
 ghost use Rattle.segment_state.specs.Tags.{with_key};
 
-use playlist_meaning::{FaultKind, Key};
+use playlist_meaning::{FaultKind, Key, MOST_FORMATS};
 use std::alloc::{AllocError, Global};
-
-/// How many formats of keys may be in force.
-const MOST_FORMATS: usize = 16;
 
 /// A copy of keys, which shares their texts. Fails only where memory is refused.
 pub fn copied_keys(alloc: Global, keys: &[Key]) -> Result<Vec<Key>, AllocError>

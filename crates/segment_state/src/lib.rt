@@ -18,8 +18,8 @@ use crate::references::References;
 use crate::tags::{key_said, range_of, section_said};
 use fixed_duration::Nanos;
 use playlist_meaning::{
-    Base, ByteRange, FaultKind, InitSection, Instant, Items, Key, KeyTag, Keys, Segment, Shared,
-    Text, is_iv_needed,
+    Base, ByteRange, FaultKind, InitSection, Instant, Items, Key, KeyTag, Keys, MOST_SEGMENTS,
+    Segment, Shared, Text, is_iv_needed,
 };
 use std::alloc::{AllocError, Global};
 use std::marker::Model;
@@ -29,9 +29,6 @@ mod keys;
 mod references;
 mod tags;
 mod times;
-
-/// How many segments a playlist may have.
-const MOST_SEGMENTS: u64 = 10_000;
 
 /// The last segment's resource, and its range of it.
 #[derive(Drop)]
@@ -60,6 +57,7 @@ pub struct State<'a> {
 
 impl<'a> Model for State<'a> {
     ghost use Rattle.std.specs.Prelude.{◌+◌, ◌^◌, ◌<◌, ◌≤◌};
+    ghost use Rattle.playlist_meaning.specs.declared.limits.TheConstants.{MOST_SEGMENTS};
     ghost use Rattle.segment_state.specs.Running.{Running};
     ghost use Rattle.segment_state.specs.Views.{running_of};
 
@@ -67,7 +65,7 @@ impl<'a> Model for State<'a> {
 
     ghost view = { running_of };
 
-    ghost invariant = { λ a. (a.discontinuity_sequence + a.discontinuities < 2 ^ 64) × (a.steps ≤ a.discontinuities) × (a.media ≤ 10000) };
+    ghost invariant = { λ a. (a.discontinuity_sequence + a.discontinuities < 2 ^ 64) × (a.steps ≤ a.discontinuities) × (a.media ≤ MOST_SEGMENTS) };
 }
 
 impl<'a> State<'a> {
@@ -187,7 +185,7 @@ impl<'a> State<'a> {
 
     // Whether one more segment is one too many.
     fn is_full(&self) -> bool
-        ensures { result ≡ nat_lt 10000 (self.now.standing.media_count + 1) }
+        ensures { result ≡ nat_lt MOST_SEGMENTS (self.now.standing.media_count + 1) }
     {
         self.media + 1 > MOST_SEGMENTS
     }
@@ -235,7 +233,7 @@ impl<'a> State<'a> {
 
     // What stands after the URI line of this segment.
     fn segment_stands(&mut self, last: Option<Extent>)
-        requires { self.old.standing.media_count < 10000 }
+        requires { self.old.standing.media_count < MOST_SEGMENTS }
         ensures { self.new ≡ after_segment self.old (option_map extent_of last) }
     {
         self.media += 1;

@@ -14,10 +14,6 @@ pub refuses_more : (e : StitchFault) {P Q : Type 0} → RefusesNumber e P → (P
 refuses_more NumberRange p f = f p
 refuses_more OutOfMemory p f = p
 
-pub on_err : {A : Type 0} {P Q : Type 0} (r : Result A StitchFault) → IfErr r (λ e. RefusesNumber e P) → (P → Q) → IfErr r (λ e. RefusesNumber e Q)
-on_err (Ok x) p f = p
-on_err (Err e) p f = refuses_more e p f
-
 -- a fault is handed on
 pub handed_on : {A : Type 0} (r : Result A StitchFault) (e : StitchFault) {P Q : Type 0} → IsErrAnd r (λ d. d ≡ e) → RefusesNumber e P → (P → Q) → IfErr r (λ d. RefusesNumber d Q)
 handed_on (Ok x) e h p f = absurd h

@@ -1,6 +1,6 @@
 -- What a list comes to when pieces are put after it.
 use Rattle.std.proofs.Common.{◌≡◌, Bool, true, false, List, [], ◌∷◌, ◌++◌, map, refl, ap, sym, ◌∙◌, append_assoc, length, arith}
-use Rattle.std.specs.Prelude.{Some, None, ◌&&◌}
+use Rattle.std.specs.Prelude.{Some, ◌&&◌}
 use Rattle.std.specs.List.{list_all}
 use Rattle.std.proofs.lemmas.List.{append-nil}
 use Rattle.std.proofs.lemmas.List.Folds.{list_all-append}
@@ -8,10 +8,6 @@ use Rattle.playlist_meaning.specs.Stitched.{Piece, Numbers, Item}
 use Rattle.stitcher.specs.Written.{written_item, written_segment}
 use Rattle.stitcher.specs.StitchedSegments.{item_fits}
 use Rattle.stitcher.specs.Making.{Made, numbers_fit, numbers_after, last_of, origin_of, counted, comes_to, Puts, Passes, pushed}
-
-and_false : (b : Bool) → (b && false) ≡ false
-and_false true = refl
-and_false false = refl
 
 false_and : (a b c : Bool) → a ≡ true → b ≡ true → (a && (b && true)) ≡ true
 false_and true true c p q = refl
@@ -31,13 +27,6 @@ puts_one made p n same fits = record {
       ∙ sym (append_assoc made.items (written_item (numbered_piece p n) ∷ []) (map written_item (counted made.first (Some (last_of p n)) later)));
   fit = λ h. list_all-append item_fits made.items _ ∙ false_and _ _ true h fits;
 }
-
--- one piece more, whose numbers do not
-pub passes_one : (made : Made) (p : Piece) → numbers_fit (numbers_after made.first made.last p) ≡ false → Passes made (p ∷ [])
-passes_one made p h later =
-    list_all-append item_fits made.items _
-    ∙ (ap (λ b. list_all item_fits made.items && (b && list_all item_fits (map written_item (counted made.first (Some (last_of p (numbers_after made.first made.last p))) later)))) h
-    ∙ and_false (list_all item_fits made.items))
 
 -- nothing
 pub puts_none : (made : Made) → Puts made made []
@@ -86,10 +75,6 @@ passes_there old mid all pieces rest w p later =
     ∙ (ap (λ t. list_all item_fits (comes_to mid t)) (append_assoc pieces rest later) ∙ p (rest ++ later))
 
 -- ---- a whole walk
-
-pub comes_from : (made : Made) (first : Numbers) (pieces : List Piece) → made ≡ record { first = first; last = None; items = [] }
-    → map written_item (counted first None pieces) ≡ comes_to made pieces
-comes_from made first pieces e = sym (ap (λ m. comes_to m pieces) e)
 
 pub comes_whole : (old new : Made) (all : List Piece) → Walks old new all [] → comes_to old all ≡ new.items
 comes_whole old new all w = ap (comes_to old) (sym (append-nil all)) ∙ (w.comes [] ∙ append-nil new.items)

@@ -6,12 +6,13 @@ ghost use Rattle.playlist_meaning.specs.Instants.{bounded, ends_at, instants_of}
 ghost use Rattle.playlist_meaning.specs.LookBack.{or_earlier};
 ghost use Rattle.timeline.specs.Reckoned.{clamped, stack_of};
 ghost use Rattle.timeline.specs.Timed.{with_time, timed};
-ghost use Rattle.timeline.specs.Laws.{SaidAreInRange, BegunAreInRange};
 
 use fixed_duration::Nanos;
 use instants::FIRST_INSTANT;
 use playlist_meaning::{Instant, Segment};
 use std::alloc::{AllocError, Global};
+
+pub mod laws;
 
 // The instant, unless it lies outside the range.
 fn bounded(nanos: Option<i128>) -> Option<Instant>
@@ -129,9 +130,3 @@ pub fn timed(alloc: Global, segments: Vec<Segment>) -> Result<Vec<Segment>, Allo
         .map(with_time)
         .collect(alloc)
 }
-
-/// The instants that a text says, and those at which segments begin, are in range.
-pub fn instants_law()
-    ensures said { SaidAreInRange }
-    ensures begun { BegunAreInRange }
-{}

@@ -1,6 +1,7 @@
 use Rattle.std.proofs.Common.{◌≡◌, drop}
-use Rattle.playlist_write.specs.WellFormed.{all_follow}
+use Rattle.playlist_meaning.specs.Numbering.{all_follow}
+use Rattle.playlist_write.specs.WellFormed.{out_numbers}
 use Rattle.playlist_write.proofs.well_formed.all_follow.Given as goal
 
 abbrev pub invariant-loop-next : goal.invariant-loop-next
-invariant-loop-next l = all_follow l.previous (drop l.next-index l.later) ≡ all_follow l.first l.later
+invariant-loop-next l = all_follow out_numbers l.previous (drop l.next-index l.later) ≡ all_follow out_numbers l.first l.later

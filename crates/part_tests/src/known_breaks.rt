@@ -1,5 +1,5 @@
 //! Known breaks call by call: worked values, what no memory is needed for, and sections that don't read.
-use crate::{FindFault, Knowledge, Why};
+use break_finder::{FindFault, Knowledge, Why};
 use fixed_duration::Nanos;
 use playlist_meaning::{DateRange, Instant, Items, Playlist, Text};
 use pod_store::{DecisionFault, PodStore, read_decisions};
