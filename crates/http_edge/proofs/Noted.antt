@@ -28,13 +28,3 @@ noted id texts text = by (list_any (same_text text) texts) refl
     by : (b : Bool) → list_any (same_text text) texts ≡ b → has_text (cond b texts (texts ++ text ∷ [])) id ≡ (has_text texts id || is_text id text)
     by true h = there (is_text id text) refl h
     by false h = list_any-append (is_text id) texts (text ∷ []) ∙ ap (λ b. has_text texts id || b) (or_false (is_text id text))
-
-pub unmarked_left : (texts : List (Bor (List ℕ))) (marked : List Marked) → ((id : List ℕ) → has_text texts id ≡ list_any (is_marked_with id) marked) → (date_ranges : List DateRange)
-    → ranges_left texts date_ranges ≡ map date_range_text (filter (is_of_another marked) date_ranges)
-unmarked_left texts marked h date_ranges = ap (map date_range_text) (left date_ranges)
-  where
-    left : (date_ranges : List DateRange) → filter (is_unmarked texts) date_ranges ≡ filter (is_of_another marked) date_ranges
-    left [] = refl
-    left (r ∷ later) =
-        ap (λ b. cond (not b) (r ∷ filter (is_unmarked texts) later) (filter (is_unmarked texts) later)) (h r.id)
-        ∙ ap (λ rs. cond (is_of_another marked r) (r ∷ rs) rs) (left later)

@@ -19,7 +19,8 @@ use Rattle.stitcher.specs.Written.{written_item}
 use Rattle.stitcher.specs.StitchedSegments.{item_fits, AreDecided}
 use Rattle.stitcher.specs.Making.{counted, pieces_on}
 use Rattle.stitcher.proofs.Runs.{in_order}
-use Rattle.reading_laws.specs.Read.{segment_reads, follows, all_follow, numbers_read, AreRead}
+use Rattle.playlist_meaning.specs.Numbering.{segment_numbers, follows, all_follow}
+use Rattle.reading_laws.specs.Read.{segment_reads, numbers_read, AreRead}
 use Rattle.live_meaning.specs.Marking.{Moment, limits}
 use Rattle.live_meaning.specs.Live.{moment}
 use Rattle.live_counters.specs.Marking.{mark_on, next_id}
@@ -83,7 +84,7 @@ numbers_so media discontinuity steps = record { media = media; discontinuity = d
 same_numbers : (a b c d e f : ℕ) → a ≡ b → c ≡ d → e ≡ f → numbers_so a c e ≡ numbers_so b d f
 same_numbers a b c d e f x y z = cc
 
-next_own : (previous s : Segment) → follows previous s ≡ true → next_numbers (own previous) (s.discontinuity - previous.discontinuity) ≡ own s
+next_own : (previous s : Segment) → follows (segment_numbers previous) (segment_numbers s) ≡ true → next_numbers (own previous) (s.discontinuity - previous.discontinuity) ≡ own s
 next_own previous s h =
     let a = and_parts _ _ h in
     let number : s.number ≡ previous.number + 1 = eqb-true _ _ a.0 in
@@ -94,7 +95,7 @@ next_own previous s h =
 abbrev numbered_so : Segment → Option ℤ → Numbers → OutSegment
 numbered_so s begun n = record { segment = s; media = n.media; discontinuity = n.discontinuity; steps = n.steps; time = begun }
 
-counted_on : (first : Numbers) (ended : Option ℤ) (previous : Segment) (later : List Segment) → all_follow previous later ≡ true
+counted_on : (first : Numbers) (ended : Option ℤ) (previous : Segment) (later : List Segment) → all_follow segment_numbers previous later ≡ true
     → map written_item (counted first (Some (record { numbers = own previous; origin = Some previous.discontinuity })) (pieces_on [] None (unmarked ended later)))
     ≡ map owed_segment (zip later (instants_after ended later))
 counted_on first ended previous [] h = refl

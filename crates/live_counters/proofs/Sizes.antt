@@ -39,10 +39,3 @@ ads_size mark (ad ∷ ads) =
 
 pub begun_pod : (store : List Entry) (m : Marked) (id : List ℕ) (pod : Pod) → m.mark ≡ Some id → pod_for store id ≡ Some pod → length (begun store m m.mark) ≡ sum (map segment_count pod.ads)
 begun_pod store m id pod e f = ap (λ o. length (begun store m o)) e ∙ (ap (λ o. length (pod_with id o)) f ∙ ads_size (record { id = id; pod = pod }) pod.ads)
-
-pub begun_none : (store : List Entry) (m : Marked) (id : List ℕ) → m.mark ≡ Some id → pod_for store id ≡ None → length (begun store m m.mark) ≡ 0
-begun_none store m id e f = ap (λ o. length (begun store m o)) e ∙ ap (λ o. length (pod_with id o)) f
-
-pub step_size : (store : List Entry) (previous : Option (List ℕ)) (m : Marked) (later : List Marked)
-    → length (pieces_on store previous (m ∷ later)) ≡ length (cond (is_same_run m.mark previous) [] (begun store m m.mark)) + length (pieces_on store m.mark later)
-step_size store previous m later = length-append (pieces_at store previous m) (pieces_on store m.mark later)

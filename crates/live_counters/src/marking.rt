@@ -92,7 +92,7 @@ fn entered_id(
 }
 
 // The first break but this one that is entered at an instant.
-fn entered_after(
+fn entered_since(
     alloc: Global,
     limits: &Limits,
     knowledge: &Knowledge,
@@ -116,7 +116,7 @@ fn entered_after(
     ensures { IfOk result (λ id. id ≡ entered (record { tolerance = limits.now.tolerance; target = limits.now.target; mapped = limits.now.mapped; last = last.now }) store.now knowledge.now instant) }
 {
     match last {
-        Some(last) => entered_after(alloc, limits, knowledge, store, last.as_str(), instant),
+        Some(last) => entered_since(alloc, limits, knowledge, store, last.as_str(), instant),
         None => entered_id(alloc, limits, knowledge, store, None, instant),
     }
 }

@@ -7,7 +7,7 @@ use Rattle.playlist_meaning.specs.declared.Segment.{Segment}
 use Rattle.playlist_meaning.specs.declared.Playlist.{Playlist}
 use Rattle.playlist_meaning.specs.Pods.{Pod}
 use Rattle.playlist_meaning.specs.Reading.{limited, has_section}
-use Rattle.reading_laws.specs.Read as read
+use Rattle.playlist_meaning.specs.Numbering.{segment_numbers, follows, all_follow}
 use Rattle.reading_laws.specs.Read.{numbers_read, sections_agree, AreRead}
 use Rattle.live_meaning.specs.Successor.{first_number, is_mapped}
 use Rattle.live_meaning.specs.Sound.{RiseFrom, IsSoundPlaylist, IsSoundPod, AllPods, IsSoundEvent}
@@ -21,10 +21,10 @@ pub all_more : {A : Type 0} (P Q : A → Type 0) (xs : List A) → ((x : A) → 
 all_more P Q [] f h = tt
 all_more P Q (x ∷ xs) f h = (f x h.0, all_more P Q xs f h.1)
 
-rise : (s : Segment) (later : List Segment) → read.all_follow s later ≡ true → RiseFrom (s.number + 1) later
+rise : (s : Segment) (later : List Segment) → all_follow segment_numbers s later ≡ true → RiseFrom (s.number + 1) later
 rise s [] h = tt
 rise s (t ∷ later) h =
-    let a = and_parts (read.follows s t) (read.all_follow t later) h in
+    let a = and_parts (follows (segment_numbers s) (segment_numbers t)) (all_follow segment_numbers t later) h in
     let n : t.number ≡ s.number + 1 = eqb-true t.number (s.number + 1) (and_parts _ _ a.0).0 in
     (n, subst (λ k. RiseFrom k later) (ap (λ k. k + 1) n) (rise t later a.1))
 

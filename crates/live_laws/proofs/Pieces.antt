@@ -16,7 +16,8 @@ use Rattle.playlist_meaning.specs.Stitched.{Piece, is_kept, with_keys, ad_piece,
 use Rattle.stitcher.specs.declared.OutSegment.{OutSegment}
 use Rattle.stitcher.specs.Written.{written_item}
 use Rattle.fitting.specs.Fitting.{if_some, is_clean, uri_fits, range_fits, effective_keys_fit, section_fits}
-use Rattle.playlist_write.specs.WellFormed.{resource_fits, duration_fits, segment_fits, follows, all_follow, numbers_fit, is_mapped, sections_agree}
+use Rattle.playlist_meaning.specs.Numbering.{follows, all_follow}
+use Rattle.playlist_write.specs.WellFormed.{resource_fits, duration_fits, segment_fits, out_numbers, numbers_fit, is_mapped, sections_agree}
 use Rattle.pod_store.specs.Laws.{segment_can_be_written, ad_can_be_written}
 use Rattle.live_laws.proofs.Writable.{stitched_ad, stitched_ads, pod_can_be_written}
 use Rattle.live_laws.proofs.AllPods.{OfMark}
@@ -134,9 +135,9 @@ all_written (item ∷ items) = ap (λ b. segment_fits (written_item item) && b) 
 -- the newest first: each follows the one after it, and the last has no more steps than its discontinuity number
 abbrev pub all_fall : OutSegment → List OutSegment → Bool
 all_fall x [] = nat_le x.steps x.discontinuity
-all_fall x (y ∷ before) = follows y x && all_fall y before
+all_fall x (y ∷ before) = follows (out_numbers y) (out_numbers x) && all_fall y before
 
-pub turned_fit : (before : List OutSegment) (x : OutSegment) (later : List OutSegment) → all_fall x before ≡ true → all_follow x later ≡ true → numbers_fit (reverse_aux before (x ∷ later)) ≡ true
+pub turned_fit : (before : List OutSegment) (x : OutSegment) (later : List OutSegment) → all_fall x before ≡ true → all_follow out_numbers x later ≡ true → numbers_fit (reverse_aux before (x ∷ later)) ≡ true
 turned_fit [] x later h k = and_from _ _ h k
 turned_fit (y ∷ before) x later h k = let a = and_parts _ _ h in turned_fit before y (x ∷ later) a.1 (and_from _ _ a.0 k)
 

@@ -107,9 +107,6 @@ alike s t e = step (same_segment s t) refl e
     step true same k = ap (λ (u : Segment). u.discontinuity) ((same_segment_decides s t).0 same)
     step false same k = absurd (cc)
 
-same_numbered : Segment → Segment → Bool
-same_numbered s t = t.number == s.number
-
 record Found (s : Segment) (old : List Segment) : Type 0 where
   one : Segment
   is : find (λ (t : Segment). t.number == s.number) old ≡ Some one

@@ -126,8 +126,3 @@ chosen false false e f o p g x h = g x h
 pub reads_what_is_denoted : (reader : Reader) (base : Parts) (bytes : List ℕ) (playlist : Playlist) → reading reader base bytes ≡ Ok playlist → Denotes base bytes playlist
 unfolding Grants
 reads_what_is_denoted reader base bytes playlist h = chosen (not (is_utf8 bytes)) _ _ _ _ _ (of reader base (lines bytes)) playlist h
-
--- the same of a date range
-pub says_what_is_denoted : (reader : Reader) (rest : List ℕ) (said : Said) → date_range_said reader rest ≡ Ok said → date_range_said unlimited rest ≡ Ok said
-unfolding Grants
-says_what_is_denoted reader rest said h = more_date_ranges reader rest said h

@@ -28,23 +28,6 @@ puts_one made p n same fits = record {
   fit = λ h. list_all-append item_fits made.items _ ∙ false_and _ _ true h fits;
 }
 
--- nothing
-pub puts_none : (made : Made) → Puts made made []
-puts_none made = record { first = refl; comes = λ later. refl; fit = λ h. h }
-
--- some pieces, and then more
-pub puts_more : (old mid new : Made) (pieces more : List Piece) → Puts old mid pieces → Puts mid new more → Puts old new (pieces ++ more)
-puts_more old mid new pieces more p q = record {
-  first = q.first ∙ p.first;
-  comes = λ later. ap (comes_to old) (append_assoc pieces more later) ∙ (p.comes (more ++ later) ∙ q.comes later);
-  fit = λ h. q.fit (p.fit h);
-}
-
-pub passes_more : (old mid : Made) (pieces more : List Piece) → Puts old mid pieces → Passes mid more → Passes old (pieces ++ more)
-passes_more old mid pieces more p h later =
-    ap (λ t. list_all item_fits (comes_to old t)) (append_assoc pieces more later)
-    ∙ (ap (list_all item_fits) (p.comes (more ++ later)) ∙ h later)
-
 pub passes_longer : (made : Made) (pieces more : List Piece) → Passes made pieces → Passes made (pieces ++ more)
 passes_longer made pieces more h later = ap (λ t. list_all item_fits (comes_to made t)) (append_assoc pieces more later) ∙ h (more ++ later)
 
