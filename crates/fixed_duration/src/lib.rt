@@ -6,6 +6,7 @@ ghost use Rattle.std.specs.Prelude.{◌≡◌, ℕ, ◌+◌, ◌*◌, ◌/◌, �
 ghost use Rattle.std.specs.Option.{SomeIff};
 ghost use Rattle.fixed_duration.specs.Text.{whole_part, fraction_part, are_digits, number_of, nine_digits, fraction_digits};
 ghost use Rattle.fixed_duration.specs.Duration.{duration_of, duration_text, rounded_seconds_of};
+ghost use Rattle.fixed_duration.specs.Appended.{Appends};
 
 use itoa::Buffer;
 use std::alloc::AllocError;
@@ -86,7 +87,7 @@ impl Nanos {
     /// Appends the duration in seconds, without a point where they are whole, else without zeros at the end.
     /// Where memory was refused the text is as it was.
     pub fn write_to(&self, out: &mut String) -> Result<(), AllocError>
-        ensures ok { OnOk result (string_bytes out.new ≡ string_bytes out.old ++ duration_text self.now) }
+        ensures ok { Appends result out.old out.new (duration_text self.now) }
         ensures err { OnErr result (string_bytes out.new ≡ string_bytes out.old) }
 
         // What is written of less than 1,000,000 s is read as the same duration.

@@ -4,6 +4,7 @@ ghost use Rattle.std.specs.Prelude.{◌/◌, ◌%◌};
 ghost use Rattle.instants.specs.Instant.{is_leap, days_in_month, in_range, instant_of};
 ghost use Rattle.instants.specs.Digits.{fixed_digits};
 ghost use Rattle.instants.specs.Times.{from_1900, days_in_year, year_after, month_after, decimals, date_at, clock_text, time_text};
+ghost use Rattle.fixed_duration.specs.Appended.{Appends};
 
 use crate::{FIRST_INSTANT, Instant};
 use std::alloc::AllocError;
@@ -173,7 +174,7 @@ fn push_decimals(out: &mut String, nanos: u64)
 /// lose something. Where memory was refused the text is as it was.
 #[tactic(auto, using(crate::proofs::TimeLaws::time_reads))]
 pub fn write_instant(instant: Instant, out: &mut String) -> Result<(), AllocError>
-    ensures text { OnOk result (string_bytes out.new ≡ string_bytes out.old ++ time_text instant) }
+    ensures text { Appends result out.old out.new (time_text instant) }
     ensures err { OnErr result (string_bytes out.new ≡ string_bytes out.old) }
 
     // What is written of an instant in range is read as the same instant.

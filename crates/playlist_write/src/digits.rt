@@ -2,6 +2,7 @@
 ghost use Rattle.std.specs.Prelude.{◌≡◌, ◌++◌, ◌<◌, OnOk, string_bytes, true};
 ghost use Rattle.std.specs.Fmt.{digit_glyph};
 ghost use Rattle.instants.specs.Digits.{fixed_digits};
+ghost use Rattle.fixed_duration.specs.Appended.{Appends};
 
 use std::alloc::AllocError;
 
@@ -20,7 +21,7 @@ fn glyph(value: u8) -> char
 
 /// Appends the last `count` hexadecimal digits of a number.
 pub fn push_hex(out: &mut String, number: u128, count: u8) -> Result<(), AllocError>
-    ensures { OnOk result (string_bytes out.new ≡ string_bytes out.old ++ fixed_digits 16 count number) }
+    ensures { Appends result out.old out.new (fixed_digits 16 count number) }
 {
     if count == 0 {
         return Ok(());

@@ -3,6 +3,7 @@ ghost use Rattle.std.specs.Prelude.{◌≡◌, ◌++◌, OnOk, string_bytes};
 ghost use Rattle.playlist_meaning.specs.Said as Said;
 ghost use Rattle.playlist_write.specs.Spelling.{type_text};
 ghost use Rattle.playlist_write.specs.Owed.{line_of, ended_date_range_line, said_text, numbers_owed, header_owed, type_owed, independent_owed, ended_owed, first_number, first_discontinuity, date_ranges_text};
+ghost use Rattle.fixed_duration.specs.Appended.{Appends};
 
 use crate::OutPlaylist;
 use crate::lines::{push_line, push_line_of, push_number_line};
@@ -38,13 +39,13 @@ fn type_text(kind: PlaylistKind) -> &'static str
 }
 
 fn push_type(out: &mut String, kind: PlaylistKind) -> Result<(), AllocError>
-    ensures { OnOk result (string_bytes out.new ≡ string_bytes out.old ++ line_of (Said.playlist_type kind)) }
+    ensures { Appends result out.old out.new (line_of (Said.playlist_type kind)) }
 {
     push_line_of(out, "#EXT-X-PLAYLIST-TYPE:", type_text(kind))
 }
 
 fn push_kind(out: &mut String, kind: Option<PlaylistKind>) -> Result<(), AllocError>
-    ensures { OnOk result (string_bytes out.new ≡ string_bytes out.old ++ said_text (type_owed kind)) }
+    ensures { Appends result out.old out.new (said_text (type_owed kind)) }
 {
     if let Some(kind) = kind {
         push_type(out, kind)?;
@@ -54,34 +55,34 @@ fn push_kind(out: &mut String, kind: Option<PlaylistKind>) -> Result<(), AllocEr
 
 #[tactic(auto, unfolding(crate::specs::Owed::line_of))]
 fn push_version(out: &mut String, version: u64) -> Result<(), AllocError>
-    ensures { OnOk result (string_bytes out.new ≡ string_bytes out.old ++ line_of (Said.version version)) }
+    ensures { Appends result out.old out.new (line_of (Said.version version)) }
 {
     push_number_line(out, "#EXT-X-VERSION:", version)
 }
 
 #[tactic(auto, unfolding(crate::specs::Owed::line_of))]
 fn push_target(out: &mut String, target: u64) -> Result<(), AllocError>
-    ensures { OnOk result (string_bytes out.new ≡ string_bytes out.old ++ line_of (Said.target target)) }
+    ensures { Appends result out.old out.new (line_of (Said.target target)) }
 {
     push_number_line(out, "#EXT-X-TARGETDURATION:", target)
 }
 
 #[tactic(auto, unfolding(crate::specs::Owed::line_of))]
 fn push_sequence(out: &mut String, sequence: u64) -> Result<(), AllocError>
-    ensures { OnOk result (string_bytes out.new ≡ string_bytes out.old ++ line_of (Said.sequence sequence)) }
+    ensures { Appends result out.old out.new (line_of (Said.sequence sequence)) }
 {
     push_number_line(out, "#EXT-X-MEDIA-SEQUENCE:", sequence)
 }
 
 #[tactic(auto, unfolding(crate::specs::Owed::line_of))]
 fn push_discontinuity_sequence(out: &mut String, sequence: u64) -> Result<(), AllocError>
-    ensures { OnOk result (string_bytes out.new ≡ string_bytes out.old ++ line_of (Said.discontinuity_sequence sequence)) }
+    ensures { Appends result out.old out.new (line_of (Said.discontinuity_sequence sequence)) }
 {
     push_number_line(out, "#EXT-X-DISCONTINUITY-SEQUENCE:", sequence)
 }
 
 fn push_numbers(out: &mut String, playlist: &OutPlaylist) -> Result<(), AllocError>
-    ensures { OnOk result (string_bytes out.new ≡ string_bytes out.old ++ said_text (numbers_owed playlist.now)) }
+    ensures { Appends result out.old out.new (said_text (numbers_owed playlist.now)) }
 {
     let segments = playlist.segments.as_slice();
     push_version(out, playlist.version)?;
@@ -92,7 +93,7 @@ fn push_numbers(out: &mut String, playlist: &OutPlaylist) -> Result<(), AllocErr
 
 #[tactic(auto, unfolding(crate::specs::Owed::line_of))]
 fn push_independent(out: &mut String, independent: bool) -> Result<(), AllocError>
-    ensures { OnOk result (string_bytes out.new ≡ string_bytes out.old ++ said_text (independent_owed independent)) }
+    ensures { Appends result out.old out.new (said_text (independent_owed independent)) }
 {
     if independent {
         push_line(out, "#EXT-X-INDEPENDENT-SEGMENTS")?;
@@ -102,7 +103,7 @@ fn push_independent(out: &mut String, independent: bool) -> Result<(), AllocErro
 
 /// Appends the lines that stand before the date ranges.
 pub fn push_header(out: &mut String, playlist: &OutPlaylist) -> Result<(), AllocError>
-    ensures { OnOk result (string_bytes out.new ≡ string_bytes out.old ++ said_text (header_owed playlist.now)) }
+    ensures { Appends result out.old out.new (said_text (header_owed playlist.now)) }
 {
     push_numbers(out, playlist)?;
     push_kind(out, playlist.kind)?;
@@ -111,14 +112,14 @@ pub fn push_header(out: &mut String, playlist: &OutPlaylist) -> Result<(), Alloc
 
 #[tactic(auto, unfolding(crate::specs::Owed::ended_date_range_line))]
 fn push_date_range(out: &mut String, text: &str) -> Result<(), AllocError>
-    ensures { OnOk result (string_bytes out.new ≡ string_bytes out.old ++ ended_date_range_line text.now) }
+    ensures { Appends result out.old out.new (ended_date_range_line text.now) }
 {
     push_line_of(out, "#EXT-X-DATERANGE:", text)
 }
 
 /// Appends the date ranges as they stand.
 pub fn push_date_ranges(out: &mut String, date_ranges: &[Text]) -> Result<(), AllocError>
-    ensures { OnOk result (string_bytes out.new ≡ string_bytes out.old ++ date_ranges_text date_ranges.now) }
+    ensures { Appends result out.old out.new (date_ranges_text date_ranges.now) }
 {
     for range in date_ranges {
         push_date_range(out, range.as_str())?;
@@ -129,7 +130,7 @@ pub fn push_date_ranges(out: &mut String, date_ranges: &[Text]) -> Result<(), Al
 #[tactic(auto, unfolding(crate::specs::Owed::line_of))]
 /// Appends the line that says that no segment will follow, if so.
 pub fn push_end(out: &mut String, ended: bool) -> Result<(), AllocError>
-    ensures { OnOk result (string_bytes out.new ≡ string_bytes out.old ++ said_text (ended_owed ended)) }
+    ensures { Appends result out.old out.new (said_text (ended_owed ended)) }
 {
     if ended {
         push_line(out, "#EXT-X-ENDLIST")?;

@@ -5,6 +5,7 @@ ghost use Rattle.playlist_write.specs.Spelling.{plain, in_quotes, iv_pairs, form
 ghost use Rattle.playlist_meaning.specs.Said as Said;
 ghost use Rattle.playlist_write.specs.Owed.{line_of, said_text, keys_owed, set_tags, key_line, section_line};
 ghost use Rattle.stitcher.specs.KeyTags.{is_new};
+ghost use Rattle.fixed_duration.specs.Appended.{Appends};
 
 use crate::digits::push_hex;
 use crate::lines::{push_feed, push_line, push_range};
@@ -14,7 +15,7 @@ use stitcher::{is_new, keeps_formats};
 
 // Appends `name=value`.
 fn push_plain(out: &mut String, name: &str, value: &str) -> Result<(), AllocError>
-    ensures { OnOk result (string_bytes out.new ≡ string_bytes out.old ++ pair_spelling (plain name.now value.now)) }
+    ensures { Appends result out.old out.new (pair_spelling (plain name.now value.now)) }
 {
     out.push_str(name)?;
     out.push('=')?;
@@ -23,7 +24,7 @@ fn push_plain(out: &mut String, name: &str, value: &str) -> Result<(), AllocErro
 
 // Appends `name="value"`.
 fn push_quoted(out: &mut String, name: &str, value: &str) -> Result<(), AllocError>
-    ensures { OnOk result (string_bytes out.new ≡ string_bytes out.old ++ pair_spelling (in_quotes name.now value.now)) }
+    ensures { Appends result out.old out.new (pair_spelling (in_quotes name.now value.now)) }
 {
     out.push_str(name)?;
     out.push_str("=\"")?;
@@ -32,7 +33,7 @@ fn push_quoted(out: &mut String, name: &str, value: &str) -> Result<(), AllocErr
 }
 
 fn push_iv(out: &mut String, iv: Option<u128>) -> Result<(), AllocError>
-    ensures { OnOk result (string_bytes out.new ≡ string_bytes out.old ++ after_commas (iv_pairs iv)) }
+    ensures { Appends result out.old out.new (after_commas (iv_pairs iv)) }
 {
     if let Some(iv) = iv {
         out.push_str(",IV=0x")?;
@@ -42,7 +43,7 @@ fn push_iv(out: &mut String, iv: Option<u128>) -> Result<(), AllocError>
 }
 
 fn push_format(out: &mut String, format: &str) -> Result<(), AllocError>
-    ensures { OnOk result (string_bytes out.new ≡ string_bytes out.old ++ after_commas (format_pairs format.now)) }
+    ensures { Appends result out.old out.new (after_commas (format_pairs format.now)) }
 {
     if format == "identity" {
         return Ok(());
@@ -52,7 +53,7 @@ fn push_format(out: &mut String, format: &str) -> Result<(), AllocError>
 }
 
 fn push_attr(out: &mut String, attr: &KeyAttr) -> Result<(), AllocError>
-    ensures { OnOk result (string_bytes out.new ≡ string_bytes out.old ++ pair_spelling (attr_pair attr.now)) }
+    ensures { Appends result out.old out.new (pair_spelling (attr_pair attr.now)) }
 {
     if attr.quoted {
         push_quoted(out, attr.name.as_str(), attr.value.as_str())
@@ -62,7 +63,7 @@ fn push_attr(out: &mut String, attr: &KeyAttr) -> Result<(), AllocError>
 }
 
 fn push_attrs(out: &mut String, attrs: &[KeyAttr]) -> Result<(), AllocError>
-    ensures { OnOk result (string_bytes out.new ≡ string_bytes out.old ++ after_commas (map attr_pair attrs.now)) }
+    ensures { Appends result out.old out.new (after_commas (map attr_pair attrs.now)) }
 {
     for attr in attrs {
         out.push(',')?;
@@ -72,7 +73,7 @@ fn push_attrs(out: &mut String, attrs: &[KeyAttr]) -> Result<(), AllocError>
 }
 
 fn push_key(out: &mut String, key: &Key) -> Result<(), AllocError>
-    ensures { OnOk result (string_bytes out.new ≡ string_bytes out.old ++ key_line key.now) }
+    ensures { Appends result out.old out.new (key_line key.now) }
 {
     out.push_str("#EXT-X-KEY:")?;
     push_plain(out, "METHOD", key.method.as_str())?;
@@ -85,7 +86,7 @@ fn push_key(out: &mut String, key: &Key) -> Result<(), AllocError>
 }
 
 fn push_keys(out: &mut String, keys: &[Key]) -> Result<(), AllocError>
-    ensures { OnOk result (string_bytes out.new ≡ string_bytes out.old ++ said_text (set_tags keys.now)) }
+    ensures { Appends result out.old out.new (said_text (set_tags keys.now)) }
 {
     for key in keys {
         push_key(out, key)?;
@@ -94,7 +95,7 @@ fn push_keys(out: &mut String, keys: &[Key]) -> Result<(), AllocError>
 }
 
 fn push_new_keys(out: &mut String, old: &[Key], new: &[Key]) -> Result<(), AllocError>
-    ensures { OnOk result (string_bytes out.new ≡ string_bytes out.old ++ said_text (set_tags (filter (is_new old.now) new.now))) }
+    ensures { Appends result out.old out.new (said_text (set_tags (filter (is_new old.now) new.now))) }
 {
     for key in new {
         if is_new(old, key) {
@@ -106,14 +107,14 @@ fn push_new_keys(out: &mut String, old: &[Key], new: &[Key]) -> Result<(), Alloc
 
 #[tactic(auto, unfolding(crate::specs::Owed::line_of))]
 fn push_no_keys(out: &mut String) -> Result<(), AllocError>
-    ensures { OnOk result (string_bytes out.new ≡ string_bytes out.old ++ line_of Said.no_keys) }
+    ensures { Appends result out.old out.new (line_of Said.no_keys) }
 {
     push_line(out, "#EXT-X-KEY:METHOD=NONE")
 }
 
 /// Appends the key tags that lead from keys to keys.
 pub fn push_key_tags(out: &mut String, old: &[Key], new: &[Key]) -> Result<(), AllocError>
-    ensures { OnOk result (string_bytes out.new ≡ string_bytes out.old ++ said_text (keys_owed old.now new.now)) }
+    ensures { Appends result out.old out.new (said_text (keys_owed old.now new.now)) }
 {
     if keeps_formats(old, new) {
         return push_new_keys(out, old, new);
@@ -123,7 +124,7 @@ pub fn push_key_tags(out: &mut String, old: &[Key], new: &[Key]) -> Result<(), A
 }
 
 fn push_part(out: &mut String, part: Option<ByteRange>) -> Result<(), AllocError>
-    ensures { OnOk result (string_bytes out.new ≡ string_bytes out.old ++ after_commas (part_pairs part)) }
+    ensures { Appends result out.old out.new (after_commas (part_pairs part)) }
 {
     if let Some(part) = part {
         out.push_str(",BYTERANGE=\"")?;
@@ -135,7 +136,7 @@ fn push_part(out: &mut String, part: Option<ByteRange>) -> Result<(), AllocError
 
 /// Appends the map tag of an initialisation section.
 pub fn push_section(out: &mut String, section: &InitSection) -> Result<(), AllocError>
-    ensures { OnOk result (string_bytes out.new ≡ string_bytes out.old ++ section_line section.now) }
+    ensures { Appends result out.old out.new (section_line section.now) }
 {
     out.push_str("#EXT-X-MAP:")?;
     push_quoted(out, "URI", section.uri.as_str())?;

@@ -2,6 +2,7 @@
 ghost use Rattle.std.specs.Prelude.{◌≡◌, ◌++◌, [], ◌∷◌, OnOk, string_bytes, decimal};
 ghost use Rattle.playlist_write.specs.Spelling.{range_text};
 ghost use Rattle.playlist_write.specs.Owed.{with_feed};
+ghost use Rattle.fixed_duration.specs.Appended.{Appends};
 
 use itoa::Buffer;
 use playlist_meaning::ByteRange;
@@ -9,7 +10,7 @@ use std::alloc::AllocError;
 
 /// Appends a number.
 pub fn push_number(out: &mut String, number: u64) -> Result<(), AllocError>
-    ensures { OnOk result (string_bytes out.new ≡ string_bytes out.old ++ decimal number) }
+    ensures { Appends result out.old out.new (decimal number) }
 {
     let mut buffer = Buffer::new();
     out.push_str(buffer.format(number))?;
@@ -18,14 +19,14 @@ pub fn push_number(out: &mut String, number: u64) -> Result<(), AllocError>
 
 /// Ends a line.
 pub fn push_feed(out: &mut String) -> Result<(), AllocError>
-    ensures { OnOk result (string_bytes out.new ≡ string_bytes out.old ++ 10 ∷ []) }
+    ensures { Appends result out.old out.new (10 ∷ []) }
 {
     out.push('\n')
 }
 
 /// Appends a line.
 pub fn push_line(out: &mut String, line: &str) -> Result<(), AllocError>
-    ensures { OnOk result (string_bytes out.new ≡ string_bytes out.old ++ with_feed line.now) }
+    ensures { Appends result out.old out.new (with_feed line.now) }
 {
     out.push_str(line)?;
     push_feed(out)
@@ -33,7 +34,7 @@ pub fn push_line(out: &mut String, line: &str) -> Result<(), AllocError>
 
 /// Appends a line of two parts.
 pub fn push_line_of(out: &mut String, tag: &str, rest: &str) -> Result<(), AllocError>
-    ensures { OnOk result (string_bytes out.new ≡ string_bytes out.old ++ with_feed (tag.now ++ rest.now)) }
+    ensures { Appends result out.old out.new (with_feed (tag.now ++ rest.now)) }
 {
     out.push_str(tag)?;
     push_line(out, rest)
@@ -41,7 +42,7 @@ pub fn push_line_of(out: &mut String, tag: &str, rest: &str) -> Result<(), Alloc
 
 /// Appends a line that ends with a number.
 pub fn push_number_line(out: &mut String, tag: &str, number: u64) -> Result<(), AllocError>
-    ensures { OnOk result (string_bytes out.new ≡ string_bytes out.old ++ with_feed (tag.now ++ decimal number)) }
+    ensures { Appends result out.old out.new (with_feed (tag.now ++ decimal number)) }
 {
     out.push_str(tag)?;
     push_number(out, number)?;
@@ -50,7 +51,7 @@ pub fn push_number_line(out: &mut String, tag: &str, number: u64) -> Result<(), 
 
 /// Appends a range as `n@o`.
 pub fn push_range(out: &mut String, range: ByteRange) -> Result<(), AllocError>
-    ensures { OnOk result (string_bytes out.new ≡ string_bytes out.old ++ range_text range.length range.offset) }
+    ensures { Appends result out.old out.new (range_text range.length range.offset) }
 {
     push_number(out, range.length)?;
     out.push('@')?;

@@ -4,6 +4,7 @@ ghost use Rattle.std.specs.Option.{option_copied};
 ghost use Rattle.playlist_meaning.specs.Said as Said;
 ghost use Rattle.playlist_meaning.specs.Same.{same_option, same_section};
 ghost use Rattle.playlist_write.specs.Owed.{none_yet, line_of, said_text, changed_section, section_owed, keys_then, time_owed, range_owed, media_owed, segment_owed, segments_owed};
+ghost use Rattle.fixed_duration.specs.Appended.{Appends};
 
 use crate::keys::{push_key_tags, push_section};
 use crate::lines::{push_feed, push_line, push_range};
@@ -16,13 +17,13 @@ use stitcher::OutSegment;
 
 #[tactic(auto, unfolding(crate::specs::Owed::line_of))]
 fn push_discontinuity(out: &mut String) -> Result<(), AllocError>
-    ensures { OnOk result (string_bytes out.new ≡ string_bytes out.old ++ line_of Said.discontinuity) }
+    ensures { Appends result out.old out.new (line_of Said.discontinuity) }
 {
     push_line(out, "#EXT-X-DISCONTINUITY")
 }
 
 fn push_steps(out: &mut String, steps: u64) -> Result<(), AllocError>
-    ensures { OnOk result (string_bytes out.new ≡ string_bytes out.old ++ said_text (replicate steps Said.discontinuity)) }
+    ensures { Appends result out.old out.new (said_text (replicate steps Said.discontinuity)) }
 {
     for _ in 0..steps {
         push_discontinuity(out)?;
@@ -74,7 +75,7 @@ fn push_changed_section(
     keys: &[Key],
     changed: Option<&InitSection>,
 ) -> Result<(), AllocError>
-    ensures { OnOk result (string_bytes out.new ≡ string_bytes out.old ++ said_text (section_owed keys.now (option_copied changed.entry))) }
+    ensures { Appends result out.old out.new (said_text (section_owed keys.now (option_copied changed.entry))) }
 {
     if let Some(section) = changed {
         push_key_tags(out, keys, section.keys.as_slice())?;
@@ -84,7 +85,7 @@ fn push_changed_section(
 }
 
 fn push_instant(out: &mut String, time: Instant) -> Result<(), AllocError>
-    ensures { OnOk result (string_bytes out.new ≡ string_bytes out.old ++ line_of (Said.time time)) }
+    ensures { Appends result out.old out.new (line_of (Said.time time)) }
 {
     out.push_str("#EXT-X-PROGRAM-DATE-TIME:")?;
     write_instant(time, out)?;
@@ -93,7 +94,7 @@ fn push_instant(out: &mut String, time: Instant) -> Result<(), AllocError>
 }
 
 fn push_time_tag(out: &mut String, time: Option<Instant>) -> Result<(), AllocError>
-    ensures { OnOk result (string_bytes out.new ≡ string_bytes out.old ++ said_text (time_owed time)) }
+    ensures { Appends result out.old out.new (said_text (time_owed time)) }
 {
     if let Some(time) = time {
         push_instant(out, time)?;
@@ -102,7 +103,7 @@ fn push_time_tag(out: &mut String, time: Option<Instant>) -> Result<(), AllocErr
 }
 
 fn push_duration(out: &mut String, duration: Nanos, title: &str) -> Result<(), AllocError>
-    ensures { OnOk result (string_bytes out.new ≡ string_bytes out.old ++ line_of (Said.duration duration title.now)) }
+    ensures { Appends result out.old out.new (line_of (Said.duration duration title.now)) }
 {
     out.push_str("#EXTINF:")?;
     duration.write_to(out)?;
@@ -112,7 +113,7 @@ fn push_duration(out: &mut String, duration: Nanos, title: &str) -> Result<(), A
 }
 
 fn push_range_line(out: &mut String, range: ByteRange) -> Result<(), AllocError>
-    ensures { OnOk result (string_bytes out.new ≡ string_bytes out.old ++ line_of (Said.range range.length (Some range.offset))) }
+    ensures { Appends result out.old out.new (line_of (Said.range range.length (Some range.offset))) }
 {
     out.push_str("#EXT-X-BYTERANGE:")?;
     push_range(out, range)?;
@@ -121,7 +122,7 @@ fn push_range_line(out: &mut String, range: ByteRange) -> Result<(), AllocError>
 }
 
 fn push_range_tag(out: &mut String, range: Option<ByteRange>) -> Result<(), AllocError>
-    ensures { OnOk result (string_bytes out.new ≡ string_bytes out.old ++ said_text (range_owed range)) }
+    ensures { Appends result out.old out.new (said_text (range_owed range)) }
 {
     if let Some(range) = range {
         push_range_line(out, range)?;
@@ -131,13 +132,13 @@ fn push_range_tag(out: &mut String, range: Option<ByteRange>) -> Result<(), Allo
 
 #[tactic(auto, unfolding(crate::specs::Owed::line_of))]
 fn push_uri(out: &mut String, uri: &str) -> Result<(), AllocError>
-    ensures { OnOk result (string_bytes out.new ≡ string_bytes out.old ++ line_of (Said.media uri.now)) }
+    ensures { Appends result out.old out.new (line_of (Said.media uri.now)) }
 {
     push_line(out, uri)
 }
 
 fn push_media(out: &mut String, segment: &Segment) -> Result<(), AllocError>
-    ensures { OnOk result (string_bytes out.new ≡ string_bytes out.old ++ said_text (media_owed segment.now)) }
+    ensures { Appends result out.old out.new (said_text (media_owed segment.now)) }
 {
     push_duration(out, segment.duration, segment.title.as_str())?;
     push_range_tag(out, segment.range)?;
@@ -175,7 +176,7 @@ fn section_of(next: &OutSegment) -> Option<&InitSection>
 
 /// Appends the lines of all segments.
 pub fn push_segments(out: &mut String, segments: &[OutSegment]) -> Result<(), AllocError>
-    ensures { OnOk result (string_bytes out.new ≡ string_bytes out.old ++ said_text (segments_owed none_yet segments.now)) }
+    ensures { Appends result out.old out.new (said_text (segments_owed none_yet segments.now)) }
 {
     let mut keys: &[Key] = &[];
     let mut section: Option<&InitSection> = None;
