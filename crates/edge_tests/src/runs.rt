@@ -198,10 +198,12 @@ fn words_of(alloc: Global, words: &[&str]) -> Result<Vec<String>, Fail> {
 // Whether these words ask for `vod` with this base and decision file.
 fn asks_vod(words: &[String], base: &str, decisions: Option<&str>) -> bool {
     match read_args(words) {
-        Some(Command::Vod {
-            base: found,
-            decisions: file,
-        }) => found == base && file == decisions,
+        Some(
+            Command::Vod {
+                base: found,
+                decisions: file,
+            },
+        ) => found == base && file == decisions,
         None => false,
     }
 }
