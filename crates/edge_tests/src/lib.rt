@@ -2,6 +2,8 @@
 #![tactic(auto)]
 
 #[cfg(test)]
+mod filled;
+#[cfg(test)]
 mod reading;
 #[cfg(test)]
 mod runs;
