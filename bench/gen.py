@@ -1,13 +1,19 @@
 #!/usr/bin/env python3
-"""Inputs of any size, in four shapes.
+"""Inputs of any size, in five shapes, and hostile ones.
 
-  gen.py DIR [N ...]      writes DIR/<shape>-<N>.m3u8 and DIR/<shape>-<N>.json for N in 10 100 1000 10000
+  gen.py DIR [N ...]      writes DIR/<shape>-<N>.m3u8 and DIR/<shape>-<N>.json for N in 10 100 1000 10000, and
+                          DIR/hostile-<name>.m3u8 with DIR/hostile-<name>.json
 
 plain: segments alone. break: one program date time, one break of 30 s, a pod of two segments. encrypted: the same
 under AES-128 without IV (each kept segment then states its own IV: the longest output a line of input can ask for).
 rich: all that a packager writes: a key tag every 20 segments, half of them without IV, maps under a key of their own, a date on each
 segment, byte ranges with and without offset, titles, comments, unknown tags, a discontinuity every 50 segments and a
-break of three segments every 40, each with its own two-ad pod."""
+break of three segments every 40, each with its own two-ad pod. filled: a break of three segments every 20, of which
+every other one is decided (a decision file holds 256 breaks at most), each with its own pod of two segments.
+
+Hostile, each as large as a playlist may be, or with as many segments: many-breaks has 10,000 segments and 5,000
+breaks, of which 250 are decided; one-start the same with all breaks at one instant, and all segments near it;
+date-ranges 145,000 date ranges of one segment."""
 import json, os, sys
 
 OUT30 = "0xFC302000000000000000FFF00F05000000017FFFFE002932E00001" + "0" * 16
@@ -79,24 +85,92 @@ def rich(n):
     return l + ["#EXT-X-ENDLIST"], {"breaks": breaks}
 
 
+def signalled(id, ms, seconds):
+    return '#EXT-X-DATERANGE:ID="%s",START-DATE="%s",DURATION=%d,SCTE35-OUT=%s' % (id, civil(ms), seconds, OUT30)
+
+
+def pod_of_two(id):
+    """A break with its pod."""
+    return {"id": id, "ads": [{"segments": [
+        {"uri": "http://ads.example/%s/a%d.ts" % (id, k), "duration": "9.5"} for k in range(2)]}]}
+
+
+def filled(n):
+    l = ["#EXTM3U", "#EXT-X-VERSION:3", "#EXT-X-TARGETDURATION:10",
+         "#EXT-X-PROGRAM-DATE-TIME:2024-05-01T12:00:00Z"]
+    breaks = []
+    for i in range(n):
+        if i % 20 == 5:
+            id = "break-%06d" % i
+            l.append(signalled(id, i * 10_000, 30))
+            if i % 40 == 5:
+                breaks.append(pod_of_two(id))
+        l += ["#EXTINF:10,", "s%d.ts" % i]
+    return l + ["#EXT-X-ENDLIST"], {"breaks": breaks}
+
+
+# ---- hostile inputs
+
+def many_breaks(at, head):
+    """10,000 segments, and 5,000 breaks that start where `at` says."""
+    l = ["#EXTM3U", "#EXT-X-VERSION:3", "#EXT-X-TARGETDURATION:10"]
+    ids = ["break-%04d" % k for k in range(5000)]
+    l += [signalled(id, at(k), 10) for k, id in enumerate(ids)]
+    for i in range(10_000):
+        l += [*head(i), "#EXTINF:10,", "s%d.ts" % i]
+    return l + ["#EXT-X-ENDLIST"], {"breaks": [pod_of_two(id) for id in ids[::20]]}
+
+
+def spread_breaks():
+    start = ["#EXT-X-PROGRAM-DATE-TIME:2024-05-01T12:00:00Z"]
+    return many_breaks(lambda k: 20_000 * k, lambda i: start if i == 0 else [])
+
+
+def one_start():
+    # (the pods of the decided breaks don't fit, so that each segment looks at all breaks)
+    stated = ["#EXT-X-PROGRAM-DATE-TIME:2024-05-01T12:00:00Z"]
+    lines, decided = many_breaks(lambda k: 0, lambda i: stated)
+    for it in decided["breaks"]:
+        it["ads"][0]["segments"][0]["duration"] = "11"
+    return lines, decided
+
+
+def date_ranges():
+    l = ["#EXTM3U", "#EXT-X-TARGETDURATION:10"]
+    l += ['#EXT-X-DATERANGE:ID="%05x"' % k for k in range(145_000)]
+    l += ["#EXT-X-PROGRAM-DATE-TIME:2024-05-01T12:00:00Z", "#EXTINF:10,", "s0.ts", "#EXT-X-ENDLIST"]
+    return l, {"breaks": [pod_of_two("%05x" % k) for k in range(0, 256)]}
+
+
+HOSTILE = (("many-breaks", spread_breaks), ("one-start", one_start), ("date-ranges", date_ranges))
+
+
 def text(lines):
     return ("\n".join(lines) + "\n").encode()
 
 
+SHAPES = (("plain", plain), ("break", with_break), ("encrypted", encrypted), ("rich", rich), ("filled", filled))
+
+
+def write_one(path, lines, dec):
+    with open(path + ".m3u8", "wb") as h:
+        h.write(text(lines))
+    if dec:
+        with open(path + ".json", "w") as h:
+            json.dump(dec, h)
+
+
 def write_all(dir, sizes):
     os.makedirs(dir, exist_ok=True)
-    for name, f in (("plain", plain), ("break", with_break), ("encrypted", encrypted), ("rich", rich)):
+    for name, f in SHAPES:
         for n in sizes:
-            lines, dec = f(n)
-            with open(os.path.join(dir, "%s-%d.m3u8" % (name, n)), "wb") as h:
-                h.write(text(lines))
-            if dec:
-                with open(os.path.join(dir, "%s-%d.json" % (name, n)), "w") as h:
-                    json.dump(dec, h)
+            write_one(os.path.join(dir, "%s-%d" % (name, n)), *f(n))
+    for name, f in HOSTILE:
+        write_one(os.path.join(dir, "hostile-" + name), *f())
 
 
 if __name__ == "__main__":
     a = sys.argv[1:]
-    if not a:
+    if not a or a[0].startswith("-"):
         sys.exit(__doc__)
     write_all(a[0], [int(x) for x in a[1:]] or [10, 100, 1000, 10000])

@@ -1,8 +1,12 @@
 //! `adsplice`: puts advertisements into live HLS channels.
 #![tactic(auto)]
 
+mod live;
+
+use crate::live::live;
 use devices::Counted;
 use http_edge::{Command, command_vod, read_args};
+use live_edge::{LiveWords, read_live_words};
 use std::io::{ErrorKind, Write};
 use std::process::ExitCode;
 use std::{env, fs};
@@ -50,6 +54,13 @@ fn vod_with(rt: &HostRuntime, base: &str, decisions: Option<&[u8]>) -> ExitCode 
     ))
 }
 
+fn live_or_usage(rt: &HostRuntime, words: &[String]) -> ExitCode {
+    match read_live_words(words) {
+        Some(LiveWords { port, count }) => live(rt, port, count),
+        None => usage(rt),
+    }
+}
+
 fn main(rt: HostRuntime) -> ExitCode {
     let words = match env::args(&rt) {
         Ok(words) => words,
@@ -61,6 +72,6 @@ fn main(rt: HostRuntime) -> ExitCode {
     };
     match read_args(words.as_slice()) {
         Some(Command::Vod { base, decisions }) => vod(&rt, base, decisions),
-        None => usage(&rt),
+        None => live_or_usage(&rt, words.as_slice()),
     }
 }

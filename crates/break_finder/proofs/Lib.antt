@@ -4,3 +4,5 @@ pub mod KeptLaws
 pub mod Walked
 pub mod OnLiterals
 pub mod TagIds
+pub mod FirstEntered
+pub mod Groups

@@ -2,6 +2,7 @@ pub mod Signals
 pub mod Breaks
 pub mod Known
 pub mod Entering
+pub mod Entrances
 pub mod Laws
 pub mod Kept
 pub mod Ends

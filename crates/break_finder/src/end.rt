@@ -117,19 +117,12 @@ pub fn is_not_past(instant: Instant, tolerance: Nanos, end: Option<End>) -> bool
     }
 }
 
-// Whether one instant is at most the tolerance after another.
-fn is_within(later: Instant, earlier: Instant, tolerance: Nanos) -> bool
-    ensures { result ≡ int_le (later -ℤ earlier) (pos tolerance) }
-{
-    i128::from(later.0) - i128::from(earlier.0) <= i128::from(tolerance.0)
-}
-
 /// Whether an instant and a start differ by at most the tolerance.
 pub fn is_near(instant: Instant, tolerance: Nanos, start: Option<Instant>) -> bool
     ensures { result ≡ is_near instant tolerance start }
 {
     match start {
-        Some(start) => is_within(instant, start, tolerance) && is_within(start, instant, tolerance),
+        Some(start) => instant.0.abs_diff(start.0) <= tolerance.0,
         None => false,
     }
 }

@@ -5,12 +5,13 @@ ghost use Rattle.pod_store.specs.Store.{pod_for, fits};
 ghost use Rattle.break_finder.specs.Breaks.{said_of};
 ghost use Rattle.break_finder.specs.Known.{Accepted, carry, known};
 ghost use Rattle.break_finder.specs.Laws.{CarriesKnown};
-ghost use Rattle.break_finder.specs.Entering.{entered, is_inside, is_inside_said, id_of, why, why_said};
+ghost use Rattle.break_finder.specs.Entrances.{entrances_in};
+ghost use Rattle.break_finder.specs.Entering.{is_inside, is_inside_said, id_of, why, why_said};
 ghost use Rattle.break_finder.specs.Signals.{is_leaving};
 
 use crate::carry::{add_tags, standing};
 use crate::end::{end_of, is_before_end};
-use crate::entering::{Moment, first_entered};
+use crate::entering::{Entrances, entrances_of};
 use crate::fault::FindFault;
 use crate::kept::kept_for;
 use crate::said::{Said, is_leaving};
@@ -19,7 +20,7 @@ use fixed_duration::Nanos;
 use indexmap::IndexMap;
 use playlist_meaning::{Instant, Playlist};
 use pod_store::{Pod, PodStore};
-use std::alloc::Global;
+use std::alloc::{AllocError, Global};
 use std::marker::Model;
 
 fn is_inside_said(instant: Option<Instant>, tolerance: Nanos, pod: &Pod, said: Option<Said>) -> bool
@@ -116,30 +117,18 @@ impl Knowledge {
         }
     }
 
-    /// The ID of the first known break, in the order of the IDs, that a segment at this instant enters: it is
-    /// signalled, its pod is decided and fits, the instant differs from its start by at most the tolerance and
-    /// is so much before its end, and it isn't the last one entered. Takes no memory.
-    pub fn enters(
+    /// The breaks that can be entered, in the order of the IDs: each is signalled and decided, and its pod fits. Fails
+    /// only where memory is refused.
+    pub fn entrances(
         &self,
-        instant: Option<Instant>,
-        tolerance: Nanos,
+        alloc: Global,
         target: u64,
         mapped: bool,
         store: &PodStore,
-        last: Option<&str>,
-    ) -> Option<&str>
-        ensures { option_map (λ id. id.now) result ≡ entered (record { tolerance = tolerance; target = target; mapped = mapped; last = option_copied last.entry }) store.now self.now instant }
+    ) -> Result<Entrances<'_>, AllocError>
+        ensures { IfOk result (λ found. found ≡ entrances_in target mapped store.now self.now) }
     {
-        let moment = Moment {
-            tolerance,
-            target,
-            mapped,
-            last,
-        };
-        match instant {
-            Some(instant) => first_entered(&moment, store, instant, &self.breaks),
-            None => None,
-        }
+        entrances_of(alloc, target, mapped, store, &self.breaks)
     }
 
     /// What is known after a refresh, where this is known before it, and the newest segment of the refresh before

@@ -14,6 +14,7 @@ mod said;
 mod signal;
 mod why;
 
+pub use entering::Entrances;
 pub use fault::FindFault;
 pub use knowledge::Knowledge;
 pub use why::Why;

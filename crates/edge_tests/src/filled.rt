@@ -135,9 +135,13 @@ fn unfilled_breaks(rt: HostRuntime) -> Result<(), Fail> {
 
 #[test]
 fn refused_decisions(rt: HostRuntime) -> Result<(), Fail> {
-    let table: [(&[u8], &str); 6] = [
+    let table: [(&[u8], &str); 7] = [
         (b"{", "J1 NotJson"),
         (b"[]", "J2 Shape"),
+        (
+            b"{\"breaks\":[{\"id\":\"b\",\"ads\":[{\"segments\":[{\"uri\":\"http://a/0\",\"duration\":\"1\"}]}]},{\"id\":\"b\",\"ads\":[]}]}",
+            "J2 Shape break 1",
+        ),
         (
             b"{\"breaks\":[{\"id\":\"b\",\"ads\":[]}]}",
             "J6 EmptyPod break 0",

@@ -1,14 +1,14 @@
 -- How many pieces stand for a pod.
-use Rattle.std.proofs.Common.{◌≡◌, suc, ℕ, ◌+◌, false, cond, List, [], ◌∷◌, map, sum, length, refl, ap, sym, ◌∙◌, arith, length-append}
+use Rattle.std.proofs.Common.{◌≡◌, suc, ℕ, ◌+◌, false, List, [], ◌∷◌, map, sum, length, refl, ap, sym, ◌∙◌, arith, length-append}
 use Rattle.std.proofs.lemmas.List.{length-map}
-use Rattle.std.specs.Prelude.{Option, Some, None, fold}
+use Rattle.std.specs.Prelude.{Some, fold}
 use Rattle.playlist_meaning.specs.Pods.{Pod, Ad, PodSegment}
 use Rattle.playlist_meaning.specs.Marks.{Mark}
 use Rattle.playlist_meaning.specs.Stitched.{pieces_of_ads, ad_pieces, ad_piece}
 use Rattle.pod_store.specs.Store.{Entry, pod_for}
 use Rattle.pod_store.specs.Pods.{segment_count}
 use Rattle.stitcher.specs.declared.marked.Marked.{Marked}
-use Rattle.stitcher.specs.Making.{begun, pod_with, pieces_at, pieces_on, is_same_run}
+use Rattle.stitcher.specs.Making.{begun, pod_with}
 
 ad_size : (mark : Mark) (ad : Ad) (segments : List PodSegment) → length (ad_pieces mark ad segments) ≡ length segments
 ad_size mark ad [] = refl

@@ -2,11 +2,19 @@
 //! segment, and where the window begins in the stitched list.
 #![tactic(auto)]
 
+mod channel;
 pub mod laws;
+mod listing;
 mod marking;
 mod placing;
+mod refresh;
+mod state;
 mod successor;
+mod types_say;
+mod writing;
 
+pub use channel::{Channel, ChannelFault, Refreshed};
+pub use live_meaning::RefreshFault;
 pub use marking::{Limits, mark_on, text_in};
 pub use placing::place_of;
 pub use successor::check_successor;

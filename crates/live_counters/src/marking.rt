@@ -4,13 +4,15 @@ ghost use Rattle.std.specs.Option.{option_copied};
 ghost use Rattle.playlist_meaning.specs.LookBack.{or_earlier};
 ghost use Rattle.pod_store.specs.Store.{pod_for};
 ghost use Rattle.break_finder.specs.Entering.{entered};
+ghost use Rattle.live_meaning.specs.Marking.{limits};
 ghost use Rattle.live_counters.specs.Marking.{is_still_inside, stays, next_id, mark_on};
 
-use break_finder::Knowledge;
+use break_finder::{Entrances, Knowledge};
 use fixed_duration::Nanos;
 use playlist_meaning::{Instant, Segment, Text};
-use pod_store::{Pod, PodStore};
+use pod_store::PodStore;
 use std::alloc::{AllocError, Global};
+use std::marker::Model;
 use stitcher::{Marked, copied_segment};
 
 /// What marks are decided by, the known breaks and the store apart.
@@ -34,7 +36,8 @@ pub fn text_in(text: &Option<Text>) -> Option<&str>
     }
 }
 
-fn copied_text(text: &Option<Text>) -> Result<Option<Text>, AllocError>
+/// A copy of a text, where there is one.
+pub fn copied_text(text: &Option<Text>) -> Result<Option<Text>, AllocError>
     ensures { IfOk result (λ t. t ≡ text.now) }
 {
     match text {
@@ -43,102 +46,122 @@ fn copied_text(text: &Option<Text>) -> Result<Option<Text>, AllocError>
     }
 }
 
-fn is_still_inside(
-    limits: &Limits,
-    knowledge: &Knowledge,
-    store: &PodStore,
-    id: &str,
-    instant: Option<Instant>,
-) -> bool
-    ensures { result ≡ is_still_inside (record { tolerance = limits.now.tolerance; target = limits.now.target; mapped = limits.now.mapped; breaks = knowledge.now; store = store.now }) id.now instant (pod_for store.now id.now) }
-{
-    match store.get(id) {
-        Some(pod) => knowledge.inside(id, instant, limits.tolerance, pod),
-        None => false,
-    }
+// What decides the marks of a refresh's segments, with the breaks that can be entered in it.
+#[derive(Drop)]
+struct Marker<'a> {
+    limits: Limits,
+    knowledge: &'a Knowledge,
+    store: &'a PodStore,
+    entrances: Entrances<'a>,
 }
 
-fn stays(
-    limits: &Limits,
-    knowledge: &Knowledge,
-    store: &PodStore,
-    newest: &Option<Text>,
-    instant: Option<Instant>,
-) -> bool
-    ensures { result ≡ stays (record { tolerance = limits.now.tolerance; target = limits.now.target; mapped = limits.now.mapped; breaks = knowledge.now; store = store.now }) newest.now instant }
-{
-    match newest {
-        Some(id) => is_still_inside(limits, knowledge, store, id.as_str(), instant),
-        None => false,
-    }
+impl<'a> Model for Marker<'a> {
+    ghost use Rattle.std.specs.Prelude.{◌≡◌};
+    ghost use Rattle.break_finder.specs.Entrances.{entrances_in};
+    ghost use Rattle.live_meaning.specs.Marking.{Moment};
+
+    ghost Value = { Moment };
+
+    ghost view = { λ a. record { tolerance = a.limits.tolerance; target = a.limits.target; mapped = a.limits.mapped; breaks = a.knowledge.now; store = a.store.now } };
+
+    ghost invariant = { λ a. a.entrances ≡ entrances_in a.limits.target a.limits.mapped a.store.now a.knowledge.now };
 }
 
-// The first break that is entered at an instant.
-fn entered_id(
+fn marker_of<'a>(
     alloc: Global,
     limits: &Limits,
-    knowledge: &Knowledge,
-    store: &PodStore,
-    last: Option<&str>,
-    instant: Option<Instant>,
-) -> Result<Option<Text>, AllocError>
-    ensures { IfOk result (λ id. id ≡ entered (record { tolerance = limits.now.tolerance; target = limits.now.target; mapped = limits.now.mapped; last = option_copied last.entry }) store.now knowledge.now instant) }
+    knowledge: &'a Knowledge,
+    store: &'a PodStore,
+) -> Result<Marker<'a>, AllocError>
+    ensures { IfOk result (λ marker. marker ≡ record { tolerance = limits.now.tolerance; target = limits.now.target; mapped = limits.now.mapped; breaks = knowledge.now; store = store.now }) }
 {
-    let (tolerance, target, mapped) = (limits.tolerance, limits.target, limits.mapped);
-    match knowledge.enters(instant, tolerance, target, mapped, store, last) {
-        Some(id) => Ok(Some(Text::copy_of(alloc, id)?)),
-        None => Ok(None),
-    }
+    Ok(Marker {
+        limits: *limits,
+        knowledge,
+        store,
+        entrances: knowledge.entrances(alloc, limits.target, limits.mapped, store)?,
+    })
 }
 
-// The first break but this one that is entered at an instant.
-fn entered_since(
-    alloc: Global,
-    limits: &Limits,
-    knowledge: &Knowledge,
-    store: &PodStore,
-    last: &str,
-    instant: Option<Instant>,
-) -> Result<Option<Text>, AllocError>
-    ensures { IfOk result (λ id. id ≡ entered (record { tolerance = limits.now.tolerance; target = limits.now.target; mapped = limits.now.mapped; last = Some last.now }) store.now knowledge.now instant) }
-{
-    entered_id(alloc, limits, knowledge, store, Some(last), instant)
-}
-
-fn entered_after(
-    alloc: Global,
-    limits: &Limits,
-    knowledge: &Knowledge,
-    store: &PodStore,
-    last: &Option<Text>,
-    instant: Option<Instant>,
-) -> Result<Option<Text>, AllocError>
-    ensures { IfOk result (λ id. id ≡ entered (record { tolerance = limits.now.tolerance; target = limits.now.target; mapped = limits.now.mapped; last = last.now }) store.now knowledge.now instant) }
-{
-    match last {
-        Some(last) => entered_since(alloc, limits, knowledge, store, last.as_str(), instant),
-        None => entered_id(alloc, limits, knowledge, store, None, instant),
+impl<'a> Marker<'a> {
+    fn is_still_inside(&self, id: &str, instant: Option<Instant>) -> bool
+        ensures { result ≡ is_still_inside self.now id.now instant (pod_for self.now.store id.now) }
+    {
+        match self.store.get(id) {
+            Some(pod) => self
+                .knowledge
+                .inside(id, instant, self.limits.tolerance, pod),
+            None => false,
+        }
     }
-}
 
-// The break that marks a segment, by whether it stays on the run of the one before it.
-fn next_id(
-    alloc: Global,
-    limits: &Limits,
-    knowledge: &Knowledge,
-    store: &PodStore,
-    staying: bool,
-    newest: &Option<Text>,
-    last: &Option<Text>,
-    instant: Option<Instant>,
-) -> Result<Option<Text>, AllocError>
-    requires { staying ≡ stays (record { tolerance = limits.now.tolerance; target = limits.now.target; mapped = limits.now.mapped; breaks = knowledge.now; store = store.now }) newest.now instant }
-    ensures { IfOk result (λ id. id ≡ next_id (record { tolerance = limits.now.tolerance; target = limits.now.target; mapped = limits.now.mapped; breaks = knowledge.now; store = store.now }) newest.now last.now instant) }
-{
-    if staying {
-        return copied_text(newest);
+    fn stays(&self, newest: &Option<Text>, instant: Option<Instant>) -> bool
+        ensures { result ≡ stays self.now newest.now instant }
+    {
+        match newest {
+            Some(id) => self.is_still_inside(id.as_str(), instant),
+            None => false,
+        }
     }
-    entered_after(alloc, limits, knowledge, store, last, instant)
+
+    // The first break that is entered at an instant, after this last one.
+    fn entered(
+        &self,
+        alloc: Global,
+        last: Option<&str>,
+        instant: Option<Instant>,
+    ) -> Result<Option<Text>, AllocError>
+        ensures { IfOk result (λ id. id ≡ entered (limits self.now (option_copied last.entry)) self.now.store self.now.breaks instant) }
+    {
+        match self.entrances.entered(instant, self.limits.tolerance, last) {
+            Some(id) => Ok(Some(Text::copy_of(alloc, id)?)),
+            None => Ok(None),
+        }
+    }
+
+    // The first break but this one that is entered at an instant.
+    fn entered_since(
+        &self,
+        alloc: Global,
+        last: &str,
+        instant: Option<Instant>,
+    ) -> Result<Option<Text>, AllocError>
+        ensures { IfOk result (λ id. id ≡ entered (limits self.now (Some last.now)) self.now.store self.now.breaks instant) }
+    {
+        self.entered(alloc, Some(last), instant)
+    }
+
+    fn entered_after(
+        &self,
+        alloc: Global,
+        last: &Option<Text>,
+        instant: Option<Instant>,
+    ) -> Result<Option<Text>, AllocError>
+        ensures { IfOk result (λ id. id ≡ entered (limits self.now last.now) self.now.store self.now.breaks instant) }
+    {
+        match last {
+            Some(last) => self.entered_since(alloc, last.as_str(), instant),
+            None => self.entered(alloc, None, instant),
+        }
+    }
+
+    // The break that marks a segment, by whether it stays on the run of the one before it.
+    fn next_id(
+        &self,
+        alloc: Global,
+        staying: bool,
+        newest: &Option<Text>,
+        last: &Option<Text>,
+        instant: Option<Instant>,
+    ) -> Result<Option<Text>, AllocError>
+        requires { staying ≡ stays self.now newest.now instant }
+        ensures { IfOk result (λ id. id ≡ next_id self.now newest.now last.now instant) }
+    {
+        if staying {
+            return copied_text(newest);
+        }
+        self.entered_after(alloc, last, instant)
+    }
 }
 
 fn or_earlier(text: &Option<Text>, earlier: Option<Text>) -> Result<Option<Text>, AllocError>
@@ -164,6 +187,7 @@ pub fn mark_on(
 ) -> Result<Vec<Marked>, AllocError>
     ensures { IfOk result (λ v. v.items ≡ mark_on (record { tolerance = limits.now.tolerance; target = limits.now.target; mapped = limits.now.mapped; breaks = knowledge.now; store = store.now }) newest.now last.now segments.now instants.now) }
 {
+    let marker = marker_of(alloc, limits, knowledge, store)?;
     let mut done = Vec::new(alloc);
     let mut before = copied_text(newest)?;
     let mut entered = copied_text(last)?;
@@ -173,10 +197,8 @@ pub fn mark_on(
         let Some((instant, after)) = begun.split_first() else {
             return Ok(done);
         };
-        let staying = stays(limits, knowledge, store, &before, *instant);
-        let mark = next_id(
-            alloc, limits, knowledge, store, staying, &before, &entered, *instant,
-        )?;
+        let staying = marker.stays(&before, *instant);
+        let mark = marker.next_id(alloc, staying, &before, &entered, *instant)?;
         before = copied_text(&mark)?;
         entered = or_earlier(&mark, entered)?;
         done.push(Marked {

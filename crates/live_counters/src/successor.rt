@@ -8,7 +8,8 @@ use live_meaning::RefreshFault;
 use playlist_meaning::{Playlist, PlaylistKind, Segment, same_segment};
 
 // The media number of the first segment.
-fn first_number(segments: &[Segment]) -> u64
+/// The media number of the first of these segments.
+pub fn first_number(segments: &[Segment]) -> u64
     ensures { result ≡ first_number segments.now }
 {
     match segments.first() {
@@ -43,7 +44,8 @@ fn last_discontinuity(segments: &[Segment]) -> u64
     }
 }
 
-fn is_mapped(segments: &[Segment]) -> bool
+/// Whether these segments have initialisation sections: whether the first one has.
+pub fn is_mapped(segments: &[Segment]) -> bool
     ensures { result ≡ is_mapped segments.now }
 {
     match segments.first() {

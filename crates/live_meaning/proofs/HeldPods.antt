@@ -25,7 +25,7 @@ use Rattle.live_meaning.proofs.Decided.{from_all}
 use Rattle.live_meaning.proofs.Passed.{passed}
 use Rattle.live_meaning.proofs.Entries.{IsEntered, entered_is}
 
-same_id : (id : List ℕ) → bytes_eq id id ≡ true
+pub same_id : (id : List ℕ) → bytes_eq id id ≡ true
 same_id id = (bytes_eq-Decides id id).1 refl
 
 not_other : (a b : List ℕ) (t : Bool) → bytes_eq a b ≡ t → (a ≡ b → ⊥) → t ≡ false
@@ -195,7 +195,7 @@ kept_step used id e store x u rec true same h false keep =
 kept_step used id e store x u rec false same h true keep = rw same (rec h)
 kept_step used id e store x u rec false same h false keep = rec h
 
-kept_found : (used : List ℕ → Bool) (id : List ℕ) (store : List Entry) (x : Entry) → used id ≡ true → find (has_id id) store ≡ Some x
+pub kept_found : (used : List ℕ → Bool) (id : List ℕ) (store : List Entry) (x : Entry) → used id ≡ true → find (has_id id) store ≡ Some x
     → find (has_id id) (store_after used store) ≡ Some (record x { used = used x.id })
 kept_found used id [] x u h = absurd (cc)
 kept_found used id (e ∷ store) x u h = kept_step used id e store x u (kept_found used id store x u) (bytes_eq id e.id) refl h (not e.used || used e.id) refl

@@ -7,10 +7,10 @@ use Rattle.break_finder.specs.Laws.{CarriesKnown}
 use Rattle.playlist_meaning.specs.Marks.{Mark, Marked, newest_mark, continues}
 use Rattle.live_meaning.specs.Marking.{Moment, next_shown, last_mark, last_entered}
 use Rattle.playlist_meaning.specs.Stitched.{Piece, Numbers, Item, numbers_at, fits, stitched, stitched_list, run_pieces, numbered, from_place, newest_place, up_to}
-use Rattle.live_meaning.specs.Live.{Event, refreshed, told, refusal, owed, owed_for}
+use Rattle.live_meaning.specs.Live.{Event, refreshed, told, refusal, in_use, owed, owed_for}
 use Rattle.std.specs.List.{AllByRecursion, list_all}
 use Rattle.live_meaning.specs.Successor.{Succeeds, successor_fault, first_number}
-use Rattle.pod_store.specs.Store.{Entry, has_id}
+use Rattle.pod_store.specs.Store.{Entry, has_id, is_used}
 use Rattle.live_meaning.specs.Sound.{IsSoundPlaylist, IsSoundEvent}
 
 -- a list whose newest stands first goes on another
@@ -86,3 +86,8 @@ abbrev pub MarksHavePods : Type 0
 MarksHavePods = (tolerance : ℕ) (events : List Event) →
     ShownHavePods (told tolerance events).store (first_shown (told tolerance events).accepted) (told tolerance events).history
     × HasPod (told tolerance events).store (last_mark (told tolerance events).history)
+
+-- a break is used in the store exactly where it marks a shown segment or was entered last
+abbrev pub UsedAreInUse : Type 0
+UsedAreInUse = (tolerance : ℕ) (events : List Event) (id : List ℕ) →
+    is_used (told tolerance events).store id ≡ in_use (first_shown (told tolerance events).accepted) (told tolerance events).history id

@@ -1,5 +1,6 @@
 //! Why a refresh of a live playlist is refused.
 use playlist_meaning::PlaylistFault;
+use std::alloc::AllocError;
 
 /// Why a refresh of a live playlist is refused: it can't be read, or a client that holds the playlist before it may
 /// not be given it (RFC 8216, sections 4.3.3 and 6.2.1).
@@ -29,4 +30,15 @@ pub enum RefreshFault {
     NumberRange,
     /// N11: memory was refused.
     OutOfMemory,
+}
+
+impl From<AllocError> for RefreshFault {
+    ghost use Rattle.std.specs.Prelude.{◌≡◌};
+    ghost use Rattle.live_meaning.specs.declared.fault.RefreshFault.TheVariants.{OutOfMemory};
+
+    ghost from_gives = { λ _ fault. fault ≡ OutOfMemory };
+
+    fn from(_error: AllocError) -> RefreshFault {
+        RefreshFault::OutOfMemory
+    }
 }

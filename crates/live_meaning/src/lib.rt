@@ -4,7 +4,7 @@
 #![tactic(auto)]
 
 ghost use Rattle.live_meaning.specs.KeptLaws.{KeptFollows, KeptHavePods};
-ghost use Rattle.live_meaning.specs.LiveLaws.{OnlyGrows, EachSucceeds, MarksFollow, HistoriesAreLinked, WindowsFollow, MarksAreKnown, NoFaultSucceeds, NewestFits, MarksHavePods};
+ghost use Rattle.live_meaning.specs.LiveLaws.{OnlyGrows, EachSucceeds, MarksFollow, HistoriesAreLinked, WindowsFollow, MarksAreKnown, NoFaultSucceeds, NewestFits, MarksHavePods, UsedAreInUse};
 
 mod fault;
 pub mod rows;
@@ -54,6 +54,11 @@ pub fn newest_fits()
 /// The store has the pod of each mark of a shown segment and of the last break entered, used.
 pub fn marks_have_pods()
     ensures { MarksHavePods }
+{}
+
+/// A break is used in the store exactly where it marks a shown segment or was entered last.
+pub fn used_are_in_use()
+    ensures { UsedAreInUse }
 {}
 
 /// What is kept of all events, and what is owed, follow from what was kept before.

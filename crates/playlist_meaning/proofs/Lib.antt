@@ -8,3 +8,4 @@ pub mod LineLaws
 pub mod Pointwise
 pub mod SameParts
 pub mod SameSegments
+pub mod PlainJoin

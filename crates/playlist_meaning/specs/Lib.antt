@@ -1,5 +1,6 @@
 pub mod Lines
 pub mod Uri
+pub mod Plain
 pub mod Said
 pub mod LookBack
 pub mod Instants

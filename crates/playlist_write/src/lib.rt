@@ -107,6 +107,13 @@ fn make_text(alloc: Global, playlist: &OutPlaylist) -> Result<String, AllocError
     Ok(text)
 }
 
+/// The whole text of a playlist.
+pub fn written(alloc: Global, playlist: &OutPlaylist) -> Result<Text, AllocError>
+    ensures { IfOk result (λ text. text ≡ text_of playlist.now) }
+{
+    Ok(Text::from_string(make_text(alloc, playlist)?))
+}
+
 #[tactic(auto, using(crate::proofs::Whole::text_denotes))]
 /// Writes a playlist: its whole text, or a front of it where the sink fails.
 pub fn write<S: Sink>(alloc: Global, playlist: &OutPlaylist, sink: &mut S) -> Result<(), WriteFault>

@@ -1,5 +1,5 @@
 -- The store of decided breaks.
-use Rattle.std.specs.Prelude.{◌≡◌, ℕ, ◌+◌, Bool, true, false, not, List, [], ◌∷◌, filter, fold, find, length, nat_lt, Option, Some, None, option_map, is_some, Result, Ok, Err, MatchResult, bytes_eq, if◌then◌else◌}
+use Rattle.std.specs.Prelude.{◌≡◌, ℕ, ◌+◌, Bool, true, false, not, ◌||◌, List, [], ◌∷◌, map, filter, fold, find, length, nat_lt, Option, Some, None, option_map, is_some, Result, Ok, Err, MatchResult, bytes_eq, if◌then◌else◌}
 use Rattle.std.specs.List.{list_any}
 use Rattle.playlist_meaning.specs.Pods.{Pod}
 use Rattle.pod_store.specs.declared.fault.DecisionFault.{DecisionFault}
@@ -88,6 +88,17 @@ decided store (Withdraw id) = withdrawn store id
 -- a used break goes; any other stays
 abbrev pub released : List Entry → List ℕ → List Entry
 released store id = if is_used store id then without id store else store
+
+-- the break is one of these
+abbrev pub is_one_of : List (List ℕ) → List ℕ → Bool
+is_one_of ids id = list_any (bytes_eq id) ids
+
+abbrev pub is_held : List (List ℕ) → Entry → Bool
+is_held ids e = not e.used || is_one_of ids e.id
+
+-- these breaks are in use: a used one that is none of them goes, and of the others these are used
+abbrev pub kept_in_use : List (List ℕ) → List Entry → List Entry
+kept_in_use ids store = map (λ (e : Entry). record e { used = is_one_of ids e.id }) (filter (is_held ids) store)
 
 -- the store is the one owed; or the fault is, want of memory apart, and the store is as it was
 abbrev pub Changes : List Entry → List Entry → Result (Unit {0}) DecisionFault → Outcome (List Entry) → Type 0

@@ -3,13 +3,13 @@ ghost use Rattle.std.specs.Prelude.{◌≡◌, ℕ, ◌+◌, ◌==◌, ◌≤◌
 ghost use Rattle.std.specs.List.{list_all, list_any};
 ghost use Rattle.std.specs.Option.{option_copied};
 ghost use Rattle.pod_store.specs.Pods.{section_fits, segment_fits, ad_fits, pod_fits};
-ghost use Rattle.pod_store.specs.Store.{names_used, put, without, entry_for, pod_for, fits, is_used, with_all, withdrawn, decided, released, with_used, count_with, is_new, Changes, ChangesExactly};
+ghost use Rattle.pod_store.specs.Store.{names_used, put, without, entry_for, pod_for, fits, is_used, with_all, withdrawn, decided, released, with_used, kept_in_use, count_with, is_new, Changes, ChangesExactly};
 
 use crate::fault::{DecisionFault, DecisionKind, Place};
-use crate::kept::{Kept, kept_for, mark, put_all, remove};
+use crate::kept::{Kept, keep_in_use, kept_for, mark, put_all, remove};
 use crate::{Ad, Decision, Decisions, Pod, PodSegment};
 use indexmap::IndexMap;
-use playlist_meaning::InitSection;
+use playlist_meaning::{InitSection, Text};
 use std::alloc::{AllocError, Global};
 use std::marker::Model;
 
@@ -107,7 +107,8 @@ impl PodStore {
         }
     }
 
-    fn is_used(&self, id: &str) -> bool
+    /// Whether a break is decided and used.
+    pub fn is_used(&self, id: &str) -> bool
         ensures { result ≡ is_used self.now id.now }
     {
         match kept_for(&self.kept, id) {
@@ -233,5 +234,14 @@ impl PodStore {
         ensures store { self.new ≡ with_used id.now self.old }
     {
         mark(&mut self.kept, id)
+    }
+
+    #[tactic(auto, using(crate::proofs::InUse::seen_in_use))]
+    /// Drops the pods of the used breaks that are none of these, and marks those of the others that are these as
+    /// used. Takes no memory.
+    pub fn keep_in_use(&mut self, ids: &[Text])
+        ensures { self.new ≡ kept_in_use ids.now self.old }
+    {
+        keep_in_use(&mut self.kept, ids);
     }
 }

@@ -3,7 +3,7 @@ use Rattle.std.proofs.Common.{◌≡◌, ℕ, true, List, [], ◌∷◌, ◌++�
 use Rattle.std.specs.Prelude.{◌-ℤ◌, int_lt, Option, None}
 use Rattle.playlist_meaning.specs.declared.Segment.{Segment}
 use Rattle.instants.specs.Instant.{first_instant}
-use Rattle.playlist_meaning.specs.Instants.{instants_after, instants_of}
+use Rattle.playlist_meaning.specs.Instants.{instants_after}
 use Rattle.timeline.specs.Reckoned.{stack_of, Walked}
 
 lower : (x : ℤ) (d : ℕ) → int_lt x first_instant ≡ true → int_lt (x -ℤ pos d) first_instant ≡ true
@@ -24,11 +24,11 @@ begun segments stack h = record { later = []; whole = after segments; stack_is =
 -- ---- walking on
 
 -- the instants of some of the first segments are found
-pub record Timed (segments rest : List Segment) (stack found : List (Option ℤ)) (ended : Option ℤ) : Type 0 where
-  pub all : found ++ instants_after ended rest ≡ instants_of segments
+pub record Timed (from : Option ℤ) (segments rest : List Segment) (stack found : List (Option ℤ)) (ended : Option ℤ) : Type 0 where
+  pub all : found ++ instants_after ended rest ≡ instants_after from segments
   pub stack_is : stack ≡ stack_of rest
 
-pub found_all : {segments rest : List Segment} {stack found : List (Option ℤ)} {ended : Option ℤ} (t : Timed segments rest stack found ended) → rest ≡ [] → found ≡ instants_of segments
+pub found_all : {from : Option ℤ} {segments rest : List Segment} {stack found : List (Option ℤ)} {ended : Option ℤ} (t : Timed from segments rest stack found ended) → rest ≡ [] → found ≡ instants_after from segments
 found_all {found = found} {ended = ended} t none = sym (nothing_after found) ∙ ap (λ r. found ++ instants_after ended r) (sym none) ∙ t.all
   where
     nothing_after : (xs : List (Option ℤ)) → xs ++ [] ≡ xs

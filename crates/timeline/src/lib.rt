@@ -2,7 +2,7 @@
 #![tactic(auto)]
 
 ghost use Rattle.std.specs.Prelude.{◌≡◌, ℤ, IfOk, option_map, pos, ◌-ℤ◌};
-ghost use Rattle.playlist_meaning.specs.Instants.{bounded, ends_at, instants_of};
+ghost use Rattle.playlist_meaning.specs.Instants.{bounded, ends_at, instants_after, instants_of};
 ghost use Rattle.playlist_meaning.specs.LookBack.{or_earlier};
 ghost use Rattle.timeline.specs.Reckoned.{clamped, stack_of};
 ghost use Rattle.timeline.specs.Timed.{with_time, timed};
@@ -54,8 +54,8 @@ fn reckoned_here(segment: &Segment, after: Option<i128>) -> Option<i128>
     }
 }
 
-// Where a segment of this duration ends, if it begins at an instant.
-fn ends_at(begun: &Option<Instant>, duration: Nanos) -> Option<i128>
+/// Where a segment of this duration ends, if it begins at an instant.
+pub fn ends_at(begun: &Option<Instant>, duration: Nanos) -> Option<i128>
     ensures { result ≡ ends_at begun.now duration }
 {
     match begun {
@@ -88,14 +88,18 @@ fn reckoned_stack(alloc: Global, segments: &[Segment]) -> Result<Vec<Option<i128
     Ok(stack)
 }
 
-/// The instant at which each of a playlist's segments begins: its stated time; else where the one
-/// before it ended; else back from the first time stated later; none outside the range of instants.
-pub fn instants(alloc: Global, segments: &[Segment]) -> Result<Vec<Option<Instant>>, AllocError>
-    ensures { IfOk result (λ v. v.items ≡ instants_of segments.now) }
+/// The instant at which each of these segments begins, after one that ended at `from`, if any: its stated time; else
+/// where the one before it ended; else back from the first time stated later; none outside the range of instants.
+pub fn instants_after(
+    alloc: Global,
+    from: Option<i128>,
+    segments: &[Segment],
+) -> Result<Vec<Option<Instant>>, AllocError>
+    ensures { IfOk result (λ v. v.items ≡ instants_after from segments.now) }
 {
     let mut stack = reckoned_stack(alloc, segments)?;
     let mut found = Vec::with_capacity(alloc, segments.len())?;
-    let mut ended: Option<i128> = None;
+    let mut ended = from;
     let mut rest = segments;
     while let Some((segment, later)) = rest.split_first() {
         let reckoned = match stack.pop() {
@@ -108,6 +112,13 @@ pub fn instants(alloc: Global, segments: &[Segment]) -> Result<Vec<Option<Instan
         rest = later;
     }
     Ok(found)
+}
+
+/// The instant at which each of a playlist's segments begins, as `instants_after` none.
+pub fn instants(alloc: Global, segments: &[Segment]) -> Result<Vec<Option<Instant>>, AllocError>
+    ensures { IfOk result (λ v. v.items ≡ instants_of segments.now) }
+{
+    instants_after(alloc, None, segments)
 }
 
 /// The segment, which states this instant, or none.

@@ -1,0 +1,110 @@
+-- What bytes ask, and what they ask with more behind them.
+use Rattle.std.proofs.Common.{◌≡◌, ℕ, List, [], ◌++◌, length-drop, take, drop, sym, ap, subst, ◌∙◌, inl, inr, arith, length-append, true≢false, append_assoc}
+use Rattle.std.specs.Prelude.{Option, Some, None}
+use Rattle.std.specs.Io.KnownBytes.{Consumes}
+use Rattle.std.proofs.KnownBytes.{Consumes-trans}
+use Rattle.std.proofs.lemmas.List.{take-append-le, append-nil}
+use Rattle.httparse.specs.Grammar.{RequestHead}
+use Rattle.httparse.proofs.GrammarLemmas.{request_unique}
+use Rattle.http_messages.specs.declared.message.Request.{Request}
+use Rattle.http_messages.specs.declared.refusal.Refusal.{Refusal}
+use Rattle.http_messages.specs.declared.refusal.Refusal.TheVariants.{BadRequest}
+use Rattle.http_messages.specs.declared.head.Framing.{Framing}
+use Rattle.http_messages.specs.declared.head.Framing.TheVariants.{Body, Refused}
+use Rattle.http_messages.specs.declared.head.Head.{Head}
+use Rattle.http_messages.specs.declared.receiving.Step.TheVariants as step
+use Rattle.http_messages.specs.declared.receiving.Asked.{Asked}
+use Rattle.http_messages.specs.declared.receiving.Asked.TheVariants as asked
+use Rattle.http_messages.specs.Requests.{BeginsWith, HasNoHead, NeverHasHead, Asks, IsRefusedFor, framing_said}
+use Rattle.http_messages.specs.Received.{IsAsked, IsStep, Holds, HasAsked}
+use Rattle.http_messages.proofs.Fronts.{begins_more, count_in, is_body}
+
+-- ---- more bytes
+
+abbrev request_with : RequestHead → List ℕ → Request
+request_with h body = record { method = h.method; target = h.target; body = body }
+
+asks_more : (bytes more : List ℕ) (request : Request) → Asks bytes request → Asks (bytes ++ more) request
+asks_more bytes more request a = record {
+  h = a.h;
+  rest = a.rest ++ more;
+  begins = begins_more bytes more a.h a.rest a.begins;
+  count = a.count;
+  framing = a.framing;
+  whole = omega (arith, a.whole, length-append a.rest more);
+  is = a.is ∙ ap (request_with a.h) (sym (take-append-le a.count a.rest more a.whole));
+}
+
+refused_more : (bytes more : List ℕ) (refusal : Refusal) → IsRefusedFor bytes refusal → IsRefusedFor (bytes ++ more) refusal
+refused_more bytes more refusal (inl a) =
+    inl (record { h = a.h; rest = a.rest ++ more; begins = begins_more bytes more a.h a.rest a.begins; framing = a.framing })
+refused_more bytes more refusal (inr a) = inr (λ rest. subst HasNoHead (sym (append_assoc bytes more rest)) (a.0 (more ++ rest)), a.1)
+
+asked_more : (bytes more : List ℕ) (it : Asked) → IsAsked bytes it → IsAsked (bytes ++ more) it
+asked_more bytes more (asked.Request request) a = asks_more bytes more request a
+asked_more bytes more (asked.Refused refusal) a = refused_more bytes more refusal a
+
+-- ---- one alone
+
+never_begins : (bytes : List ℕ) (h : RequestHead) (rest : List ℕ) → NeverHasHead bytes → BeginsWith bytes h rest → ⊥
+never_begins bytes h rest never b = subst HasNoHead (append-nil bytes) (never []) h rest b
+
+asks_one : (bytes : List ℕ) (one other : Request) → Asks bytes one → Asks bytes other → one ≡ other
+asks_one bytes one other a b =
+    let same = request_unique bytes a.h b.h a.rest b.rest a.begins.reads b.begins.reads in
+    let counts = ap count_in (sym a.framing ∙ ap framing_said same.0 ∙ b.framing) in
+    a.is ∙ (λ i. record { method = (same.0 i).method; target = (same.0 i).target; body = take (counts i) (same.1 i) }) ∙ sym b.is
+
+not_both : (bytes : List ℕ) (request : Request) (refusal : Refusal) → Asks bytes request → IsRefusedFor bytes refusal → ⊥
+not_both bytes request refusal a (inl b) =
+    let same = request_unique bytes a.h b.h a.rest b.rest a.begins.reads b.begins.reads in
+    true≢false (ap is_body (sym a.framing ∙ ap framing_said same.0 ∙ b.framing))
+not_both bytes request refusal a (inr b) = never_begins bytes a.h a.rest b.0 a.begins
+
+abbrev refusal_in : Framing → Refusal
+refusal_in (Body n) = BadRequest
+refusal_in (Refused refusal) = refusal
+
+refused_one : (bytes : List ℕ) (one other : Refusal) → IsRefusedFor bytes one → IsRefusedFor bytes other → one ≡ other
+refused_one bytes one other (inl a) (inl b) =
+    let same = request_unique bytes a.h b.h a.rest b.rest a.begins.reads b.begins.reads in
+    ap refusal_in (sym a.framing ∙ ap framing_said same.0 ∙ b.framing)
+refused_one bytes one other (inl a) (inr b) = absurd (never_begins bytes a.h a.rest b.0 a.begins)
+refused_one bytes one other (inr a) (inl b) = absurd (never_begins bytes b.h b.rest a.0 b.begins)
+refused_one bytes one other (inr a) (inr b) = a.1 ∙ sym b.1
+
+pub asked_one : (bytes : List ℕ) (one other : Asked) → IsAsked bytes one → IsAsked bytes other → one ≡ other
+asked_one bytes (asked.Request one) (asked.Request other) a b = ap asked.Request (asks_one bytes one other a b)
+asked_one bytes (asked.Request one) (asked.Refused other) a b = absurd (not_both bytes one other a b)
+asked_one bytes (asked.Refused one) (asked.Request other) a b = absurd (not_both bytes other one b a)
+asked_one bytes (asked.Refused one) (asked.Refused other) a b = ap asked.Refused (refused_one bytes one other a b)
+
+-- ---- what a source held
+
+-- the bytes before, and those of the last read
+pub has_asked : (old mid new : Option (List ℕ)) (before block bytes seen : List ℕ) (it : Asked) → Consumes old mid before → Consumes mid new block
+    → bytes ≡ before ++ block → seen ≡ bytes → IsAsked seen it → HasAsked old new it
+has_asked old mid new before block bytes seen it first then joined same a = record {
+  bytes = bytes;
+  given = subst (Consumes old new) (sym joined) (Consumes-trans old mid new before block first then);
+  asks = subst (λ l. IsAsked l it) same a;
+}
+
+-- a head and its whole body
+pub asks_whole : (seen bytes : List ℕ) (head : Head) (count : ℕ) (request : Request) → seen ≡ bytes → IsStep seen (step.Whole head count)
+    → request ≡ record { method = head.method; target = head.target; body = take count (drop head.len bytes) } → IsAsked seen (asked.Request request)
+asks_whole seen bytes head count request same s is = record {
+  h = s.0.h;
+  rest = drop head.len seen;
+  begins = s.0.begins;
+  count = count;
+  framing = sym s.0.framing ∙ s.1;
+  whole = omega (arith, s.2, length-drop head.len seen);
+  is = is ∙ (λ i. record { method = s.0.method i; target = s.0.target i; body = take count (drop head.len (sym same i)) });
+}
+
+pub held_is_asked : (old new : Option (List ℕ)) (one other : Asked) → HasAsked old new one → Holds old other → one ≡ other
+held_is_asked None new one other a h = absurd h
+held_is_asked (Some input) None one other a h = absurd a.given
+held_is_asked (Some input) (Some rest) one other a h =
+    asked_one input one other (subst (λ l. IsAsked l one) (sym a.given) (asked_more a.bytes rest one a.asks)) h

@@ -1,0 +1,4 @@
+pub mod Replies
+pub mod Requests
+pub mod Received
+pub mod Runs

@@ -1,0 +1,91 @@
+-- The request at the front of some bytes (RFC 9112, 2.1, 3, 5 and 6).
+use Rattle.std.specs.Prelude.{◌≡◌, ℕ, ◌≤◌, nat_lt, Bool, List, [], ◌∷◌, ◌++◌, codes, map, filter, length, take, bytes_eq, Option, Some, None, if◌then◌else◌, ◌⊎◌}
+use Rattle.std.specs.List.{list_any}
+use Rattle.std.specs.Str.{str_eq_ignore_ascii_case}
+use Rattle.httparse.specs.Grammar.{RequestHead, print_request, ReadsRequest}
+use Rattle.httparse.specs.Spans.{name_and_value}
+use Rattle.attr_list.specs.Numbers.{decimal_of}
+use Rattle.http_messages.specs.declared.message.Request.{Request}
+use Rattle.http_messages.specs.declared.refusal.Refusal.{Refusal}
+use Rattle.http_messages.specs.declared.refusal.Refusal.TheVariants.{BadRequest, LengthRequired, TooLarge}
+use Rattle.http_messages.specs.declared.head.Framing.{Framing}
+use Rattle.http_messages.specs.declared.head.Framing.TheVariants.{Body, Refused}
+use Rattle.http_messages.specs.declared.head.TheConstants.{HEAD_LIMIT, FIELD_LIMIT, BODY_LIMIT}
+
+-- ---- what the fields of a head say of the body
+
+-- a field: its name, and its value without the white space around it
+abbrev pub Field : Type 0
+Field = List ℕ × List ℕ
+
+-- names of fields are the same in any case (RFC 9110, 5.1)
+abbrev pub is_named : List ℕ → Field → Bool
+is_named name field = str_eq_ignore_ascii_case field.0 name
+
+-- a body of the stated length, where that is a number
+abbrev pub body_of_length : Option ℕ → Framing
+body_of_length None = Refused BadRequest
+body_of_length (Some n) = if nat_lt BODY_LIMIT n then Refused TooLarge else Body n
+
+-- the length has to be stated, and once
+abbrev pub stated_by : List Field → Framing
+stated_by [] = Refused LengthRequired
+stated_by (field ∷ []) = body_of_length (decimal_of field.1)
+stated_by (field ∷ other ∷ more) = Refused BadRequest
+
+-- of the lengths that a body may have (RFC 9112, 6.3) the one that is stated is taken, and no transfer coding
+abbrev pub framing_of_put : List Field → Framing
+framing_of_put fields =
+    if list_any (is_named (codes "transfer-encoding")) fields then Refused LengthRequired
+    else stated_by (filter (is_named (codes "content-length")) fields)
+
+-- no other method has a body that is read
+abbrev pub framing_of : List ℕ → List Field → Framing
+framing_of method fields = if bytes_eq method (codes "PUT") then framing_of_put fields else Body 0
+
+abbrev pub framing_said : RequestHead → Framing
+framing_said h = framing_of h.method (map name_and_value h.fields)
+
+-- ---- a head at the front
+
+-- the bytes are this head and the rest, and the head keeps the limits
+pub record BeginsWith (bytes : List ℕ) (h : RequestHead) (rest : List ℕ) : Type 0 where
+  pub reads : ReadsRequest bytes h rest
+  pub short : length (print_request h) ≤ HEAD_LIMIT
+  pub few : length h.fields ≤ FIELD_LIMIT
+
+-- there is no such head
+abbrev pub HasNoHead : List ℕ → Type 0
+HasNoHead bytes = (h : RequestHead) (rest : List ℕ) → ¬ (BeginsWith bytes h rest)
+
+-- nor will there be one, whatever follows
+abbrev pub NeverHasHead : List ℕ → Type 0
+NeverHasHead bytes = (more : List ℕ) → HasNoHead (bytes ++ more)
+
+-- ---- what is asked
+
+-- the bytes begin with a whole request, and it is this one
+pub record Asks (bytes : List ℕ) (request : Request) : Type 0 where
+  pub h : RequestHead
+  pub rest : List ℕ
+  pub begins : BeginsWith bytes h rest
+  pub count : ℕ
+  pub framing : framing_said h ≡ Body count
+  pub whole : count ≤ length rest
+  pub is : request ≡ record { method = h.method; target = h.target; body = take count rest }
+
+-- they begin with a head that is refused
+pub record HasRefusedHead (bytes : List ℕ) (refusal : Refusal) : Type 0 where
+  pub h : RequestHead
+  pub rest : List ℕ
+  pub begins : BeginsWith bytes h rest
+  pub framing : framing_said h ≡ Refused refusal
+
+-- they begin with a head that is refused, or they can't begin with a head
+abbrev pub IsRefusedFor : List ℕ → Refusal → Type 0
+IsRefusedFor bytes refusal = HasRefusedHead bytes refusal ⊎ (NeverHasHead bytes × (refusal ≡ BadRequest))
+
+-- they are a front of what may still be a request
+pub record IsUnfinished (bytes : List ℕ) : Type 0 where
+  pub no_request : (request : Request) → ¬ (Asks bytes request)
+  pub no_refusal : (refusal : Refusal) → ¬ (HasRefusedHead bytes refusal)

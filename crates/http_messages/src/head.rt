@@ -1,0 +1,160 @@
+//! The head of a request.
+ghost use Rattle.std.specs.Prelude.{◌≡◌, ℕ, ◌≤◌, List, map, filter, length, drop, option_map, codes, true, IsTrue, Some, None, IfOk, IfSome, ◌<◌};
+ghost use Rattle.std.specs.List.{list_any};
+ghost use Rattle.std.specs.Str.{str_eq_ignore_ascii_case};
+ghost use Rattle.attr_list.specs.Numbers.{decimal_of};
+ghost use Rattle.httparse.specs.Borrowed.{header_parts};
+ghost use Rattle.http_messages.specs.Requests.{is_named, stated_by, body_of_length, framing_of_put, framing_of};
+ghost use Rattle.http_messages.specs.Received.{IsHeadAt, IsReadAs};
+
+use crate::refusal::Refusal;
+use attr_list::read_decimal;
+use http::Method;
+use http::method::MethodError;
+use httparse::{EMPTY_HEADER, Header, Status};
+use playlist_meaning::Text;
+use std::alloc::{AllocError, Global};
+use std::str;
+
+/// The most bytes of a head.
+pub const HEAD_LIMIT: usize = 16_384;
+
+/// The most fields of a head.
+pub const FIELD_LIMIT: usize = 64;
+
+/// The most bytes of a body.
+pub const BODY_LIMIT: u64 = 4_194_304;
+
+/// What a head says of the body.
+#[derive(Clone, Copy, Debug, PartialEq, Eq)]
+pub enum Framing {
+    /// So many bytes follow the head.
+    Body(u64),
+    /// The request is refused.
+    Refused(Refusal),
+}
+
+/// A whole head.
+#[derive(Drop)]
+pub struct Head {
+    /// How many bytes it has.
+    pub len: usize,
+    pub method: Method,
+    pub target: Text,
+    pub framing: Framing,
+}
+
+/// What the bytes read so far are.
+#[derive(Drop)]
+pub enum HeadRead {
+    Whole(Head),
+    /// No whole head yet.
+    Partial,
+    /// No head that is taken can begin so.
+    Bad,
+}
+
+fn is_named(field: &Header<'_>, name: &str) -> bool
+    ensures { result ≡ is_named name.now (header_parts field.now) }
+{
+    field.name.eq_ignore_ascii_case(name)
+}
+
+fn decimal_said(value: &[u8]) -> Option<u64>
+    ensures { result ≡ decimal_of value.now }
+{
+    match str::from_utf8(value) {
+        Ok(text) => read_decimal(text).ok(),
+        Err(_) => None,
+    }
+}
+
+fn body_of_length(value: &[u8]) -> Framing
+    ensures { result ≡ body_of_length (decimal_of value.now) }
+{
+    match decimal_said(value) {
+        None => Framing::Refused(Refusal::BadRequest),
+        Some(length) => {
+            if length > BODY_LIMIT {
+                Framing::Refused(Refusal::TooLarge)
+            } else {
+                Framing::Body(length)
+            }
+        }
+    }
+}
+
+fn has_coding(fields: &[Header<'_>]) -> bool
+    ensures { result ≡ list_any (is_named (codes "transfer-encoding")) (map header_parts fields.now) }
+{
+    for field in fields {
+        if is_named(field, "transfer-encoding") {
+            return true;
+        }
+    }
+    false
+}
+
+// The length that the fields state.
+fn stated_by(fields: &[Header<'_>]) -> Framing
+    ensures { result ≡ stated_by (filter (is_named (codes "content-length")) (map header_parts fields.now)) }
+{
+    let mut said = Framing::Refused(Refusal::LengthRequired);
+    let mut any = false;
+    for field in fields {
+        if is_named(field, "content-length") {
+            if any {
+                return Framing::Refused(Refusal::BadRequest);
+            }
+            said = body_of_length(field.value);
+            any = true;
+        }
+    }
+    said
+}
+
+fn framing_of(method: &str, fields: &[Header<'_>]) -> Framing
+    ensures { result ≡ framing_of method.now (map header_parts fields.now) }
+{
+    if method != "PUT" {
+        return Framing::Body(0);
+    }
+    if has_coding(fields) {
+        return Framing::Refused(Refusal::LengthRequired);
+    }
+    stated_by(fields)
+}
+
+/// Reads a head at the front of these bytes, which are at most as many as a head may have.
+pub fn read_head(alloc: Global, bytes: &[u8]) -> Result<HeadRead, AllocError>
+    requires { length bytes.now ≤ HEAD_LIMIT }
+    ensures { IfOk result (IsReadAs bytes.now) }
+{
+    let mut fields = [EMPTY_HEADER; FIELD_LIMIT];
+    let mut request = httparse::Request::new(&mut fields);
+    let Ok(status) = request.parse(bytes) else {
+        return Ok(HeadRead::Bad);
+    };
+    let Status::Complete(len) = status else {
+        return Ok(HeadRead::Partial);
+    };
+    let (Some(method), Some(target)) = (request.method, request.path) else {
+        return Ok(HeadRead::Bad);
+    };
+    if request.headers.len() > FIELD_LIMIT {
+        return Ok(HeadRead::Bad);
+    }
+    let framing = framing_of(method, request.headers);
+    let method = match Method::from_bytes(alloc, method.as_bytes()) {
+        Ok(method) => method,
+        Err(MethodError::OutOfMemory) => return Err(AllocError),
+        Err(MethodError::Invalid) => return Ok(HeadRead::Bad),
+    };
+    let target = Text::copy_of(alloc, target)?;
+    Ok(HeadRead::Whole(Head {
+        len,
+        method,
+        target,
+        framing,
+    }))
+}

@@ -1,0 +1,158 @@
+//! A request, read from a source.
+ghost use Rattle.std.specs.Prelude.{◌≡◌, ◌≤◌, ◌+◌, List, ℕ, length, take, drop, Some, Ok, Err, IfOk, IfErr, IfSome, IsErrOf};
+ghost use Rattle.devices.specs.Stands.{source_stand};
+ghost use Rattle.http_messages.specs.declared.receiving.Asked.{Asked as Question};
+ghost use Rattle.http_messages.specs.Requests.{IsUnfinished};
+ghost use Rattle.http_messages.specs.Received.{IsReadAs, IsHeadAt, IsStep, Holds, HasAsked, HasEnded, HasGivenPart};
+ghost use Rattle.http_messages.specs.Runs.{IsFairToSource};
+
+use crate::head::{Framing, HEAD_LIMIT, Head, HeadRead, read_head};
+use crate::message::{Body, Request};
+use crate::refusal::Refusal;
+use devices::{READ_ROOM, Source};
+use std::alloc::{AllocError, AllocFailed, Global};
+
+/// How many reads a request may take.
+pub const MOST_READS: u64 = 65_536;
+
+/// What was asked.
+#[derive(Drop)]
+pub enum Asked {
+    Request(Request),
+    /// A request that is answered at once, with this refusal.
+    Refused(Refusal),
+}
+
+/// Why no request was read.
+#[derive(Clone, Copy, Debug, PartialEq, Eq)]
+pub enum ReceiveFault {
+    /// A read failed.
+    Read,
+    /// Each of the most reads gave bytes, and the request isn't whole.
+    TooManyReads,
+    /// The bytes ended before the request was whole.
+    Ended,
+    /// Memory was refused.
+    OutOfMemory,
+}
+
+impl From<AllocError> for ReceiveFault {
+    ghost use Rattle.http_messages.specs.declared.receiving.ReceiveFault.TheVariants.{OutOfMemory};
+
+    ghost from_gives = { λ _ e. e ≡ OutOfMemory };
+
+    fn from(_: AllocError) -> ReceiveFault {
+        ReceiveFault::OutOfMemory
+    }
+}
+
+impl<T: Drop> From<AllocFailed<T>> for ReceiveFault {
+    ghost use Rattle.http_messages.specs.declared.receiving.ReceiveFault.TheVariants.{OutOfMemory};
+
+    ghost from_gives = { λ _ e. e ≡ OutOfMemory };
+
+    fn from(_: AllocFailed<T>) -> ReceiveFault {
+        ReceiveFault::OutOfMemory
+    }
+}
+
+// What stands at the front of the bytes read so far, of which a head may have only the first.
+fn judged(alloc: Global, bytes: &[u8]) -> Result<HeadRead, AllocError>
+    ensures { IfOk result (IsReadAs bytes.now) }
+{
+    let Some(front) = bytes.get(..HEAD_LIMIT) else {
+        return read_head(alloc, bytes);
+    };
+    match read_head(alloc, front)? {
+        HeadRead::Partial => Ok(HeadRead::Bad),
+        read => Ok(read),
+    }
+}
+
+// What a look at the bytes gave.
+#[derive(Drop)]
+enum Step {
+    // A head and all bytes of its body, which are so many.
+    Whole(Head, usize),
+    Refused(Refusal),
+    // The head, once it is there.
+    More(Option<Head>),
+}
+
+// Looks whether the body is whole.
+fn with_head(bytes: &[u8], head: Head) -> Step
+    requires { IsHeadAt bytes.now head }
+    ensures { IsStep bytes.now result }
+{
+    match head.framing {
+        Framing::Refused(refusal) => Step::Refused(refusal),
+        Framing::Body(count) => {
+            if count > (bytes.len() - head.len) as u64 {
+                return Step::More(Some(head));
+            }
+            Step::Whole(head, count as usize)
+        }
+    }
+}
+
+// Looks at the bytes read so far, of which the head may be known already.
+fn look(alloc: Global, bytes: &[u8], head: Option<Head>) -> Result<Step, AllocError>
+    requires { IfSome head (IsHeadAt bytes.now) }
+    ensures { IfOk result (IsStep bytes.now) }
+{
+    if let Some(head) = head {
+        return Ok(with_head(bytes, head));
+    }
+    match judged(alloc, bytes)? {
+        HeadRead::Whole(head) => Ok(with_head(bytes, head)),
+        HeadRead::Partial => Ok(Step::More(None)),
+        HeadRead::Bad => Ok(Step::Refused(Refusal::BadRequest)),
+    }
+}
+
+// The request of this head, whose body is the next bytes.
+fn request_of(bytes: Vec<u8>, head: Head, count: usize) -> Request
+    requires { head.len + count ≤ length bytes.items }
+    ensures { result ≡ record { method = head.method; target = head.target; body = take count (drop head.len bytes.items) } }
+{
+    let end = head.len + count;
+    Request {
+        method: head.method,
+        target: head.target,
+        body: Body::part_of(bytes, head.len, end),
+    }
+}
+
+/// Reads a request, up to the end of its body or until it is refused. However the source cuts its bytes, the request that
+/// they begin with is the one that is answered.
+pub fn receive<S: Source>(alloc: Global, source: &mut S) -> Result<Asked, ReceiveFault>
+    ensures asked { IfOk result (λ asked. HasAsked (S.remaining source.old) (S.remaining source.new) asked) }
+    ensures ended { IsErrOf result ReceiveFault.Ended → HasEnded (S.remaining source.old) (S.remaining source.new) }
+    ensures unfinished { IsErrOf result ReceiveFault.TooManyReads → HasGivenPart (S.remaining source.old) (S.remaining source.new) }
+
+    // However the source cuts its bytes: what all that it holds asks is answered, and it doesn't end where that is a whole request.
+    ensures whole { (it : Question) → Holds (S.remaining source.old) it → IfOk result (λ asked. asked ≡ it) }
+    ensures held { IsErrOf result ReceiveFault.Ended → IfSome (S.remaining source.old) IsUnfinished }
+
+    // A source is blamed exactly where it failed, and is left alone then.
+    ensures source { IsFairToSource ReceiveFault.Read ReceiveFault.TooManyReads MOST_READS result (source_stand S.remaining S.called S.failed source.old) (source_stand S.remaining S.called S.failed source.new) }
+{
+    let mut bytes = Vec::new(alloc);
+    let mut head = None;
+    let mut block = [0u8; READ_ROOM];
+    for _ in 0..MOST_READS {
+        let Ok(count) = source.read(&mut block) else {
+            return Err(ReceiveFault::Read);
+        };
+        if count == 0 {
+            return Err(ReceiveFault::Ended);
+        }
+        bytes.extend_from_slice(&block[..count])?;
+        match look(alloc, bytes.as_slice(), head)? {
+            Step::Whole(head, count) => return Ok(Asked::Request(request_of(bytes, head, count))),
+            Step::Refused(refusal) => return Ok(Asked::Refused(refusal)),
+            Step::More(known) => head = known,
+        }
+    }
+    Err(ReceiveFault::TooManyReads)
+}

@@ -1,0 +1,77 @@
+//! A reply, written to a sink.
+ghost use Rattle.std.specs.Prelude.{◌≡◌, ◌++◌, [], true, OnOk, OnErr};
+ghost use Rattle.std.specs.Io.KnownBytes.{Appends};
+ghost use Rattle.devices.specs.Devices.{FailedAtLast, NoneFailed};
+ghost use Rattle.devices.specs.Handed.{TookFront};
+ghost use Rattle.http_messages.specs.Replies.{head_text, text_sent, body_sent, sends_body};
+
+use crate::message::Reply;
+use crate::reply_head::head_of;
+use arrayvec::ArrayVec;
+use devices::{Sink, SinkFailed, hand_out};
+use http::Method;
+
+// A reply of at most so many bytes is handed out in one write.
+const BLOCK: usize = 8192;
+
+// Hands out a head and then a body.
+fn hand_out_both<K: Sink>(head: &[u8], body: &[u8], sink: &mut K) -> Result<(), SinkFailed>
+    ensures ok { OnOk result (Appends (K.contents sink.old) (K.contents sink.new) (head.now ++ body.now)) }
+    ensures err { OnErr result (TookFront (K.contents sink.old) (K.contents sink.new) (head.now ++ body.now)) }
+    ensures unfailed { OnOk result (NoneFailed (K.failed sink.old) (K.failed sink.new)) }
+    ensures failed { OnErr result (FailedAtLast (K.failed sink.old) (K.failed sink.new)) }
+{
+    hand_out(head, sink)?;
+    hand_out(body, sink)
+}
+
+// Puts two texts into an empty block. Whether they fit.
+fn fill(block: &mut ArrayVec<u8, BLOCK>, head: &[u8], body: &[u8]) -> bool
+    requires { block.old.items ≡ [] }
+    ensures { result ≡ true → block.new.items ≡ head.now ++ body.now }
+{
+    if block.try_extend_from_slice(head).is_err() {
+        return false;
+    }
+    block.try_extend_from_slice(body).is_ok()
+}
+
+// Hands out a head and a body, in one write where a block has room for both.
+fn hand_out_at_once<K: Sink>(head: &[u8], body: &[u8], sink: &mut K) -> Result<(), SinkFailed>
+    ensures ok { OnOk result (Appends (K.contents sink.old) (K.contents sink.new) (head.now ++ body.now)) }
+    ensures err { OnErr result (TookFront (K.contents sink.old) (K.contents sink.new) (head.now ++ body.now)) }
+    ensures unfailed { OnOk result (NoneFailed (K.failed sink.old) (K.failed sink.new)) }
+    ensures failed { OnErr result (FailedAtLast (K.failed sink.old) (K.failed sink.new)) }
+{
+    let mut block = ArrayVec::<u8, BLOCK>::new();
+    if fill(&mut block, head, body) {
+        return hand_out(block.as_slice(), sink);
+    }
+    hand_out_both(head, body, sink)
+}
+
+/// Whether the reply to this method has a body (RFC 9110, 9.3.2).
+pub fn sends_body(method: &Method) -> bool
+    ensures { result ≡ sends_body method.now }
+{
+    method.as_str() != "HEAD"
+}
+
+// What is sent of the body.
+fn body_sent(reply: &Reply, with_body: bool) -> &[u8]
+    ensures { result.now ≡ body_sent with_body reply.now }
+{
+    if with_body { reply.body() } else { &[] }
+}
+
+/// Writes a reply, with its body or without. It takes no memory.
+pub fn send<K: Sink>(reply: &Reply, with_body: bool, sink: &mut K) -> Result<(), SinkFailed>
+    ensures ok { OnOk result (Appends (K.contents sink.old) (K.contents sink.new) (text_sent with_body reply.now)) }
+    ensures err { OnErr result (TookFront (K.contents sink.old) (K.contents sink.new) (text_sent with_body reply.now)) }
+    ensures unfailed { OnOk result (NoneFailed (K.failed sink.old) (K.failed sink.new)) }
+    ensures failed { OnErr result (FailedAtLast (K.failed sink.old) (K.failed sink.new)) }
+{
+    let head = head_of(reply);
+    let body = body_sent(reply, with_body);
+    hand_out_at_once(head.as_str().as_bytes(), body, sink)
+}

@@ -1,0 +1,73 @@
+-- A channel that keeps no history follows all that it was given, and what holds of it then.
+use Rattle.std.specs.Prelude.{◌≡◌, ◌↔◌, ◌⊎◌, ℕ, true, List, ◌∷◌, ◌++◌, Option, Some, None, Result, Ok, Err, IsOk}
+use Rattle.std.specs.List.{AllByRecursion, list_all}
+use Rattle.url.specs.Parts.{Parts}
+use Rattle.playlist_meaning.specs.declared.Playlist.{Playlist}
+use Rattle.playlist_meaning.specs.Reading.{reading, limited}
+use Rattle.playlist_meaning.specs.Stitched.{fits, stitched_list}
+use Rattle.live_meaning.specs.declared.fault.RefreshFault.{RefreshFault}
+use Rattle.live_meaning.specs.Live as live
+use Rattle.live_meaning.specs.Live.{last_playlist, after_refresh, owed}
+use Rattle.live_meaning.specs.LiveLaws.{GoesOn}
+use Rattle.live_meaning.specs.Successor.{Succeeds}
+use Rattle.pod_store.specs.Decided.{decisions_of}
+use Rattle.pod_store.specs.declared.Decisions.{Decisions}
+use Rattle.pod_store.specs.declared.Decisions.TheVariants.{Withdraw}
+use Rattle.pod_store.specs.declared.fault.DecisionFault.{DecisionFault}
+use Rattle.live_counters.specs.declared.channel.Refreshed.{Refreshed}
+use Rattle.live_counters.specs.Channel.{Given, decided, withdrawn, refreshed, Channel, told_by, StandsFor, owed_answer, AnswersAs, IsAsTyped, with_store, step, says, Steps, Refreshes, Writes}
+
+-- a refresh from what is kept answers what is owed, and the channel then stands for it too
+abbrev pub StepFollows : Type 0
+StepFollows = (c : Channel) (bytes : List ℕ) (given : List Given) → IsAsTyped c.base (refreshed bytes) → StandsFor c given → AnswersAs c bytes given (says c bytes) (step c bytes)
+
+-- so a call that does that, or answers want of memory, is a refresh whatever the channel stood for
+abbrev pub StepsRefresh : Type 0
+StepsRefresh = (old : Channel) (bytes : List ℕ) (result : Result Refreshed RefreshFault) (new : Channel) → Steps old bytes result new → Refreshes old bytes result new
+
+-- decisions change the store alone
+abbrev pub DecideFollows : Type 0
+DecideFollows = (c : Channel) (decisions : Decisions) (bytes : List ℕ) (given : List Given) → IsAsTyped c.base (decided bytes) → decisions_of bytes ≡ Ok decisions → StandsFor c given →
+    StandsFor (with_store c (live.decide decisions c.kept.store)) (decided bytes ∷ given)
+
+abbrev pub UndecidedFollows : Type 0
+UndecidedFollows = (c : Channel) (fault : DecisionFault) (bytes : List ℕ) (given : List Given) → IsAsTyped c.base (decided bytes) → decisions_of bytes ≡ Err fault → StandsFor c given →
+    StandsFor c (decided bytes ∷ given)
+
+abbrev pub WithdrawFollows : Type 0
+WithdrawFollows = (c : Channel) (id : List ℕ) (given : List Given) → StandsFor c given →
+    StandsFor (with_store c (live.decide (Withdraw id) c.kept.store)) (withdrawn id ∷ given)
+
+-- what a channel writes denotes what is owed
+abbrev pub ChannelWrites : Type 0
+ChannelWrites = (c : Channel) → Writes c
+
+-- ---- acceptance
+
+-- the playlist may follow the last one, if there is one (RFC 8216, 6.2.1 and 6.2.2)
+abbrev pub SucceedsLast : Option Playlist → Playlist → Type 0
+SucceedsLast None p = Unit {0}
+SucceedsLast (Some last) p = Succeeds p last
+
+-- the bytes are read as a playlist which may follow the last one, and every number of the stitched list then fits 64 bits
+pub record IsAcceptable (c : Channel) (given : List Given) (bytes : List ℕ) : Type 0 where
+  pub playlist : Playlist
+  pub read : reading limited c.base bytes ≡ Ok playlist
+  pub succeeds : SucceedsLast (last_playlist (told_by c.base c.tolerance given).accepted) playlist
+  pub fits : list_all fits (stitched_list (after_refresh c.tolerance (told_by c.base c.tolerance given) playlist).history) ≡ true
+
+-- a refresh is accepted exactly then
+abbrev pub AcceptanceIsExact : Type 0
+AcceptanceIsExact = (c : Channel) (given : List Given) (bytes : List ℕ) → StandsFor c given → IsOk (owed_answer c given bytes) ↔ IsAcceptable c given bytes
+
+-- ---- what was written stays
+
+-- the stitched list, numbers included, only grows, whatever is given
+abbrev pub StitchedListGrows : Type 0
+StitchedListGrows = (base : Parts) (tolerance : ℕ) (later before : List Given) →
+    GoesOn (stitched_list (told_by base tolerance before).history) (stitched_list (told_by base tolerance (later ++ before)).history)
+
+-- each owed playlist is the one before it, or may follow it
+abbrev pub OwedPlaylistsSucceed : Type 0
+OwedPlaylistsSucceed = (base : Parts) (tolerance : ℕ) (event : Given) (before : List Given) (old new : Playlist) → AllByRecursion (IsAsTyped base) (event ∷ before) →
+    owed (told_by base tolerance before) ≡ Some old → owed (told_by base tolerance (event ∷ before)) ≡ Some new → (new ≡ old) ⊎ Succeeds new old

@@ -1,0 +1,22 @@
+//! What a channel keeps between refreshes.
+use break_finder::Knowledge;
+use playlist_meaning::{Items, Playlist, Text};
+use pod_store::PodStore;
+use stitcher::{Marked, Numbers};
+
+/// What a channel keeps of all that it was given, its text apart: one window and a few numbers, and no history.
+#[derive(Drop)]
+pub struct State {
+    /// The decided breaks.
+    pub store: PodStore,
+    /// The breaks that are known.
+    pub knowledge: Knowledge,
+    /// The playlist that was accepted last.
+    pub last: Option<Playlist>,
+    /// The segments that it shows, the oldest first.
+    pub shown: Items<Marked>,
+    /// The last break entered.
+    pub entered: Option<Text>,
+    /// The numbers of the window's first item.
+    pub numbers: Numbers,
+}

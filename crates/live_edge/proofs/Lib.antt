@@ -1,0 +1,6 @@
+pub mod Given
+pub mod Lines
+pub mod Tables
+pub mod Turns
+pub mod Isolated
+pub mod Connections

@@ -1,0 +1,58 @@
+-- What a connection came to.
+use Rattle.std.specs.Prelude.{◌≡◌, ℕ, ◌⊎◌, true, List, Option}
+use Rattle.std.specs.Io.KnownBytes.{Consumes, Appends}
+use Rattle.devices.specs.Handed.{TookFront}
+use Rattle.http_messages.specs.declared.message.Request.{Request}
+use Rattle.http_messages.specs.declared.message.Reply.{Reply}
+use Rattle.http_messages.specs.declared.refusal.Refusal.{Refusal}
+use Rattle.http_messages.specs.Requests.{Asks, IsRefusedFor}
+use Rattle.http_messages.specs.Replies.{refusal_reply, refusal_status, sends_body, text_sent}
+use Rattle.http_messages.specs.declared.receiving.ReceiveFault.{ReceiveFault}
+use Rattle.http_messages.specs.declared.receiving.ReceiveFault.TheVariants as receiving
+use Rattle.live_edge.specs.declared.serving.EdgeFault.{EdgeFault}
+use Rattle.live_edge.specs.declared.serving.EdgeFault.TheVariants.{Read, TooManyReads, Ended, OutOfMemory}
+use Rattle.live_edge.specs.Edges.{Kept, Answers}
+
+-- a fault of reading a request
+abbrev pub edge_fault : ReceiveFault → EdgeFault
+edge_fault receiving.Read = Read
+edge_fault receiving.TooManyReads = TooManyReads
+edge_fault receiving.Ended = Ended
+edge_fault receiving.OutOfMemory = OutOfMemory
+
+-- the bytes begin with a whole request, and this is the text of its reply
+pub record IsAnswered (bytes : List ℕ) (old new : List Kept) (text : List ℕ) (status : ℕ) : Type 0 where
+  pub request : Request
+  pub reply : Reply
+  pub asks : Asks bytes request
+  pub answers : Answers old request reply new
+  pub text_is : text ≡ text_sent (sends_body request.method) reply
+  pub status_is : status ≡ reply.status
+
+-- they are refused, and this is the text of that reply
+pub record IsTurnedAway (bytes : List ℕ) (old new : List Kept) (text : List ℕ) (status : ℕ) : Type 0 where
+  pub refusal : Refusal
+  pub refused : IsRefusedFor bytes refusal
+  pub kept : new ≡ old
+  pub text_is : text ≡ text_sent true (refusal_reply refusal)
+  pub status_is : status ≡ refusal_status refusal
+
+abbrev pub IsServed : List ℕ → List Kept → List Kept → List ℕ → ℕ → Type 0
+IsServed bytes old new text status = IsAnswered bytes old new text status ⊎ IsTurnedAway bytes old new text status
+
+-- the source gave these bytes, and the sink took the text
+pub record HasServed (source_old source_new sink_old sink_new : Option (List ℕ)) (old new : List Kept) (status : ℕ) : Type 0 where
+  pub bytes : List ℕ
+  pub text : List ℕ
+  pub given : Consumes source_old source_new bytes
+  pub served : IsServed bytes old new text status
+  pub written : Appends sink_old sink_new text
+
+-- the same, but the sink failed behind a front of the text
+pub record HasServedFront (source_old source_new sink_old sink_new : Option (List ℕ)) (old new : List Kept) : Type 0 where
+  pub bytes : List ℕ
+  pub text : List ℕ
+  pub status : ℕ
+  pub given : Consumes source_old source_new bytes
+  pub served : IsServed bytes old new text status
+  pub written : TookFront sink_old sink_new text

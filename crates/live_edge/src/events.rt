@@ -1,0 +1,73 @@
+//! What a channel answers to the requests on it.
+ghost use Rattle.std.specs.Prelude.{◌≡◌, IfOk, Err};
+ghost use Rattle.live_counters.specs.Channel.{refreshed, decided, is_memory};
+ghost use Rattle.live_edge.specs.Replies.{refresh_owed, decisions_owed, live_reply};
+ghost use Rattle.live_edge.specs.Events.{Takes};
+
+use crate::replies::{not_found, refused_decisions, refused_refresh};
+use http::StatusCode;
+use http_messages::{Content, ContentType, Reply};
+use live_counters::Channel;
+use live_meaning::RefreshFault;
+use playlist_meaning::FaultKind;
+use pod_store::DecisionKind;
+use std::alloc::{AllocError, Global};
+
+// Whether memory was refused.
+fn is_memory(fault: RefreshFault) -> bool
+    ensures { result ≡ is_memory (Err fault) }
+{
+    match fault {
+        RefreshFault::OutOfMemory => true,
+        RefreshFault::Playlist(unread) => unread.kind == FaultKind::OutOfMemory && unread.line == 0,
+        _ => false,
+    }
+}
+
+/// Gives a channel a refresh of the origin's playlist. Want of memory leaves the channel as it was.
+pub fn refresh(alloc: Global, channel: &mut Channel, body: &[u8]) -> Result<Reply, AllocError>
+    ensures { Takes channel.old (refreshed body.now) (refresh_owed body.now) result channel.new }
+{
+    match channel.refresh(alloc, body) {
+        Ok(_) => Ok(Reply::bare(StatusCode::NO_CONTENT)),
+        Err(fault) => {
+            if is_memory(fault) {
+                return Err(AllocError);
+            }
+            refused_refresh(alloc, fault)
+        }
+    }
+}
+
+/// Gives a channel a decision file. Want of memory leaves the channel as it was.
+pub fn decide(alloc: Global, channel: &mut Channel, body: &[u8]) -> Result<Reply, AllocError>
+    ensures { Takes channel.old (decided body.now) (decisions_owed body.now) result channel.new }
+{
+    match channel.decide(alloc, body) {
+        Ok(()) => Ok(Reply::bare(StatusCode::NO_CONTENT)),
+        Err(fault) => {
+            if fault.kind == DecisionKind::OutOfMemory {
+                return Err(AllocError);
+            }
+            refused_decisions(alloc, fault)
+        }
+    }
+}
+
+/// The playlist of a channel.
+pub fn live(alloc: Global, channel: &Channel) -> Result<Reply, AllocError>
+    ensures { IfOk result (λ reply. reply ≡ live_reply channel.now.text) }
+{
+    let Some(text) = channel.shared_playlist()? else {
+        return not_found(alloc);
+    };
+    let content = Content {
+        media: ContentType::Playlist,
+        text,
+    };
+    Ok(Reply {
+        status: StatusCode::OK,
+        allow: None,
+        content: Some(content),
+    })
+}
