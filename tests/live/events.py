@@ -55,3 +55,10 @@ class Case:
 
     def why(self, break_id, word):
         return self.event(f"why {break_id}", word)
+
+    def edge(self):
+        return self.event("edge")
+
+    def serve(self, read, failing_read, write, failing_write, asked, outcome, written):
+        """A connection, by what its devices move at most and which call fails, with what comes of it."""
+        return self.event(f"serve {read} {failing_read} {write} {failing_write} {escaped(asked)}", outcome, written)

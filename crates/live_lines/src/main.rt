@@ -1,5 +1,5 @@
-//! Runs live channels on events, a line of standard input each, and prints what they answer. It serves tests and the
-//! benchmark: its stdin and stdout are made by `tests/live_lines`.
+//! Runs live channels and an edge on events, a line of standard input each, and prints what they answer. It serves tests
+//! and the benchmark: its stdin and stdout are made by `tests/live_lines`.
 //!
 //! | Line | Event | Printed |
 //! |---|---|---|
@@ -11,6 +11,8 @@
 //! | `playlist` | what is written is asked for | `playlist` and then the text, or `none` |
 //! | `known` | the known breaks are asked for | `known`, and a line for each with its ID and why it is filled or not |
 //! | `why ID` | why a break is filled or not | the word for it |
+//! | `edge` | a new edge with no channel, to which the connections after it go | nothing |
+//! | `serve READ FAILING WRITE FAILING BODY` | a connection that brings these bytes: the most bytes of a read, the read that fails, the most bytes of a write, the write that fails (from 1; 0 for none) | the status, or the fault; and what was written |
 //! | `length BODY` | nothing | how many bytes it has: the benchmark takes the time of this off |
 //!
 //! In a BODY a backslash and `n` stand for a line feed, `r` for a carriage return, `x` with two hexadecimal digits for that
@@ -18,21 +20,25 @@
 #![tactic(auto)]
 
 mod body;
+mod connections;
 mod words;
 
 use body::body_of;
+use connections::print_served;
 use fixed_duration::Nanos;
 use live_counters::{Channel, ChannelFault};
+use live_edge::Edge;
 use std::alloc::Global;
 use std::io;
 use std::io::Print;
 use words::{channel_fault, refresh_text, why_word};
 
 #[derive(Drop)]
-// The channels that were made, and how many before the last one that is to which events go.
+// The channels that were made, how many before the last one that is to which events go, and the edge.
 struct Channels {
     made: Vec<Channel>,
     back: usize,
+    edge: Edge,
 }
 
 fn print_known(rt: &impl Print, channel: &Channel) -> io::Result<()> {
@@ -136,6 +142,11 @@ fn print_line(
     let (word, rest) = line.split_once(' ').unwrap_or((line, ""));
     match word {
         "channel" => return print_made(rt, alloc, channels, rest),
+        "edge" => {
+            channels.edge = Edge::new(alloc)?;
+            return Ok(());
+        }
+        "serve" => return print_served(rt, alloc, &mut channels.edge, rest),
         "length" => return println!(rt; "{}", body_of(alloc, rest)?.len()),
         "to" => {
             channels.back = rest.parse().unwrap_or(0);
@@ -159,6 +170,7 @@ fn main(rt: HostRuntime) -> io::Result<()> {
     let mut channels = Channels {
         made: Vec::new(alloc),
         back: 0,
+        edge: Edge::new(alloc)?,
     };
     for line in rt.lines(alloc) {
         print_line(&rt, alloc, &mut channels, line?.as_str())?;
