@@ -43,6 +43,17 @@ fn push_digits(out: &mut String, number: u64, count: u8)
     push_mark(out, (b'0' + (number % 10) as u8) as char);
 }
 
+// Appends the last two decimal digits of a number.
+fn push_two(out: &mut String, number: u64)
+    requires { string_len out.old + 2 ≤ string_capacity out.old }
+    ensures text { string_bytes out.new ≡ string_bytes out.old ++ fixed_digits 10 2 number }
+    ensures len { string_len out.new ≡ string_len out.old + 2 }
+    ensures capacity { string_capacity out.old ≤ string_capacity out.new }
+{
+    push_mark(out, (b'0' + (number / 10 % 10) as u8) as char);
+    push_mark(out, (b'0' + (number % 10) as u8) as char);
+}
+
 fn is_leap(year: u64) -> bool
     ensures { result ≡ is_leap year }
 {
@@ -139,9 +150,9 @@ fn push_date(out: &mut String, days: u64)
     let (month, day) = month_after(12, year, 1, rest);
     push_digits(out, year, 4);
     push_mark(out, '-');
-    push_digits(out, month, 2);
+    push_two(out, month);
     push_mark(out, '-');
-    push_digits(out, day + 1, 2);
+    push_two(out, day + 1);
 }
 
 fn push_clock(out: &mut String, seconds: u64)
@@ -150,11 +161,11 @@ fn push_clock(out: &mut String, seconds: u64)
     ensures len { string_len out.new ≡ string_len out.old + 8 }
     ensures capacity { string_capacity out.old ≤ string_capacity out.new }
 {
-    push_digits(out, seconds / 3600, 2);
+    push_two(out, seconds / 3600);
     push_mark(out, ':');
-    push_digits(out, seconds / 60 % 60, 2);
+    push_two(out, seconds / 60 % 60);
     push_mark(out, ':');
-    push_digits(out, seconds % 60, 2);
+    push_two(out, seconds % 60);
 }
 
 fn push_decimals(out: &mut String, nanos: u64)

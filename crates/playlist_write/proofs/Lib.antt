@@ -8,3 +8,4 @@ pub mod SaidLines
 pub mod Machine
 pub mod Groups
 pub mod Whole
+pub mod ZerosInFront

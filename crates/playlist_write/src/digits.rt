@@ -19,8 +19,8 @@ fn glyph(value: u8) -> char
     }
 }
 
-/// Appends the last `count` hexadecimal digits of a number.
-pub fn push_hex(out: &mut String, number: u128, count: u8) -> Result<(), AllocError>
+// Appends the last `count` hexadecimal digits of a number.
+fn push_hex(out: &mut String, number: u128, count: u8) -> Result<(), AllocError>
     ensures { Appends result out.old out.new (fixed_digits 16 count number) }
 {
     if count == 0 {
@@ -29,4 +29,29 @@ pub fn push_hex(out: &mut String, number: u128, count: u8) -> Result<(), AllocEr
     push_hex(out, number / 16, count - 1)?;
     out.push(glyph((number % 16) as u8))?;
     Ok(())
+}
+
+// The same of a smaller number, which takes less time.
+fn push_low(out: &mut String, number: u32, count: u8) -> Result<(), AllocError>
+    ensures { Appends result out.old out.new (fixed_digits 16 count number) }
+{
+    if count == 0 {
+        return Ok(());
+    }
+    push_low(out, number / 16, count - 1)?;
+    out.push(glyph((number % 16) as u8))?;
+    Ok(())
+}
+
+/// Appends the 32 hexadecimal digits of an initialisation vector (RFC 8216, 4.3.2.4).
+pub fn push_iv_digits(out: &mut String, number: u128) -> Result<(), AllocError>
+    ensures { Appends result out.old out.new (fixed_digits 16 32 number) }
+{
+    // Most are the numbers of segments (RFC 8216, 5.2).
+    if number < 4_294_967_296 {
+        out.push_str("000000000000000000000000")?;
+        push_low(out, number as u32, 8)?;
+        return Ok(());
+    }
+    push_hex(out, number, 32)
 }

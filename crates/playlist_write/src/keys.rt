@@ -7,7 +7,7 @@ ghost use Rattle.playlist_write.specs.Owed.{line_of, said_text, keys_owed, set_t
 ghost use Rattle.stitcher.specs.KeyTags.{is_new};
 ghost use Rattle.fixed_duration.specs.Appended.{Appends};
 
-use crate::digits::push_hex;
+use crate::digits::push_iv_digits;
 use crate::lines::{push_feed, push_line, push_range};
 use playlist_meaning::{ByteRange, InitSection, Key, KeyAttr};
 use std::alloc::AllocError;
@@ -37,7 +37,7 @@ fn push_iv(out: &mut String, iv: Option<u128>) -> Result<(), AllocError>
 {
     if let Some(iv) = iv {
         out.push_str(",IV=0x")?;
-        push_hex(out, iv, 32)?;
+        push_iv_digits(out, iv)?;
     }
     Ok(())
 }
