@@ -11,7 +11,7 @@ use crate::OutSegment;
 use crate::copies::{AdParts, ad_parts, ad_segment, copied_segment};
 use crate::fault::StitchFault;
 use crate::marked::{Marked, Numbers};
-use playlist_meaning::{Instant, Segment, Text};
+use playlist_meaning::{Instant, Segment, Shared, Text};
 use pod_store::{Ad, Pod, PodSegment, PodStore};
 use std::alloc::Global;
 use std::marker::Model;
@@ -66,7 +66,7 @@ fn next_numbers(numbers: Numbers, steps: u64) -> Result<Numbers, StitchFault>
     Ok(numbers_of(media, discontinuity, steps))
 }
 
-fn is_same_run(mark: &Option<Text>, previous: &Option<Text>) -> bool
+fn is_same_run(mark: &Option<Shared<Text>>, previous: &Option<Shared<Text>>) -> bool
     ensures { result ≡ is_same_run mark.now previous.now }
 {
     match (mark, previous) {
@@ -199,7 +199,7 @@ impl Stitching {
         &mut self,
         alloc: Global,
         marked: &Marked,
-        previous: &Option<Text>,
+        previous: &Option<Shared<Text>>,
         store: &PodStore,
     ) -> Result<(), StitchFault>
         requires { numbers_fit self.old.first ≡ true }
@@ -233,7 +233,7 @@ pub fn stitch(
     ensures err { IfErr result (λ e. RefusesNumber e (list_all item_fits (stitched_segments store.now first marked.now) ≡ false)) }
 {
     let mut stitching = Stitching::new(alloc, first);
-    let unmarked: Option<Text> = None;
+    let unmarked: Option<Shared<Text>> = None;
     let mut previous = &unmarked;
     let mut rest = marked;
     while let Some((here, later)) = rest.split_first() {
