@@ -17,7 +17,7 @@ use break_finder::{FindFault, Knowledge};
 use fixed_duration::Nanos;
 use indexmap::IndexSet;
 use live_counters::{Limits, mark_on};
-use playlist_meaning::{DateRange, Playlist, Segment, Text};
+use playlist_meaning::{DateRange, Playlist, Segment, Shared, Text};
 use playlist_write::OutPlaylist;
 use pod_store::PodStore;
 use std::alloc::Global;
@@ -68,7 +68,7 @@ fn marked_segments(
 {
     let breaks = known_breaks(alloc, playlist)?;
     let begun = instants(alloc, playlist.segments.as_slice())?;
-    let none: Option<Text> = None;
+    let none: Option<Shared<Text>> = None;
     let marked = mark_on(
         alloc,
         &limits_of(playlist),

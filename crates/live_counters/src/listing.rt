@@ -13,7 +13,7 @@ ghost use Rattle.live_counters.specs.Listed.{is_after, IsFront};
 
 use crate::marking::{Limits, copied_text, mark_on};
 use break_finder::Knowledge;
-use playlist_meaning::{Segment, Text};
+use playlist_meaning::{Segment, Shared, Text};
 use pod_store::PodStore;
 use std::alloc::{AllocError, Global};
 use stitcher::{Marked, copied_segment};
@@ -21,7 +21,7 @@ use timeline::{ends_at, instants_after};
 
 #[tactic(auto, using(crate::proofs::Listed::newest_seen, crate::proofs::Listed::newest_decided, crate::proofs::Listed::none_seen))]
 /// The mark of the newest of these segments.
-pub fn newest_mark(shown: &[Marked]) -> Result<Option<Text>, AllocError>
+pub fn newest_mark(shown: &[Marked]) -> Result<Option<Shared<Text>>, AllocError>
     ensures mark { IfOk result (λ id. (store : List Entry) → newest_mark (so_far store shown.now) ≡ mark_in store id) }
     ensures decided { IfOk result (λ id. (store : List Entry) → AreDecided store shown.now → IsDecided store id) }
 {
@@ -111,7 +111,7 @@ pub fn listed(
     knowledge: &Knowledge,
     store: &PodStore,
     shown: &[Marked],
-    entered: &Option<Text>,
+    entered: &Option<Shared<Text>>,
     segments: &[Segment],
 ) -> Result<Vec<Marked>, AllocError>
     requires numbers { AreContiguous segments.now }
@@ -169,7 +169,7 @@ pub fn count_before(number: u64, list: &[Marked]) -> usize
 
 #[tactic(auto, using(crate::proofs::Counted::none_passed, crate::proofs::Counted::one_passed, crate::proofs::Counted::passed_to, crate::proofs::Counted::passed_all))]
 /// The last break entered: that of the newest of these segments that has a mark, else this one.
-pub fn last_entered(list: &[Marked], entered: &Option<Text>) -> Result<Option<Text>, AllocError>
+pub fn last_entered(list: &[Marked], entered: &Option<Shared<Text>>) -> Result<Option<Shared<Text>>, AllocError>
     ensures { IfOk result (λ id. (store : List Entry) → AreDecided store list.now → id ≡ or_earlier (last_entered (so_far store list.now)) entered.now) }
 {
     let mut rest = list;

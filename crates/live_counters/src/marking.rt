@@ -9,7 +9,7 @@ ghost use Rattle.live_counters.specs.Marking.{is_still_inside, stays, next_id, m
 
 use break_finder::{Entrances, Knowledge};
 use fixed_duration::Nanos;
-use playlist_meaning::{Instant, Segment, Text};
+use playlist_meaning::{Instant, Segment, Shared, Text};
 use pod_store::PodStore;
 use std::alloc::{AllocError, Global};
 use std::marker::Model;
@@ -27,7 +27,7 @@ pub struct Limits {
 }
 
 /// The text, where there is one.
-pub fn text_in(text: &Option<Text>) -> Option<&str>
+pub fn text_in(text: &Option<Shared<Text>>) -> Option<&str>
     ensures { option_copied result ≡ text.now }
 {
     match text {
@@ -36,8 +36,8 @@ pub fn text_in(text: &Option<Text>) -> Option<&str>
     }
 }
 
-/// A copy of a text, where there is one.
-pub fn copied_text(text: &Option<Text>) -> Result<Option<Text>, AllocError>
+/// Another owner of a text, where there is one.
+pub fn copied_text(text: &Option<Shared<Text>>) -> Result<Option<Shared<Text>>, AllocError>
     ensures { IfOk result (λ t. t ≡ text.now) }
 {
     match text {
@@ -95,7 +95,7 @@ impl<'a> Marker<'a> {
         }
     }
 
-    fn stays(&self, newest: &Option<Text>, instant: Option<Instant>) -> bool
+    fn stays(&self, newest: &Option<Shared<Text>>, instant: Option<Instant>) -> bool
         ensures { result ≡ stays self.now newest.now instant }
     {
         match newest {
@@ -110,11 +110,11 @@ impl<'a> Marker<'a> {
         alloc: Global,
         last: Option<&str>,
         instant: Option<Instant>,
-    ) -> Result<Option<Text>, AllocError>
+    ) -> Result<Option<Shared<Text>>, AllocError>
         ensures { IfOk result (λ id. id ≡ entered (limits self.now (option_copied last.entry)) self.now.store self.now.breaks instant) }
     {
         match self.entrances.entered(instant, self.limits.tolerance, last) {
-            Some(id) => Ok(Some(Text::copy_of(alloc, id)?)),
+            Some(id) => Ok(Some(Shared::copy_of(alloc, id)?)),
             None => Ok(None),
         }
     }
@@ -125,7 +125,7 @@ impl<'a> Marker<'a> {
         alloc: Global,
         last: &str,
         instant: Option<Instant>,
-    ) -> Result<Option<Text>, AllocError>
+    ) -> Result<Option<Shared<Text>>, AllocError>
         ensures { IfOk result (λ id. id ≡ entered (limits self.now (Some last.now)) self.now.store self.now.breaks instant) }
     {
         self.entered(alloc, Some(last), instant)
@@ -134,9 +134,9 @@ impl<'a> Marker<'a> {
     fn entered_after(
         &self,
         alloc: Global,
-        last: &Option<Text>,
+        last: &Option<Shared<Text>>,
         instant: Option<Instant>,
-    ) -> Result<Option<Text>, AllocError>
+    ) -> Result<Option<Shared<Text>>, AllocError>
         ensures { IfOk result (λ id. id ≡ entered (limits self.now last.now) self.now.store self.now.breaks instant) }
     {
         match last {
@@ -150,10 +150,10 @@ impl<'a> Marker<'a> {
         &self,
         alloc: Global,
         staying: bool,
-        newest: &Option<Text>,
-        last: &Option<Text>,
+        newest: &Option<Shared<Text>>,
+        last: &Option<Shared<Text>>,
         instant: Option<Instant>,
-    ) -> Result<Option<Text>, AllocError>
+    ) -> Result<Option<Shared<Text>>, AllocError>
         requires { staying ≡ stays self.now newest.now instant }
         ensures { IfOk result (λ id. id ≡ next_id self.now newest.now last.now instant) }
     {
@@ -164,7 +164,7 @@ impl<'a> Marker<'a> {
     }
 }
 
-fn or_earlier(text: &Option<Text>, earlier: Option<Text>) -> Result<Option<Text>, AllocError>
+fn or_earlier(text: &Option<Shared<Text>>, earlier: Option<Shared<Text>>) -> Result<Option<Shared<Text>>, AllocError>
     ensures { IfOk result (λ t. t ≡ or_earlier text.now earlier) }
 {
     match text {
@@ -180,8 +180,8 @@ pub fn mark_on(
     limits: &Limits,
     knowledge: &Knowledge,
     store: &PodStore,
-    newest: &Option<Text>,
-    last: &Option<Text>,
+    newest: &Option<Shared<Text>>,
+    last: &Option<Shared<Text>>,
     segments: &[Segment],
     instants: &[Option<Instant>],
 ) -> Result<Vec<Marked>, AllocError>

@@ -4,7 +4,7 @@ ghost use Rattle.pod_store.specs.Pods.{segment_count};
 ghost use Rattle.stitcher.specs.Making.{begun, is_same_run, pieces_on};
 ghost use Rattle.live_counters.specs.Marking.{place_on};
 
-use playlist_meaning::Text;
+use playlist_meaning::{Shared, Text};
 use pod_store::{Ad, PodStore};
 use stitcher::Marked;
 
@@ -35,7 +35,7 @@ fn items_of(store: &PodStore, marked: &Marked) -> usize
     }
 }
 
-fn is_same_run(mark: &Option<Text>, previous: &Option<Text>) -> bool
+fn is_same_run(mark: &Option<Shared<Text>>, previous: &Option<Shared<Text>>) -> bool
     ensures { result ≡ is_same_run mark.now previous.now }
 {
     match (mark, previous) {
@@ -49,7 +49,7 @@ pub fn place_of(store: &PodStore, held: &[Marked]) -> usize
     requires { length (pieces_on store.now None held.now) < 2 ^ 64 }
     ensures { result ≡ place_on store.now None 0 0 held.now }
 {
-    let unmarked: Option<Text> = None;
+    let unmarked: Option<Shared<Text>> = None;
     let mut previous = &unmarked;
     let mut start = 0;
     let mut count = 0;

@@ -42,7 +42,7 @@ pub struct NextKept {
     /// The segments that are shown, the oldest first.
     pub shown: Vec<Marked>,
     /// The last break entered.
-    pub entered: Option<Text>,
+    pub entered: Option<Shared<Text>>,
     /// The breaks in use.
     pub ids: Vec<Text>,
     /// The numbers of the window's first item.
@@ -59,7 +59,7 @@ fn carried(
     alloc: Global,
     knowledge: &Knowledge,
     playlist: &Playlist,
-    newest: &Option<Text>,
+    newest: &Option<Shared<Text>>,
 ) -> Result<Knowledge, RefreshFault>
     ensures ok { IfOk result (λ after. after ≡ carry (record { playlist = playlist.now; carried = newest.now }) knowledge.now) }
     ensures err { IfErr result (λ e. e ≡ RefreshFault.OutOfMemory) }

@@ -1,6 +1,6 @@
 //! What a channel keeps between refreshes.
 use break_finder::Knowledge;
-use playlist_meaning::{Items, Playlist, Text};
+use playlist_meaning::{Items, Playlist, Shared, Text};
 use pod_store::PodStore;
 use stitcher::{Marked, Numbers};
 
@@ -16,7 +16,7 @@ pub struct State {
     /// The segments that it shows, the oldest first.
     pub shown: Items<Marked>,
     /// The last break entered.
-    pub entered: Option<Text>,
+    pub entered: Option<Shared<Text>>,
     /// The numbers of the window's first item.
     pub numbers: Numbers,
 }

@@ -18,7 +18,7 @@ use crate::listing::front_to;
 use crate::placing::place_of;
 use indexmap::IndexSet;
 use live_meaning::RefreshFault;
-use playlist_meaning::{DateRange, Playlist, Segment, Text};
+use playlist_meaning::{DateRange, Playlist, Segment, Shared, Text};
 use pod_store::PodStore;
 use std::alloc::{AllocError, Global};
 use stitcher::{Marked, Numbers, OutSegment, StitchFault, stitch};
@@ -217,7 +217,7 @@ pub fn ranges_left(
 
 #[tactic(auto, using(crate::proofs::Ranges::or_false))]
 // Notes a break, where there is one, in a set.
-fn note<'a>(set: &mut IndexSet<&'a str>, id: &'a Option<Text>) -> Result<(), AllocError>
+fn note<'a>(set: &mut IndexSet<&'a str>, id: &'a Option<Shared<Text>>) -> Result<(), AllocError>
     ensures { OnOk result ((other : List ℕ) → has_text set.new.keys other ≡ (has_text set.old.keys other || is_this other id.now)) }
 {
     match id {
@@ -247,7 +247,7 @@ fn set_in_use<'a>(
     alloc: Global,
     number: u64,
     list: &'a [Marked],
-    entered: &'a Option<Text>,
+    entered: &'a Option<Shared<Text>>,
 ) -> Result<IndexSet<&'a str>, AllocError>
     ensures { IfOk result (λ set. (id : List ℕ) → has_text set.keys id ≡ is_used_from number list.now entered.now id) }
 {
@@ -277,7 +277,7 @@ pub fn used_ids(
     alloc: Global,
     number: u64,
     list: &[Marked],
-    entered: &Option<Text>,
+    entered: &Option<Shared<Text>>,
 ) -> Result<Vec<Text>, AllocError>
     ensures { IfOk result (λ ids. (id : List ℕ) → is_one_of ids.items id ≡ is_used_from number list.now entered.now id) }
 {

@@ -1,13 +1,13 @@
 //! Each public call once.
 use crate::made::key;
-use playlist_meaning::{InitSection, Items, KeyTag, Shared, Text, is_same_key, is_same_section};
+use playlist_meaning::{InitSection, Items, KeyTag, Shared, is_same_key, is_same_section};
 use std::alloc::{AllocError, Global};
 use std::test::Fail;
 use stitcher::{StitchFault, is_new, keeps_formats, transition};
 
 fn section(alloc: Global, uri: &str) -> Result<InitSection, AllocError> {
     Ok(InitSection {
-        uri: Text::copy_of(alloc, uri)?,
+        uri: Shared::copy_of(alloc, uri)?,
         range: None,
         keys: Items::from_vec(vec![in alloc; key(alloc, "identity", "http://a/1", Some(1))?]?),
     })

@@ -174,14 +174,14 @@ pub type Keys = Items<Key>;
 #[derive(Clone, PartialEq, Drop)]
 pub struct InitSection {
     /// Its resource.
-    pub uri: Text,
+    pub uri: Shared<Text>,
     /// The part of the resource, where it isn't the whole.
     pub range: Option<ByteRange>,
     /// The keys in force at its own line, with no IV supplied.
     pub keys: Keys,
 }
 
-/// A media segment (RFC 8216, sections 3 and 4.3.2).
+/// A media segment (RFC 8216, sections 3 and 4.3.2). A copy shares its texts, its section and those of its keys.
 #[derive(Clone, PartialEq, Drop)]
 pub struct Segment {
     /// Its Media Sequence Number (section 4.3.3.2).
@@ -191,7 +191,7 @@ pub struct Segment {
     /// How many EXT-X-DISCONTINUITY stand between it and the segment before.
     pub steps: u64,
     /// Its resource: an absolute URI.
-    pub uri: Text,
+    pub uri: Shared<Text>,
     /// The part of the resource, where it isn't the whole.
     pub range: Option<ByteRange>,
     /// The keys that it is encrypted under, sorted by format; none where it is clear.
@@ -201,7 +201,7 @@ pub struct Segment {
     /// How long it lasts (EXTINF).
     pub duration: Nanos,
     /// What stands after the duration and a comma.
-    pub title: Text,
+    pub title: Shared<Text>,
     /// When its first sample is, where EXT-X-PROGRAM-DATE-TIME states that.
     pub time: Option<Instant>,
 }

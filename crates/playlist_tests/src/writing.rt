@@ -46,6 +46,10 @@ fn text(alloc: Global, text: &str) -> Result<Text, AllocError> {
     Text::copy_of(alloc, text)
 }
 
+fn shared(alloc: Global, text: &str) -> Result<Shared<Text>, AllocError> {
+    Shared::copy_of(alloc, text)
+}
+
 fn other(alloc: Global, name: &str, value: &str, quoted: bool) -> Result<KeyAttr, AllocError> {
     Ok(KeyAttr {
         name: text(alloc, name)?,
@@ -69,7 +73,7 @@ fn drm_key(alloc: Global) -> Result<Key, AllocError> {
 // A segment of 9.5 seconds with the section of an advertisement.
 fn ad_segment(alloc: Global, uri: &str, keys: Vec<Key>) -> Result<Segment, AllocError> {
     let section = InitSection {
-        uri: text(alloc, "http://ads.example/i.mp4")?,
+        uri: shared(alloc, "http://ads.example/i.mp4")?,
         range: Some(ByteRange {
             length: 100,
             offset: 20,
@@ -80,18 +84,18 @@ fn ad_segment(alloc: Global, uri: &str, keys: Vec<Key>) -> Result<Segment, Alloc
         number: 0,
         discontinuity: 0,
         steps: 0,
-        uri: text(alloc, uri)?,
+        uri: shared(alloc, uri)?,
         range: None,
         keys: Items::from_vec(keys),
         section: Some(Shared::new(alloc, section)?),
         duration: Nanos(9_500_000_000),
-        title: text(alloc, "")?,
+        title: shared(alloc, "")?,
         time: None,
     })
 }
 
 fn origin_segment(alloc: Global) -> Result<Segment, AllocError> {
-    let uri = text(alloc, "http://origin.example/ch/init.mp4")?;
+    let uri = shared(alloc, "http://origin.example/ch/init.mp4")?;
     let map_key = key(alloc, "identity", "http://origin.example/ch/ka", Some(10))?;
     let media_key = key(alloc, "identity", "http://origin.example/ch/kb", Some(2))?;
     let mut segment = ad_segment(
@@ -106,7 +110,7 @@ fn origin_segment(alloc: Global) -> Result<Segment, AllocError> {
     };
     segment.section = Some(Shared::new(alloc, section)?);
     segment.duration = Nanos(10_000_000_000);
-    segment.title = text(alloc, "one")?;
+    segment.title = shared(alloc, "one")?;
     Ok(segment)
 }
 

@@ -16,6 +16,7 @@ ghost use Rattle.segment_state.specs.Views.{extent_of};
 use crate::keys::{copied_keys, effective_keys, put_key};
 use crate::references::References;
 use crate::tags::{key_said, range_of, section_said};
+use crate::titles::Titles;
 use fixed_duration::Nanos;
 use playlist_meaning::{
     Base, ByteRange, FaultKind, InitSection, Instant, Items, Key, KeyTag, Keys, MOST_SEGMENTS,
@@ -29,11 +30,12 @@ mod keys;
 mod references;
 mod tags;
 mod times;
+mod titles;
 
 /// The last segment's resource, and its range of it.
 #[derive(Drop)]
 struct Extent {
-    uri: Text,
+    uri: Shared<Text>,
     range: ByteRange,
 }
 
@@ -42,12 +44,13 @@ struct Extent {
 pub struct State<'a> {
     alloc: Global,
     references: References<'a>,
+    titles: Titles,
     sequence: u64,
     discontinuity_sequence: u64,
     media: u64,
     discontinuities: u64,
     steps: u64,
-    duration: Option<(Nanos, Text)>,
+    duration: Option<(Nanos, Shared<Text>)>,
     range: Option<(u64, Option<u64>)>,
     time: Option<Instant>,
     keys: Vec<Key>,
@@ -76,6 +79,7 @@ impl<'a> State<'a> {
         State {
             alloc,
             references: References::new(alloc, base),
+            titles: Titles::new(alloc),
             sequence: 0,
             discontinuity_sequence: 0,
             media: 0,
@@ -136,7 +140,7 @@ impl<'a> State<'a> {
         let Ok(nanos) = Nanos::read(seconds) else {
             return Err(FaultKind::BadDuration);
         };
-        let title = Text::copy_of(self.alloc, title)?;
+        let title = self.titles.title(title)?;
         self.duration = Some((nanos, title));
         Ok(())
     }
@@ -197,7 +201,7 @@ impl<'a> State<'a> {
     }
 
     // The resource of the next segment.
-    fn uri(&mut self, reference: &str) -> Result<Text, FaultKind>
+    fn uri(&mut self, reference: &str) -> Result<Shared<Text>, FaultKind>
         ensures value { Gives (λ uri. uri) result (uri_of self.old.base reference.now) }
         ensures kept { self.new ≡ self.old }
     {
@@ -261,7 +265,7 @@ impl<'a> State<'a> {
         };
         let uri = self.uri(reference)?;
         let range = self.next_range(uri.as_str())?;
-        let last = extent_with(self.alloc, uri.as_str(), range)?;
+        let last = extent_with(&uri, range)?;
         let keys = self.effective_keys(number)?;
         let section = self.section.clone()?;
         let (duration, title) = self.duration.take().unwrap();
@@ -284,8 +288,7 @@ impl<'a> State<'a> {
 
 // The extent of a segment that has a range.
 fn extent_with(
-    alloc: Global,
-    uri: &str,
+    uri: &Shared<Text>,
     range: Option<ByteRange>,
 ) -> Result<Option<Extent>, AllocError>
     ensures { IfOk result (λ last. option_map extent_of last ≡ extent_with uri.now range) }
@@ -293,7 +296,7 @@ fn extent_with(
     let Some(range) = range else {
         return Ok(None);
     };
-    let uri = Text::copy_of(alloc, uri)?;
+    let uri = uri.clone()?;
     Ok(Some(Extent { uri, range }))
 }
 

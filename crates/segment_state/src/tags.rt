@@ -24,17 +24,17 @@ const IDENTITY: &str = "identity";
 #[derive(Drop)]
 pub struct SectionTag {
     /// The resource.
-    pub uri: Text,
+    pub uri: Shared<Text>,
     /// The part of it, where it is not the whole.
     pub range: Option<ByteRange>,
 }
 
-/// The resource that a reference names.
-pub fn uri_of(base: &Base, reference: &str) -> Result<Text, FaultKind>
+/// The resource that a reference names, to be shared.
+pub fn uri_of(alloc: Global, base: &Base, reference: &str) -> Result<Shared<Text>, FaultKind>
     ensures { Gives (λ uri. uri) result (uri_of base.now reference.now) }
 {
     match base.resolve(reference) {
-        Ok(uri) => Ok(Text::from_string(uri)),
+        Ok(uri) => Ok(Shared::new(alloc, Text::from_string(uri))?),
         Err(BaseFault::OutOfMemory) => Err(FaultKind::OutOfMemory),
         Err(_) => Err(FaultKind::BadUri),
     }
@@ -95,12 +95,12 @@ fn set_key(alloc: Global, base: &Base, list: &AttrList, method: &str) -> Result<
     let reference = required(list, "URI", true)?;
     let iv = iv_of(list)?;
     let format = optional(list, "KEYFORMAT", true)?;
-    let uri = uri_of(base, reference)?;
+    let uri = uri_of(alloc, base, reference)?;
     let other = other_attributes(alloc, list.as_slice())?;
     Ok(Key {
         format: Shared::copy_of(alloc, format.unwrap_or(IDENTITY))?,
         method: Shared::copy_of(alloc, method)?,
-        uri: Shared::new(alloc, uri)?,
+        uri,
         iv,
         other: Shared::new(alloc, Items::from_vec(other))?,
     })
@@ -161,6 +161,6 @@ pub fn section_said(alloc: Global, base: &Base, rest: &str) -> Result<SectionTag
     let list = attributes_of(alloc, rest)?;
     let reference = required(&list, "URI", true)?;
     let range = section_range(&list)?;
-    let uri = uri_of(base, reference)?;
+    let uri = uri_of(alloc, base, reference)?;
     Ok(SectionTag { uri, range })
 }

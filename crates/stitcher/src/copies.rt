@@ -1,5 +1,5 @@
-//! Copies of what is put into a list.
-ghost use Rattle.std.specs.Prelude.{◌≡◌, Bool, IfOk, option_map};
+//! Copies of what is put into a list. They share texts and sections, and take memory of their own for lists alone.
+ghost use Rattle.std.specs.Prelude.{◌≡◌, Bool, IfOk, [], option_map};
 ghost use Rattle.playlist_meaning.specs.Marks.{Mark};
 ghost use Rattle.playlist_meaning.specs.Stitched.{ad_piece, with_keys};
 ghost use Rattle.stitcher.specs.Written.{written_segment};
@@ -8,6 +8,7 @@ use crate::marked::Numbers;
 use playlist_meaning::{InitSection, Items, Key, Keys, Segment, Shared, Text};
 use pod_store::{Ad, PodSegment};
 use std::alloc::{AllocError, Global};
+use std::marker::Model;
 
 /// A copy of keys, which shares their texts.
 fn copied_keys(alloc: Global, keys: &[Key]) -> Result<Keys, AllocError>
@@ -29,7 +30,7 @@ fn shared_section(
     }
 }
 
-/// A copy of a segment of the origin.
+/// A copy of a segment of the origin, which shares its texts and its section.
 pub fn copied_segment(alloc: Global, segment: &Segment) -> Result<Segment, AllocError>
     ensures { IfOk result (λ s. s ≡ segment.now) }
 {
@@ -47,8 +48,26 @@ pub fn copied_segment(alloc: Global, segment: &Segment) -> Result<Segment, Alloc
     })
 }
 
+/// What the segments of an ad share: its section under the ad's keys, and the title, which is empty.
+#[derive(Drop)]
+pub struct AdParts {
+    section: Option<Shared<InitSection>>,
+    title: Shared<Text>,
+}
+
+impl Model for AdParts {
+    ghost use Rattle.std.specs.Prelude.{◌≡◌, Option, []};
+    ghost use Rattle.playlist_meaning.specs.declared.InitSection.{InitSection};
+
+    ghost Value = { Option InitSection };
+
+    ghost view = { λ a. a.section };
+
+    ghost invariant = { λ a. a.title ≡ [] };
+}
+
 /// The section of an ad's segments, under the ad's keys.
-pub fn ad_section(alloc: Global, ad: &Ad) -> Result<Option<Shared<InitSection>>, AllocError>
+fn ad_section(alloc: Global, ad: &Ad) -> Result<Option<Shared<InitSection>>, AllocError>
     ensures { IfOk result (λ s. s ≡ option_map (with_keys ad.now.keys) ad.now.section) }
 {
     let Some(section) = &ad.map else {
@@ -63,15 +82,31 @@ pub fn ad_section(alloc: Global, ad: &Ad) -> Result<Option<Shared<InitSection>>,
     Ok(Some(Shared::new(alloc, section)?))
 }
 
+fn no_title(alloc: Global) -> Result<Shared<Text>, AllocError>
+    ensures { IfOk result (λ title. title ≡ []) }
+{
+    Shared::new(alloc, Text::from_string(String::new(alloc)))
+}
+
+/// What the segments of this ad share.
+pub fn ad_parts(alloc: Global, ad: &Ad) -> Result<AdParts, AllocError>
+    ensures { IfOk result (λ parts. parts ≡ option_map (with_keys ad.now.keys) ad.now.section) }
+{
+    Ok(AdParts {
+        section: ad_section(alloc, ad)?,
+        title: no_title(alloc)?,
+    })
+}
+
 /// A segment of an ad, which repeats the numbers that are written.
 pub fn ad_segment(
     alloc: Global,
     ad: &Ad,
-    section: &Option<Shared<InitSection>>,
+    parts: &AdParts,
     segment: &PodSegment,
     numbers: Numbers,
 ) -> Result<Segment, AllocError>
-    requires { section.now ≡ option_map (with_keys ad.now.keys) ad.now.section }
+    requires { parts.now ≡ option_map (with_keys ad.now.keys) ad.now.section }
     ensures { IfOk result (λ s. (mark : Mark) (first : Bool) → s ≡ written_segment (ad_piece mark first ad.now segment.now) numbers) }
 {
     Ok(Segment {
@@ -81,9 +116,9 @@ pub fn ad_segment(
         uri: segment.uri.clone()?,
         range: segment.range,
         keys: copied_keys(alloc, ad.keys.as_slice())?,
-        section: shared_section(section)?,
+        section: shared_section(&parts.section)?,
         duration: segment.duration,
-        title: Text::from_string(String::new(alloc)),
+        title: parts.title.clone()?,
         time: None,
     })
 }

@@ -8,10 +8,10 @@ ghost use Rattle.stitcher.specs.StitchedSegments.{AreDecided, RefusesNumber, ite
 ghost use Rattle.stitcher.specs.Making.{Passes, Puts, is_same_run, numbers_fit, numbers_with, pieces_at, plain, pushed, steps_from};
 
 use crate::OutSegment;
-use crate::copies::{ad_section, ad_segment, copied_segment};
+use crate::copies::{AdParts, ad_parts, ad_segment, copied_segment};
 use crate::fault::StitchFault;
 use crate::marked::{Marked, Numbers};
-use playlist_meaning::{InitSection, Instant, Segment, Shared, Text};
+use playlist_meaning::{Instant, Segment, Shared, Text};
 use pod_store::{Ad, Pod, PodSegment, PodStore};
 use std::alloc::Global;
 use std::marker::Model;
@@ -66,7 +66,7 @@ fn next_numbers(numbers: Numbers, steps: u64) -> Result<Numbers, StitchFault>
     Ok(numbers_of(media, discontinuity, steps))
 }
 
-fn is_same_run(mark: &Option<Text>, previous: &Option<Text>) -> bool
+fn is_same_run(mark: &Option<Shared<Text>>, previous: &Option<Shared<Text>>) -> bool
     ensures { result ≡ is_same_run mark.now previous.now }
 {
     match (mark, previous) {
@@ -149,17 +149,17 @@ impl Stitching {
         &mut self,
         alloc: Global,
         ad: &Ad,
-        section: &Option<Shared<InitSection>>,
+        parts: &AdParts,
         segment: &PodSegment,
         first: bool,
     ) -> Result<(), StitchFault>
         requires fits { numbers_fit self.old.first ≡ true }
-        requires section { section.now ≡ option_map (with_keys ad.now.keys) ad.now.section }
+        requires parts { parts.now ≡ option_map (with_keys ad.now.keys) ad.now.section }
         ensures ok { OnOk result ((mark : Mark) → Puts self.old self.new (ad_piece mark first ad.now segment.now ∷ [])) }
         ensures err { IfErr result (λ e. RefusesNumber e ((mark : Mark) → Passes self.old (ad_piece mark first ad.now segment.now ∷ []))) }
     {
         let numbers = self.numbers_with(u64::from(first))?;
-        let segment = ad_segment(alloc, ad, section, segment, numbers)?;
+        let segment = ad_segment(alloc, ad, parts, segment, numbers)?;
         self.push(segment, None, numbers, None)
     }
 
@@ -168,14 +168,14 @@ impl Stitching {
         ensures ok { OnOk result ((mark : Mark) → Puts self.old self.new (ad_pieces mark ad.now ad.now.segments)) }
         ensures err { IfErr result (λ e. RefusesNumber e ((mark : Mark) → Passes self.old (ad_pieces mark ad.now ad.now.segments))) }
     {
-        let section = ad_section(alloc, ad)?;
+        let parts = ad_parts(alloc, ad)?;
         let Some((first, later)) = ad.segments.as_slice().split_first() else {
             return Ok(());
         };
-        self.put(alloc, ad, &section, first, true)?;
+        self.put(alloc, ad, &parts, first, true)?;
         let mut rest = later;
         while let Some((segment, later)) = rest.split_first() {
-            self.put(alloc, ad, &section, segment, false)?;
+            self.put(alloc, ad, &parts, segment, false)?;
             rest = later;
         }
         Ok(())
@@ -199,7 +199,7 @@ impl Stitching {
         &mut self,
         alloc: Global,
         marked: &Marked,
-        previous: &Option<Text>,
+        previous: &Option<Shared<Text>>,
         store: &PodStore,
     ) -> Result<(), StitchFault>
         requires { numbers_fit self.old.first ≡ true }
@@ -233,7 +233,7 @@ pub fn stitch(
     ensures err { IfErr result (λ e. RefusesNumber e (list_all item_fits (stitched_segments store.now first marked.now) ≡ false)) }
 {
     let mut stitching = Stitching::new(alloc, first);
-    let unmarked: Option<Text> = None;
+    let unmarked: Option<Shared<Text>> = None;
     let mut previous = &unmarked;
     let mut rest = marked;
     while let Some((here, later)) = rest.split_first() {

@@ -25,5 +25,5 @@ returns c = λ before e.
     let time : c.self-2.inside.time ≡ c.args.self.now.standing.time = search rules in
     let last : c.segment_stands.new.self ≡ after_segment c.args.self.now (extent_with c.in_ok-uri.uri c.in_ok-range.range) =
     c.segment_stands.ensures ∙ ap (λ (r : Running). after_segment r (option_map extent_of c.in_ok-last.last)) v
-    ∙ ap (after_segment c.args.self.now) (c.in_ok-last.ensures ∙ ap (λ u. extent_with u c.in_ok-range.range) c.as_str-2.ensures.text) in
+    ∙ ap (after_segment c.args.self.now) c.in_ok-last.ensures in
     (all.0, built c.args.self.now.standing _ _ _ _ _ _ _ _ _ number discontinuity steps keys section time ∙ all.1, last ∙ all.2)

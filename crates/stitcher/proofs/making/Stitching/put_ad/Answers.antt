@@ -25,7 +25,8 @@ loop-segment-init c =
     let parts = sym (ap (λ (a : Ad). a.segments) c.ad.view_is) ∙ (sym c.as_slice.ensures ∙ c.in-Some.ensures.cases.0) in
     record {
       fits = ap numbers_fit (put any_mark).first ∙ c.requires;
-      section = c.in_ok-section.ensures;
+      section = c.parts.view_is ∙ c.in_ok-parts.ensures;
+      title = c.parts.invariant;
       walks = λ mark. subst (λ (ss : List PodSegment). Walks c.args.self.now c.put.new.self (ad_pieces mark ad ss) (map (ad_piece mark false ad) c.in-Some.later.now)) (sym parts)
           (walks_on c.args.self.now c.args.self.now c.put.new.self (ad_pieces mark ad (c.in-Some.first.now ∷ c.in-Some.later.now)) (ad_piece mark true ad c.in-Some.first.now ∷ []) (map (ad_piece mark false ad) c.in-Some.later.now)
           (walks_none c.args.self.now (ad_pieces mark ad (c.in-Some.first.now ∷ c.in-Some.later.now))) (put mark));
@@ -45,6 +46,7 @@ loop-segment-preserved c =
     record {
       fits = ap numbers_fit (put any_mark).first ∙ c.loop-segment.invariant.fits;
       section = c.loop-segment.invariant.section;
+      title = c.loop-segment.invariant.title;
       walks = λ mark. walks_on c.args.self.now c.loop-segment.self c.put-in-Some-split_first.new.self (ad_pieces mark ad ad.segments) (ad_piece mark false ad c.in-Some-split_first.segment.now ∷ []) (map (ad_piece mark false ad) c.in-Some-split_first.later.now)
           (subst (λ (ss : List PodSegment). Walks c.args.self.now c.loop-segment.self (ad_pieces mark ad ad.segments) (map (ad_piece mark false ad) ss)) c.in-Some-split_first.ensures.cases.0 (c.loop-segment.invariant.walks mark)) (put mark);
     }

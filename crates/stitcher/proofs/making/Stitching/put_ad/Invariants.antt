@@ -1,4 +1,4 @@
-use Rattle.std.proofs.Common.{◌≡◌, map, true, false, length}
+use Rattle.std.proofs.Common.{◌≡◌, [], map, true, false, length}
 use Rattle.std.specs.Prelude.{option_map}
 use Rattle.playlist_meaning.specs.Marks.{Mark}
 use Rattle.playlist_meaning.specs.Stitched.{ad_piece, ad_pieces, with_keys}
@@ -9,7 +9,8 @@ use Rattle.stitcher.proofs.making.Stitching.put_ad.Given as goal
 abbrev pub invariant-loop-segment : goal.invariant-loop-segment
 invariant-loop-segment l = record {
   fits : numbers_fit l.self.first ≡ true;
-  section : l.section ≡ option_map (with_keys l.ad.keys) l.ad.section;
+  section : l.parts-inside.section ≡ option_map (with_keys l.ad.keys) l.ad.section;
+  title : l.parts-inside.title ≡ [];
   walks : (mark : Mark) → Walks l.fn.self l.self (ad_pieces mark l.ad l.ad.segments) (map (ad_piece mark false l.ad) l.rest);
 }
 
