@@ -1,16 +1,15 @@
 -- A channel and what it was given, before an event and after it.
-use Rattle.std.proofs.Common.{◌≡◌, ◌≢◌, ℕ, List, [], ◌∷◌, ◌++◌, ap, sym, ◌∙◌, subst, Bool, true, false, cond, refl, true≢false}
-use Rattle.std.specs.Prelude.{Option, Some, None, Result, Ok, Err, MatchResult, IfOk, is_none, is_ok}
+use Rattle.std.proofs.Common.{◌≡◌, ◌≢◌, ℕ, List, ◌∷◌, ◌++◌, ap, sym, ◌∙◌, subst, true, false, cond, refl, true≢false}
+use Rattle.std.specs.Prelude.{Option, Some, None, Result, Ok, Err, IfOk, is_none, is_ok}
 use Rattle.url.specs.Parts.{Parts}
 use Rattle.playlist_meaning.specs.Reading.{reading, limited}
-use Rattle.pod_store.specs.Store.{Entry}
-use Rattle.pod_store.specs.Outcome.{Outcome, no_memory, Refuses}
+use Rattle.pod_store.specs.Outcome.{no_memory, Refuses}
 use Rattle.pod_store.specs.declared.fault.DecisionFault.{DecisionFault}
 use Rattle.live_meaning.specs.declared.fault.RefreshFault.{RefreshFault}
 use Rattle.live_meaning.specs.Live.{Event, Told, told, refusal, after_refresh, window_after}
 use Rattle.live_meaning.specs.Kept.{Kept, kept_of}
 use Rattle.live_counters.specs.declared.channel.Refreshed.{Refreshed}
-use Rattle.live_counters.specs.Channel.{Reading, readable, Channel, StandsFor, told_by, text_after, events_of, refreshed, decided, judged, answer_read, explained, owed_why, AnswersAs, AnswersUnless, is_memory, Answers, refreshed_with, fresh_after, after_bytes, with_store, ChangesStore}
+use Rattle.live_counters.specs.Channel.{Reading, readable, Channel, StandsFor, told_by, text_after, events_of, refreshed, decided, judged, answer_read, explained, owed_why, AnswersAs, AnswersUnless, is_memory, Answers, refreshed_with, fresh_after, after_bytes, with_store}
 use Rattle.live_counters.specs.Channel as channel
 use Rattle.http_messages.specs.declared.message.Reply.{Reply}
 use Rattle.http_messages.specs.Replies.{bare}

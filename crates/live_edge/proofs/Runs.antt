@@ -1,6 +1,6 @@
 -- What a channel's requests are answered in a run.
-use Rattle.std.proofs.Common.{◌≡◌, ℕ, Bool, true, false, cond, List, [], ◌∷◌, ◌++◌, length, refl, sym, ap, subst, ◌∙◌, true≢false, inl, inr}
-use Rattle.std.specs.Prelude.{Option, Some, None, Result, Ok, Err, ◌⊎◌, ◌&&◌, ◌==◌, not, filter, is_some, nat_le, nat_lt, codes}
+use Rattle.std.proofs.Common.{◌≡◌, ℕ, Bool, true, false, cond, List, [], ◌∷◌, length, refl, sym, ap, subst, ◌∙◌, true≢false, inl, inr}
+use Rattle.std.specs.Prelude.{Option, Some, None, Result, Ok, Err, ◌&&◌, ◌==◌, not, filter, is_some, nat_le, nat_lt, codes}
 use Rattle.url.specs.Parts.{Parts}
 use Rattle.playlist_meaning.specs.Uri.{base_of}
 use Rattle.playlist_meaning.specs.Reading.{reading, limited}
@@ -23,9 +23,9 @@ use Rattle.live_edge.specs.Channels.{Given, told_of}
 use Rattle.live_edge.specs.ChannelBody.{body_said}
 use Rattle.live_edge.specs.Replies.{refresh_status, refresh_reply, refresh_owed, decision_status, decisions_reply, decisions_owed, live_owed, why_owed}
 use Rattle.live_edge.specs.Routes.{path_of, route_of}
-use Rattle.live_edge.specs.Table.{Table, Turn, event_turn, given_at, removed, read_turn, made, tried, added, most_tolerance, is_method, turn_at, routed, turn, table_of, reply_to}
-use Rattle.live_edge.specs.Edges.{Kept, StandsFor, Stands, TakesTurn, Answers}
-use Rattle.live_edge.specs.Isolation.{is_on, was_served, Exchange, IsRun, is_served_on, asked_of, answered_of, IsIsolatedIn, RunsAreIsolated}
+use Rattle.live_edge.specs.Table.{Table, Turn, event_turn, given_at, removed, read_turn, made, tried, most_tolerance, is_method, turn_at, routed, turn, table_of}
+use Rattle.live_edge.specs.Edges.{Kept, StandsFor, Stands, TakesTurn}
+use Rattle.live_edge.specs.Isolation.{is_on, was_served, Exchange, IsRun, is_served_on, asked_of, answered_of, RunsAreIsolated}
 use Rattle.live_edge.proofs.Isolated.{picked, turn_other, Alike, served_step, and_parts}
 
 -- ---- a turn that is answered 503 leaves the table

@@ -12,10 +12,8 @@ use Rattle.live_counters.specs.Channel as channel
 use Rattle.http_messages.specs.declared.message.Reply.{Reply}
 use Rattle.http_messages.specs.Replies.{bare}
 use Rattle.live_edge.specs.declared.channel_body.BodyFault.{BodyFault}
-use Rattle.live_edge.specs.declared.channel_body.BodyFault.TheVariants.{NotJson, Shape, OutOfMemory}
 use Rattle.live_edge.specs.Channels.{Given, IsGiven, with_event}
-use Rattle.live_edge.specs.ChannelBody.{RefusesBody}
-use Rattle.live_edge.specs.Replies.{not_found, body_fault_reply, channel_fault_reply, bad_base, bad_tolerance, exists, live_reply, live_owed, why_text, text_reply, why_owed}
+use Rattle.live_edge.specs.Replies.{not_found, channel_fault_reply, bad_base, bad_tolerance, exists, live_reply, live_owed, why_text, text_reply, why_owed}
 use Rattle.live_edge.specs.Table.{Table, Entry, Turn, unmoved, event_turn, given_at, put_given, without, removed, read_turn, made, tried, added, most_tolerance, fresh}
 use Rattle.live_edge.specs.Events.{TakesOne, Takes}
 use Rattle.live_edge.specs.Edges.{Kept, kept_of, Stands, TakenTurn}
