@@ -1,21 +1,22 @@
 -- A channel and what it was given, before an event and after it.
-use Rattle.std.proofs.Common.{◌≡◌, ◌≢◌, ℕ, List, [], ◌∷◌, ◌++◌, ap, sym, ◌∙◌, subst, Bool, true, false, cond, refl, true≢false}
-use Rattle.std.specs.Prelude.{Option, Some, None, Result, Ok, Err, MatchResult, IfOk, is_none, is_ok}
+use Rattle.std.proofs.Common.{◌≡◌, ◌≢◌, ℕ, List, ◌∷◌, ◌++◌, ap, sym, ◌∙◌, subst, true, false, cond, refl, true≢false}
+use Rattle.std.specs.Prelude.{Option, Some, None, Result, Ok, Err, IfOk, is_none, is_ok}
 use Rattle.url.specs.Parts.{Parts}
 use Rattle.playlist_meaning.specs.Reading.{reading, limited}
-use Rattle.pod_store.specs.Store.{Entry}
-use Rattle.pod_store.specs.Outcome.{Outcome, no_memory, Refuses}
+use Rattle.pod_store.specs.Outcome.{no_memory, Refuses}
 use Rattle.pod_store.specs.declared.fault.DecisionFault.{DecisionFault}
 use Rattle.live_meaning.specs.declared.fault.RefreshFault.{RefreshFault}
 use Rattle.live_meaning.specs.Live.{Event, Told, told, refusal, after_refresh, window_after}
 use Rattle.live_meaning.specs.Kept.{Kept, kept_of}
 use Rattle.live_counters.specs.declared.channel.Refreshed.{Refreshed}
-use Rattle.live_counters.specs.Channel.{Reading, readable, Channel, StandsFor, told_by, text_after, events_of, refreshed, decided, judged, answer_read, AnswersAs, AnswersUnless, is_memory, Answers, refreshed_with, fresh_after, after_bytes, with_store, ChangesStore}
+use Rattle.live_counters.specs.Channel.{Reading, readable, Channel, StandsFor, told_by, text_after, events_of, refreshed, decided, judged, answer_read, explained, owed_why, AnswersAs, AnswersUnless, is_memory, Answers, refreshed_with, fresh_after, after_bytes, with_store}
 use Rattle.live_counters.specs.Channel as channel
 use Rattle.http_messages.specs.declared.message.Reply.{Reply}
 use Rattle.http_messages.specs.Replies.{bare}
 use Rattle.live_edge.specs.Channels.{Given, IsGiven, with_event, told_of, playlist_of}
-use Rattle.live_edge.specs.Replies.{refresh_reply, refresh_owed, decisions_reply, decisions_owed}
+use Rattle.live_counters.proofs.Owed.{explains}
+use Rattle.break_finder.specs.Known.{known}
+use Rattle.live_edge.specs.Replies.{why_text, refresh_reply, refresh_owed, decisions_reply, decisions_owed}
 use Rattle.live_edge.specs.Events.{TakesOne}
 
 -- ---- what stands for the same
@@ -29,6 +30,12 @@ module _ (c : Channel) (given : Given) (h : IsGiven c given) where
 
   pub kept_is : c.kept ≡ kept_of (told_of given)
   kept_is = h.stands.kept ∙ ap kept_of same_told
+
+  reason_is : (id : List ℕ) → explained c.kept id ≡ owed_why (told_of given) id
+  reason_is id = explains c id (explained c.kept id) refl given.events h.stands ∙ ap (λ told. owed_why told id) same_told
+
+  pub why_is : why_text (explained c.kept) c.kept.breaks ≡ why_text (owed_why (told_of given)) (known (told_of given).accepted)
+  why_is = λ i. why_text (λ id. reason_is id i) (kept_is i).breaks
 
   pub text_is : c.text ≡ playlist_of given
   text_is = h.stands.text ∙ ap text_after same_told

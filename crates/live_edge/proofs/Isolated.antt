@@ -25,7 +25,7 @@ use Rattle.live_edge.specs.Isolation.{names, is_on, replies_on, was_served, IsIs
 is_named : List ℕ → Entry → Bool
 is_named x entry = bytes_eq x entry.name
 
-abbrev picked : List ℕ → Table → Table
+abbrev pub picked : List ℕ → Table → Table
 picked x table = filter (λ (entry : Entry). bytes_eq x entry.name) table
 
 given_step : (b : Bool) (x : List ℕ) (e : Entry) (p : Table) (q : Option Given) → bytes_eq x e.name ≡ b → given_at x p ≡ q
@@ -149,7 +149,7 @@ at_other x n r Decisions table other =
 at_other x n r Live table other = either_table (is_method (codes "GET") r) x _ _ table (read_other x live_owed table (given_at n table)) refl
 at_other x n r Why table other = either_table (is_method (codes "GET") r) x _ _ table (read_other x why_owed table (given_at n table)) refl
 
-turn_other : (x : List ℕ) (r : Request) (o : Option (List ℕ × Resource)) (table : Table) → names x o ≡ false → picked x (routed table r o).table ≡ picked x table
+pub turn_other : (x : List ℕ) (r : Request) (o : Option (List ℕ × Resource)) (table : Table) → names x o ≡ false → picked x (routed table r o).table ≡ picked x table
 turn_other x r None table other = refl
 turn_other x r (Some route) table other = at_other x route.0 r route.1 table other
 
@@ -260,14 +260,14 @@ abbrev alone : List ℕ → List Request → List Request
 alone x requests = filter (λ r. is_on x r) requests
 
 -- the channel's entries are those of its requests alone, and so are the replies
-abbrev Alike : List ℕ → List Request → Table → List Reply → List Request → Type 0
+abbrev pub Alike : List ℕ → List Request → Table → List Reply → List Request → Type 0
 Alike x requests table replies left = (picked x table ≡ table_of left) × (replies ≡ replies_on x left)
 
-and_parts : (a b : Bool) → (a && b) ≡ true → (a ≡ true) × (b ≡ true)
+pub and_parts : (a b : Bool) → (a && b) ≡ true → (a ≡ true) × (b ≡ true)
 and_parts true b h = (refl, h)
 and_parts false b h = absurd (true≢false (sym h))
 
-served_step : (x : List ℕ) (r : Request) (before left : List Request) (replies : List Reply) → is_on x r ≡ true → was_served (reply_to before r) ≡ true
+pub served_step : (x : List ℕ) (r : Request) (before left : List Request) (replies : List Reply) → is_on x r ≡ true → was_served (reply_to before r) ≡ true
     → Alike x before (table_of before) replies left
     → Alike x (r ∷ before) (turn (table_of before) r).table (reply_to before r ∷ replies) (r ∷ left)
 served_step x r before left replies on served h =

@@ -3,4 +3,5 @@ pub mod Lines
 pub mod Tables
 pub mod Turns
 pub mod Isolated
+pub mod Runs
 pub mod Connections

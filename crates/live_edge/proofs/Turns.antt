@@ -7,18 +7,17 @@ use Rattle.url.specs.Parts.{Parts}
 use Rattle.playlist_meaning.specs.Uri.{base_of}
 use Rattle.live_counters.specs.declared.channel.ChannelFault.{ChannelFault}
 use Rattle.live_counters.specs.declared.channel.ChannelFault.TheVariants as fault
+use Rattle.live_counters.specs.Channel.{explained}
 use Rattle.live_counters.specs.Channel as channel
 use Rattle.http_messages.specs.declared.message.Reply.{Reply}
 use Rattle.http_messages.specs.Replies.{bare}
 use Rattle.live_edge.specs.declared.channel_body.BodyFault.{BodyFault}
-use Rattle.live_edge.specs.declared.channel_body.BodyFault.TheVariants.{NotJson, Shape, OutOfMemory}
 use Rattle.live_edge.specs.Channels.{Given, IsGiven, with_event}
-use Rattle.live_edge.specs.ChannelBody.{RefusesBody}
-use Rattle.live_edge.specs.Replies.{not_found, body_fault_reply, channel_fault_reply, bad_base, bad_tolerance, exists, live_reply, live_owed, why_text, text_reply, why_owed}
+use Rattle.live_edge.specs.Replies.{not_found, channel_fault_reply, bad_base, bad_tolerance, exists, live_reply, live_owed, why_text, text_reply, why_owed}
 use Rattle.live_edge.specs.Table.{Table, Entry, Turn, unmoved, event_turn, given_at, put_given, without, removed, read_turn, made, tried, added, most_tolerance, fresh}
 use Rattle.live_edge.specs.Events.{TakesOne, Takes}
 use Rattle.live_edge.specs.Edges.{Kept, kept_of, Stands, TakenTurn}
-use Rattle.live_edge.proofs.Given.{text_is, kept_is}
+use Rattle.live_edge.proofs.Given.{text_is, why_is}
 use Rattle.live_edge.proofs.Tables.{Entries, is_at, Agree, none_agrees, some_agrees, found, put, taken_out, added_behind}
 
 -- nothing moved
@@ -78,12 +77,12 @@ live_turn es table name k r kept s there q now =
     unmoved_turn table (live_reply k.text) _ r kept (ap (read_turn table live_owed) f.1 ∙ ap (λ t. unmoved table (live_reply t)) (sym (text_is k f.0 f.2))) q now
 
 pub why_turn : {A E : Type 0} (es : Entries A) (table : Table) (name : List ℕ) (k : channel.Channel) (r : Result Reply E) (kept : List Kept)
-    → Stands (map kept_of es) table → Some k ≡ lookup (is_at name) es → IfOk r (λ y. y ≡ text_reply (why_text k.kept)) → Stands kept table
+    → Stands (map kept_of es) table → Some k ≡ lookup (is_at name) es → IfOk r (λ y. y ≡ text_reply (why_text (explained k.kept) k.kept.breaks)) → Stands kept table
     → TakenTurn (read_turn table why_owed (given_at name table)) table r kept
 why_turn es table name k r kept s there q now =
     let f = some_at es table name k s there in
-    unmoved_turn table (text_reply (why_text k.kept)) _ r kept
-    (ap (read_turn table why_owed) f.1 ∙ ap (λ t. unmoved table (text_reply (why_text t))) (sym (kept_is k f.0 f.2))) q now
+    unmoved_turn table (text_reply (why_text (explained k.kept) k.kept.breaks)) _ r kept
+    (ap (read_turn table why_owed) f.1 ∙ ap (λ t. unmoved table (text_reply t)) (sym (why_is k f.0 f.2))) q now
 
 first_kept : (b : Bool) (t : Entry) (ts us : Table) (q : Option Given) → cond b (Some t.given) q ≡ None → (q ≡ None → us ≡ ts) → cond b ts (t ∷ us) ≡ t ∷ ts
 first_kept true t ts us q e rest = absurd (true≢false (ap is_some e))

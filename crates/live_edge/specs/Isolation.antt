@@ -1,11 +1,12 @@
 -- What the requests on one channel are answered, whatever the others are.
-use Rattle.std.specs.Prelude.{◌≡◌, ℕ, ◌==◌, Bool, true, false, not, List, [], ◌∷◌, bytes_eq, filter, Option, Some, None, if◌then◌else◌}
+use Rattle.std.specs.Prelude.{◌≡◌, ℕ, ◌==◌, ◌&&◌, Bool, true, false, not, List, [], ◌∷◌, bytes_eq, filter, map, Option, Some, None, if◌then◌else◌}
 use Rattle.std.specs.List.{list_all}
 use Rattle.http_messages.specs.declared.message.Request.{Request}
 use Rattle.http_messages.specs.declared.message.Reply.{Reply}
 use Rattle.live_edge.specs.declared.routes.Resource.{Resource}
 use Rattle.live_edge.specs.Routes.{path_of, route_of}
 use Rattle.live_edge.specs.Table.{reply_to}
+use Rattle.live_edge.specs.Edges.{Kept, StandsFor, Answers}
 
 abbrev pub names : List ℕ → Option (List ℕ × Resource) → Bool
 names name None = false
@@ -27,3 +28,34 @@ was_served reply = not (reply.status == 503)
 abbrev pub IsIsolated : List ℕ → List Request → Type 0
 IsIsolated name requests =
     list_all was_served (replies_on name requests) ≡ true → replies_on name requests ≡ replies_on name (filter (is_on name) requests)
+
+-- ---- runs
+
+-- a request, and what it was answered
+pub record Exchange : Type 0 where
+  pub request : Request
+  pub reply : Reply
+
+-- an edge came from what it was first to what it is by these exchanges, the newest first
+abbrev pub IsRun : List Kept → List Exchange → List Kept → Type 0
+IsRun first [] last = last ≡ first
+IsRun first (e ∷ before) last = (middle : List Kept) × IsRun first before middle × Answers middle e.request e.reply last
+
+-- on the channel of this name, and not answered 503
+abbrev pub is_served_on : List ℕ → Exchange → Bool
+is_served_on name e = is_on name e.request && was_served e.reply
+
+abbrev pub asked_of : List Exchange → List Request
+asked_of exchanges = map (λ (e : Exchange). e.request) exchanges
+
+abbrev pub answered_of : List Exchange → List Reply
+answered_of exchanges = map (λ (e : Exchange). e.reply) exchanges
+
+-- what a channel's requests were answered is what they alone are owed, those that were answered 503 left out
+abbrev pub IsIsolatedIn : List ℕ → List Exchange → Type 0
+IsIsolatedIn name run =
+    answered_of (filter (is_served_on name) run) ≡ replies_on name (asked_of (filter (is_served_on name) run))
+
+-- whatever else was asked, of an edge that stood for no request
+abbrev pub RunsAreIsolated : Type 0
+RunsAreIsolated = (name : List ℕ) (first last : List Kept) (run : List Exchange) → StandsFor first [] → IsRun first run last → IsIsolatedIn name run

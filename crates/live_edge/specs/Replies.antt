@@ -1,21 +1,22 @@
 -- The replies that are owed.
-use Rattle.std.specs.Prelude.{◌≡◌, ℕ, List, [], ◌∷◌, ◌++◌, codes, map, Option, Some, None, Result, Ok, Err, MatchResult}
+use Rattle.std.specs.Prelude.{ℕ, List, [], ◌∷◌, ◌++◌, codes, map, Option, Some, None, Result, Ok, Err}
 use Rattle.std.specs.List.{flat_map}
 use Rattle.playlist_meaning.specs.Reading.{reading, limited}
 use Rattle.pod_store.specs.declared.fault.DecisionKind.{DecisionKind}
 use Rattle.pod_store.specs.declared.fault.DecisionKind.TheVariants as decision
-use Rattle.pod_store.specs.declared.fault.DecisionFault.{DecisionFault}
 use Rattle.pod_store.specs.FaultTexts.{fault_text}
 use Rattle.pod_store.specs.Outcome.{Outcome}
 use Rattle.pod_store.specs.Store.{Entry}
+use Rattle.break_finder.specs.declared.why.Why.{Why}
+use Rattle.break_finder.specs.Breaks.{Break}
 use Rattle.break_finder.specs.Entering.{id_of}
+use Rattle.break_finder.specs.Known.{known}
 use Rattle.live_meaning.specs.declared.fault.RefreshFault.{RefreshFault}
 use Rattle.live_meaning.specs.declared.fault.RefreshFault.TheVariants as fault
-use Rattle.live_meaning.specs.Kept.{Kept, kept_of}
 use Rattle.live_counters.specs.declared.channel.Refreshed.{Refreshed}
 use Rattle.live_counters.specs.declared.channel.ChannelFault.{ChannelFault}
 use Rattle.live_counters.specs.declared.channel.ChannelFault.TheVariants as made
-use Rattle.live_counters.specs.Channel.{answer_read, after_bytes, explained}
+use Rattle.live_counters.specs.Channel.{answer_read, after_bytes, owed_why}
 use Rattle.http_messages.specs.declared.message.Reply.{Reply}
 use Rattle.http_messages.specs.declared.message.ContentType.TheVariants.{Playlist}
 use Rattle.http_messages.specs.declared.message.Allow.{Allow}
@@ -97,16 +98,17 @@ abbrev pub live_owed : Given → Reply
 live_owed given = live_reply (playlist_of given)
 
 -- a known ID, a tab (9), why its break is filled or not, and a line feed
-abbrev pub why_line : Kept → List ℕ → List ℕ
-why_line kept id = id ++ 9 ∷ why_word (explained kept id) ++ 10 ∷ []
+abbrev pub why_line : (List ℕ → Why) → List ℕ → List ℕ
+why_line reason id = id ++ 9 ∷ why_word (reason id) ++ 10 ∷ []
 
-abbrev pub why_text : Kept → List ℕ
-why_text kept = flat_map (why_line kept) (map id_of kept.breaks)
+abbrev pub why_text : (List ℕ → Why) → List Break → List ℕ
+why_text reason breaks = flat_map (why_line reason) (map id_of breaks)
 
 -- a text, or no content where that is empty
 abbrev pub text_reply : List ℕ → Reply
 text_reply [] = bare 200
 text_reply (b ∷ text) = plain 200 (b ∷ text)
 
+-- the breaks that looking back over all refreshes finds known, each with the reason by all that was told
 abbrev pub why_owed : Given → Reply
-why_owed given = text_reply (why_text (kept_of (told_of given)))
+why_owed given = text_reply (why_text (owed_why (told_of given)) (known (told_of given).accepted))

@@ -7,6 +7,8 @@ use Rattle.http_messages.specs.declared.message.Reply.{Reply}
 use Rattle.http_messages.specs.declared.refusal.Refusal.{Refusal}
 use Rattle.http_messages.specs.Requests.{Asks, IsRefusedFor}
 use Rattle.http_messages.specs.Replies.{refusal_reply, refusal_status, sends_body, text_sent}
+use Rattle.http_messages.specs.declared.receiving.Asked.{Asked}
+use Rattle.http_messages.specs.declared.receiving.Asked.TheVariants as asked
 use Rattle.http_messages.specs.declared.receiving.ReceiveFault.{ReceiveFault}
 use Rattle.http_messages.specs.declared.receiving.ReceiveFault.TheVariants as receiving
 use Rattle.live_edge.specs.declared.serving.EdgeFault.{EdgeFault}
@@ -56,3 +58,30 @@ pub record HasServedFront (source_old source_new sink_old sink_new : Option (Lis
   pub given : Consumes source_old source_new bytes
   pub served : IsServed bytes old new text status
   pub written : TookFront sink_old sink_new text
+
+-- ---- what is answered of all that a source holds
+
+-- the request is answered as owed, and the sink took this of the text of its reply
+pub record HasAnswered (Took : List ℕ → Type 0) (old new : List Kept) (request : Request) (status : ℕ) : Type 0 where
+  pub reply : Reply
+  pub answers : Answers old request reply new
+  pub status_is : status ≡ reply.status
+  pub written : Took (text_sent (sends_body request.method) reply)
+
+-- it is refused, the edge is as it was, and the sink took this of the text of the refusal
+pub record HasTurnedAway (Took : List ℕ → Type 0) (old new : List Kept) (refusal : Refusal) (status : ℕ) : Type 0 where
+  pub kept : new ≡ old
+  pub status_is : status ≡ refusal_status refusal
+  pub written : Took (text_sent true (refusal_reply refusal))
+
+abbrev pub HasReplied : (List ℕ → Type 0) → List Kept → List Kept → Asked → ℕ → Type 0
+HasReplied Took old new (asked.Request request) status = HasAnswered Took old new request status
+HasReplied Took old new (asked.Refused refusal) status = HasTurnedAway Took old new refusal status
+
+-- the reply's text is written as a whole
+abbrev pub HasRepliedWhole : Option (List ℕ) → Option (List ℕ) → List Kept → List Kept → Asked → ℕ → Type 0
+HasRepliedWhole sink_old sink_new = HasReplied (Appends sink_old sink_new)
+
+-- a front of it is
+abbrev pub HasRepliedFront : Option (List ℕ) → Option (List ℕ) → List Kept → List Kept → Asked → Type 0
+HasRepliedFront sink_old sink_new old new it = (status : ℕ) × HasReplied (TookFront sink_old sink_new) old new it status

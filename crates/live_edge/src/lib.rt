@@ -13,7 +13,7 @@ mod timed;
 mod words;
 
 pub use edge::{CHANNEL_LIMIT, Edge};
-pub use laws::channels_are_isolated;
+pub use laws::{channels_are_isolated, runs_are_isolated};
 pub use serving::{EdgeFault, Served, serve};
 pub use timed::Timed;
 pub use words::{LiveWords, read_live_words};

@@ -1,5 +1,6 @@
 //! The replies of the edge.
 ghost use Rattle.std.specs.Prelude.{◌≡◌, ◌≤◌, [], ◌∷◌, ◌++◌, length, string_bytes, IfOk, IsErr, OnOk, Err};
+ghost use Rattle.live_counters.specs.Channel.{explained};
 ghost use Rattle.live_edge.specs.FaultTexts.{why_word};
 ghost use Rattle.live_edge.specs.Replies.{line, not_found, not_allowed, body_fault_reply, refresh_status, refresh_reply, decision_status, decisions_reply, why_text, text_reply};
 
@@ -103,7 +104,7 @@ fn push_line(lines: &mut String, id: &str, why: Why) -> Result<(), AllocError>
 
 // A line for each known break.
 fn why_lines(alloc: Global, channel: &Channel) -> Result<String, AllocError>
-    ensures { IfOk result (λ lines. string_bytes lines ≡ why_text channel.now.kept) }
+    ensures { IfOk result (λ lines. string_bytes lines ≡ why_text (explained channel.now.kept) channel.now.kept.breaks) }
 {
     let mut lines = String::new(alloc);
     let mut place = 0usize;
@@ -136,7 +137,7 @@ fn text_reply(alloc: Global, text: String) -> Result<Reply, AllocError>
 
 /// The known breaks, and why each is filled or not.
 pub fn why_reply(alloc: Global, channel: &Channel) -> Result<Reply, AllocError>
-    ensures { IfOk result (λ reply. reply ≡ text_reply (why_text channel.now.kept)) }
+    ensures { IfOk result (λ reply. reply ≡ text_reply (why_text (explained channel.now.kept) channel.now.kept.breaks)) }
 {
     let lines = why_lines(alloc, channel)?;
     text_reply(alloc, lines)

@@ -1,13 +1,15 @@
 //! One connection, one request, one reply.
-ghost use Rattle.std.specs.Prelude.{◌≡◌, ◌≢◌, ◌≤◌, Some, Err, OnOk, OnErr, IfOk, IfErr, IsErrOf};
+ghost use Rattle.std.specs.Prelude.{◌≡◌, ◌≢◌, ◌≤◌, Some, Err, OnOk, OnErr, IfOk, IfErr, IfSome, IsErrOf};
 ghost use Rattle.std.specs.Io.KnownBytes.{Appends};
 ghost use Rattle.devices.specs.Handed.{TookFront};
 ghost use Rattle.devices.specs.Stands.{source_stand, sink_stand};
-ghost use Rattle.http_messages.specs.Received.{HasEnded, HasGivenPart};
+ghost use Rattle.http_messages.specs.declared.receiving.Asked.{Asked as Question};
+ghost use Rattle.http_messages.specs.Requests.{IsUnfinished};
+ghost use Rattle.http_messages.specs.Received.{Holds, HasEnded, HasGivenPart};
 ghost use Rattle.http_messages.specs.Replies.{text_sent};
 ghost use Rattle.http_messages.specs.Runs.{IsFairToSource, IsFairToSink};
 ghost use Rattle.live_edge.specs.FaultTexts.{edge_fault_text};
-ghost use Rattle.live_edge.specs.Served.{HasServed, HasServedFront, edge_fault};
+ghost use Rattle.live_edge.specs.Served.{HasServed, HasServedFront, HasRepliedWhole, HasRepliedFront, edge_fault};
 
 use crate::edge::Edge;
 use devices::{Sink, Source};
@@ -114,6 +116,11 @@ pub fn serve<S: Source, K: Sink>(
     sink: &mut K,
 ) -> Result<Served, EdgeFault>
     ensures ok { IfOk result (λ served. HasServed (S.remaining source.old) (S.remaining source.new) (K.contents sink.old) (K.contents sink.new) edge.old edge.new served.status) }
+
+    // However the source cuts its bytes: what all that it holds asks is answered, and it doesn't end where that is a whole request.
+    ensures whole { (it : Question) → Holds (S.remaining source.old) it → IfOk result (λ served. HasRepliedWhole (K.contents sink.old) (K.contents sink.new) edge.old edge.new it served.status) }
+    ensures whole_front { (it : Question) → Holds (S.remaining source.old) it → IsErrOf result EdgeFault.Write → HasRepliedFront (K.contents sink.old) (K.contents sink.new) edge.old edge.new it }
+    ensures held { IsErrOf result EdgeFault.Ended → IfSome (S.remaining source.old) IsUnfinished }
 
     // Where the sink failed it took a front of the reply, and the request stands.
     ensures write { IsErrOf result EdgeFault.Write → HasServedFront (S.remaining source.old) (S.remaining source.new) (K.contents sink.old) (K.contents sink.new) edge.old edge.new }
