@@ -1,73 +1,156 @@
--- What a run comes to, from what its parts answered.
-use Rattle.std.proofs.Common.{◌≡◌, ℕ, List, ap, sym, ◌∙◌, subst, cond}
-use Rattle.std.specs.Prelude.{true, Option, Some, None, Result, Ok, Err, OnOk, is_none, option_map}
-use Rattle.playlist_meaning.specs.Uri.{base_of}
-use Rattle.http_edge.specs.Owed.{read_under}
-use Rattle.std.specs.List.{list_all}
-use Rattle.url.specs.Parts.{Parts}
-use Rattle.playlist_meaning.specs.declared.Playlist.{Playlist}
-use Rattle.playlist_meaning.specs.Reading.{reading, limited, unlimited, Denotes}
-use Rattle.pod_store.specs.Store.{Entry}
-use Rattle.reading_laws.specs.Read.{uris_are_text}
-use Rattle.reading_laws.proofs.Whole.{can_be_written}
-use Rattle.live_meaning.specs.declared.fault.RefreshFault.{RefreshFault}
-use Rattle.live_meaning.specs.Live.{told, refusal, after_refresh, owed_for}
-use Rattle.live_laws.specs.Owed.{owed_playlist, owed_text}
-use Rattle.live_laws.specs.Laws.{CanBeRead}
-use Rattle.live_laws.proofs.Whole.{text_denotes_owed}
-use Rattle.http_edge.specs.declared.filling.TheConstants.{TOLERANCE}
-use Rattle.http_edge.specs.Events.{HasDecided}
-use Rattle.http_edge.specs.Filling.{IsOwed, refusal_of, told_after}
-use Rattle.http_edge.specs.Vod.{told_with, HasRead, HasJudged, Writes, WritesFront}
+-- What a run comes to: a channel that was given the decision file, if there is one, and then one refresh.
+use Rattle.std.proofs.Common.{◌≡◌, ℕ, List, [], ◌∷◌, ◌++◌, cond, refl, ap, sym, ◌∙◌, subst}
+use Rattle.std.specs.Prelude.{Option, Some, None, Result, Ok, Err, OnOk, IfErr, IsErrOf, IsOk, IsSome, ◌≢◌, is_ok, is_some, is_none, option_map, unwrap_or}
 use Rattle.std.specs.Io.KnownBytes.{Appends}
+use Rattle.std.specs.Result.{IsErrAnd}
+use Rattle.url.specs.Parts.{Parts}
 use Rattle.devices.specs.Handed.{TookFront}
-use Rattle.playlist_write.specs.declared.OutPlaylist.{OutPlaylist}
-use Rattle.playlist_write.specs.Owed.{text_of}
-use Rattle.reading_laws.proofs.WithinLimits.{within_limits}
+use Rattle.devices.specs.Stands.{GaveAll, SourceStand, SinkStand}
+use Rattle.playlist_meaning.specs.declared.Playlist.{Playlist}
+use Rattle.playlist_meaning.specs.Reading.{Fault, reading, limited, Denotes}
+use Rattle.playlist_meaning.specs.Uri.{base_of}
+use Rattle.live_meaning.specs.declared.fault.RefreshFault.{RefreshFault}
+use Rattle.live_meaning.specs.declared.fault.RefreshFault.TheVariants.{NumberRange as PassesRange}
+use Rattle.live_meaning.specs.Live.{Event, Told, told, refusal, after_refresh, last_playlist, owed_for}
+use Rattle.live_laws.specs.Owed.{owed_text}
+use Rattle.live_counters.specs.Channel as channel
+use Rattle.live_counters.specs.Channel.{Channel, Given, readable, refreshed, told_by, WritesOwed}
+use Rattle.live_counters.proofs.Steps.{channel_writes}
+use Rattle.http_edge.specs.declared.one_playlist.TheConstants.{TOLERANCE}
+use Rattle.http_edge.specs.declared.fault.VodFault.{VodFault}
+use Rattle.http_edge.specs.declared.fault.VodFault.TheVariants.{Playlist as PlaylistOf, NumberRange, Read, TooManyReads, Write, OutOfMemory}
+use Rattle.http_edge.specs.Given.{IsNew, given_by, HasDecided, IsRefreshed, PassesItsRange, IsOfRefresh, RefusesRefresh}
+use Rattle.http_edge.specs.Events.{events_of}
+use Rattle.http_edge.specs.Runs.{IsFairToSource, IsFairToSink}
+use Rattle.http_edge.specs.Vod.{told_with, IsInOrder, HasRead, HasJudged, Writes, WritesFront}
 
-pub readable : (base : Parts) (input : List ℕ) (p : Playlist) → reading limited base input ≡ Ok p → list_all uris_are_text p.segments ≡ true → CanBeRead p
-readable base input p h t =
-    record { limits = can_be_written limited base input p h; denotes = can_be_written unlimited base input p ((within_limits base input p).0 h).0; text = t }
+-- what a channel writes where this playlist was accepted last
+owed_so : (t : Told) (p : Playlist) (text : Option (List ℕ)) → last_playlist t.accepted ≡ Some p → WritesOwed t text
+    → (unwrap_or text [] ≡ owed_text t p) × ((other : Parts) → Denotes other (owed_text t p) (owed_for t p))
+owed_so t p None last w = absurd (cc)
+owed_so t p (Some text) last (q, (is, same, means)) =
+    let one : q ≡ p = cc in (
+      same ∙ ap (owed_text t) one,
+      λ other. subst (λ x. Denotes other (owed_text t x) (owed_for t x)) one (subst (λ x. Denotes other x (owed_for t q)) same (means other)),
+    )
 
-module _ (file : Option (List ℕ)) (store : List Entry) (d : HasDecided file store) (p : Playlist) where
-  pub same_refusal : refusal TOLERANCE (told TOLERANCE d.events) p ≡ refusal_of store p
-  same_refusal = ap (λ t. refusal TOLERANCE t p) d.stored
+module _ (base : List ℕ) (file : Option (List ℕ)) (made c : Channel) (n : IsNew base made) (d : HasDecided file made c) where
+  abbrev events : List Event
+  events = channel.events_of c.base (given_by file)
 
-  told_then : refusal_of store p ≡ None → told_with d.events p ≡ told_after store p
-  told_then e =
-      ap (λ o. cond (is_none o) (after_refresh TOLERANCE (told TOLERANCE d.events) p) (told TOLERANCE d.events)) (same_refusal ∙ e)
-      ∙ ap (λ t. after_refresh TOLERANCE t p) d.stored
+  base_is : base_of base ≡ Some c.base
+  base_is = n.base ∙ ap Some (sym d.base)
 
-  unfoldable pub judged_as : (base : List ℕ) (old new : Option (List ℕ)) → HasRead base old new (Ok p) → (outcome : Option RefreshFault) → refusal_of store p ≡ outcome → HasJudged base file old new outcome
-  judged_as base old new read outcome e = record { events = d.events; decided = d.said; playlist = p; read = read; judged = same_refusal ∙ e }
+  tolerance_is : c.tolerance ≡ TOLERANCE
+  tolerance_is = d.tolerance ∙ n.tolerance
 
-  pub text_owed : (out : OutPlaylist) → IsOwed store p out → text_of out ≡ owed_text (told_with d.events p) p
-  text_owed out o = ap text_of (o.owed ∙ ap (λ t. owed_playlist t p) (sym (told_then o.accepted)))
+  pub judged_before : IsSome (base_of base) × IsOk (events_of file)
+  judged_before = (ap is_some base_is, ap is_ok d.said)
 
-  pub text_means : CanBeRead p → refusal_of store p ≡ None → (other : Parts) → Denotes other (owed_text (told_with d.events p) p) (owed_for (told_with d.events p) p)
-  text_means r e other = text_denotes_owed TOLERANCE p d.events other (r, d.good) (same_refusal ∙ e)
+  module _ (old new : Option (List ℕ)) (input bytes : List ℕ) (g : GaveAll old new input) (e : bytes ≡ input) where
+    pub has_read : (r : Result Playlist Fault) → reading limited c.base bytes ≡ r → HasRead base old new r
+    has_read r h = record {
+      input = input;
+      given = g;
+      read = ap (option_map (λ x. reading limited x input)) base_is ∙ ap Some (ap (reading limited c.base) (sym e) ∙ h);
+    }
 
-  -- what the sink took is the owed text
-  pub writes : (base : List ℕ) (source_old source_new sink_old sink_new : Option (List ℕ)) (out : OutPlaylist) → HasRead base source_old source_new (Ok p) → CanBeRead p → IsOwed store p out
-      → Appends sink_old sink_new (text_of out) → Writes base file source_old source_new sink_old sink_new
-  unfolding judged_as
-  writes base source_old source_new sink_old sink_new out read r o w = record {
-    accepted = judged_as base source_old source_new read None o.accepted;
-    written = subst (Appends sink_old sink_new) (text_owed out o) w;
-    denotes = text_means r o.accepted;
-  }
+    judged : (p : Playlist) → reading limited c.base bytes ≡ Ok p → (o : Option RefreshFault) → refusal c.tolerance (told_by c.base c.tolerance (given_by file)) p ≡ o
+        → HasJudged base file old new o
+    judged p h o r = record {
+      events = events;
+      decided = d.said;
+      playlist = p;
+      read = has_read (Ok p) h;
+      judged = subst (λ x. refusal x (told x events) p ≡ o) tolerance_is r;
+    }
 
-  pub writes_front : (base : List ℕ) (source_old source_new sink_old sink_new : Option (List ℕ)) (out : OutPlaylist) → HasRead base source_old source_new (Ok p) → IsOwed store p out
-      → TookFront sink_old sink_new (text_of out) → WritesFront base file source_old source_new sink_old sink_new
-  unfolding judged_as
-  writes_front base source_old source_new sink_old sink_new out read o w = record {
-    accepted = judged_as base source_old source_new read None o.accepted;
-    written = subst (TookFront sink_old sink_new) (text_owed out o) w;
-  }
+    -- the fault of the refresh, as it is handed on
+    pub unread : {A : Type 0} (r : Result A VodFault) (e : VodFault) → IsErrAnd r (λ d. d ≡ e) → RefusesRefresh e c bytes (given_by file)
+        → IfErr r (λ d. (fault : Fault) → d ≡ PlaylistOf fault → HasRead base old new (Err fault))
+    unread (Ok x) e h k = absurd h
+    unread (Err d) e h k = λ fault is. has_read (Err fault) (subst (λ x. RefusesRefresh x c bytes (given_by file)) (sym h ∙ is) k)
 
-pub read_so : (base input bytes : List ℕ) (parts : Parts) (p : Playlist) → base_of base ≡ Some parts → reading limited parts bytes ≡ Ok p → bytes ≡ input → read_under base input ≡ Some (Ok p)
-read_so base input bytes parts p b h e =
-    ap (option_map (λ x. reading limited x input)) b ∙ ap Some (ap (reading limited parts) (sym e) ∙ h)
+    pub passes : {A : Type 0} (r : Result A VodFault) (e : VodFault) → IsErrAnd r (λ d. d ≡ e) → RefusesRefresh e c bytes (given_by file)
+        → IsErrOf r NumberRange → HasJudged base file old new (Some PassesRange)
+    passes (Ok x) e h k is = absurd h
+    passes (Err d) e h k is =
+        let same : d ≡ NumberRange = cc in
+        let refused : PassesItsRange c bytes (given_by file) = subst (λ x. RefusesRefresh x c bytes (given_by file)) (sym h ∙ same) k in
+        judged refused.playlist refused.read (Some PassesRange) refused.refused
+
+    module _ (then : Channel) (r : IsRefreshed c bytes (given_by file) then) where
+      abbrev p : Playlist
+      p = r.playlist
+
+      -- what it was told then
+      told_then : told_by then.base then.tolerance (refreshed bytes ∷ given_by file) ≡ told_with events p
+      told_then =
+          ap (λ x. told_by x then.tolerance (refreshed bytes ∷ given_by file)) r.base
+          ∙ (ap (λ x. told_by c.base x (refreshed bytes ∷ given_by file)) (r.tolerance ∙ tolerance_is)
+          ∙ ap (λ x. told TOLERANCE (readable x ++ events)) r.read)
+
+      pub accepted : HasJudged base file old new None
+      accepted = judged p r.read None r.accepted
+
+      last_is : last_playlist (told_with events p).accepted ≡ Some p
+      unfolding accepted judged
+      last_is = ap (λ o. last_playlist (cond (is_none o) (after_refresh TOLERANCE (told TOLERANCE events) p) (told TOLERANCE events)).accepted) accepted.judged
+
+      owes : (unwrap_or then.text [] ≡ owed_text (told_with events p) p) × ((other : Parts) → Denotes other (owed_text (told_with events p) p) (owed_for (told_with events p) p))
+      owes = owed_so (told_with events p) p then.text last_is (subst (λ t. WritesOwed t then.text) told_then (channel_writes then (refreshed bytes ∷ given_by file) r.stands))
+
+      -- the sink took what the channel writes
+      pub writes : (sink_old sink_new : Option (List ℕ)) → Appends sink_old sink_new (unwrap_or then.text []) → Writes base file old new sink_old sink_new
+      unfolding accepted judged
+      writes sink_old sink_new w = record { accepted = accepted; written = subst (Appends sink_old sink_new) owes.0 w; denotes = owes.1 }
+
+      pub writes_front : (sink_old sink_new : Option (List ℕ)) → TookFront sink_old sink_new (unwrap_or then.text []) → WritesFront base file old new sink_old sink_new
+      unfolding accepted judged
+      writes_front sink_old sink_new w = record { accepted = accepted; written = subst (TookFront sink_old sink_new) owes.0 w }
+
+-- ---- faults that are handed on
+
+pub handed_on : {A : Type 0} (r : Result A VodFault) (e : VodFault) (P : VodFault → Type 0) → IsErrAnd r (λ d. d ≡ e) → P e → IfErr r P
+handed_on (Ok x) e P h p = absurd h
+handed_on (Err d) e P h p = subst P (sym h) p
+
+pub of_writing : {A : Type 0} (r : Result A VodFault) (P : VodFault → Type 0) → IfErr r (λ e. e ≡ Write) → P Write → IfErr r P
+of_writing (Ok x) P h p = tt
+of_writing (Err e) P h p = subst P (sym h) p
+
+pub in_order : (e : VodFault) (base : List ℕ) (file : Option (List ℕ)) → IsOfRefresh e → IsSome (base_of base) × IsOk (events_of file) → IsInOrder e base file
+in_order (PlaylistOf fault) base file h k = k
+in_order NumberRange base file h k = k
+in_order OutOfMemory base file h k = tt
+in_order _ base file h k = absurd h
+
+pub no_read : (e : VodFault) → IsOfRefresh e → (e ≢ Read) × (e ≢ TooManyReads)
+no_read e h = (λ same. subst IsOfRefresh same h, λ same. subst IsOfRefresh same h)
+
+pub no_write : (e : VodFault) → IsOfRefresh e → e ≢ Write
+no_write e h same = subst IsOfRefresh same h
+
+pub write_is_no_read : (Write ≢ Read) × (Write ≢ TooManyReads)
+write_is_no_read = (λ same. absurd (cc), λ same. absurd (cc))
+
+pub write_is_no_playlist : {A : Type 0} (fault : Fault) → Write ≡ PlaylistOf fault → A
+write_is_no_playlist fault same = absurd (cc)
+
+-- the source was read to its end, and isn't to blame for what comes after
+pub fair_source : {A B : Type 0} (r : Result A VodFault) (x : B) (old new : SourceStand) → IsFairToSource (Ok x) old new → IfErr r (λ e. (e ≢ Read) × (e ≢ TooManyReads)) → IsFairToSource r old new
+fair_source (Ok y) x old new f h = record { blamed = λ is. absurd (cc); unfailed = f.unfailed; told = tt; too_many = λ is. absurd (cc); calls = f.calls }
+fair_source (Err e) x old new f h = record {
+  blamed = λ is. let same : e ≡ Read = cc in absurd (h.0 same);
+  unfailed = tt;
+  told = λ other. f.unfailed;
+  too_many = λ is. let same : e ≡ TooManyReads = cc in absurd (h.1 same);
+  calls = f.calls;
+}
+
+pub unused_sink : {A : Type 0} (r : Result A VodFault) (s : SinkStand) → IfErr r (λ e. e ≢ Write) → IsFairToSink r s s
+unused_sink (Ok x) s h = record { blamed = λ is. absurd (cc); unfailed = refl; told = tt }
+unused_sink (Err e) s h = record { blamed = λ is. let same : e ≡ Write = cc in absurd (h same); unfailed = tt; told = λ other. refl }
 
 pub on_ok : {A E : Type 0} {P Q : Type 0} (r : Result A E) → OnOk r P → (P → Q) → OnOk r Q
 on_ok (Ok x) p f = f p

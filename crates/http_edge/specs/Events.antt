@@ -1,17 +1,13 @@
 -- What a decision file tells before a playlist is read.
 use Rattle.std.specs.Prelude.{◌≡◌, ℕ, List, [], ◌∷◌, Option, Some, None, Ok, Err}
-use Rattle.std.specs.List.{AllByRecursion}
 use Rattle.pod_store.specs.declared.fault.DecisionFault.{DecisionFault}
 use Rattle.pod_store.specs.declared.fault.DecisionKind.{DecisionKind}
 use Rattle.pod_store.specs.declared.fault.DecisionKind.TheVariants.{OutOfMemory as NoMemory}
 use Rattle.pod_store.specs.declared.Decisions.{Decisions}
 use Rattle.pod_store.specs.Outcome.{Outcome, ◌>>=◌}
 use Rattle.pod_store.specs.Decided.{decisions_of}
-use Rattle.pod_store.specs.Store.{Entry}
 use Rattle.pod_store.specs.Store.{decided as after_decisions}
-use Rattle.live_meaning.specs.Live.{Event, decided, Told, told}
-use Rattle.live_laws.specs.Laws.{CanBeGiven}
-use Rattle.http_edge.specs.declared.filling.TheConstants.{TOLERANCE}
+use Rattle.live_meaning.specs.Live.{Event, decided}
 use Rattle.http_edge.specs.declared.fault.VodFault.{VodFault}
 use Rattle.http_edge.specs.declared.fault.VodFault.TheVariants.{Decision, OutOfMemory}
 
@@ -23,17 +19,6 @@ first_decided decisions = after_decisions [] decisions >>= λ store. Ok (decided
 abbrev pub events_of : Option (List ℕ) → Outcome (List Event)
 events_of None = Ok []
 events_of (Some bytes) = decisions_of bytes >>= first_decided
-
--- nothing is told but what stands in this store
-abbrev pub told_store : List Entry → Told
-told_store store = record { accepted = []; history = []; store = store }
-
--- the file tells something, and this store has the decided breaks then
-pub record HasDecided (file : Option (List ℕ)) (store : List Entry) : Type 0 where
-  pub events : List Event
-  pub said : events_of file ≡ Ok events
-  pub stored : told TOLERANCE events ≡ told_store store
-  pub good : AllByRecursion CanBeGiven events
 
 -- ---- faults
 

@@ -1,7 +1,5 @@
 pub mod Events
-pub mod Rules
-pub mod Owed
-pub mod Filling
+pub mod Given
 pub mod FaultTexts
 pub mod Arguments
 pub mod Runs

@@ -1,20 +1,23 @@
 -- What a run from an input to an output did.
-use Rattle.std.specs.Prelude.{◌≡◌, ℕ, List, ◌∷◌, Option, Some, None, Result, Ok, Err, IsOk, IsSome}
+use Rattle.std.specs.Prelude.{◌≡◌, ℕ, List, ◌∷◌, Option, Some, None, option_map, Result, Ok, Err, IsOk, IsSome}
 use Rattle.std.specs.Io.KnownBytes.{Appends}
 use Rattle.url.specs.Parts.{Parts}
 use Rattle.playlist_meaning.specs.declared.Playlist.{Playlist}
-use Rattle.playlist_meaning.specs.Reading.{Fault, Denotes}
+use Rattle.playlist_meaning.specs.Reading.{Fault, Denotes, reading, limited}
 use Rattle.playlist_meaning.specs.Uri.{base_of}
 use Rattle.devices.specs.Handed.{TookFront}
 use Rattle.devices.specs.Stands.{GaveAll}
 use Rattle.live_meaning.specs.declared.fault.RefreshFault.{RefreshFault}
 use Rattle.live_meaning.specs.Live.{Event, refreshed, Told, told, refusal, owed_for}
 use Rattle.live_laws.specs.Owed.{owed_text}
-use Rattle.http_edge.specs.declared.filling.TheConstants.{TOLERANCE}
+use Rattle.http_edge.specs.declared.one_playlist.TheConstants.{TOLERANCE}
 use Rattle.http_edge.specs.declared.fault.VodFault.{VodFault}
 use Rattle.http_edge.specs.declared.fault.VodFault.TheVariants.{BadBase, Decision, Playlist as PlaylistOf, NumberRange, Read, TooManyReads, Write, OutOfMemory}
-use Rattle.http_edge.specs.Owed.{read_under}
 use Rattle.http_edge.specs.Events.{events_of}
+
+-- what is read of an input under the base that a text says, if it says one
+abbrev pub read_under : List ℕ → List ℕ → Option (Result Playlist Fault)
+read_under base input = option_map (λ b. reading limited b input) (base_of base)
 
 -- the source gave an input to its end, of which this is read under the base
 pub record HasRead (base : List ℕ) (old new : Option (List ℕ)) (outcome : Result Playlist Fault) : Type 0 where
@@ -53,12 +56,6 @@ IsInOrder BadBase base file = base_of base ≡ None
 IsInOrder (Decision fault) base file = IsSome (base_of base) × (events_of file ≡ Err fault)
 IsInOrder OutOfMemory base file = Unit {0}
 IsInOrder _ base file = IsSome (base_of base) × IsOk (events_of file)
-
--- the fault is that of the input, or memory was refused
-abbrev pub RefusesInput : VodFault → Result Playlist Fault → Type 0
-RefusesInput (PlaylistOf fault) outcome = outcome ≡ Err fault
-RefusesInput OutOfMemory outcome = Unit {0}
-RefusesInput _ outcome = ⊥
 
 -- a fault that reading an input can have
 abbrev pub IsOfReading : VodFault → Type 0

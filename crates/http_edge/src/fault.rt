@@ -3,7 +3,8 @@ ghost use Rattle.std.specs.Prelude.{◌≡◌, ◌≤◌, length, Some};
 ghost use Rattle.http_edge.specs.FaultTexts.{vod_fault_text};
 ghost use Rattle.http_edge.specs.Events.{fault_of_decisions};
 
-use playlist_meaning::PlaylistFault;
+use live_counters::RefreshFault;
+use playlist_meaning::{FaultKind, PlaylistFault};
 use pod_store::{DecisionFault, DecisionFaultText, DecisionKind};
 use std::alloc::{AllocError, AllocFailed};
 use std::error::Error;
@@ -61,6 +62,25 @@ impl From<DecisionFault> for VodFault {
             return VodFault::OutOfMemory;
         }
         VodFault::Decision(fault)
+    }
+}
+
+/// Why a channel's one refresh is refused. There is no playlist before it that it has to follow, so what can be read is
+/// refused for its numbers alone.
+impl From<RefreshFault> for VodFault {
+    ghost use Rattle.http_edge.specs.Given.{fault_of_refresh};
+
+    ghost from_gives = { λ fault e. e ≡ fault_of_refresh fault };
+
+    fn from(fault: RefreshFault) -> VodFault {
+        match fault {
+            RefreshFault::Playlist(fault) if fault.kind == FaultKind::OutOfMemory => {
+                VodFault::OutOfMemory
+            }
+            RefreshFault::Playlist(fault) => VodFault::Playlist(fault),
+            RefreshFault::OutOfMemory => VodFault::OutOfMemory,
+            _ => VodFault::NumberRange,
+        }
     }
 }
 

@@ -1,75 +1,78 @@
 //! One input, one playlist: the order of a run.
-ghost use Rattle.std.specs.Prelude.{◌≡◌, ◌≢◌, Ok, Err, Some, None, OnOk, IfOk, IfErr, IsErrOf};
+ghost use Rattle.std.specs.Prelude.{◌≡◌, ◌≢◌, Ok, Err, Some, None, [], OnOk, IfOk, IfErr, IsErrOf, unwrap_or};
 ghost use Rattle.std.specs.Option.{option_copied};
 ghost use Rattle.std.specs.Io.KnownBytes.{Appends};
 ghost use Rattle.devices.specs.Handed.{TookFront};
 ghost use Rattle.playlist_meaning.specs.Uri.{base_of};
-ghost use Rattle.playlist_write.specs.Owed.{text_of};
-ghost use Rattle.playlist_meaning.specs.Reading.{reading, limited, Fault};
-ghost use Rattle.live_laws.specs.Laws.{CanBeRead};
+ghost use Rattle.playlist_meaning.specs.Reading.{Fault};
 ghost use Rattle.live_meaning.specs.declared.fault.RefreshFault.TheVariants.{NumberRange};
+ghost use Rattle.live_counters.specs.Channel.{StandsFor};
 ghost use Rattle.pod_store.specs.declared.fault.DecisionFault.{DecisionFault};
-ghost use Rattle.http_edge.specs.Events.{events_of};
-ghost use Rattle.http_edge.specs.Vod.{RefusesInput, IsInOrder, IsOfVod, HasJudged, HasRead, Writes, WritesFront};
+ghost use Rattle.http_edge.specs.Events.{RefusesDecisions, events_of};
+ghost use Rattle.http_edge.specs.Given.{IsNew, HasDecided, IsOfRefresh, Refreshes, Refuses};
+ghost use Rattle.http_edge.specs.Vod.{IsInOrder, IsOfVod, HasJudged, HasRead, Writes, WritesFront};
 ghost use Rattle.devices.specs.Stands.{source_stand, sink_stand};
 ghost use Rattle.http_edge.specs.Runs.{IsFairToSource, IsFairToSink};
 
-use crate::decisions::decided_store;
 use crate::fault::VodFault;
-use crate::filling::owed_playlist;
 use crate::input::read_input;
-use crate::texts::know_texts;
-use devices::{Sink, Source};
-use playlist_meaning::{Base, BaseFault, FaultKind, Playlist};
-use playlist_parse::read;
-use playlist_write::{OutPlaylist, WriteFault, write};
+use devices::{Sink, Source, hand_out};
+use fixed_duration::Nanos;
+use live_counters::{Channel, ChannelFault};
 use std::alloc::Global;
 
-fn base_said(alloc: Global, base: &str) -> Result<Base, VodFault>
-    ensures ok { IfOk result (λ b. base_of base.now ≡ Some b) }
+/// How far an instant may be from the start of a break, and must be before its end: 100 ms, in nanoseconds.
+pub const TOLERANCE: u64 = 100_000_000;
+
+fn new_channel(alloc: Global, base: &str) -> Result<Channel, VodFault>
+    ensures ok { IfOk result (IsNew base.now) }
     ensures err { IfErr result (λ e. e ≢ VodFault.OutOfMemory → (e ≡ VodFault.BadBase) × (base_of base.now ≡ None)) }
 {
-    match Base::new(alloc, base) {
-        Ok(base) => Ok(base),
-        Err(BaseFault::OutOfMemory) => Err(VodFault::OutOfMemory),
+    match Channel::new(alloc, base, Nanos(TOLERANCE)) {
+        Ok(channel) => Ok(channel),
+        Err(ChannelFault::OutOfMemory) => Err(VodFault::OutOfMemory),
         Err(_) => Err(VodFault::BadBase),
     }
 }
 
-fn playlist_read(alloc: Global, input: &[u8], base: &Base) -> Result<Playlist, VodFault>
-    ensures ok { IfOk result (λ playlist. reading limited base.now input.now ≡ Ok playlist) }
-    ensures good { IfOk result CanBeRead }
-    ensures err { IfErr result (λ e. RefusesInput e (reading limited base.now input.now)) }
+// Gives a channel the decision file, where there is one.
+fn decide(alloc: Global, channel: &mut Channel, file: Option<&[u8]>) -> Result<(), VodFault>
+    requires { StandsFor channel.old [] }
+    ensures ok { OnOk result (HasDecided (option_copied file.entry) channel.old channel.new) }
+    ensures err { IfErr result (λ e. RefusesDecisions e (events_of (option_copied file.entry))) }
 {
-    match read(alloc, input, base) {
-        Ok(playlist) => {
-            know_texts(playlist.segments.as_slice());
-            Ok(playlist)
-        }
-        Err(fault) => {
-            if fault.kind == FaultKind::OutOfMemory {
-                return Err(VodFault::OutOfMemory);
-            }
-            Err(VodFault::Playlist(fault))
-        }
+    let Some(bytes) = file else {
+        return Ok(());
+    };
+    match channel.decide(alloc, bytes) {
+        Ok(()) => Ok(()),
+        Err(fault) => Err(VodFault::from(fault)),
     }
 }
 
-/// Writes a playlist, as `playlist_write` does.
-pub fn write_playlist<K: Sink>(
-    alloc: Global,
-    playlist: &OutPlaylist,
-    sink: &mut K,
-) -> Result<(), VodFault>
-    ensures ok { OnOk result (Appends (K.contents sink.old) (K.contents sink.new) (text_of playlist.now)) }
-    ensures err { IsErrOf result VodFault.Write → TookFront (K.contents sink.old) (K.contents sink.new) (text_of playlist.now) }
-    ensures memory { IfErr result (λ e. e ≢ VodFault.Write → (e ≡ VodFault.OutOfMemory) × (sink.new ≡ sink.old)) }
+// Gives a channel its one refresh.
+fn refresh(alloc: Global, channel: &mut Channel, input: &[u8]) -> Result<(), VodFault>
+    ensures ok { OnOk result (Refreshes channel.old input.now channel.new) }
+    ensures kind { IfErr result IsOfRefresh }
+    ensures err { IfErr result (λ e. Refuses e channel.old input.now) }
+{
+    match channel.refresh(alloc, input) {
+        Ok(_) => Ok(()),
+        Err(fault) => Err(VodFault::from(fault)),
+    }
+}
+
+// Hands out the text that a channel writes, if there is one.
+fn hand_text<K: Sink>(channel: &Channel, sink: &mut K) -> Result<(), VodFault>
+    ensures ok { OnOk result (Appends (K.contents sink.old) (K.contents sink.new) (unwrap_or channel.now.text [])) }
+    ensures err { IsErrOf result VodFault.Write → TookFront (K.contents sink.old) (K.contents sink.new) (unwrap_or channel.now.text []) }
+    ensures kind { IfErr result (λ e. e ≡ VodFault.Write) }
     ensures sink { IsFairToSink result (sink_stand K.contents K.failed sink.old) (sink_stand K.contents K.failed sink.new) }
 {
-    match write(alloc, playlist, sink) {
+    let text = channel.playlist().unwrap_or(&[]);
+    match hand_out(text, sink) {
         Ok(()) => Ok(()),
-        Err(WriteFault::Io) => Err(VodFault::Write),
-        Err(WriteFault::OutOfMemory) => Err(VodFault::OutOfMemory),
+        Err(_) => Err(VodFault::Write),
     }
 }
 
@@ -105,10 +108,9 @@ pub fn vod<S: Source, K: Sink>(
     ensures source { IsFairToSource result (source_stand S.remaining S.called S.failed source.old) (source_stand S.remaining S.called S.failed source.new) }
     ensures sink { IsFairToSink result (sink_stand K.contents K.failed sink.old) (sink_stand K.contents K.failed sink.new) }
 {
-    let base = base_said(alloc, base)?;
-    let store = decided_store(alloc, decisions)?;
+    let mut channel = new_channel(alloc, base)?;
+    decide(alloc, &mut channel, decisions)?;
     let input = read_input(alloc, source)?;
-    let playlist = playlist_read(alloc, input.as_slice(), &base)?;
-    let owed = owed_playlist(alloc, playlist, &store)?;
-    write_playlist(alloc, &owed, sink)
+    refresh(alloc, &mut channel, input.as_slice())?;
+    hand_text(&channel, sink)
 }
