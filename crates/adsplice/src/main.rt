@@ -5,7 +5,7 @@ mod live;
 
 use crate::live::live;
 use devices::Counted;
-use http_edge::{Command, command_vod, read_args};
+use one_playlist::{Command, command_vod, read_args};
 use live_edge::{LiveWords, read_live_words};
 use std::io::{ErrorKind, Write};
 use std::process::ExitCode;

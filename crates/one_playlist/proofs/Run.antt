@@ -1,0 +1,157 @@
+-- What a run comes to: a channel that was given the decision file, if there is one, and then one refresh.
+use Rattle.std.proofs.Common.{◌≡◌, ℕ, List, [], ◌∷◌, ◌++◌, cond, refl, ap, sym, ◌∙◌, subst}
+use Rattle.std.specs.Prelude.{Option, Some, None, Result, Ok, Err, OnOk, IfErr, IsErrOf, IsOk, IsSome, ◌≢◌, is_ok, is_some, is_none, option_map, unwrap_or}
+use Rattle.std.specs.Io.KnownBytes.{Appends}
+use Rattle.std.specs.Result.{IsErrAnd}
+use Rattle.url.specs.Parts.{Parts}
+use Rattle.devices.specs.Handed.{TookFront}
+use Rattle.devices.specs.Stands.{GaveAll, SourceStand, SinkStand}
+use Rattle.playlist_meaning.specs.declared.Playlist.{Playlist}
+use Rattle.playlist_meaning.specs.Reading.{Fault, reading, limited, Denotes}
+use Rattle.playlist_meaning.specs.Uri.{base_of}
+use Rattle.live_meaning.specs.declared.fault.RefreshFault.{RefreshFault}
+use Rattle.live_meaning.specs.declared.fault.RefreshFault.TheVariants.{NumberRange as PassesRange}
+use Rattle.live_meaning.specs.Live.{Event, Told, told, refusal, after_refresh, last_playlist, owed_for}
+use Rattle.live_laws.specs.Owed.{owed_text}
+use Rattle.live_counters.specs.Channel as channel
+use Rattle.live_counters.specs.Channel.{Channel, Given, readable, refreshed, told_by, WritesOwed}
+use Rattle.live_counters.proofs.Steps.{channel_writes}
+use Rattle.one_playlist.specs.declared.run.TheConstants.{TOLERANCE}
+use Rattle.one_playlist.specs.declared.fault.VodFault.{VodFault}
+use Rattle.one_playlist.specs.declared.fault.VodFault.TheVariants.{Playlist as PlaylistOf, NumberRange, Read, TooManyReads, Write, OutOfMemory}
+use Rattle.one_playlist.specs.Given.{IsNew, given_by, HasDecided, IsRefreshed, PassesItsRange, IsOfRefresh, RefusesRefresh}
+use Rattle.one_playlist.specs.Events.{events_of}
+use Rattle.one_playlist.specs.Runs.{IsFairToSource, IsFairToSink}
+use Rattle.one_playlist.specs.Vod.{told_with, IsInOrder, HasRead, HasJudged, Writes, WritesFront}
+
+-- what a channel writes where this playlist was accepted last
+owed_so : (t : Told) (p : Playlist) (text : Option (List ℕ)) → last_playlist t.accepted ≡ Some p → WritesOwed t text
+    → (unwrap_or text [] ≡ owed_text t p) × ((other : Parts) → Denotes other (owed_text t p) (owed_for t p))
+owed_so t p None last w = absurd (cc)
+owed_so t p (Some text) last (q, (is, same, means)) =
+    let one : q ≡ p = cc in (
+      same ∙ ap (owed_text t) one,
+      λ other. subst (λ x. Denotes other (owed_text t x) (owed_for t x)) one (subst (λ x. Denotes other x (owed_for t q)) same (means other)),
+    )
+
+module _ (base : List ℕ) (file : Option (List ℕ)) (made c : Channel) (n : IsNew base made) (d : HasDecided file made c) where
+  abbrev events : List Event
+  events = channel.events_of c.base (given_by file)
+
+  base_is : base_of base ≡ Some c.base
+  base_is = n.base ∙ ap Some (sym d.base)
+
+  tolerance_is : c.tolerance ≡ TOLERANCE
+  tolerance_is = d.tolerance ∙ n.tolerance
+
+  pub judged_before : IsSome (base_of base) × IsOk (events_of file)
+  judged_before = (ap is_some base_is, ap is_ok d.said)
+
+  module _ (old new : Option (List ℕ)) (input bytes : List ℕ) (g : GaveAll old new input) (e : bytes ≡ input) where
+    pub has_read : (r : Result Playlist Fault) → reading limited c.base bytes ≡ r → HasRead base old new r
+    has_read r h = record {
+      input = input;
+      given = g;
+      read = ap (option_map (λ x. reading limited x input)) base_is ∙ ap Some (ap (reading limited c.base) (sym e) ∙ h);
+    }
+
+    judged : (p : Playlist) → reading limited c.base bytes ≡ Ok p → (o : Option RefreshFault) → refusal c.tolerance (told_by c.base c.tolerance (given_by file)) p ≡ o
+        → HasJudged base file old new o
+    judged p h o r = record {
+      events = events;
+      decided = d.said;
+      playlist = p;
+      read = has_read (Ok p) h;
+      judged = subst (λ x. refusal x (told x events) p ≡ o) tolerance_is r;
+    }
+
+    -- the fault of the refresh, as it is handed on
+    pub unread : {A : Type 0} (r : Result A VodFault) (e : VodFault) → IsErrAnd r (λ d. d ≡ e) → RefusesRefresh e c bytes (given_by file)
+        → IfErr r (λ d. (fault : Fault) → d ≡ PlaylistOf fault → HasRead base old new (Err fault))
+    unread (Ok x) e h k = absurd h
+    unread (Err d) e h k = λ fault is. has_read (Err fault) (subst (λ x. RefusesRefresh x c bytes (given_by file)) (sym h ∙ is) k)
+
+    pub passes : {A : Type 0} (r : Result A VodFault) (e : VodFault) → IsErrAnd r (λ d. d ≡ e) → RefusesRefresh e c bytes (given_by file)
+        → IsErrOf r NumberRange → HasJudged base file old new (Some PassesRange)
+    passes (Ok x) e h k is = absurd h
+    passes (Err d) e h k is =
+        let same : d ≡ NumberRange = cc in
+        let refused : PassesItsRange c bytes (given_by file) = subst (λ x. RefusesRefresh x c bytes (given_by file)) (sym h ∙ same) k in
+        judged refused.playlist refused.read (Some PassesRange) refused.refused
+
+    module _ (then : Channel) (r : IsRefreshed c bytes (given_by file) then) where
+      abbrev p : Playlist
+      p = r.playlist
+
+      -- what it was told then
+      told_then : told_by then.base then.tolerance (refreshed bytes ∷ given_by file) ≡ told_with events p
+      told_then =
+          ap (λ x. told_by x then.tolerance (refreshed bytes ∷ given_by file)) r.base
+          ∙ (ap (λ x. told_by c.base x (refreshed bytes ∷ given_by file)) (r.tolerance ∙ tolerance_is)
+          ∙ ap (λ x. told TOLERANCE (readable x ++ events)) r.read)
+
+      pub accepted : HasJudged base file old new None
+      accepted = judged p r.read None r.accepted
+
+      last_is : last_playlist (told_with events p).accepted ≡ Some p
+      unfolding accepted judged
+      last_is = ap (λ o. last_playlist (cond (is_none o) (after_refresh TOLERANCE (told TOLERANCE events) p) (told TOLERANCE events)).accepted) accepted.judged
+
+      owes : (unwrap_or then.text [] ≡ owed_text (told_with events p) p) × ((other : Parts) → Denotes other (owed_text (told_with events p) p) (owed_for (told_with events p) p))
+      owes = owed_so (told_with events p) p then.text last_is (subst (λ t. WritesOwed t then.text) told_then (channel_writes then (refreshed bytes ∷ given_by file) r.stands))
+
+      -- the sink took what the channel writes
+      pub writes : (sink_old sink_new : Option (List ℕ)) → Appends sink_old sink_new (unwrap_or then.text []) → Writes base file old new sink_old sink_new
+      unfolding accepted judged
+      writes sink_old sink_new w = record { accepted = accepted; written = subst (Appends sink_old sink_new) owes.0 w; denotes = owes.1 }
+
+      pub writes_front : (sink_old sink_new : Option (List ℕ)) → TookFront sink_old sink_new (unwrap_or then.text []) → WritesFront base file old new sink_old sink_new
+      unfolding accepted judged
+      writes_front sink_old sink_new w = record { accepted = accepted; written = subst (TookFront sink_old sink_new) owes.0 w }
+
+-- ---- faults that are handed on
+
+pub handed_on : {A : Type 0} (r : Result A VodFault) (e : VodFault) (P : VodFault → Type 0) → IsErrAnd r (λ d. d ≡ e) → P e → IfErr r P
+handed_on (Ok x) e P h p = absurd h
+handed_on (Err d) e P h p = subst P (sym h) p
+
+pub of_writing : {A : Type 0} (r : Result A VodFault) (P : VodFault → Type 0) → IfErr r (λ e. e ≡ Write) → P Write → IfErr r P
+of_writing (Ok x) P h p = tt
+of_writing (Err e) P h p = subst P (sym h) p
+
+pub in_order : (e : VodFault) (base : List ℕ) (file : Option (List ℕ)) → IsOfRefresh e → IsSome (base_of base) × IsOk (events_of file) → IsInOrder e base file
+in_order (PlaylistOf fault) base file h k = k
+in_order NumberRange base file h k = k
+in_order OutOfMemory base file h k = tt
+in_order _ base file h k = absurd h
+
+pub no_read : (e : VodFault) → IsOfRefresh e → (e ≢ Read) × (e ≢ TooManyReads)
+no_read e h = (λ same. subst IsOfRefresh same h, λ same. subst IsOfRefresh same h)
+
+pub no_write : (e : VodFault) → IsOfRefresh e → e ≢ Write
+no_write e h same = subst IsOfRefresh same h
+
+pub write_is_no_read : (Write ≢ Read) × (Write ≢ TooManyReads)
+write_is_no_read = (λ same. absurd (cc), λ same. absurd (cc))
+
+pub write_is_no_playlist : {A : Type 0} (fault : Fault) → Write ≡ PlaylistOf fault → A
+write_is_no_playlist fault same = absurd (cc)
+
+-- the source was read to its end, and isn't to blame for what comes after
+pub fair_source : {A B : Type 0} (r : Result A VodFault) (x : B) (old new : SourceStand) → IsFairToSource (Ok x) old new → IfErr r (λ e. (e ≢ Read) × (e ≢ TooManyReads)) → IsFairToSource r old new
+fair_source (Ok y) x old new f h = record { blamed = λ is. absurd (cc); unfailed = f.unfailed; told = tt; too_many = λ is. absurd (cc); calls = f.calls }
+fair_source (Err e) x old new f h = record {
+  blamed = λ is. let same : e ≡ Read = cc in absurd (h.0 same);
+  unfailed = tt;
+  told = λ other. f.unfailed;
+  too_many = λ is. let same : e ≡ TooManyReads = cc in absurd (h.1 same);
+  calls = f.calls;
+}
+
+pub unused_sink : {A : Type 0} (r : Result A VodFault) (s : SinkStand) → IfErr r (λ e. e ≢ Write) → IsFairToSink r s s
+unused_sink (Ok x) s h = record { blamed = λ is. absurd (cc); unfailed = refl; told = tt }
+unused_sink (Err e) s h = record { blamed = λ is. let same : e ≡ Write = cc in absurd (h same); unfailed = tt; told = λ other. refl }
+
+pub on_ok : {A E : Type 0} {P Q : Type 0} (r : Result A E) → OnOk r P → (P → Q) → OnOk r Q
+on_ok (Ok x) p f = f p
+on_ok (Err e) p f = p

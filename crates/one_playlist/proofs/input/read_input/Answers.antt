@@ -1,0 +1,23 @@
+use Rattle.std.proofs.Common.{◌<◌, [], take, length, length-append, sym, ap, ◌∙◌, arith, append-nil, refl, subst}
+use Rattle.devices.specs.Devices.{Failures}
+use Rattle.std.proofs.KnownBytes.{Consumes-trans}
+use Rattle.std.specs.Io.KnownBytes.{Consumes}
+use Rattle.one_playlist.proofs.input.read_input.Goals as goal
+
+pub returns-then-count-eq0-clause-ok : goal.returns-then-count-eq0-clause-ok
+returns-then-count-eq0-clause-ok g c =
+    let given = c.loop.invariant.given in
+    let read = rw c.if-count-eq0.true at c.in-Ok.ensures.bytes in
+    let room : 0 < length c.read.new.buf = omega arith in
+    record { given = subst (Consumes _ _) (append-nil _) (Consumes-trans _ _ _ _ [] given read.0); ended = read.1 refl room }
+
+pub loop-preserved : goal.loop-preserved
+loop-preserved g c =
+    let block = take c.in-Ok.count c.read.new.buf in
+    record {
+      given = subst (Consumes _ _) (sym c.in_ok-extend_from_slice.ensures.items) (Consumes-trans _ _ _ _ block c.loop.invariant.given c.in-Ok.ensures.bytes.0);
+      called = λ h. omega (arith, c.in-Ok.ensures.calls, c.loop.invariant.called);
+      calls = omega (arith, c.in-Ok.ensures.calls);
+      failed = ap (λ (f : Failures). f.count) c.in-Ok.ensures.failures ∙ c.loop.invariant.failed;
+      many = omega (arith, c.loop.invariant.many, c.if-count-eq0.false, c.in-Ok.ensures.bound.1, ap length c.in_ok-extend_from_slice.ensures.items, length-append c.loop.input.items block);
+    }

@@ -1,0 +1,81 @@
+-- A channel that is given a decision file, if there is one, and one refresh.
+use Rattle.std.specs.Prelude.{◌≡◌, ℕ, List, [], ◌∷◌, Option, Some, None, Ok, Err, if◌then◌else◌}
+use Rattle.playlist_meaning.specs.declared.Playlist.{Playlist}
+use Rattle.playlist_meaning.specs.declared.PlaylistFault.{PlaylistFault}
+use Rattle.playlist_meaning.specs.Reading.{reading, limited}
+use Rattle.playlist_meaning.specs.Uri.{base_of}
+use Rattle.live_meaning.specs.declared.fault.RefreshFault.{RefreshFault}
+use Rattle.live_meaning.specs.declared.fault.RefreshFault.TheVariants.{Playlist as Unreadable, NumberRange as PassesRange, OutOfMemory as NoMemory}
+use Rattle.live_meaning.specs.Live.{refusal}
+use Rattle.live_counters.specs.Channel as channel
+use Rattle.live_counters.specs.Channel.{Channel, Given, decided, refreshed, StandsFor, told_by, is_memory_kind}
+use Rattle.one_playlist.specs.declared.run.TheConstants.{TOLERANCE}
+use Rattle.one_playlist.specs.declared.fault.VodFault.{VodFault}
+use Rattle.one_playlist.specs.declared.fault.VodFault.TheVariants.{Playlist as PlaylistOf, NumberRange, OutOfMemory}
+use Rattle.one_playlist.specs.Events.{events_of}
+
+-- the channel was given nothing
+pub record IsNew (text : List ℕ) (c : Channel) : Type 0 where
+  pub base : base_of text ≡ Some c.base
+  pub tolerance : c.tolerance ≡ TOLERANCE
+  pub stands : StandsFor c []
+
+-- ---- the decision file
+
+abbrev pub given_by : Option (List ℕ) → List Given
+given_by None = []
+given_by (Some bytes) = decided bytes ∷ []
+
+-- the file tells what the channel makes of it
+pub record HasDecided (file : Option (List ℕ)) (old new : Channel) : Type 0 where
+  pub said : events_of file ≡ Ok (channel.events_of new.base (given_by file))
+  pub stands : StandsFor new (given_by file)
+  pub base : new.base ≡ old.base
+  pub tolerance : new.tolerance ≡ old.tolerance
+
+-- ---- the refresh
+
+abbrev pub fault_if_memory : PlaylistFault → VodFault
+fault_if_memory fault = if is_memory_kind fault.kind then OutOfMemory else PlaylistOf fault
+
+-- why the first refresh is refused: there is no playlist that it has to follow
+abbrev pub fault_of_refresh : RefreshFault → VodFault
+fault_of_refresh (Unreadable fault) = fault_if_memory fault
+fault_of_refresh NoMemory = OutOfMemory
+fault_of_refresh _ = NumberRange
+
+-- the bytes are read as a playlist that is accepted after what was given
+pub record IsRefreshed (old : Channel) (bytes : List ℕ) (given : List Given) (new : Channel) : Type 0 where
+  pub playlist : Playlist
+  pub read : reading limited old.base bytes ≡ Ok playlist
+  pub accepted : refusal old.tolerance (told_by old.base old.tolerance given) playlist ≡ None
+  pub stands : StandsFor new (refreshed bytes ∷ given)
+  pub base : new.base ≡ old.base
+  pub tolerance : new.tolerance ≡ old.tolerance
+
+-- they are read as a playlist with a number that passes its range then
+pub record PassesItsRange (old : Channel) (bytes : List ℕ) (given : List Given) : Type 0 where
+  pub playlist : Playlist
+  pub read : reading limited old.base bytes ≡ Ok playlist
+  pub refused : refusal old.tolerance (told_by old.base old.tolerance given) playlist ≡ Some PassesRange
+
+-- the fault is that of the bytes, or of a number, or memory was refused
+abbrev pub RefusesRefresh : VodFault → Channel → List ℕ → List Given → Type 0
+RefusesRefresh (PlaylistOf fault) old bytes given = reading limited old.base bytes ≡ Err fault
+RefusesRefresh NumberRange old bytes given = PassesItsRange old bytes given
+RefusesRefresh OutOfMemory old bytes given = Unit {0}
+RefusesRefresh _ old bytes given = ⊥
+
+-- a fault of the refresh
+abbrev pub IsOfRefresh : VodFault → Type 0
+IsOfRefresh (PlaylistOf fault) = Unit {0}
+IsOfRefresh NumberRange = Unit {0}
+IsOfRefresh OutOfMemory = Unit {0}
+IsOfRefresh _ = ⊥
+
+-- whatever the file was
+abbrev pub Refreshes : Channel → List ℕ → Channel → Type 0
+Refreshes old bytes new = (file : Option (List ℕ)) → StandsFor old (given_by file) → IsRefreshed old bytes (given_by file) new
+
+abbrev pub Refuses : VodFault → Channel → List ℕ → Type 0
+Refuses e old bytes = (file : Option (List ℕ)) → StandsFor old (given_by file) → RefusesRefresh e old bytes (given_by file)

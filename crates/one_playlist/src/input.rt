@@ -1,0 +1,33 @@
+//! An input, read to its end.
+ghost use Rattle.std.specs.Prelude.{IfOk, IfErr};
+ghost use Rattle.devices.specs.Stands.{GaveAll, source_stand};
+ghost use Rattle.one_playlist.specs.Runs.{IsFairToSource};
+ghost use Rattle.one_playlist.specs.Vod.{IsOfReading};
+
+use crate::fault::VodFault;
+use devices::{READ_ROOM, Source};
+use std::alloc::Global;
+
+/// How many reads an input may take.
+pub const MOST_READS: u64 = 65_536;
+
+/// Reads an input to its end, with room for 8,192 bytes in each read. The whole of it is kept, also
+/// past the length that a playlist may have: whether it is UTF-8 is judged first. A read that fails is the last.
+pub fn read_input<S: Source>(alloc: Global, source: &mut S) -> Result<Vec<u8>, VodFault>
+    ensures ok { IfOk result (λ input. GaveAll (S.remaining source.old) (S.remaining source.new) input.items) }
+    ensures source { IsFairToSource result (source_stand S.remaining S.called S.failed source.old) (source_stand S.remaining S.called S.failed source.new) }
+    ensures faults { IfErr result IsOfReading }
+{
+    let mut input = Vec::new(alloc);
+    let mut block = [0u8; READ_ROOM];
+    for _ in 0..MOST_READS {
+        let Ok(count) = source.read(&mut block) else {
+            return Err(VodFault::Read);
+        };
+        if count == 0 {
+            return Ok(input);
+        }
+        input.extend_from_slice(&block[..count])?;
+    }
+    Err(VodFault::TooManyReads)
+}
