@@ -1,6 +1,6 @@
 -- What a channel makes of a decision file and of one refresh.
 use Rattle.std.proofs.Common.{◌≡◌, ℕ, ◌==◌, Bool, true, false, cond, not, ◌&&◌, List, [], ◌∷◌, ◌++◌, refl, ap, sym, ◌∙◌, subst}
-use Rattle.std.specs.Prelude.{Option, Some, None, Result, Ok, Err}
+use Rattle.std.specs.Prelude.{Option, Some, None, Ok, Err}
 use Rattle.std.specs.List.{list_all}
 use Rattle.url.specs.Parts.{Parts}
 use Rattle.playlist_meaning.specs.declared.Playlist.{Playlist}
@@ -24,7 +24,6 @@ use Rattle.live_meaning.specs.Live.{Event, Told, told, refusal, range_fault, suc
 use Rattle.live_meaning.specs.Successor.{fault_if}
 use Rattle.live_counters.specs.declared.channel.Refreshed.{Refreshed}
 use Rattle.live_counters.specs.Channel.{Channel, Given, Reading, decided, decisions_in, told_by, StandsFor, ChangesStore, after_bytes, with_store, refreshed_with, fresh_after, answer_read, owed_answer, judged, is_memory_kind, AnswersAs, AnswersUnless, Answers}
-use Rattle.one_playlist.specs.declared.fault.VodFault.{VodFault}
 use Rattle.one_playlist.specs.declared.fault.VodFault.TheVariants.{Playlist as PlaylistOf, OutOfMemory}
 use Rattle.one_playlist.specs.Events.{first_decided, events_of, fault_by, fault_of_decisions, RefusesDecisions}
 use Rattle.one_playlist.specs.Given.{given_by, HasDecided, fault_of_refresh, IsRefreshed, RefusesRefresh}
