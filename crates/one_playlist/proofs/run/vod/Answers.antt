@@ -1,6 +1,6 @@
 use Rattle.std.specs.Option.{option_copied}
 use Rattle.std.proofs.Common.{refl}
-use Rattle.one_playlist.proofs.Run.{judged_before, on_ok, unread, passes, writes, writes_front, handed_on, of_writing, in_order, no_read, no_write, write_is_no_read, write_is_no_playlist, fair_source, unused_sink}
+use Rattle.one_playlist.proofs.WholeRun.{judged_before, on_ok, unread, passes, writes, writes_front, handed_on, of_writing, in_order, no_read, no_write, write_is_no_read, write_is_no_playlist, fair_source, unused_sink}
 use Rattle.one_playlist.proofs.run.vod.Goals as goal
 
 pub returns-in_err-refresh-clause-order : goal.returns-in_err-refresh-clause-order
