@@ -10,7 +10,7 @@ use Rattle.live_counters.proofs.placing.items_of.Goals as goal
 pub segments_in-requires : goal.segments_in-requires
 segments_in-requires c =
     let found : pod_for c.args.store.now c.in-Some.id ≡ Some c.in-Some-get.pod.now =
-    ap (pod_for c.args.store.now) (sym c.as_str.ensures.text) ∙ (sym c.get.ensures ∙ ap option_copied c.in-Some-get.is) in
+    ap (pod_for c.args.store.now) (sym (c.as_str.ensures.text ∙ c.deref.ensures)) ∙ (sym c.get.ensures ∙ ap option_copied c.in-Some-get.is) in
     let size = begun_pod c.args.store.now c.args.marked.now c.in-Some.id c.in-Some-get.pod.now c.in-Some.is found in
     let same = ap (λ (ads : List Ad). sum (map segment_count ads)) c.ads.ensures.value in
     omega (arith, c.requires, size, same)
@@ -18,7 +18,7 @@ segments_in-requires c =
 pub returns-in-Some-get : goal.returns-in-Some-get
 returns-in-Some-get c =
     let found : pod_for c.args.store.now c.in-Some.id ≡ Some c.in-Some-get.pod.now =
-    ap (pod_for c.args.store.now) (sym c.as_str.ensures.text) ∙ (sym c.get.ensures ∙ ap option_copied c.in-Some-get.is) in
+    ap (pod_for c.args.store.now) (sym (c.as_str.ensures.text ∙ c.deref.ensures)) ∙ (sym c.get.ensures ∙ ap option_copied c.in-Some-get.is) in
     let size = begun_pod c.args.store.now c.args.marked.now c.in-Some.id c.in-Some-get.pod.now c.in-Some.is found in
     let same = ap (λ (ads : List Ad). sum (map segment_count ads)) c.ads.ensures.value in
     c.segments_in.ensures ∙ same ∙ sym size

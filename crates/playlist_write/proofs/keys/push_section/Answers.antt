@@ -1,4 +1,4 @@
-use Rattle.std.proofs.Common.{◌∷◌, [], string_bytes}
+use Rattle.std.proofs.Common.{◌∙◌, ◌∷◌, [], string_bytes}
 use Rattle.std.specs.Prelude.{codes}
 use Rattle.attr_list.specs.Attributes.{pair_spelling}
 use Rattle.playlist_write.specs.Spelling.{in_quotes, part_pairs, after_commas}
@@ -11,4 +11,4 @@ returns c =
     let s = string_bytes c.args.out.now in
     let section = c.args.section.now in
     as_text s (grown4 s (codes "#EXT-X-MAP:") (pair_spelling (in_quotes (codes "URI") section.uri)) (after_commas (part_pairs section.range)) (10 ∷ [])
-    c.in_ok-push_str.ensures.bytes (rw c.as_str.ensures.text at c.in_ok-push_quoted.ensures) c.in_ok-push_part.ensures c.in_ok-push_feed.ensures) (section_parts section)
+    c.in_ok-push_str.ensures.bytes (rw (c.as_str.ensures.text ∙ c.deref.ensures) at c.in_ok-push_quoted.ensures) c.in_ok-push_part.ensures c.in_ok-push_feed.ensures) (section_parts section)
