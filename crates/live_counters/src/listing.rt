@@ -169,7 +169,10 @@ pub fn count_before(number: u64, list: &[Marked]) -> usize
 
 #[tactic(auto, using(crate::proofs::Counted::none_passed, crate::proofs::Counted::one_passed, crate::proofs::Counted::passed_to, crate::proofs::Counted::passed_all))]
 /// The last break entered: that of the newest of these segments that has a mark, else this one.
-pub fn last_entered(list: &[Marked], entered: &Option<Shared<Text>>) -> Result<Option<Shared<Text>>, AllocError>
+pub fn last_entered(
+    list: &[Marked],
+    entered: &Option<Shared<Text>>,
+) -> Result<Option<Shared<Text>>, AllocError>
     ensures { IfOk result (λ id. (store : List Entry) → AreDecided store list.now → id ≡ or_earlier (last_entered (so_far store list.now)) entered.now) }
 {
     let mut rest = list;

@@ -164,7 +164,10 @@ impl<'a> Marker<'a> {
     }
 }
 
-fn or_earlier(text: &Option<Shared<Text>>, earlier: Option<Shared<Text>>) -> Result<Option<Shared<Text>>, AllocError>
+fn or_earlier(
+    text: &Option<Shared<Text>>,
+    earlier: Option<Shared<Text>>,
+) -> Result<Option<Shared<Text>>, AllocError>
     ensures { IfOk result (λ t. t ≡ or_earlier text.now earlier) }
 {
     match text {

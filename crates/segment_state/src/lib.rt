@@ -287,10 +287,7 @@ impl<'a> State<'a> {
 }
 
 // The extent of a segment that has a range.
-fn extent_with(
-    uri: &Shared<Text>,
-    range: Option<ByteRange>,
-) -> Result<Option<Extent>, AllocError>
+fn extent_with(uri: &Shared<Text>, range: Option<ByteRange>) -> Result<Option<Extent>, AllocError>
     ensures { IfOk result (λ last. option_map extent_of last ≡ extent_with uri.now range) }
 {
     let Some(range) = range else {
