@@ -1,4 +1,5 @@
 //! Connections with devices that move few bytes at a time, or fail.
+ghost use Rattle.std.specs.Prelude.{◌<◌};
 
 use crate::body::body_of;
 use devices::{Pieces, Taken};
@@ -17,12 +18,12 @@ fn number_of(words: &str) -> (u64, &str) {
 }
 
 // How many bytes a call moves at most: one or more.
-fn count_of(words: &str) -> (usize, &str) {
+fn count_of(words: &str) -> (usize, &str)
+    ensures { 0 < result.0 }
+{
     let (number, rest) = words.split_once(' ').unwrap_or((words, ""));
-    match number.parse() {
-        Ok(0) | Err(_) => (1, rest),
-        Ok(count) => (count, rest),
-    }
+    let count = number.parse().unwrap_or(1);
+    (if count == 0 { 1 } else { count }, rest)
 }
 
 /// Serves a connection as the line says, and prints what came of it and what was written.
