@@ -66,10 +66,12 @@ def failing_devices():
     asked, owed = request("GET", shown), reply("200 OK", "playlist", SHOWN)
     tried(case, asked, owed)
     each_write_fails(case, asked, owed)
-    head = owed[:len(owed) - len(SHOWN)]
-    tried(case, request("HEAD", shown), head)
-    each_write_fails(case, request("HEAD", shown), head)
-    asked, owed = request("GET", why), reply("200 OK", "text", "b1\tUsed\n")
+    # HEAD is no method here; its reply tells the length of a body, and has none.
+    refused = ("HTTP/1.1 405 Method Not Allowed\r\nContent-Type: text/plain; charset=utf-8\r\nAllow: GET\r\n"
+               "Content-Length: 19\r\nConnection: close\r\n\r\n")
+    tried(case, request("HEAD", shown), refused)
+    each_write_fails(case, request("HEAD", shown), refused)
+    asked, owed = request("GET", why), reply("200 OK", "text", "b1\tFilled\n")
     tried(case, asked, owed)
     each_write_fails(case, asked, owed)
     # A reply that couldn't be written leaves the request applied.
@@ -80,7 +82,7 @@ def failing_devices():
     tried(case, request("DELETE", channel), none_found)
     serve(case, request("PUT", channel, json.dumps({"base": BASE})), "E2 Write", "", failing_write=1)
     tried(case, request("PUT", channel, json.dumps({"base": BASE})), reply("409 Conflict", "text", "channel exists\n"))
-    serve(case, request("PUT", origin, PLAYLIST), "E2 Write", reply("204 No Content")[:WRITE], failing_write=2)
+    serve(case, request("PUT", origin, PLAYLIST), "E2 Write", "", failing_write=1)
     unfilled = owed_text(window("s0 s1 s2"), ranges=[daterange("b1", 10)])
     tried(case, request("GET", shown), reply("200 OK", "playlist", unfilled))
     return case
