@@ -5,8 +5,8 @@ mod live;
 
 use crate::live::live;
 use devices::Counted;
-use one_playlist::{Command, command_vod, read_args};
 use live_edge::{LiveWords, read_live_words};
+use one_playlist::{Command, command_vod, read_args};
 use std::io::{ErrorKind, Write};
 use std::process::ExitCode;
 use std::{env, fs};
