@@ -18,11 +18,11 @@ use Rattle.live_counters.specs.Channel.{Channel, Given, readable, refreshed, tol
 use Rattle.live_counters.proofs.Steps.{channel_writes}
 use Rattle.one_playlist.specs.declared.run.TheConstants.{TOLERANCE}
 use Rattle.one_playlist.specs.declared.fault.VodFault.{VodFault}
-use Rattle.one_playlist.specs.declared.fault.VodFault.TheVariants.{Playlist as PlaylistOf, NumberRange, Read, TooManyReads, Write, OutOfMemory}
-use Rattle.one_playlist.specs.Given.{IsNew, given_by, HasDecided, IsRefreshed, PassesItsRange, IsOfRefresh, RefusesRefresh}
-use Rattle.one_playlist.specs.Events.{events_of}
+use Rattle.one_playlist.specs.declared.fault.VodFault.TheVariants.{BadBase, Decision, Playlist as PlaylistOf, NumberRange, Read, TooManyReads, Write, OutOfMemory}
+use Rattle.one_playlist.specs.Given.{IsNew, given_by, HasDecided, IsDecided, IsOfBeginning, IsRefreshed, PassesItsRange, RefreshesFrom, RefusesInput, RefusesFrom}
+use Rattle.one_playlist.specs.Events.{RefusesDecisions, events_of}
 use Rattle.one_playlist.specs.Runs.{IsFairToSource, IsFairToSink}
-use Rattle.one_playlist.specs.Vod.{told_with, IsInOrder, HasRead, HasJudged, Writes, WritesFront}
+use Rattle.one_playlist.specs.Vod.{told_with, IsInOrder, IsOfVod, HasRead, HasJudged, Writes, WritesFront}
 
 -- what a channel writes where this playlist was accepted last
 owed_so : (t : Told) (p : Playlist) (text : Option (List ℕ)) → last_playlist t.accepted ≡ Some p → WritesOwed t text
@@ -34,63 +34,39 @@ owed_so t p (Some text) last (q, (is, same, means)) =
       λ other. subst (λ x. Denotes other (owed_text t x) (owed_for t x)) one (subst (λ x. Denotes other x (owed_for t q)) same (means other)),
     )
 
-module _ (base : List ℕ) (file : Option (List ℕ)) (made c : Channel) (n : IsNew base made) (d : HasDecided file made c) where
+module _ (base : List ℕ) (file : Option (List ℕ)) (c : Channel) (d : IsDecided base file c) where
   abbrev events : List Event
   events = channel.events_of c.base (given_by file)
 
-  base_is : base_of base ≡ Some c.base
-  base_is = n.base ∙ ap Some (sym d.base)
-
-  tolerance_is : c.tolerance ≡ TOLERANCE
-  tolerance_is = d.tolerance ∙ n.tolerance
-
   pub judged_before : IsSome (base_of base) × IsOk (events_of file)
-  judged_before = (ap is_some base_is, ap is_ok d.said)
+  judged_before = (ap is_some d.base, ap is_ok d.said)
 
-  module _ (old new : Option (List ℕ)) (input bytes : List ℕ) (g : GaveAll old new input) (e : bytes ≡ input) where
-    pub has_read : (r : Result Playlist Fault) → reading limited c.base bytes ≡ r → HasRead base old new r
-    has_read r h = record {
-      input = input;
-      given = g;
-      read = ap (option_map (λ x. reading limited x input)) base_is ∙ ap Some (ap (reading limited c.base) (sym e) ∙ h);
-    }
+  module _ (old new : Option (List ℕ)) (input : List ℕ) (g : GaveAll old new input) where
+    has_read : (r : Result Playlist Fault) → reading limited c.base input ≡ r → HasRead base old new r
+    has_read r h = record { input = input; given = g; read = ap (option_map (λ x. reading limited x input)) d.base ∙ ap Some h }
 
-    judged : (p : Playlist) → reading limited c.base bytes ≡ Ok p → (o : Option RefreshFault) → refusal c.tolerance (told_by c.base c.tolerance (given_by file)) p ≡ o
+    judged : (p : Playlist) → reading limited c.base input ≡ Ok p → (o : Option RefreshFault) → refusal c.tolerance (told_by c.base c.tolerance (given_by file)) p ≡ o
         → HasJudged base file old new o
     judged p h o r = record {
       events = events;
       decided = d.said;
       playlist = p;
       read = has_read (Ok p) h;
-      judged = subst (λ x. refusal x (told x events) p ≡ o) tolerance_is r;
+      judged = subst (λ x. refusal x (told x events) p ≡ o) d.tolerance r;
     }
 
-    -- the fault of the refresh, as it is handed on
-    pub unread : {A : Type 0} (r : Result A VodFault) (e : VodFault) → IsErrAnd r (λ d. d ≡ e) → RefusesRefresh e c bytes (given_by file)
-        → IfErr r (λ d. (fault : Fault) → d ≡ PlaylistOf fault → HasRead base old new (Err fault))
-    unread (Ok x) e h k = absurd h
-    unread (Err d) e h k = λ fault is. has_read (Err fault) (subst (λ x. RefusesRefresh x c bytes (given_by file)) (sym h ∙ is) k)
-
-    pub passes : {A : Type 0} (r : Result A VodFault) (e : VodFault) → IsErrAnd r (λ d. d ≡ e) → RefusesRefresh e c bytes (given_by file)
-        → IsErrOf r NumberRange → HasJudged base file old new (Some PassesRange)
-    passes (Ok x) e h k is = absurd h
-    passes (Err d) e h k is =
-        let same : d ≡ NumberRange = cc in
-        let refused : PassesItsRange c bytes (given_by file) = subst (λ x. RefusesRefresh x c bytes (given_by file)) (sym h ∙ same) k in
-        judged refused.playlist refused.read (Some PassesRange) refused.refused
-
-    module _ (then : Channel) (r : IsRefreshed c bytes (given_by file) then) where
+    module _ (then : Channel) (r : IsRefreshed c input (given_by file) then) where
       abbrev p : Playlist
       p = r.playlist
 
       -- what it was told then
-      told_then : told_by then.base then.tolerance (refreshed bytes ∷ given_by file) ≡ told_with events p
+      told_then : told_by then.base then.tolerance (refreshed input ∷ given_by file) ≡ told_with events p
       told_then =
-          ap (λ x. told_by x then.tolerance (refreshed bytes ∷ given_by file)) r.base
-          ∙ (ap (λ x. told_by c.base x (refreshed bytes ∷ given_by file)) (r.tolerance ∙ tolerance_is)
+          ap (λ x. told_by x then.tolerance (refreshed input ∷ given_by file)) r.base
+          ∙ (ap (λ x. told_by c.base x (refreshed input ∷ given_by file)) (r.tolerance ∙ d.tolerance)
           ∙ ap (λ x. told TOLERANCE (readable x ++ events)) r.read)
 
-      pub accepted : HasJudged base file old new None
+      accepted : HasJudged base file old new None
       accepted = judged p r.read None r.accepted
 
       last_is : last_playlist (told_with events p).accepted ≡ Some p
@@ -98,16 +74,57 @@ module _ (base : List ℕ) (file : Option (List ℕ)) (made c : Channel) (n : Is
       last_is = ap (λ o. last_playlist (cond (is_none o) (after_refresh TOLERANCE (told TOLERANCE events) p) (told TOLERANCE events)).accepted) accepted.judged
 
       owes : (unwrap_or then.text [] ≡ owed_text (told_with events p) p) × ((other : Parts) → Denotes other (owed_text (told_with events p) p) (owed_for (told_with events p) p))
-      owes = owed_so (told_with events p) p then.text last_is (subst (λ t. WritesOwed t then.text) told_then (channel_writes then (refreshed bytes ∷ given_by file) r.stands))
+      owes = owed_so (told_with events p) p then.text last_is (subst (λ t. WritesOwed t then.text) told_then (channel_writes then (refreshed input ∷ given_by file) r.stands))
 
-      -- the sink took what the channel writes
-      pub writes : (sink_old sink_new : Option (List ℕ)) → Appends sink_old sink_new (unwrap_or then.text []) → Writes base file old new sink_old sink_new
+      wrote : (sink_old sink_new : Option (List ℕ)) → Appends sink_old sink_new (unwrap_or then.text []) → Writes base file old new sink_old sink_new
       unfolding accepted judged
-      writes sink_old sink_new w = record { accepted = accepted; written = subst (Appends sink_old sink_new) owes.0 w; denotes = owes.1 }
+      wrote sink_old sink_new w = record { accepted = accepted; written = subst (Appends sink_old sink_new) owes.0 w; denotes = owes.1 }
 
-      pub writes_front : (sink_old sink_new : Option (List ℕ)) → TookFront sink_old sink_new (unwrap_or then.text []) → WritesFront base file old new sink_old sink_new
+      wrote_front : (sink_old sink_new : Option (List ℕ)) → TookFront sink_old sink_new (unwrap_or then.text []) → WritesFront base file old new sink_old sink_new
       unfolding accepted judged
-      writes_front sink_old sink_new w = record { accepted = accepted; written = subst (TookFront sink_old sink_new) owes.0 w }
+      wrote_front sink_old sink_new w = record { accepted = accepted; written = subst (TookFront sink_old sink_new) owes.0 w }
+
+  module _ (old new : Option (List ℕ)) where
+    -- the sink took what the channel writes, or a front of it
+    pub writes : (then : Channel) → RefreshesFrom old new c then → (sink_old sink_new : Option (List ℕ)) → Appends sink_old sink_new (unwrap_or then.text [])
+        → Writes base file old new sink_old sink_new
+    writes then r = wrote old new r.input r.given then (r.refreshed file d.stands)
+
+    pub writes_front : (then : Channel) → RefreshesFrom old new c then → (sink_old sink_new : Option (List ℕ)) → TookFront sink_old sink_new (unwrap_or then.text [])
+        → WritesFront base file old new sink_old sink_new
+    writes_front then r = wrote_front old new r.input r.given then (r.refreshed file d.stands)
+
+    -- the fault of the refresh, as it is handed on
+    pub unread : (e : VodFault) → RefusesFrom e old new c → (fault : Fault) → e ≡ PlaylistOf fault → HasRead base old new (Err fault)
+    unread e h fault is =
+        let refused : RefusesInput (PlaylistOf fault) old new c = subst (λ x. RefusesFrom x old new c) is h in
+        has_read old new refused.input refused.given (Err fault) (refused.refused file d.stands)
+
+    pub passes : (e : VodFault) → RefusesFrom e old new c → e ≡ NumberRange → HasJudged base file old new (Some PassesRange)
+    passes e h is =
+        let refused : RefusesInput NumberRange old new c = subst (λ x. RefusesFrom x old new c) is h in
+        let range : PassesItsRange c refused.input (given_by file) = refused.refused file d.stands in
+        judged old new refused.input refused.given range.playlist range.read (Some PassesRange) range.refused
+
+-- ---- the base and the decision file
+
+pub is_decided : (text : List ℕ) (file : Option (List ℕ)) (made c : Channel) → IsNew text made → HasDecided file made c → IsDecided text file c
+is_decided text file made c n d = record { base = n.base ∙ ap Some (sym d.base); tolerance = d.tolerance ∙ n.tolerance; said = d.said; stands = d.stands }
+
+pub no_base : (e : VodFault) (base : List ℕ) (file : Option (List ℕ)) → (e ≢ OutOfMemory → (e ≡ BadBase) × (base_of base ≡ None)) → IsInOrder e base file × IsOfBeginning e
+no_base OutOfMemory base file h = (tt, tt)
+no_base BadBase base file h = ((h (λ same. absurd (cc))).1, tt)
+no_base (Decision fault) base file h = let is = (h (λ same. absurd (cc))).0 in absurd (cc)
+no_base (PlaylistOf fault) base file h = let is = (h (λ same. absurd (cc))).0 in absurd (cc)
+no_base NumberRange base file h = let is = (h (λ same. absurd (cc))).0 in absurd (cc)
+no_base Read base file h = let is = (h (λ same. absurd (cc))).0 in absurd (cc)
+no_base TooManyReads base file h = let is = (h (λ same. absurd (cc))).0 in absurd (cc)
+no_base Write base file h = let is = (h (λ same. absurd (cc))).0 in absurd (cc)
+
+pub no_decisions : (e : VodFault) (base : List ℕ) (file : Option (List ℕ)) → IsSome (base_of base) → RefusesDecisions e (events_of file) → IsInOrder e base file × IsOfBeginning e
+no_decisions (Decision fault) base file b h = ((b, h), tt)
+no_decisions OutOfMemory base file b h = (tt, tt)
+no_decisions _ base file b h = absurd h
 
 -- ---- faults that are handed on
 
@@ -119,17 +136,34 @@ pub of_writing : {A : Type 0} (r : Result A VodFault) (P : VodFault → Type 0) 
 of_writing (Ok x) P h p = tt
 of_writing (Err e) P h p = subst P (sym h) p
 
-pub in_order : (e : VodFault) (base : List ℕ) (file : Option (List ℕ)) → IsOfRefresh e → IsSome (base_of base) × IsOk (events_of file) → IsInOrder e base file
+pub in_order : {old new : Option (List ℕ)} {c : Channel} (e : VodFault) (base : List ℕ) (file : Option (List ℕ)) → RefusesFrom e old new c
+    → IsSome (base_of base) × IsOk (events_of file) → IsInOrder e base file
 in_order (PlaylistOf fault) base file h k = k
 in_order NumberRange base file h k = k
+in_order Read base file h k = k
+in_order TooManyReads base file h k = k
 in_order OutOfMemory base file h k = tt
 in_order _ base file h k = absurd h
 
-pub no_read : (e : VodFault) → IsOfRefresh e → (e ≢ Read) × (e ≢ TooManyReads)
-no_read e h = (λ same. subst IsOfRefresh same h, λ same. subst IsOfRefresh same h)
+pub of_input : {old new : Option (List ℕ)} {c : Channel} (e : VodFault) → RefusesFrom e old new c → IsOfVod e
+of_input (PlaylistOf fault) h = tt
+of_input NumberRange h = tt
+of_input Read h = tt
+of_input TooManyReads h = tt
+of_input OutOfMemory h = tt
+of_input _ h = absurd h
 
-pub no_write : (e : VodFault) → IsOfRefresh e → e ≢ Write
-no_write e h same = subst IsOfRefresh same h
+pub no_write : {old new : Option (List ℕ)} {c : Channel} (e : VodFault) → RefusesFrom e old new c → e ≢ Write
+no_write e h same = subst (λ x. RefusesFrom x _ _ _) same h
+
+pub range_of : {A P : Type 0} (r : Result A VodFault) (e : VodFault) → IsErrAnd r (λ d. d ≡ e) → (e ≡ NumberRange → P) → IsErrOf r NumberRange → P
+range_of (Ok x) e h f is = absurd h
+range_of (Err d) e h f is = let same : d ≡ NumberRange = cc in f (sym h ∙ same)
+
+-- what a call said of its source holds where its fault is handed on
+pub fair_on : {A B : Type 0} (r : Result A VodFault) (e : VodFault) (old new : SourceStand) → IsErrAnd r (λ d. d ≡ e) → IsFairToSource {B} (Err e) old new → IsFairToSource r old new
+fair_on (Ok x) e old new h f = absurd h
+fair_on (Err d) e old new h f = subst (λ x. IsFairToSource (Err x) old new) (sym h) (record { blamed = f.blamed; unfailed = tt; told = f.told; too_many = f.too_many; calls = f.calls })
 
 pub write_is_no_read : (Write ≢ Read) × (Write ≢ TooManyReads)
 write_is_no_read = (λ same. absurd (cc), λ same. absurd (cc))

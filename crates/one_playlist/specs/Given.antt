@@ -4,6 +4,7 @@ use Rattle.playlist_meaning.specs.declared.Playlist.{Playlist}
 use Rattle.playlist_meaning.specs.declared.PlaylistFault.{PlaylistFault}
 use Rattle.playlist_meaning.specs.Reading.{reading, limited}
 use Rattle.playlist_meaning.specs.Uri.{base_of}
+use Rattle.devices.specs.Stands.{GaveAll}
 use Rattle.live_meaning.specs.declared.fault.RefreshFault.{RefreshFault}
 use Rattle.live_meaning.specs.declared.fault.RefreshFault.TheVariants.{Playlist as Unreadable, NumberRange as PassesRange, OutOfMemory as NoMemory}
 use Rattle.live_meaning.specs.Live.{refusal}
@@ -11,8 +12,9 @@ use Rattle.live_counters.specs.Channel as channel
 use Rattle.live_counters.specs.Channel.{Channel, Given, decided, refreshed, StandsFor, told_by, is_memory_kind}
 use Rattle.one_playlist.specs.declared.run.TheConstants.{TOLERANCE}
 use Rattle.one_playlist.specs.declared.fault.VodFault.{VodFault}
-use Rattle.one_playlist.specs.declared.fault.VodFault.TheVariants.{Playlist as PlaylistOf, NumberRange, OutOfMemory}
+use Rattle.one_playlist.specs.declared.fault.VodFault.TheVariants.{BadBase, Decision, Playlist as PlaylistOf, NumberRange, OutOfMemory}
 use Rattle.one_playlist.specs.Events.{events_of}
+use Rattle.one_playlist.specs.Vod.{IsOfReading}
 
 -- the channel was given nothing
 pub record IsNew (text : List ℕ) (c : Channel) : Type 0 where
@@ -32,6 +34,20 @@ pub record HasDecided (file : Option (List ℕ)) (old new : Channel) : Type 0 wh
   pub stands : StandsFor new (given_by file)
   pub base : new.base ≡ old.base
   pub tolerance : new.tolerance ≡ old.tolerance
+
+-- the channel of a base, which was given the decision file, if there is one
+pub record IsDecided (text : List ℕ) (file : Option (List ℕ)) (c : Channel) : Type 0 where
+  pub base : base_of text ≡ Some c.base
+  pub tolerance : c.tolerance ≡ TOLERANCE
+  pub said : events_of file ≡ Ok (channel.events_of c.base (given_by file))
+  pub stands : StandsFor c (given_by file)
+
+-- a fault of the base or of the decision file
+abbrev pub IsOfBeginning : VodFault → Type 0
+IsOfBeginning BadBase = Unit {0}
+IsOfBeginning (Decision fault) = Unit {0}
+IsOfBeginning OutOfMemory = Unit {0}
+IsOfBeginning _ = ⊥
 
 -- ---- the refresh
 
@@ -79,3 +95,23 @@ Refreshes old bytes new = (file : Option (List ℕ)) → StandsFor old (given_by
 
 abbrev pub Refuses : VodFault → Channel → List ℕ → Type 0
 Refuses e old bytes = (file : Option (List ℕ)) → StandsFor old (given_by file) → RefusesRefresh e old bytes (given_by file)
+
+-- ---- the input of a source as the refresh
+
+-- the source gave an input to its end, and the channel is refreshed by it
+pub record RefreshesFrom (source_old source_new : Option (List ℕ)) (old new : Channel) : Type 0 where
+  pub input : List ℕ
+  pub given : GaveAll source_old source_new input
+  pub refreshed : Refreshes old input new
+
+-- the source gave an input to its end, which has this fault
+pub record RefusesInput (e : VodFault) (source_old source_new : Option (List ℕ)) (old : Channel) : Type 0 where
+  pub input : List ℕ
+  pub given : GaveAll source_old source_new input
+  pub refused : Refuses e old input
+
+-- the fault is one of the whole input, or of reading it
+abbrev pub RefusesFrom : VodFault → Option (List ℕ) → Option (List ℕ) → Channel → Type 0
+RefusesFrom (PlaylistOf fault) source_old source_new old = RefusesInput (PlaylistOf fault) source_old source_new old
+RefusesFrom NumberRange source_old source_new old = RefusesInput NumberRange source_old source_new old
+RefusesFrom e source_old source_new old = IsOfReading e

@@ -9,7 +9,7 @@ ghost use Rattle.live_meaning.specs.declared.fault.RefreshFault.TheVariants.{Num
 ghost use Rattle.live_counters.specs.Channel.{StandsFor};
 ghost use Rattle.pod_store.specs.declared.fault.DecisionFault.{DecisionFault};
 ghost use Rattle.one_playlist.specs.Events.{RefusesDecisions, events_of};
-ghost use Rattle.one_playlist.specs.Given.{IsNew, HasDecided, IsOfRefresh, Refreshes, Refuses};
+ghost use Rattle.one_playlist.specs.Given.{IsNew, HasDecided, IsDecided, IsOfBeginning, IsOfRefresh, Refreshes, Refuses, RefreshesFrom, RefusesFrom};
 ghost use Rattle.one_playlist.specs.Vod.{IsInOrder, IsOfVod, HasJudged, HasRead, Writes, WritesFront};
 ghost use Rattle.devices.specs.Stands.{source_stand, sink_stand};
 ghost use Rattle.one_playlist.specs.Runs.{IsFairToSource, IsFairToSink};
@@ -76,6 +76,35 @@ fn hand_text<K: Sink>(channel: &Channel, sink: &mut K) -> Result<(), VodFault>
     }
 }
 
+// The channel of a base, which was given the decision file, where there is one.
+fn decided_channel(
+    alloc: Global,
+    base: &str,
+    decisions: Option<&[u8]>,
+) -> Result<Channel, VodFault>
+    ensures ok { IfOk result (IsDecided base.now (option_copied decisions.entry)) }
+    ensures kind { IfErr result IsOfBeginning }
+    ensures order { IfErr result (λ e. IsInOrder e base.now (option_copied decisions.entry)) }
+{
+    let mut channel = new_channel(alloc, base)?;
+    decide(alloc, &mut channel, decisions)?;
+    Ok(channel)
+}
+
+// Gives a channel the input of a source, read to its end, as its one refresh.
+fn refresh_from<S: Source>(
+    alloc: Global,
+    source: &mut S,
+    channel: &mut Channel,
+) -> Result<(), VodFault>
+    ensures ok { OnOk result (RefreshesFrom (S.remaining source.old) (S.remaining source.new) channel.old channel.new) }
+    ensures err { IfErr result (λ e. RefusesFrom e (S.remaining source.old) (S.remaining source.new) channel.old) }
+    ensures source { IsFairToSource result (source_stand S.remaining S.called S.failed source.old) (source_stand S.remaining S.called S.failed source.new) }
+{
+    let input = read_input(alloc, source)?;
+    refresh(alloc, channel, input.as_slice())
+}
+
 #[tactic(auto, using(crate::proofs::Known::known_bytes))]
 /// Reads a playlist from an input and writes it with its breaks filled: each run of segments that a break of the decision
 /// file marks is replaced by the pod that the file gives it. Without a decision file no break is filled. The faults stand
@@ -108,9 +137,7 @@ pub fn vod<S: Source, K: Sink>(
     ensures source { IsFairToSource result (source_stand S.remaining S.called S.failed source.old) (source_stand S.remaining S.called S.failed source.new) }
     ensures sink { IsFairToSink result (sink_stand K.contents K.failed sink.old) (sink_stand K.contents K.failed sink.new) }
 {
-    let mut channel = new_channel(alloc, base)?;
-    decide(alloc, &mut channel, decisions)?;
-    let input = read_input(alloc, source)?;
-    refresh(alloc, &mut channel, input.as_slice())?;
+    let mut channel = decided_channel(alloc, base, decisions)?;
+    refresh_from(alloc, source, &mut channel)?;
     hand_text(&channel, sink)
 }

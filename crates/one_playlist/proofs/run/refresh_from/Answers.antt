@@ -1,0 +1,1 @@
+use Rattle.one_playlist.proofs.run.refresh_from.Goals as goal
