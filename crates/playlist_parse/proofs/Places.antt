@@ -5,14 +5,13 @@ use Rattle.std.specs.List.{slice_split, position_or_len, before_first, after_fir
 use Rattle.std.specs.Str.Lines.{strip_carriage_return, lines}
 use Rattle.std.proofs.lemmas.Bool.{eqb-true}
 use Rattle.std.proofs.lemmas.List.Splits.{slice_split_first, length-slice_split}
+use Rattle.std.proofs.lemmas.List.Sums.{count_by-le-length}
 use Rattle.std.proofs.Math.Seq.{get_or-append_seam, take-append_seam}
 use Rattle.attr_list.specs.Attributes.{slices_at}
 use Rattle.playlist_meaning.specs.Laws.{AreSlices}
 use Rattle.playlist_meaning.proofs.LineLaws.{lines_are_slices}
 use Rattle.playlist_meaning.specs.Lines.{placed_from, placed_lines}
-use Rattle.playlist_parse.specs.declared.line.Placed.{Placed}
-use Rattle.playlist_parse.specs.LineViews.{LineView, with_end, placed_view, placed_line, line_view, line_span, lines_view}
-use Rattle.playlist_parse.specs.declared.line.Line.{Line}
+use Rattle.playlist_parse.specs.LineViews.{is_feed, with_end, line_span, line_text, lines_from}
 use Rattle.playlist_parse.proofs.LineLemmas.{map_twice}
 
 -- ---- without the carriage return
@@ -47,12 +46,6 @@ stripped piece None h = none_stripped piece.now h
 stripped piece (Some x) h = some_stripped x.now ∙ ap strip_carriage_return (sym h)
 
 -- ---- lines from a place on
-
-abbrev is_feed : ℕ → Bool
-is_feed b = b == 10
-
-abbrev pub lines_from : ℕ → List ℕ → List ((ℕ × ℕ) × List ℕ)
-lines_from start text = map with_end (placed_from start (slice_split is_feed text))
 
 one_more : (start : ℕ) (piece : List ℕ) (pieces : List (List ℕ)) → 1 ≤ length pieces
     → placed_from start (piece ∷ pieces) ≡ (start, strip_carriage_return piece) ∷ placed_from (start + length piece + 1) pieces
@@ -92,52 +85,28 @@ rest_begins text h =
     let back : length (drop (n + 1) text) ≡ length text - (n + 1) = length-drop (n + 1) text in
     omega (arith, front, back, h)
 
-map_after : {A B : Type 0} (f : A → B) (xs : List A) (y : A) (zs : List B) → map f (xs ++ y ∷ []) ++ zs ≡ map f xs ++ (f y ∷ zs)
-map_after f [] y zs = refl
-map_after f (x ∷ xs) y zs = ap (λ ys. f x ∷ ys) (map_after f xs y zs)
+-- ---- all lines of a text
 
--- one line more is found
-pub found_next : (found : List Placed) (p : Placed) (start : ℕ) (rest piece later line : List ℕ) (all : List ((ℕ × ℕ) × List ℕ))
-    → map placed_view found ++ lines_from start rest ≡ all → position_or_len is_feed rest < length rest
-    → piece ≡ before_first is_feed rest → later ≡ after_first is_feed rest → line ≡ strip_carriage_return piece → placed_view p ≡ with_end (start, line)
-    → map placed_view (found ++ p ∷ []) ++ lines_from (start + (length piece + 1)) later ≡ all
-found_next found p start rest piece later line all h some piece_is later_is line_is p_is =
-    let place : start + (length piece + 1) ≡ start + length piece + 1 = omega arith in
-    map_after placed_view found p _
-    ∙ ap (λ q. map placed_view found ++ (q ∷ lines_from (start + (length piece + 1)) later)) (p_is ∙ ap (λ l. with_end (start, l)) line_is)
-    ∙ ap (λ n. map placed_view found ++ (with_end (start, strip_carriage_return piece) ∷ lines_from n later)) place
-    ∙ ap (λ (q : List ℕ × List ℕ). map placed_view found ++ (with_end (start, strip_carriage_return q.0) ∷ lines_from (start + length q.0 + 1) q.1)) (pair piece_is later_is)
-    ∙ ap (λ lines. map placed_view found ++ lines) (sym (next_line start rest some)) ∙ h
+few_placed : (start : ℕ) (pieces : List (List ℕ)) → length (map with_end (placed_from start pieces)) ≤ length pieces
+few_placed start [] = omega arith
+few_placed start (piece ∷ []) = by (length piece == 0)
   where
-    pair : {a b c d : List ℕ} → a ≡ b → c ≡ d → ◌≡◌ {A = List ℕ × List ℕ} (a, c) (b, d)
-    pair x y = cc
+    by : (b : Bool) → length (map with_end (cond b [] ((start, piece) ∷ []))) ≤ 1
+    by true = omega arith
+    by false = omega arith
+few_placed start (piece ∷ next ∷ later) =
+    let more = few_placed (start + length piece + 1) (next ∷ later) in omega (arith, more)
 
-pub place_next : (start whole : ℕ) (rest piece later : List ℕ) → start + length rest ≡ whole → position_or_len is_feed rest < length rest
-    → piece ≡ before_first is_feed rest → later ≡ after_first is_feed rest → start + (length piece + 1) + length later ≡ whole
-place_next start whole rest piece later h some piece_is later_is = omega (arith, h, ap length piece_is, ap length later_is, rest_begins rest some)
-
-nothing_after : {A : Type 0} (xs : List A) → xs ++ [] ≡ xs
-nothing_after [] = refl
-nothing_after (x ∷ xs) = ap (λ ys. x ∷ ys) (nothing_after xs)
-
--- no line is left
-pub found_all : (found : List Placed) (start : ℕ) (rest : List ℕ) (all : List ((ℕ × ℕ) × List ℕ)) → map placed_view found ++ lines_from start rest ≡ all → length rest ≡ 0 → map placed_view found ≡ all
-found_all found start rest all h none = sym (ap (λ lines. map placed_view found ++ lines) (no_line start rest none) ∙ nothing_after _) ∙ h
-
--- one line is left, without a line feed
-pub found_last : (found : List Placed) (p : Placed) (start : ℕ) (rest : List ℕ) (all : List ((ℕ × ℕ) × List ℕ)) → map placed_view found ++ lines_from start rest ≡ all
-    → position_or_len is_feed rest ≡ length rest → (length rest == 0) ≡ false → placed_view p ≡ with_end (start, rest) → map placed_view (found ++ p ∷ []) ≡ all
-found_last found p start rest all h none some p_is =
-    sym (nothing_after _) ∙ map_after placed_view found p [] ∙ ap (λ q. map placed_view found ++ (q ∷ [])) p_is
-    ∙ ap (λ lines. map placed_view found ++ lines) (sym (last_line start rest none some)) ∙ h
-
--- ---- slices of the text
-
-abbrev span_of : LineView → ℕ × ℕ
-span_of line = (line.start, line.end)
+-- a text has at most a line for each of its bytes, and one more
+pub few_lines : (text : List ℕ) → length (lines_from 0 text) ≤ length text + 1
+few_lines text =
+    let placed = few_placed 0 (slice_split is_feed text) in
+    let pieces = length-slice_split is_feed text in
+    let feeds = count_by-le-length is_feed text in
+    omega (arith, placed, pieces, feeds)
 
 slices_are : (text : List ℕ) (placed : List (ℕ × List ℕ)) → AreSlices text placed
-    → slices_at text (map span_of (map placed_line (map with_end placed))) ≡ map (λ (line : ℕ × List ℕ). line.1) placed
+    → slices_at text (map line_span (map with_end placed)) ≡ map (λ (line : ℕ × List ℕ). line.1) placed
 slices_are text [] h = refl
 slices_are text (line ∷ later) h = both h.0 (slices_are text later h.1)
   where
@@ -145,7 +114,9 @@ slices_are text (line ∷ later) h = both h.0 (slices_are text later h.1)
     both e f = cc
 
 -- the slices at the places of all lines are the lines
-pub lines_are_slices_at : (found : List Line) (text : List ℕ) → map line_view found ≡ lines_view text → slices_at text (map line_span found) ≡ lines text
-lines_are_slices_at found text h =
-    let law = lines_are_slices text in
-    ap (slices_at text) (map_twice span_of line_view found ∙ ap (map span_of) h) ∙ slices_are text (placed_lines text) law.1 ∙ law.0
+pub lines_are_slices_at : (text : List ℕ) → slices_at text (map line_span (lines_from 0 text)) ≡ lines text
+lines_are_slices_at text = let law = lines_are_slices text in slices_are text (placed_lines text) law.1 ∙ law.0
+
+-- their texts are the lines
+pub texts_are_lines : (text : List ℕ) → map line_text (lines_from 0 text) ≡ lines text
+texts_are_lines text = sym (map_twice line_text with_end (placed_lines text)) ∙ (lines_are_slices text).0

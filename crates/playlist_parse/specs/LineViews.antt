@@ -1,11 +1,9 @@
 -- What lines say, whatever holds their texts.
-use Rattle.std.specs.Prelude.{ℕ, ◌+◌, List, map, length}
-use Rattle.attr_list.specs.declared.attr.Span.{Span}
-use Rattle.playlist_meaning.specs.Lines.{Kind, ignored, uri, tag, kind_of, placed_lines}
+use Rattle.std.specs.Prelude.{ℕ, ◌+◌, Bool, ◌==◌, List, map, length}
+use Rattle.std.specs.List.{slice_split}
+use Rattle.playlist_meaning.specs.Lines.{Kind, ignored, uri, tag, placed_from}
 use Rattle.playlist_meaning.specs.Said.{Name, version_tag, target_tag, sequence_tag, discontinuity_sequence_tag, type_tag, ended_tag, independent_tag, frames_tag, master_tag, duration_tag, range_tag, discontinuity_tag, key_tag, map_tag, time_tag, date_range_tag, unknown_tag}
 use Rattle.playlist_parse.specs.declared.line.Line.{Line}
-use Rattle.playlist_parse.specs.declared.line.Line.TheVariants as line
-use Rattle.playlist_parse.specs.declared.line.Placed.{Placed}
 use Rattle.playlist_parse.specs.declared.line.LineKind.{LineKind}
 use Rattle.playlist_parse.specs.declared.line.LineKind.TheVariants as line_kind
 use Rattle.playlist_parse.specs.declared.tag.Tag.{Tag}
@@ -16,48 +14,26 @@ line_kind_view line_kind.Ignored = ignored
 line_kind_view (line_kind.Uri text) = uri text.now
 line_kind_view (line_kind.Tag name rest colon) = tag name.now rest.now colon
 
--- a kind of line, without whether a tag has a colon
-pub data Shown : Type 0 where
-  blank_or_comment : Shown
-  resource : List ℕ → Shown
-  named : List ℕ → List ℕ → Shown
+-- a line: its place and its text
+abbrev pub line_view : Line → (ℕ × ℕ) × List ℕ
+line_view line = ((line.span.start, line.span.end), line.text.now)
 
-abbrev pub shown_kind : Kind → Shown
-shown_kind ignored = blank_or_comment
-shown_kind (uri text) = resource text
-shown_kind (tag name rest colon) = named name rest
+abbrev pub line_span : (ℕ × ℕ) × List ℕ → ℕ × ℕ
+line_span line = line.0
 
--- a line of a text: where it begins and ends, and what it is
-pub record LineView : Type 0 where
-  pub start : ℕ
-  pub end : ℕ
-  pub shown : Shown
-
-abbrev pub shown_at : Span → Shown → LineView
-shown_at span shown = record { start = span.start; end = span.end; shown = shown }
-
-abbrev pub line_view : Line → LineView
-line_view (line.Ignored span) = shown_at span blank_or_comment
-line_view (line.Uri text span) = shown_at span (resource text)
-line_view (line.Tag name rest span) = shown_at span (named name rest)
-
-abbrev pub line_span : Line → ℕ × ℕ
-line_span line = ((line_view line).start, (line_view line).end)
+abbrev pub line_text : (ℕ × ℕ) × List ℕ → List ℕ
+line_text line = line.1
 
 -- a line's place and text, from where it begins
 abbrev pub with_end : ℕ × List ℕ → (ℕ × ℕ) × List ℕ
 with_end placed = ((placed.0, placed.0 + length placed.1), placed.1)
 
--- a line at its place
-abbrev pub placed_line : (ℕ × ℕ) × List ℕ → LineView
-placed_line placed = record { start = placed.0.0; end = placed.0.1; shown = shown_kind (kind_of placed.1) }
+abbrev pub is_feed : ℕ → Bool
+is_feed b = b == 10
 
--- the lines of a text, each with its place and its kind
-abbrev pub lines_view : List ℕ → List LineView
-lines_view text = map placed_line (map with_end (placed_lines text))
-
-abbrev pub placed_view : Placed → (ℕ × ℕ) × List ℕ
-placed_view placed = ((placed.span.start, placed.span.end), placed.text.now)
+-- the lines of a text that begins at a place, each with its own
+abbrev pub lines_from : ℕ → List ℕ → List ((ℕ × ℕ) × List ℕ)
+lines_from start text = map with_end (placed_from start (slice_split is_feed text))
 
 abbrev pub tag_view : Tag → Name
 tag_view tag_name.Version = version_tag

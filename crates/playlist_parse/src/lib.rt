@@ -7,6 +7,6 @@ mod progress;
 mod reader;
 mod tag;
 
-pub use line::{Line, lines};
+pub use line::{Line, LineKind, Lines, kind_of};
 pub use playlist_meaning::MOST_BYTES;
 pub use reader::read;

@@ -1,22 +1,22 @@
 //! The lines of a playlist and their kinds (RFC 8216, section 4.1).
-ghost use Rattle.std.specs.Prelude.{◌≡◌, map, Ok, IfOk, ◌==◌, ◌+◌, ◌^◌, ◌<◌, length};
+ghost use Rattle.std.specs.Prelude.{◌≡◌, [], ◌∷◌, map, ◌+◌, ◌^◌, ◌<◌, length, MatchOption};
+ghost use Rattle.std.specs.List.{position_or_len};
 ghost use Rattle.std.specs.Str.Lines.{lines, strip_carriage_return};
 ghost use Rattle.attr_list.specs.Attributes.{slices_at};
 ghost use Rattle.playlist_meaning.specs.Lines.{kind_of, is_blank, placed_lines};
-ghost use Rattle.playlist_parse.specs.LineViews.{line_kind_view, line_view, line_span, placed_line, placed_view, with_end, lines_view};
+ghost use Rattle.playlist_parse.specs.LineViews.{line_kind_view, line_span, line_view, is_feed, lines_from, with_end};
 
 use attr_list::Span;
-use playlist_meaning::Text;
-use std::alloc::{AllocError, Global};
+use std::marker::Model;
 
-/// A line of a playlist, as slices of its text.
+/// What a line of a playlist is, as slices of it.
 #[derive(Clone, Copy)]
 pub enum LineKind<'a> {
     /// A blank line or a comment.
     Ignored,
     /// The reference of a media segment.
     Uri(&'a str),
-    /// A tag: its name without `#`, what stands after the first colon, and whether there is one.
+    /// A tag: its name runs from after `#` to the first `:`, its rest is what follows; and whether there is a colon.
     Tag {
         name: &'a str,
         rest: &'a str,
@@ -24,23 +24,12 @@ pub enum LineKind<'a> {
     },
 }
 
-/// A line of a playlist. Its span is its place in the text, without the line feed that ends it and a
-/// carriage return before that.
-#[derive(Drop)]
-pub enum Line {
-    /// A blank line or a comment.
-    Ignored { span: Span },
-    /// The reference of a media segment.
-    Uri { text: Text, span: Span },
-    /// A tag: its name runs from after `#` to the first `:`, its rest is what follows.
-    Tag { name: Text, rest: Text, span: Span },
-}
-
-// A line, and its place in the text.
+/// A line of a playlist: its place in the text, without the line feed that ends it and a carriage return before that, and
+/// the slice of the text that stands there.
 #[derive(Clone, Copy)]
-struct Placed<'a> {
-    span: Span,
-    text: &'a str,
+pub struct Line<'a> {
+    pub span: Span,
+    pub text: &'a str,
 }
 
 fn is_blank(line: &str) -> bool
@@ -79,13 +68,6 @@ pub fn kind_of(line: &str) -> LineKind<'_>
     }
 }
 
-/// The lines of a text, cut at each line feed, without a carriage return before it.
-pub fn texts(alloc: Global, text: &str) -> Result<Vec<&str>, AllocError>
-    ensures { IfOk result (λ v. map (λ x. x.now) v.items ≡ lines text.now) }
-{
-    text.lines().collect(alloc)
-}
-
 #[tactic(auto, using(crate::proofs::Places::stripped))]
 // The carriage return goes only with the line feed after it.
 fn without_carriage_return(piece: &str) -> &str
@@ -95,63 +77,73 @@ fn without_carriage_return(piece: &str) -> &str
 }
 
 // A line that begins at a place.
-fn line_at(start: usize, text: &str) -> Placed<'_>
+fn line_at(start: usize, text: &str) -> Line<'_>
     requires { start + length text.now < 2 ^ 64 }
-    ensures { placed_view result ≡ with_end (start, text.now) }
+    ensures { line_view result ≡ with_end (start, text.now) }
 {
     let end = start + text.len();
     let span = Span { start, end };
-    Placed { span, text }
+    Line { span, text }
 }
 
-// The lines of a text, each with its place.
-fn placed_lines(alloc: Global, text: &str) -> Result<Vec<Placed<'_>>, AllocError>
-    ensures { IfOk result (λ v. map placed_view v.items ≡ map with_end (placed_lines text.now)) }
+#[tactic(auto, using(crate::proofs::Places::last_line, crate::proofs::Places::no_line))]
+// What stands after the last line feed, unless it is empty.
+fn last_line(start: usize, rest: &str) -> Option<Line<'_>>
+    requires bound { start + length rest.now < 2 ^ 64 }
+    requires last { position_or_len is_feed rest.now ≡ length rest.now }
+    ensures { MatchOption result (lines_from start rest.now ≡ []) (λ line. lines_from start rest.now ≡ line_view line ∷ []) }
 {
-    let mut found = Vec::new(alloc);
-    let mut start: usize = 0;
-    let mut rest = text;
-    while let Some((piece, later)) = rest.split_once('\n') {
-        found.push(line_at(start, without_carriage_return(piece)))?;
-        start += piece.len() + 1;
-        rest = later;
-    }
     if rest.is_empty() {
-        return Ok(found);
+        return None;
     }
-    found.push(line_at(start, rest))?;
-    Ok(found)
+    Some(line_at(start, rest))
 }
 
-fn owned(alloc: Global, placed: Placed<'_>) -> Result<Line, AllocError>
-    ensures { IfOk result (λ line. line_view line ≡ placed_line (placed_view placed.entry)) }
-{
-    let span = placed.span;
-    match kind_of(placed.text) {
-        LineKind::Ignored => Ok(Line::Ignored { span }),
-        LineKind::Uri(text) => Ok(Line::Uri {
-            text: Text::copy_of(alloc, text)?,
-            span,
-        }),
-        LineKind::Tag { name, rest, .. } => Ok(Line::Tag {
-            name: Text::copy_of(alloc, name)?,
-            rest: Text::copy_of(alloc, rest)?,
-            span,
-        }),
-    }
+/// The lines of a text, one after the other, as slices of it: they take no memory.
+#[derive(Drop)]
+pub struct Lines<'a> {
+    start: usize,
+    rest: &'a str,
 }
 
-/// The lines of a playlist's text, each with its kind and its place (RFC 8216, section 4.1).
-pub fn lines(alloc: Global, text: &str) -> Result<Vec<Line>, AllocError>
-    ensures lines { IfOk result (λ v. map line_view v.items ≡ lines_view text.now) }
+impl<'a> Model for Lines<'a> {
+    ghost use Rattle.std.specs.Prelude.{ℕ, List, ◌+◌, ◌^◌, ◌<◌, length};
+    ghost use Rattle.playlist_parse.specs.LineViews.{lines_from};
 
-    // Each line is the slice of the text at its place.
-    ensures slices { IfOk result (λ v. slices_at text.now (map line_span v.items) ≡ lines text.now) }
-{
-    let placed = placed_lines(alloc, text)?;
-    let mut found = Vec::with_capacity(alloc, placed.len())?;
-    for line in &placed {
-        found.push(owned(alloc, *line)?)?;
+    ghost Value = { List ((ℕ × ℕ) × List ℕ) };
+
+    ghost view = { λ a. lines_from a.start a.rest.now };
+
+    ghost invariant = { λ a. a.start + length a.rest.now < 2 ^ 64 };
+}
+
+impl<'a> Lines<'a> {
+    /// The lines of a playlist's text, cut at each line feed, each with its place (RFC 8216, section 4.1).
+    pub fn new(text: &'a str) -> Lines<'a>
+        ensures lines { result ≡ map with_end (placed_lines text.now) }
+
+        // Each line is the slice of the text at its place.
+        ensures slices { slices_at text.now (map line_span result) ≡ lines text.now }
+        ensures texts { map (λ line. line.1) result ≡ lines text.now }
+    {
+        Lines {
+            start: 0,
+            rest: text,
+        }
     }
-    Ok(found)
+
+    /// The next line, where there is one.
+    pub fn next(&mut self) -> Option<Line<'a>>
+        ensures { MatchOption result ((self.old ≡ []) × (self.new ≡ [])) (λ line. self.old ≡ line_view line ∷ self.new) }
+    {
+        let start = self.start;
+        let rest = self.rest;
+        let Some((piece, later)) = rest.split_once('\n') else {
+            self.rest = "";
+            return last_line(start, rest);
+        };
+        self.start = start + piece.len() + 1;
+        self.rest = later;
+        Some(line_at(start, without_carriage_return(piece)))
+    }
 }

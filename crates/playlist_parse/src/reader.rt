@@ -1,11 +1,12 @@
 //! The reader: from bytes to a playlist, or its first fault.
-ghost use Rattle.std.specs.Prelude.{◌≡◌, ◌+◌, ◌<◌, [], ◌∷◌, map, Ok, Err};
+ghost use Rattle.std.specs.Prelude.{◌≡◌, ◌^◌, ◌<◌, [], ◌∷◌, map, length, Ok, Err};
 ghost use Rattle.playlist_meaning.specs.Said.{nothing};
 ghost use Rattle.playlist_meaning.specs.Reading.{reading, said_by, said_from, and_whole};
 ghost use Rattle.playlist_meaning.specs.Reading.{limited};
+ghost use Rattle.playlist_parse.specs.LineViews.{line_text};
 ghost use Rattle.playlist_parse.specs.Answers.{Answers, fault_at};
 
-use crate::line::texts;
+use crate::line::Lines;
 use crate::progress::Progress;
 use playlist_meaning::{Base, FaultKind, MOST_BYTES, Playlist, PlaylistFault, text_of};
 use std::alloc::Global;
@@ -23,14 +24,20 @@ fn fault_at(kind: FaultKind, line: u64) -> PlaylistFault
 }
 
 // Reads the lines after the header.
-fn read_lines(alloc: Global, later: &[&str], base: &Base) -> Result<Playlist, PlaylistFault>
-    ensures { Answers result (and_whole (said_from (said_by limited base.now) (nothing ∷ []) (map (λ x. x.now) later.now))) }
+fn read_lines(
+    alloc: Global,
+    lines: &mut Lines<'_>,
+    base: &Base,
+) -> Result<Playlist, PlaylistFault>
+    requires { length lines.old < 2 ^ 63 }
+    ensures { Answers result (and_whole (said_from (said_by limited base.now) (nothing ∷ []) (map line_text lines.old))) }
 {
     let mut progress = Progress::new(alloc, base);
-    for (i, line) in later.iter().enumerate() {
-        match progress.line(line) {
-            Ok(()) => {}
-            Err(kind) => return Err(fault_at(kind, i as u64 + 2)),
+    let mut number: u64 = 2;
+    while let Some(line) = lines.next() {
+        match progress.line(line.text) {
+            Ok(()) => number += 1,
+            Err(kind) => return Err(fault_at(kind, number)),
         }
     }
     match progress.playlist() {
@@ -39,6 +46,7 @@ fn read_lines(alloc: Global, later: &[&str], base: &Base) -> Result<Playlist, Pl
     }
 }
 
+#[tactic(auto, using(crate::proofs::Places::few_lines))]
 /// The playlist that bytes denote under a base, of at most 4,194,304 bytes, 10,000 segments, 64
 /// attributes in a tag and 16 key formats in force; or its first fault and the line of that.
 pub fn read(alloc: Global, bytes: &[u8], base: &Base) -> Result<Playlist, PlaylistFault>
@@ -51,14 +59,12 @@ pub fn read(alloc: Global, bytes: &[u8], base: &Base) -> Result<Playlist, Playli
     if text.len() > MOST_BYTES {
         return Err(fault_at(FaultKind::TooLong, 0));
     }
-    let Ok(lines) = texts(alloc, text) else {
-        return Err(fault_at(FaultKind::OutOfMemory, 0));
-    };
-    let Some((first, later)) = lines.as_slice().split_first() else {
+    let mut lines = Lines::new(text);
+    let Some(first) = lines.next() else {
         return Err(fault_at(FaultKind::NoHeader, 1));
     };
-    if *first != "#EXTM3U" {
+    if first.text != "#EXTM3U" {
         return Err(fault_at(FaultKind::NoHeader, 1));
     }
-    read_lines(alloc, later, base)
+    read_lines(alloc, &mut lines, base)
 }
