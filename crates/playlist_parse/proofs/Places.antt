@@ -59,6 +59,18 @@ next_line start text h =
     ap (λ pieces. map with_end (placed_from start pieces)) (slice_split_first is_feed text 0 h)
     ∙ ap (map with_end) (one_more start (before_first is_feed text) (slice_split is_feed (after_first is_feed text)) (omega (arith, length-slice_split is_feed (after_first is_feed text))))
 
+-- the same, over what was found of the first line
+pub first_line : (start : ℕ) (rest piece later line : List ℕ) (view : (ℕ × ℕ) × List ℕ) → position_or_len is_feed rest < length rest
+    → piece ≡ before_first is_feed rest → later ≡ after_first is_feed rest → line ≡ strip_carriage_return piece → view ≡ with_end (start, line)
+    → lines_from start rest ≡ view ∷ lines_from (start + length piece + 1) later
+first_line start rest piece later line view some piece_is later_is line_is view_is =
+    next_line start rest some
+    ∙ ap (λ (q : List ℕ × List ℕ). with_end (start, strip_carriage_return q.0) ∷ lines_from (start + length q.0 + 1) q.1) (sym (pair piece_is later_is))
+    ∙ ap (λ v. v ∷ lines_from (start + length piece + 1) later) (sym (view_is ∙ ap (λ l. with_end (start, l)) line_is))
+  where
+    pair : {a b c d : List ℕ} → a ≡ b → c ≡ d → ◌≡◌ {A = List ℕ × List ℕ} (a, c) (b, d)
+    pair x y = cc
+
 whole_step : (x : ℕ) (xs : List ℕ) (n : ℕ) (b : Bool) → (n ≡ length xs → slice_split is_feed xs ≡ xs ∷ []) → cond (not b) (1 + n) 0 ≡ 1 + length xs
     → cond b ([] ∷ slice_split is_feed xs) (onto_first x (slice_split is_feed xs)) ≡ (x ∷ xs) ∷ []
 whole_step x xs n true ih h = absurd (omega (arith, h))

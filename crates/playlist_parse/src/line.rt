@@ -118,6 +118,7 @@ impl<'a> Model for Lines<'a> {
 }
 
 impl<'a> Lines<'a> {
+    #[tactic(auto, using(crate::proofs::Places::lines_are_slices_at, crate::proofs::Places::texts_are_lines))]
     /// The lines of a playlist's text, cut at each line feed, each with its place (RFC 8216, section 4.1).
     pub fn new(text: &'a str) -> Lines<'a>
         ensures lines { result ≡ map with_end (placed_lines text.now) }

@@ -24,11 +24,7 @@ fn fault_at(kind: FaultKind, line: u64) -> PlaylistFault
 }
 
 // Reads the lines after the header.
-fn read_lines(
-    alloc: Global,
-    lines: &mut Lines<'_>,
-    base: &Base,
-) -> Result<Playlist, PlaylistFault>
+fn read_lines(alloc: Global, lines: &mut Lines<'_>, base: &Base) -> Result<Playlist, PlaylistFault>
     requires { length lines.old < 2 ^ 63 }
     ensures { Answers result (and_whole (said_from (said_by limited base.now) (nothing ∷ []) (map line_text lines.old))) }
 {
