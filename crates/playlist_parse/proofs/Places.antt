@@ -110,12 +110,20 @@ few_placed start (piece ∷ next ∷ later) =
     let more = few_placed (start + length piece + 1) (next ∷ later) in omega (arith, more)
 
 -- a text has at most a line for each of its bytes, and one more
-pub few_lines : (text : List ℕ) → length (lines_from 0 text) ≤ length text + 1
+few_lines : (text : List ℕ) → length (lines_from 0 text) ≤ length text + 1
 few_lines text =
     let placed = few_placed 0 (slice_split is_feed text) in
     let pieces = length-slice_split is_feed text in
     let feeds = count_by-le-length is_feed text in
     omega (arith, placed, pieces, feeds)
+
+-- and few are left after the first one
+pub few_left : (text : List ℕ) (all : List ((ℕ × ℕ) × List ℕ)) (first : (ℕ × ℕ) × List ℕ) (left : List ((ℕ × ℕ) × List ℕ))
+    → all ≡ lines_from 0 text → all ≡ first ∷ left → length text ≤ 4194304 → length left < 9223372036854775808
+few_left text all first left all_is cut small =
+    let few = few_lines text in
+    let size : length (lines_from 0 text) ≡ length (first ∷ left) = ap length (sym all_is ∙ cut) in
+    omega (arith, few, size, small)
 
 slices_are : (text : List ℕ) (placed : List (ℕ × List ℕ)) → AreSlices text placed
     → slices_at text (map line_span (map with_end placed)) ≡ map (λ (line : ℕ × List ℕ). line.1) placed

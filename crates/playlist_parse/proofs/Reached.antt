@@ -1,5 +1,5 @@
 -- How far a reading has come.
-use Rattle.std.proofs.Common.{◌≡◌, ℕ, zero, ◌+◌, List, [], ◌∷◌, drop, length, refl, ap, sym, ◌∙◌, arith, subst, ◌<◌, map, get_or, suc, Bor}
+use Rattle.std.proofs.Common.{◌≡◌, ℕ, ◌+◌, List, [], ◌∷◌, length, refl, ap, sym, ◌∙◌, arith, subst}
 use Rattle.std.specs.Prelude.{◌≢◌, Result, Ok, Err, IsOk, None, Some, MatchResult}
 use Rattle.url.specs.Parts.{Parts}
 use Rattle.playlist_meaning.specs.declared.FaultKind.{FaultKind}

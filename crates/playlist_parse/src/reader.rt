@@ -42,7 +42,6 @@ fn read_lines(alloc: Global, lines: &mut Lines<'_>, base: &Base) -> Result<Playl
     }
 }
 
-#[tactic(auto, using(crate::proofs::Places::few_lines))]
 /// The playlist that bytes denote under a base, of at most 4,194,304 bytes, 10,000 segments, 64
 /// attributes in a tag and 16 key formats in force; or its first fault and the line of that.
 pub fn read(alloc: Global, bytes: &[u8], base: &Base) -> Result<Playlist, PlaylistFault>
