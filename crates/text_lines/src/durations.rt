@@ -1,5 +1,8 @@
 //! The lines of durations.
 
+ghost use Rattle.std.specs.Prelude.{◌≡◌};
+ghost use Rattle.fixed_duration.specs.Text.{are_digits};
+
 use fixed_duration::{Nanos, nanos_of_fraction};
 use std::alloc::{AllocError, Global};
 
@@ -15,10 +18,16 @@ pub fn duration_line(alloc: Global, text: &str) -> Result<String, AllocError> {
     }
 }
 
+fn is_all_digits(bytes: &[u8]) -> bool
+    ensures { result ≡ are_digits bytes.now }
+{
+    bytes.iter().all(|byte| byte.is_ascii_digit())
+}
+
 /// The nanoseconds of the digits after a point.
 pub fn fraction_line(alloc: Global, digits: &str) -> Result<String, AllocError> {
     let digits = digits.as_bytes();
-    if !digits.iter().all(|digit| digit.is_ascii_digit()) {
+    if !is_all_digits(digits) {
         return format!(in alloc; "no digits");
     }
     format!(in alloc; "{}", nanos_of_fraction(digits))
