@@ -146,7 +146,30 @@ unfilled = [daterange("b3", 100, out=""), daterange("b4", 200), daterange("b5", 
 shows(made, origin_text(0, 0, ranges=unfilled, target=9, durations={0: "9"}), 1, window("s0"), ranges=unfilled, target=9, durations={"s0": "9"})
 made.known("b3 NotSignalled", "b4 Waiting", "b5 DoesNotFit", "b6 NotDecided").why("b7", "NotKnown")
 
+made = bare("sections that signal nothing")
+for out in (NOT_OUT, "0xF", "0xFC", "nothing", '""'):
+    silent = daterange("b1", 10, out=out)
+    shows(made.channel().decide(AB), origin_text(0, 1, ranges=[silent]), 2, window("s0 s1"), ranges=[silent]).known("b1 NotSignalled")
+
+made = bare("a pod fits by its longest segment, 9.5 s, and where no segment has an initialisation section")
+for target, header, word in ((10, [], "Waiting"), (9, [], "DoesNotFit"), (10, ['#EXT-X-MAP:URI="init.mp4"'], "DoesNotFit")):
+    body = origin_text(0, 0, ranges=[daterange("b1", 100), daterange("b9", 100)], target=target, header=header, durations={0: "9"})
+    made.channel().decide(AB).refresh(body, "ok 0 1 1").known(f"b1 {word}", "b9 NotDecided").why("b2", "NotKnown")
+
 # ---- pods while they are used, and after
+
+made = bare("a withdrawal by a file").channel()
+made.decide('{"withdraw":"b1"}', "J11 Unknown").decide(AB)
+shows(made, origin_text(0, 0, ranges=[B1]), 1, window("s0"), ranges=[B1]).why("b1", "Waiting")
+made.decide('{"withdraw":"b1"}').why("b1", "NotDecided")
+shows(made, origin_text(0, 1, ranges=[B1]), 1, window("s0 s1"), ranges=[B1])
+
+made = bare("a pod that was not entered stays when those of other breaks are given up").channel()
+made.decide(decisions(("b1", ["a0", "a1"]), ("b2", ["x0"]), ("b3", ["y0"])))
+later, ended, last = daterange("b1", 500), daterange("b2", 10, "DURATION=10"), daterange("b3", 20, "DURATION=10")
+shows(made, origin_text(0, 3, ranges=[later, ended, last]), 4, window("s0 / x0 / y0 / s3"), ranges=[later])
+shows(made, origin_text(3, 4, ranges=[later, ended, last]), 1, window("/ s3 s4", 3, 2), ranges=[later, ended])
+made.known("b1 Waiting", "b2 NotDecided", "b3 Filled").withdraw("b2", "J11 Unknown").withdraw("b3", "J9 Used").withdraw("b1")
 
 made = case("the last break entered keeps its pod and its date range out after its run has left the window")
 for first, fresh, items in ((0, 6, window("s0 / a0 a1 / s4 s5")), (4, 2, window("/ s4 s5 s6 s7", 3, 1)), (6, 4, window("s6 s7 s8 s9 s10 s11", 5, 2))):

@@ -1,9 +1,7 @@
-//! Tests of what texts and sections say: durations, attribute lists, splice sections.
+//! Tests of what no text says: sections that can't be written, faults of memory, copies, laws.
 #![tactic(auto)]
 
 #[cfg(test)]
-mod attribute_lists;
-#[cfg(test)]
-mod durations;
+mod faults;
 #[cfg(test)]
 mod splice_sections;

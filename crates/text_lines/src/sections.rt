@@ -1,8 +1,8 @@
-//! The line of a section.
+//! The lines of splice sections.
 
 use scte35_codec::{
     BreakDuration, InsertBody, SpliceCommand, SpliceInfo, SpliceInsert, SpliceTarget, SpliceTime,
-    crc_of, read_hex, write_with_crc,
+    crc_of, read_hex, write, write_with_crc,
 };
 use std::alloc::{AllocError, Global};
 
@@ -14,11 +14,31 @@ pub fn section_line(alloc: Global, hex: &str) -> Result<String, AllocError> {
     };
     let mut line = String::new(alloc);
     push_fields(&mut line, &info)?;
+    push_rest(&mut line, &info)?;
     match write_with_crc(alloc, &info) {
-        Ok(bytes) => push_bytes(&mut line, bytes.as_slice())?,
+        Ok(bytes) => push_section(&mut line, bytes.as_slice())?,
         Err(fault) => write!(line, " {fault}")?,
     }
     Ok(line)
+}
+
+/// The section that is read and written again with the CRC_32 that it states, or the fault of either.
+pub fn rewritten_line(alloc: Global, hex: &str) -> Result<String, AllocError> {
+    let info = match read_hex(alloc, hex) {
+        Ok(info) => info,
+        Err(fault) => return format!(in alloc; "{fault}"),
+    };
+    let mut line = String::new(alloc);
+    match write(alloc, &info) {
+        Ok(bytes) => push_bytes(&mut line, bytes.as_slice())?,
+        Err(fault) => write!(line, "{fault}")?,
+    }
+    Ok(line)
+}
+
+/// The CRC_32 of bytes.
+pub fn crc_line(alloc: Global, bytes: &[u8]) -> Result<String, AllocError> {
+    format!(in alloc; "{}", crc_of(bytes))
 }
 
 fn push_fields(line: &mut String, info: &SpliceInfo) -> Result<(), AllocError> {
@@ -34,8 +54,28 @@ fn push_fields(line: &mut String, info: &SpliceInfo) -> Result<(), AllocError> {
     )?;
     match &info.command {
         SpliceCommand::Insert(insert) => push_insert(line, insert),
-        SpliceCommand::Other { command, .. } => write!(line, " command={command}"),
+        SpliceCommand::Other { command, bytes } => {
+            write!(line, " command={command}")?;
+            push_named(line, " bytes=", bytes.as_slice())
+        }
     }
+}
+
+// What stands behind the command.
+fn push_rest(line: &mut String, info: &SpliceInfo) -> Result<(), AllocError> {
+    push_named(line, " descriptors=", info.descriptors.as_slice())?;
+    push_named(line, " stuffing=", info.stuffing.as_slice())?;
+    let stated = info.crc;
+    write!(line, " stated={stated}")
+}
+
+// Bytes with their name, where there are any.
+fn push_named(line: &mut String, name: &str, bytes: &[u8]) -> Result<(), AllocError> {
+    if bytes.is_empty() {
+        return Ok(());
+    }
+    line.push_str(name)?;
+    push_bytes(line, bytes)
 }
 
 fn push_insert(line: &mut String, insert: &SpliceInsert) -> Result<(), AllocError> {
@@ -89,17 +129,24 @@ fn push_target(line: &mut String, target: &SpliceTarget) -> Result<(), AllocErro
     }
 }
 
+// A time that is there may leave open which.
 fn push_time(line: &mut String, time: Option<SpliceTime>) -> Result<(), AllocError> {
-    let Some(SpliceTime { pts: Some(pts) }) = time else {
-        return Ok(());
-    };
-    write!(line, " pts={pts}")
+    match time {
+        None => Ok(()),
+        Some(SpliceTime { pts: None }) => line.push_str(" pts=open"),
+        Some(SpliceTime { pts: Some(pts) }) => write!(line, " pts={pts}"),
+    }
 }
 
-// The section and the CRC_32 of the whole of it.
-fn push_bytes(line: &mut String, bytes: &[u8]) -> Result<(), AllocError> {
+// The CRC_32 of the whole of a section, and the section.
+fn push_section(line: &mut String, bytes: &[u8]) -> Result<(), AllocError> {
     let crc = crc_of(bytes);
-    write!(line, " crc={crc} 0x")?;
+    write!(line, " crc={crc} ")?;
+    push_bytes(line, bytes)
+}
+
+fn push_bytes(line: &mut String, bytes: &[u8]) -> Result<(), AllocError> {
+    line.push_str("0x")?;
     for byte in bytes {
         write!(line, "{byte:02x}")?;
     }

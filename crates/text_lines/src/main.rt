@@ -1,0 +1,70 @@
+//! Prints what texts and splice sections say: for each line of standard input, one line. It serves tests alone: its stdin
+//! and stdout are made by `tests/text_lines`.
+//!
+//! | Line | Printed, or else the fault |
+//! |---|---|
+//! | `section TEXT` | the fields of a section in hexadecimal digits after `0x`, the CRC_32 that it states, the CRC_32 of the whole section that is written with its own, and that section |
+//! | `rewritten TEXT` | the section that is written with the CRC_32 that was read |
+//! | `crc BYTES` | the CRC_32 of bytes |
+//! | `attributes TEXT` | each attribute of a list: where it begins and ends, its name, and its value, in quotes or without |
+//! | `attribute NAME\nTEXT` | the value that a list gives this name, in quotes or without, after `=`; or `none` |
+//! | `decimal TEXT`, `hexadecimal TEXT` | the number, in decimal |
+//! | `duration TEXT` | the nanoseconds |
+//! | `fraction DIGITS` | the nanoseconds of the digits after a point |
+//! | `seconds NANOSECONDS` | the duration in seconds, after `#EXTINF:` |
+//! | `rounded NANOSECONDS` | the whole seconds |
+//! | `sum NANOSECONDS NANOSECONDS` | the sum, or `none` |
+//!
+//! After the first word a backslash and `n` stand for a line feed, `r` for a carriage return, `x` with two hexadecimal digits
+//! for that byte, and another backslash for a backslash. In what is printed of a value such bytes are `\x` with two digits.
+#![tactic(auto)]
+
+mod attributes;
+mod body;
+mod durations;
+mod sections;
+
+use attributes::{attribute_line, attributes_line, decimal_line, hexadecimal_line};
+use body::body_of;
+use durations::{duration_line, fraction_line, rounded_line, seconds_line, sum_line};
+use sections::{crc_line, rewritten_line, section_line};
+use std::alloc::{AllocError, Global};
+use std::io;
+
+// What a text says, by the word that asks.
+fn text_line(alloc: Global, word: &str, text: &str) -> Result<String, AllocError> {
+    match word {
+        "section" => section_line(alloc, text),
+        "rewritten" => rewritten_line(alloc, text),
+        "attributes" => attributes_line(alloc, text),
+        "attribute" => attribute_line(alloc, text),
+        "decimal" => decimal_line(alloc, text),
+        "hexadecimal" => hexadecimal_line(alloc, text),
+        "duration" => duration_line(alloc, text),
+        "fraction" => fraction_line(alloc, text),
+        "seconds" => seconds_line(alloc, text),
+        "rounded" => rounded_line(alloc, text),
+        "sum" => sum_line(alloc, text),
+        _ => format!(in alloc; "no question"),
+    }
+}
+
+fn answer(alloc: Global, line: &str) -> Result<String, AllocError> {
+    let (word, rest) = line.split_once(' ').unwrap_or((line, ""));
+    let bytes = body_of(alloc, rest)?;
+    if word == "crc" {
+        return crc_line(alloc, bytes.as_slice());
+    }
+    match std::str::from_utf8(bytes.as_slice()) {
+        Ok(text) => text_line(alloc, word, text),
+        Err(_) => format!(in alloc; "no text"),
+    }
+}
+
+fn main(rt: HostRuntime) -> io::Result<()> {
+    for line in rt.lines(rt.alloc()) {
+        let text = answer(rt.alloc(), line?.as_str())?;
+        println!(rt; "{text}")?;
+    }
+    Ok(())
+}

@@ -1,0 +1,126 @@
+"""Splice sections (ANSI/SCTE 35, splice_info_section), worked by hand, and the CRC_32 of bytes."""
+from lines import question
+
+NOT_HEX, TOO_SHORT, TABLE_ID, LENGTH, PROTOCOL = "S1 NotHex", "S2 TooShort", "S3 TableId", "S4 Length", "S5 Protocol"
+ENCRYPTED, COMMAND_LENGTH, TOO_LARGE = "S6 Encrypted", "S7 CommandLength", "S9 TooLarge"
+
+# The CRC_32 of ISO/IEC 13818-1, Annex A, of the digits 1 to 9: the check value of CRC-32/MPEG-2 in the catalogue of
+# parametrised CRC algorithms.
+CHECK_VALUE = 0x0376E6E7
+
+# Out of the network at once, for 30 seconds, with a return by itself; and its CRC_32, as tshark and GStreamer take it.
+OUT = bytes.fromhex("FC302000000000000000FFF00F05000000017FFFFE002932E000010000000000000000")
+OUT_FIELDS = ("pts_adjustment=0 cw=0 tier=4095 event=1 out=1 immediate=1 program auto=1 ticks=2700000 upid=1 avail=0"
+              " avails=0")
+OUT_CRC = 0x4B6FCB04
+
+# Sections with what they say: back into the network at once; a cancelled event; the highest time of 33 bits, for the
+# program; two components without times, and two of which one has a time that is left open; another command, with
+# descriptors, stuffing and every number in the heading.
+HEADING = "pts_adjustment=0 cw=0 tier=4095 event=1"
+IDS = "upid=1 avail=0 avails=0"
+SECTIONS = [
+    ("FC302000000000000000FFF00F05000000017FFFFE002932E000010000000000000000", OUT_FIELDS, 0),
+    ("FC301B00000000000000FFF00A05000000017F5F00010000000000000000", f"{HEADING} out=0 immediate=1 program {IDS}", 0),
+    ("FC301600000000000000FFF0050500000001FF000000000000", f"{HEADING} cancelled", 0),
+    ("FC302000000000000000FFF00F05000000017FCFFFFFFFFFFF00010000000000000000",
+     f"{HEADING} out=1 immediate=0 program pts={0x1FFFFFFFF} {IDS}", 0),
+    ("FC301E00000000000000FFF00D05000000017F9F02070700010000000000000000",
+     f"{HEADING} out=1 immediate=1 component=7 component=7 {IDS}", 0),
+    ("FC302400000000000000FFF01305000000017F8F0201FE00000009027F00010000000000000000",
+     f"{HEADING} out=1 immediate=0 component=1 pts=9 component=2 pts=open {IDS}", 0),
+    ("FC301900010203040506123005" "06FE000000010002AABBCCDEADBEEF",
+     f"pts_adjustment={0x102030405} cw=6 tier={0x123} command=6 bytes=0xfe00000001 descriptors=0xaabb stuffing=0xcc",
+     0xDEADBEEF),
+]
+
+# OUT with another byte at a place.
+TURNED = [(0, 0xFD, TABLE_ID), (2, 0x21, LENGTH), (3, 1, PROTOCOL), (4, 0x80, ENCRYPTED), (12, 0x0E, COMMAND_LENGTH),
+          (12, 0x10, COMMAND_LENGTH), (30, 1, COMMAND_LENGTH)]
+
+# A splice_insert may leave its length unsaid, another command may not.
+UNSAID = [(11, 0xFF), (12, 0xFF)]
+# Reserved bits are ignored.
+RESERVED = [(1, 0xC0), (4, 0x7E), (18, 0), (19, 0xF0), (20, 0x80)]
+
+HEXADECIMAL = [
+    ("", NOT_HEX), ("0", NOT_HEX), ("FC", NOT_HEX), ("1xFC", NOT_HEX), ("0yFC", NOT_HEX), ("0xF", NOT_HEX), ("0xFG", NOT_HEX),
+    ("0x FC", NOT_HEX), ("0x", TOO_SHORT), ("0xFC", TOO_SHORT),
+    # More bytes than a section can have are refused, whatever their length says.
+    *((f"0x{front}{'00' * 5000}{last}", fault) for front, last, fault in (
+        ("FC3FFF", "00", LENGTH), ("FD3FFF", "00", TABLE_ID), ("FC3FFF", "0g", NOT_HEX), ("FC3FFF", "0", NOT_HEX))),
+]
+
+
+def crc_of(section):
+    """CRC_32 by the register of ISO/IEC 13818-1, Annex A: all ones at first, the highest bit of a byte first."""
+    register = 0xFFFFFFFF
+    for byte in section:
+        for place in range(7, -1, -1):
+            leaves = register >> 31 ^ byte >> place & 1
+            register = register << 1 & 0xFFFFFFFF ^ (0x04C11DB7 if leaves else 0)
+    return register
+
+
+def hexadecimal(section):
+    return "0x" + section.hex()
+
+
+def sealed(section):
+    """A section with its own CRC_32 in place of the one that it states."""
+    return section[:-4] + crc_of(section[:-4]).to_bytes(4, "big")
+
+
+def said(fields, stated, section):
+    """The answer for a section that can be written: what it says, and the section with its own CRC_32."""
+    return f"{fields} stated={stated} crc=0 {hexadecimal(sealed(section))}"
+
+
+def turned(section, places):
+    bytes_of = bytearray(section)
+    for place, byte in places:
+        bytes_of[place] = byte
+    return bytes(bytes_of)
+
+
+def sections():
+    for digits, fields, stated in SECTIONS:
+        section = bytes.fromhex(digits)
+        yield question("section", f"0x{digits}", said(fields, stated, section))
+        yield question("rewritten", f"0x{digits}", hexadecimal(section))
+    for text in ("0x" + OUT.hex().upper(), "0X" + OUT.hex()):
+        yield question("section", text, said(OUT_FIELDS, 0, OUT))
+    for section in (turned(OUT, UNSAID), turned(OUT, RESERVED)):
+        yield question("section", hexadecimal(section), said(OUT_FIELDS, 0, OUT))
+
+
+def faults():
+    for place, byte, fault in TURNED:
+        yield question("section", hexadecimal(turned(OUT, [(place, byte)])), fault)
+    for count in range(len(OUT)):
+        yield question("section", hexadecimal(OUT[:count]), TOO_SHORT if count < 20 else LENGTH)
+    yield question("section", hexadecimal(turned(OUT, [*UNSAID, (13, 6)])), COMMAND_LENGTH)
+
+
+def longest():
+    """section_length is at most 4093 in what is written; what is read has up to two bytes more."""
+    for length in (4093, 4094, 4095):
+        stuffing = bytes(length - 32)
+        section = bytes([0xFC, 0x30 | length >> 8, length & 0xFF]) + OUT[3:31] + stuffing + bytes(4)
+        fields = f"{OUT_FIELDS} stuffing={hexadecimal(stuffing)}"
+        is_written = length == 4093
+        answer = said(fields, 0, section) if is_written else f"{fields} stated=0 {TOO_LARGE}"
+        yield question("section", hexadecimal(section), answer)
+        yield question("rewritten", hexadecimal(section), hexadecimal(section) if is_written else TOO_LARGE)
+
+
+def checks():
+    # (this file's own register is held against the same values)
+    assert crc_of(b"123456789") == CHECK_VALUE and crc_of(OUT[:31]) == OUT_CRC
+    yield question("crc", b"123456789", CHECK_VALUE)
+    yield question("crc", OUT[:31], OUT_CRC)
+
+
+LINES = [
+    *sections(), *faults(), *(question("section", text, fault) for text, fault in HEXADECIMAL), *longest(), *checks(),
+]
