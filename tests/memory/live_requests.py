@@ -157,6 +157,7 @@ def files_of_decisions():
     yield case("a decision that replaces", DECIDED, decide(X), reply(DONE), later(0))
     yield case("decisions that replace and add", DECIDED, decide(three), reply(DONE), later(0))
     yield case("a decision on a second break", SHOWN, decide(Y), reply(DONE), later(0))
+    yield case("a decision that replaces one of 256", full, decide(decisions(("m7", ["y0"]))), reply(DONE), later(0))
     yield case("a withdrawal", DECIDED, withdraw("b1"), reply(DONE), later(0))
     yield case("a decision after 20,000 spaces", made, decide(" " * 20_000 + AB), reply(DONE), later(0))
     unread, refused = "422 Unprocessable Entity", "409 Conflict"

@@ -26,18 +26,23 @@ def run(program, control, ports, case, times, refusal=None):
     count = len(case.before) + (refusal is not None) + times + (times + 2) * len(case.reads) + len(case.after)
     server = Server(program, control, count, ports)
     try:
-        before = [server.ask(it) for it in case.before]
-        refused, answered = 0, None
-        if refusal:
-            control.refuse(*refusal)
-            answered = server.ask(case.asked, case.is_cut)
-            refused = control.stop()
-        shown = read_all(server, case)
-        asked = [(server.ask(case.asked, case.is_cut), read_all(server, case)) for _ in range(times)]
-        after = [server.ask(it) for it in case.after], read_all(server, case)
-        return Told(before, refused, answered, shown, asked, after, server.end())
-    finally:
+        return told_by(server, control, case, times, refusal)
+    except OSError as e:  # (it ended too early, or doesn't answer)
         server.running.kill()
+        return Told([], control.stop(), None, [], [], ([], []), (f"{type(e).__name__}: {e}", *server.end()))
+
+
+def told_by(server, control, case, times, refusal):
+    before = [server.ask(it) for it in case.before]
+    refused, answered = 0, None
+    if refusal:
+        control.refuse(*refusal)
+        answered = server.ask(case.asked, case.is_cut)
+        refused = control.stop()
+    shown = read_all(server, case)
+    asked = [(server.ask(case.asked, case.is_cut), read_all(server, case)) for _ in range(times)]
+    after = [server.ask(it) for it in case.after], read_all(server, case)
+    return Told(before, refused, answered, shown, asked, after, server.end())
 
 
 class Clean:
@@ -52,7 +57,7 @@ class Clean:
         for times, told in enumerate(self.told):
             if told.ended != (0, b"", case.fault * times):
                 found.append(f"asked {times} times with memory: {told.ended}")
-        if self.told[1].asked[0][0] != case.owed:
+        if not found and self.told[1].asked[0][0] != case.owed:
             found.append(f"with memory: {self.told[1].asked[0][0][:160]}, owed {case.owed[:160]}")
         return found
 
@@ -65,9 +70,11 @@ class Clean:
 def outcome(case, told, times):
     """Whether the request was carried out (1) or refused (0) in the connection that was refused memory, by its reply and
     what was printed of it; or None."""
-    status, out, err = told.ended
+    if told.ended[:2] != (0, b""):
+        return None
+    err = told.ended[2]
     printed, rest = err[:len(err) - len(case.fault) * times], err[len(err) - len(case.fault) * times:]
-    if (status, out, rest) != (0, b"", case.fault * times):
+    if rest != case.fault * times:
         return None
     if (told.reply, printed) == (case.owed, case.fault):
         return 1
@@ -95,7 +102,8 @@ def fault_of(case, clean, told, times):
 def differences(program, control, ports, case, way):
     """How often the connection was refused memory before it was refused none, and what was answered that isn't owed."""
     clean = Clean(program, control, ports, case)
-    found, first, refused = clean.faults(case), 0, 1
+    found = clean.faults(case)
+    first, refused = 0, not found
     while refused:
         first += 1
         for times in (0, 1):
@@ -104,4 +112,4 @@ def differences(program, control, ports, case, way):
             fault = fault_of(case, clean, told, times)
             if fault:
                 found.append(f"allocation {first}{', and again' * times}: {fault}")
-    return first - 1, found
+    return max(0, first - 1), found
