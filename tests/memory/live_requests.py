@@ -150,12 +150,16 @@ def files_of_decisions():
     def pod(*segments):
         return json.dumps({"breaks": [{"id": "b1", "ads": [{"segments": list(segments)}]}]})
 
-    many = json.dumps({"breaks": [{"id": f"m{n}", "ads": [{"segments": [segment]}]} for n in range(256)]})
-    made, full = [*OTHER, make()], [*OTHER, make(), decide(many)]
+    def many(count):
+        return json.dumps({"breaks": [{"id": f"m{n}", "ads": [{"segments": [segment]}]} for n in range(count)]})
+
+    made, full = [*OTHER, make()], [*OTHER, make(), decide(many(256))]
+    growing = decisions(("b1", ["x0"]), *((f"n{number}", ["x0"]) for number in range(3)), ("b2", ["y0"]))
     yield case("a first decision", made, decide(AB), reply(DONE), later(0))
     yield case("a decision of all members", made, decide(rich_pod()), reply(DONE), [show(rich_origin())])
     yield case("a decision that replaces", DECIDED, decide(X), reply(DONE), later(0))
     yield case("decisions that replace and add", DECIDED, decide(three), reply(DONE), later(0))
+    yield case("decisions for which the store grows", [*DECIDED, decide(many(7))], decide(growing), reply(DONE), later(0))
     yield case("a decision on a second break", SHOWN, decide(Y), reply(DONE), later(0))
     yield case("a decision that replaces one of 256", full, decide(decisions(("m7", ["y0"]))), reply(DONE), later(0))
     yield case("a withdrawal", DECIDED, withdraw("b1"), reply(DONE), later(0))
