@@ -1,9 +1,9 @@
 """Runs of the program of crates/live_lines to which memory is refused while a channel takes a refresh or a decision file.
 
 The program reads an event from each line, and prints its answer. It needs memory to read the line, before the channel's
-call, and to print a refused refresh, after it; a line for which it gets none ends it. So one allocation is
-refused, or two in a row (growth asks a second time where it was refused), and a run in which the program ended isn't
-counted: that an allocation was the call's is told by the answer."""
+call, and to print a refused refresh, after it; a line for which it gets none ends it. So one allocation is refused, or
+two in a row (growth asks a second time where it was refused), and a run in which the program ended isn't counted: that
+an allocation was the call's is told by the answer."""
 import os
 import subprocess
 from collections import namedtuple
@@ -114,26 +114,26 @@ def told_refused(program, control, event, times, refusal):
 
 
 def fault_of(event, clean, answer, refused, told, times):
-    """What was answered that isn't owed, or None; and whether the call answered."""
+    """What was answered that isn't owed, or None."""
     if not answer and refused:
-        return (None if told[1] == 1 else f"it ended: {told}"), False
+        return None if told[1] == 1 else f"it ended: {told}"
     done = answer == event.owed
     if not done and not (refused and answer in event.wants):
-        return f"answered {answer}", True
+        return f"answered {answer}"
     owed = clean[done, times]
-    return (None if told == owed else f"answered {answer}, and then {told}, owed {owed}"), True
+    return None if told == owed else f"answered {answer}, and then {told}, owed {owed}"
 
 
 def differences(program, control, event, way):
-    """How often a call was refused memory and answered, before it was refused none; and what isn't owed."""
+    """How many calls answered want of memory before one was refused none, and what was answered that isn't owed."""
     clean = {(asked, times): told_with_memory(program, control, event, asked, times) for asked in (0, 1) for times in (0, 1)}
     found, first, refused, count = [], 0, 1, 0
     while refused:
         first += 1
         for times in (0, 1):
             answer, refused, told = told_refused(program, control, event, times, (first, WAYS[way]))
-            fault, is_answered = fault_of(event, clean, answer, refused, told, times)
+            fault = fault_of(event, clean, answer, refused, told, times)
             if fault:
                 found.append(f"allocation {first}{', and again' * times}: {fault}")
-        count += bool(is_answered and refused)
+        count += answer in event.wants
     return count, found
