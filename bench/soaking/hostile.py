@@ -39,16 +39,17 @@ def no_change(made):
 
 
 def entered_again(times):
-    """A break that is entered so many times, since the times of segments begin again."""
-    ranges = b'#EXT-X-DATERANGE:ID="b1",START-DATE="2024-05-01T12:00:10Z",DURATION=10,SCTE35-OUT=' + large.OUT + b"\n"
-    stated = (b"#EXT-X-PROGRAM-DATE-TIME:2024-05-01T12:00:00Z\n", b"")
-    return large.HEAD + ranges + large.segments(2 * times, lambda n: stated[n % 2])
+    """Two breaks that are entered in turns, so many times in all: the times of each three segments begin again."""
+    begins = [b"2024-05-01T12:00:%d0Z" % n for n in (1, 2, 3)]
+    ranges = b"".join(b'#EXT-X-DATERANGE:ID="b%d",START-DATE="%s",DURATION=10,SCTE35-OUT=%s\n' % (n, begins[n], large.OUT) for n in range(2))
+    return large.HEAD + ranges + large.segments(3 * times // 2, lambda n: b"#EXT-X-PROGRAM-DATE-TIME:%s\n" % begins[n % 3])
 
 
-def longest_pod(segments, length):
-    """A decision file with one pod, of segments with URIs of so many bytes."""
+def pods(segments, length):
+    """A decision file with a pod for each of the two, of segments with URIs of so many bytes."""
     segment = {"uri": "http://ads.example/" + "a" * length, "duration": "1"}
-    return json.dumps({"breaks": [{"id": "b1", "ads": [{"segments": [segment] * segments}]}]}).encode()
+    ads = [{"segments": [segment] * segments}]
+    return json.dumps({"breaks": [{"id": f"b{n}", "ads": ads} for n in range(2)]}).encode()
 
 
 # What is pushed: its name, the decisions before it (or None), the playlist (or None), and whether it is tried without a limit.
@@ -65,9 +66,9 @@ CASES = [
     ("one key with a URI of 100 KB, 10,000 segments", None, lambda: under_one_key(100_000), True),
     ("one key with a URI of 1 MB, 10,000 segments", None, lambda: under_one_key(1_000_000), False),
     ("one key with a URI that fills 4 MiB, 10,000 segments", None, longest_key, False),
-    ("a break entered 100 times, with a pod of 500 segments", longest_pod(500, 40), lambda: entered_again(100), True),
-    ("a break entered 5,000 times, with a pod of 500 segments", longest_pod(500, 40), lambda: entered_again(5000), True),
-    ("a break entered 5,000 times, with a pod of 4 MB", longest_pod(500, 8_000), lambda: entered_again(5000), False),
+    ("breaks entered 100 times, pods of 500 segments", pods(500, 40), lambda: entered_again(100), True),
+    ("breaks entered 6,666 times, pods of 500 segments", pods(500, 40), lambda: entered_again(6666), True),
+    ("breaks entered 6,666 times, pods of 2 MB each", pods(500, 4_000), lambda: entered_again(6666), False),
     ("a decision file of 4 MiB of [", b"[" * large.MOST_BYTES, None, True),
     ("a decision file of 100 breaks with 500 ads each", no_change(large.many_ads), None, True),
 ]
