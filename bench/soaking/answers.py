@@ -1,4 +1,5 @@
-"""The answers that may be given, by name (docs/OPERATING.md has them all), and what has to hold between the answers of an input.
+"""The answers that may be given, by name (docs/OPERATING.md has them all), and what has to hold between the answers of an
+input.
 
 Want of memory is none of them: nothing refuses memory here.
 """
@@ -18,7 +19,8 @@ WORDS = "Filled|NoStart|NotSignalled|NotDecided|DoesNotFit|Waiting"
 READ_REFUSAL = rf"({PLAYLIST_FAULTS})( line [0-9]+)?"
 REFUSED = {
     400: "bad request", 404: "not found", 405: "method not allowed", 411: "length required", 413: "too large",
-    409: f"channel exists|{SUCCESSION_FAULTS}|{STORE_FAULTS}", 422: f"{READ_REFUSAL}|({FILE_FAULTS}){PLACE}|C1 BadBase|C2 BadTolerance",
+    409: f"channel exists|{SUCCESSION_FAULTS}|{STORE_FAULTS}",
+    422: f"{READ_REFUSAL}|({FILE_FAULTS}){PLACE}|C1 BadBase|C2 BadTolerance",
 }
 
 
@@ -26,8 +28,8 @@ def whole(pattern):
     return re.compile(pattern.encode(), re.DOTALL)
 
 
-FIELDS = (r"pts_adjustment=\d+ cw=\d+ tier=\d+ (command=\d+|event=\d+ (cancelled|out=[01] immediate=[01]( program| component=\d+| pts=\d+)*"
-          r"( auto=[01] ticks=\d+)? upid=\d+ avail=\d+ avails=\d+))")
+FIELDS = (r"pts_adjustment=\d+ cw=\d+ tier=\d+ (command=\d+|event=\d+ (cancelled|out=[01] immediate=[01]"
+          r"( program| component=\d+| pts=\d+)*( auto=[01] ticks=\d+)? upid=\d+ avail=\d+ avails=\d+))")
 NAMED = {
     b"channel": whole("ok\n"),
     b"decide": whole(f"(ok|({FILE_FAULTS}){PLACE}|{STORE_FAULTS})\n"),

@@ -22,6 +22,8 @@ STEADY = ("edge", "one_channel", "section_fields")
 GROWTH = 1 << 20  # bytes by which the last tenth's resident memory may be above the first one's
 LINE = 400  # bytes: what a line costs beside its own bytes and those of its answer
 SLOWEST = 50  # times the median cost of a byte, at most
+# Large inputs are held against the median of small ones of their kind, so that a time that isn't linear is seen.
+SMALL = {"large": "playlist", "large on an edge": "pushed"}
 TRIES = 5  # of an input that was slow; the least counts
 KEPT = 20  # of the slowest inputs of each kind
 SAMPLE = 100  # one decision file of so many goes to decision_lines too, which takes one file in a process
@@ -148,11 +150,12 @@ def least_cost(seed, number, programs, seeds):
 def time_checks(seed, programs, seen):
     """The slowest inputs of each kind, asked again, beside the median."""
     seeds = Seeds()
+    medians = {kind: statistics.median(costs) for kind, costs in seen.costs.items()}
     for kind, slowest in seen.slowest.items():
-        median = statistics.median(seen.costs[kind])
         again = max((min(cost, least_cost(seed, number, programs, seeds)), number) for cost, number in slowest)
-        print(f"{kind}: {len(seen.costs[kind])} inputs, {median:.1f} ns a byte at the median; the slowest, input {again[1]}, "
-              f"{again[0]:.1f} ({max(slowest)[0]:.1f} at first)")
+        print(f"{kind}: {len(seen.costs[kind])} inputs, {medians[kind]:.1f} ns a byte at the median; the slowest, input "
+              f"{again[1]}, {again[0]:.1f} ({max(slowest)[0]:.1f} at first)")
+        median = medians.get(SMALL.get(kind, kind), medians[kind])
         yield f"{kind}: the slowest takes at most {SLOWEST} times the median", again[0] <= SLOWEST * median
 
 
@@ -179,7 +182,8 @@ def main(folder, seconds=None, seed=USUAL_SEED):
     print(f"seed {seed}", flush=True)
     begun = time.monotonic()
     count = give_all(seed, USUAL_SECONDS if seconds is None else seconds, programs, seen)
-    print(f"{count} inputs in {time.monotonic() - begun:.0f} s, {programs.started} processes, {seen.files} files to decision_lines")
+    print(f"{count} inputs in {time.monotonic() - begun:.0f} s, {programs.started} processes, "
+          f"{seen.files} files to decision_lines")
     print_names(seen)
     checks = [*memory_checks(seen), *time_checks(seed, programs, seen)]
     for told in programs.end_all():

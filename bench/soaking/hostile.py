@@ -41,7 +41,8 @@ def no_change(made):
 def entered_again(times):
     """Two breaks that are entered in turns, so many times in all: the times of each three segments begin again."""
     begins = [b"2024-05-01T12:00:%d0Z" % n for n in (1, 2, 3)]
-    ranges = b"".join(b'#EXT-X-DATERANGE:ID="b%d",START-DATE="%s",DURATION=10,SCTE35-OUT=%s\n' % (n, begins[n], large.OUT) for n in range(2))
+    ranges = b"".join(b'#EXT-X-DATERANGE:ID="b%d",START-DATE="%s",DURATION=10,SCTE35-OUT=%s\n' % (n, begins[n], large.OUT)
+                      for n in range(2))
     return large.HEAD + ranges + large.segments(3 * times // 2, lambda n: b"#EXT-X-PROGRAM-DATE-TIME:%s\n" % begins[n % 3])
 
 
@@ -106,8 +107,8 @@ def pushed(program, decided, text, room):
         is_refused = any(found[9:10] != b"2" for found, _ in replies)
         kept = is_as_it_was(server, before) if is_refused else None
         told = ", ".join(server.told())
-        return (" and ".join(status_of(found) for found, _ in replies) + (f" ({told})" if told else ""), sum(took for _, took in replies),
-                len(reply), seconds, server.most_memory(), kept)
+        status = " and ".join(status_of(found) for found, _ in replies) + (f" ({told})" if told else "")
+        return status, sum(took for _, took in replies), len(reply), seconds, server.most_memory(), kept
     finally:
         server.stop()
 

@@ -2,6 +2,7 @@
 
 An input depends on the seed and its number alone, so that each can be made again and given alone.
 """
+import re
 from collections import namedtuple
 from random import Random
 
@@ -13,8 +14,9 @@ from seeds import CHANNEL
 BASE = b"http://origin.example/ch/index.m3u8"
 BODY = b'{"base":"' + BASE + b'"}'
 CHANNEL_LINE = b"channel 100000000 " + BASE
-SETTLED = 5000  # one input of so many is a large one
-GENERAL = 4  # of how many lists of attributes one is changed as bytes
+LARGE_EVERY = 5000  # one input of so many is a large one
+
+LENGTH = re.compile(rb"(content-length:[ \t]*)\d+", re.IGNORECASE)
 
 # `asked`: the lines; `at`: the place of the changed one.
 Input = namedtuple("Input", "kind program asked at")
@@ -83,7 +85,7 @@ def with_length(rng, request):
     head, gap, body = request.partition(b"\r\n\r\n")
     if not gap or not body or rng.random() < 0.3:
         return request
-    return changes.re.sub(rb"(?i)(content-length:[ \t]*)\d+", lambda it: it[1] + b"%d" % len(body), head, count=1) + gap + body
+    return LENGTH.sub(lambda it: it[1] + b"%d" % len(body), head, count=1) + gap + body
 
 
 def changed_request(rng, seeds):
@@ -199,19 +201,20 @@ KINDS = [playlist] * 4 + [attributes] * 3 + [one_channel] * 2 + [decisions] * 3 
 def input_of(seed, number, seeds):
     """The input of this number."""
     rng = Random(seed << 40 | number)
-    if number % SETTLED == SETTLED - 1:
-        return large(rng, number // SETTLED, seeds)
+    if number % LARGE_EVERY == LARGE_EVERY - 1:
+        return large(rng, number // LARGE_EVERY)
     return KINDS[number % len(KINDS)](rng, seeds)
 
 
-def large(rng, turn, seeds):
+def large(rng, turn):
     """A text as large as it may be, or a little larger, with a change or none."""
     word, made = LARGE[turn % len(LARGE)]
     text = made(rng)
     if rng.random() < 0.5:
-        text = changes.number(rng, text, ()) if rng.random() < 0.3 else rng.choice((changes.flip, changes.cut, changes.put_byte))(rng, text, ())
+        change = rng.choice((changes.flip, changes.cut, changes.put_byte, changes.number))
+        text = change(rng, text, ())
     if rng.random() < 0.5:
         target = b"/channels/a/decisions" if word == b"decide" else b"/channels/a/origin"
-        found = on_edge("large", rng, (None, None, b""), b"a", put(target, text))
-        return found
-    return Input("large", "large", [CHANNEL_LINE, b"playlist", word + b" " + escaped(text), b"playlist", b"known"], 2)
+        return on_edge("large on an edge", rng, (None, None, b""), b"a", put(target, text))
+    asked = [CHANNEL_LINE, b"playlist", word + b" " + escaped(text), b"playlist", b"known"]
+    return Input("large", "large", asked, 2)

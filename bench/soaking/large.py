@@ -75,7 +75,8 @@ def discontinuities(rng):
 
 def many_breaks(rng):
     segment = {"uri": "http://ads.example/a.ts", "duration": "1"}
-    breaks = [{"id": f"b{n}", "ads": [{"segments": [segment] * rng.choice((1, 50))}]} for n in range(rng.choice((256, 257, 2000)))]
+    ads = [{"segments": [segment] * rng.choice((1, 50))}]
+    breaks = [{"id": f"b{n}", "ads": ads} for n in range(rng.choice((256, 257, 2000)))]
     return json.dumps({"breaks": breaks}).encode()
 
 

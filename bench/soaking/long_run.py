@@ -13,9 +13,10 @@ CHANNELS = 64
 PACKAGERS, READERS, FLOODERS = 8, 8, 2  # threads
 USUAL_SECONDS = 600
 DEADLINE = 10  # seconds that a rude client may hold the server
-SLOWEST = DEADLINE + 1  # of a good request: what is read away behind a rude one, and the others' own time, are beside the deadline
+# Of a good request: what is read away behind a rude one, and the others' own time, are beside the deadline.
+SLOWEST = DEADLINE + 1
 PAUSE = 20  # seconds from one client that holds the server to the next
-LINGERERS = 3  # clients at once that don't close behind their reply, each of which holds the server for a quarter of a second
+LINGERERS = 3  # clients at once that don't close behind their reply: each holds the server for a quarter of a second
 GROWTH = 512 << 10  # bytes by which resident memory may be above that of the first minute
 EVERY, RUN = 20, 3  # segments from break to break, and within one
 PODS = (["a0", "a1"], ["x0"], ["a0", "a1", "x0"])
@@ -156,7 +157,8 @@ def linger(server, rng):
 
 def goes_away(server, rng):
     it = server.connect()
-    is_sent(it, rng.choice((b"", b"GET /cha", get(b"/channels/c3/live.m3u8"), put(b"/channels/c3/origin", b"x" * 100_000)[:50_000])))
+    half = put(b"/channels/c3/origin", b"x" * 100_000)[:50_000]
+    is_sent(it, rng.choice((b"", b"GET /cha", get(b"/channels/c3/live.m3u8"), half)))
     reset(it)
     return "reset"
 
@@ -234,8 +236,8 @@ def checks(both, done, memory, failed, seconds):
     early, late = mean_memory(memory, first - 5, first + 5), mean_memory(memory, seconds - 10, seconds)
     print(f"{len(times)} good requests: {dict(both.count)}")
     print(f"rude clients: {dict(done)}; standard error: {dict(Counter(both.crowded.told()))}")
-    print(f"a good request took {statistics.median(times) * 1000:.2f} ms at the median, {times[len(times) * 99 // 100] * 1000:.1f} ms at the "
-          f"99th of a hundred, {times[-1]:.2f} s at most")
+    print(f"a good request took {statistics.median(times) * 1000:.2f} ms at the median, "
+          f"{times[len(times) * 99 // 100] * 1000:.1f} ms at the 99th of a hundred, {times[-1]:.2f} s at most")
     print(f"resident memory: {early / 1024:.0f} KiB about second {first:.0f}, {late / 1024:.0f} KiB at the end")
     for request, found, owed in both.wrong[:10]:
         print(f"{request!r}: {found!r}, owed {owed!r}")
