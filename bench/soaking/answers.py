@@ -8,8 +8,8 @@ import re
 PLAYLIST_FAULTS = """P1 NotUtf8|P2 TooLong|P3 NoHeader|P4 Control|P5 BadVersion|P6 Version|P7 Repeated|P8 Misplaced|P9 BadValue
 P10 BadDuration|P11 BadAttributes|P12 MissingAttribute|P13 BadRange|P14 RangeNoStart|P15 BadTime|P16 BadUri|P17 NoDuration
 P18 NoTarget|P19 MasterPlaylist|P20 IFramesOnly|P21 NoSegments|P22 MixedMaps|P23 MapWithoutIv|P24 TooMany""".replace("\n", "|")
-SUCCESSION_FAULTS = ("N1 VersionChanged|N2 TargetChanged|N3 TypeChanged|N4 MapsChanged|N5 Back|N6 Gap|N7 Shrunk|N8 Changed [0-9]+|N9 Ended"
-                     "|N10 NumberRange")
+SUCCESSION_FAULTS = ("N1 VersionChanged|N2 TargetChanged|N3 TypeChanged|N4 MapsChanged|N5 Back|N6 Gap|N7 Shrunk"
+                     "|N8 Changed [0-9]+|N9 Ended|N10 NumberRange")
 FILE_FAULTS = "J1 NotJson|J2 Shape|J3 BadUri|J4 BadDuration|J5 BadKey|J6 EmptyPod|J7 TooMany"
 STORE_FAULTS = "J9 Used|J10 Full|J11 Unknown"
 PLACE = "( break [0-9]+( ad [0-9]+( segment [0-9]+)?)?)?"

@@ -158,7 +158,8 @@ def serve(request, devices=b"8192 0 65536 0"):
 
 
 def devices_of(rng, length):
-    """How many bytes a call moves, and which one fails. Few bytes are left to short ones, since a head is looked at anew with each read."""
+    """How many bytes a call moves, and which one fails. Few bytes are left to short requests, since a head is looked at anew
+    with each read."""
     read = rng.choice((8192, 8192, 100, 7, 1) if length < 400 else (8192, 4096, 1000))
     failing = rng.randrange(1, 5) if rng.random() < 0.1 else 0
     write = rng.choice((65536, 65536, 1000, 10))
