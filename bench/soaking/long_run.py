@@ -163,7 +163,8 @@ def goes_away(server, rng):
     return "reset"
 
 
-BAD = (b"\r\n\r\n", b"GET / HTTP/9.9\r\n\r\n", b"\x16\x03\x01\x02\x00" + bytes(300), b"PUT /channels/c4/origin HTTP/1.1\r\n\r\n",
+# (each is refused at once: empty lines alone would be the front of a request, and hold the server)
+BAD = (b"\r\n\r\nGET\r\n\r\n", b"GET / HTTP/9.9\r\n\r\n", b"\x16\x03\x01\x02\x00" + bytes(300), b"PUT /channels/c4/origin HTTP/1.1\r\n\r\n",
        b"GET /" + b"a" * 20_000, b"GET /channels/nobody/live.m3u8 HTTP/1.1\r\n\r\n", b"A: b\r\n" * 100 + b"\r\n",
        put(b"/channels/c4", b"x"), put(b"/channels/C4", BODY), put(b"/channels/c4/origin", b"#EXTM3U\n" + b"\n" * 50_000),
        put(b"/channels/c4/origin", b"#EXTM3U\n#EXT-X-TARGETDURATION:10\ns.ts\n"),
