@@ -124,7 +124,7 @@ def give_all(seed, seconds, programs, seen):
         if number % (MOST // PARTS) == 0 and number:
             print(f"{number} inputs, {passed:.0f} s", flush=True)
         if number % 200 == 199:
-            seen.sample(number * PARTS // MOST, programs)
+            seen.sample(int(PARTS * max(number / MOST, passed / seconds)), programs)
         input = input_of(seed, number, seeds)
         answers, found, cost = programs.ask(input)
         if found:
