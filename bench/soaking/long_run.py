@@ -6,7 +6,7 @@ import threading
 import time
 from collections import Counter
 
-from servers import BODY, Server, get, is_sent, program_of, put, reset, run_live
+from servers import BODY, Server, get, is_sent, program_of, put, read_all, reset
 from playlists import daterange, decisions, instant, origin_text
 
 CHANNELS = 64
@@ -121,7 +121,7 @@ def reader(both, seed, until):
 
 def stays_silent(server, rng):
     with server.connect() as it:
-        run_live.read_all(it)
+        read_all(it)
     return "silent"
 
 
@@ -130,7 +130,7 @@ def sends_half(server, rng):
                        b"PUT /channels/c1/origin HTTP/1.1\r\nContent-Length: 4194304\r\n\r\n#EXTM3U\n"))
     with server.connect() as it:
         is_sent(it, text)
-        run_live.read_all(it)
+        read_all(it)
     return "half a request"
 
 
@@ -140,7 +140,7 @@ def sends_slowly(server, rng):
             if not is_sent(it, bytes([byte])):
                 break
             time.sleep(0.1)
-        run_live.read_all(it)
+        read_all(it)
     return "a byte at a time"
 
 

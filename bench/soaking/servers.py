@@ -56,6 +56,12 @@ class Server(run_live.Server):
         self.running = subprocess.Popen([program, "live", str(self.port), str(MOST_CONNECTIONS)], stdin=subprocess.DEVNULL,
                                         stdout=subprocess.DEVNULL, stderr=self.faults, preexec_fn=limit)
 
+    def ask(self, request):
+        """What the server answers to these bytes, which may be very long, up to the end of the connection."""
+        with self.connect() as it:
+            is_sent(it, request)
+            return read_all(it)
+
     def timed(self, request):
         """A reply, and the seconds that it took from the first step to connect on."""
         begun = time.monotonic()
@@ -87,6 +93,18 @@ def is_sent(it, text):
         return True
     except OSError:
         return False
+
+
+def read_all(it):
+    found = []
+    while True:
+        try:
+            some = it.recv(1 << 20)
+        except ConnectionResetError:
+            some = b""
+        if not some:
+            return b"".join(found)
+        found.append(some)
 
 
 def reset(it):
