@@ -6,6 +6,7 @@ from random import Random
 import large
 from servers import BODY, Server, get, program_of, put, run_live
 
+run_live.SECONDS = 600  # for one connection: the longest texts take their time
 GIB = 1 << 30
 LIMIT = 2 * GIB  # what the unit of systemd has
 ROUTE = b"/channels/news"
