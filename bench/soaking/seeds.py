@@ -1,0 +1,87 @@
+"""The good ones that inputs are changed from: what the repository's own tests give to the programs."""
+import base64
+import json
+import re
+from pathlib import Path
+from random import Random
+
+TOP = Path(__file__).resolve().parent.parent.parent
+VECTORS = TOP / "tests/vectors"
+CHANNEL = re.compile(rb"/channels/([a-z0-9-]{1,32})[/ ]")
+
+
+def unescaped(text):
+    """The bytes that a BODY of the program live_lines stands for."""
+    named = {"n": b"\n", "r": b"\r", "\\": b"\\"}
+    found = []
+    for part in re.findall(r"\\x[0-9a-f]{2}|\\.|[^\\]+", text):
+        if part.startswith("\\x") and len(part) == 4:
+            found.append(bytes.fromhex(part[2:]))
+        elif part.startswith("\\"):
+            found.append(named.get(part[1], part[1:].encode()))
+        else:
+            found.append(part.encode())
+    return b"".join(found)
+
+
+def vectors(name):
+    return [json.loads(line) for line in (VECTORS / f"{name}.jsonl").read_text().splitlines()]
+
+
+def steps_of_vectors():
+    """Decisions (or None) and a playlist, for each accepted run of `vod`; no refresh comes before it."""
+    for name in ("plain", "full", "times", "worked", "breaks"):
+        for vector in vectors(name):
+            if vector["status"] == 0 and "stdin" in vector:
+                decided = vector.get("decisions")
+                yield (base64.b64decode(decided) if decided else None), None, base64.b64decode(vector["stdin"])
+
+
+def steps_of_channels():
+    """Decisions (or None), a refresh and the one after it, from the stored events of live channels."""
+    decided, before = None, None
+    for line in (TOP / "crates/live_lines/stdin").read_text().splitlines():
+        word, _, rest = line.partition(" ")
+        if word == "channel":
+            decided, before = None, None
+        elif word == "decide":
+            decided = unescaped(rest)
+        elif word == "refresh":
+            body = unescaped(rest)
+            if body.startswith(b"#EXTM3U"):
+                yield decided, before, body
+                before = body
+
+
+def requests():
+    for name in ("http", "live"):
+        for vector in vectors(name):
+            for connection in vector["connections"]:
+                yield base64.b64decode(connection["request"])
+
+
+def some(found, most):
+    """At most so many, evenly from all; texts of more than 20 KB are left to the large inputs."""
+    def length(it):
+        return sum(len(part or b"") for part in it) if isinstance(it, tuple) else len(it)
+
+    small = [it for it in found if length(it) <= 20_000]
+    return Random(0).sample(small, most) if len(small) > most else small
+
+
+class Seeds:
+    """All good ones, by kind."""
+
+    def __init__(self):
+        vod, live = list(steps_of_vectors()), list(steps_of_channels())
+        self.steps = some(vod, 1500) + some(live, 1500)
+        self.playlists = [step[2] for step in self.steps]
+        decided = {step[0] for step in vod + live if step[0]}
+        decided.add((TOP / "crates/decision_lines/stdin").read_bytes())
+        decided.add((TOP / "examples/vod/decisions.json").read_bytes())
+        self.decisions = some(sorted(decided), 1000)
+        self.sections = (TOP / "crates/section_fields/stdin").read_text().split()
+        self.requests = [it for it in some(sorted(set(requests())), 3000) if CHANNEL.search(it)]
+        for kind, found in vars(self).items():
+            if not found:
+                raise SystemExit(f"bench/soak: no seeds of the kind {kind}")
