@@ -18,7 +18,7 @@ PARTS = 10  # of a run, for what memory is held
 # A process to which channels are added is ended after so many inputs, since the program keeps all that it made.
 LIVES = {"live_lines": 500, "large": 1}
 # These live for the whole run, and keep one channel, or none that isn't asked for.
-STEADY = ("edge", "one_channel", "section_fields")
+STEADY = ("edge", "one_channel", "text_lines")
 GROWTH = 1 << 20  # bytes by which the last tenth's resident memory may be above the first one's
 LINE = 400  # bytes: what a line costs beside its own bytes and those of its answer
 SLOWEST = 50  # times the median cost of a byte, at most
@@ -36,13 +36,13 @@ class Programs:
     """The processes that inputs are given to, each started when it is wanted."""
 
     def __init__(self, folder):
-        self.paths = {name: built(name, folder) for name in ("live_lines", "section_fields", "decision_lines")}
+        self.paths = {name: built(name, folder) for name in ("live_lines", "text_lines", "decision_lines")}
         self.running, self.started = {}, 0
         self.shown = None  # by the one channel
 
     def process(self, program):
         if program not in self.running:
-            is_marked = program != "section_fields"
+            is_marked = program != "text_lines"
             self.running[program] = Lines(self.paths["live_lines" if is_marked else program], is_marked)
             self.started += 1
             if program == "one_channel":

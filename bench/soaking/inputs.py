@@ -142,7 +142,7 @@ def decisions(rng, seeds):
 
 
 def section(rng, seeds):
-    return Input("section", "section_fields", [changed_section(rng, seeds)], 0)
+    return Input("section", "text_lines", [b"section " + escaped(changed_section(rng, seeds))], 0)
 
 
 def put(target, body):

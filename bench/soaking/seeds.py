@@ -80,7 +80,7 @@ class Seeds:
         decided.add((TOP / "crates/decision_lines/stdin").read_bytes())
         decided.add((TOP / "examples/vod/decisions.json").read_bytes())
         self.decisions = some(sorted(decided), 1000)
-        self.sections = (TOP / "crates/section_fields/stdin").read_text().split()
+        self.sections = ["0x" + json.loads(line)["hex"] for line in (TOP / "tests/sections/sections.jsonl").open()]
         self.requests = [it for it in some(sorted(set(requests())), 3000) if CHANNEL.search(it)]
         for kind, found in vars(self).items():
             if not found:
