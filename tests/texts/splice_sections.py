@@ -43,6 +43,21 @@ UNSAID = [(11, 0xFF), (12, 0xFF)]
 # Reserved bits are ignored.
 RESERVED = [(1, 0xC0), (4, 0x7E), (18, 0), (19, 0xF0), (20, 0x80)]
 
+# Values by their words, where some have no section: a number is too wide for its field of 33 or 12 bits, a time is there
+# where the splice is immediate or is none where it isn't, there are more than 255 components, or the type of splice_insert
+# stands at another command.
+WHOLE = 2**33
+TAKEN, REFUSED = "written written", f"{TOO_LARGE} {TOO_LARGE}"
+VALUES = [
+    ("program", f"timed {WHOLE - 1} 0", TAKEN), ("program", f"timed {WHOLE} 0", REFUSED), ("program", "immediate 0 0", REFUSED),
+    ("program", "timed none 0", REFUSED), ("program", f"immediate none {WHOLE - 1}", TAKEN),
+    ("program", f"immediate none {WHOLE}", REFUSED),
+    ("components", "immediate none 255", TAKEN), ("components", "immediate none 256", REFUSED),
+    ("components", "timed none 1", REFUSED), ("components", "immediate 0 1", REFUSED), ("components", f"timed {WHOLE} 2", REFUSED),
+    ("heading", f"{WHOLE - 1} {0xFFF}", TAKEN), ("heading", f"{WHOLE} {0xFFF}", REFUSED), ("heading", f"{WHOLE - 1} {0x1000}", REFUSED),
+    ("command", "5", REFUSED), ("command", "6", TAKEN),
+]
+
 HEXADECIMAL = [
     ("", NOT_HEX), ("0", NOT_HEX), ("FC", NOT_HEX), ("1xFC", NOT_HEX), ("0yFC", NOT_HEX), ("0xF", NOT_HEX), ("0xFG", NOT_HEX),
     ("0x FC", NOT_HEX), ("0x", TOO_SHORT), ("0xFC", TOO_SHORT),
@@ -123,4 +138,5 @@ def checks():
 
 LINES = [
     *sections(), *faults(), *(question("section", text, fault) for text, fault in HEXADECIMAL), *longest(), *checks(),
+    *(question(word, words, answer) for word, words, answer in VALUES), ("memory", "A7 OutOfMemory S8 OutOfMemory"),
 ]

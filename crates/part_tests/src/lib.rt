@@ -1,4 +1,4 @@
-//! Tests of playlists' values, of devices and of key tags: what no clause says, and each public call once.
+//! Tests of playlists' values, of devices, of key tags and of the store of pods: what no clause says, and each public call once.
 #![tactic(auto)]
 
 #[cfg(test)]
@@ -10,3 +10,5 @@ pub mod made;
 mod meaning;
 #[cfg(test)]
 mod moving_devices;
+#[cfg(test)]
+mod stores;

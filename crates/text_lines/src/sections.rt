@@ -22,14 +22,15 @@ pub fn section_line(alloc: Global, hex: &str) -> Result<String, AllocError> {
     Ok(line)
 }
 
-/// The section that is read and written again with the CRC_32 that it states, or the fault of either.
+/// The section that is read, copied and written again with the CRC_32 that it states, or the fault of either.
 pub fn rewritten_line(alloc: Global, hex: &str) -> Result<String, AllocError> {
     let info = match read_hex(alloc, hex) {
         Ok(info) => info,
         Err(fault) => return format!(in alloc; "{fault}"),
     };
+    let copy = info.clone()?;
     let mut line = String::new(alloc);
-    match write(alloc, &info) {
+    match write(alloc, &copy) {
         Ok(bytes) => push_bytes(&mut line, bytes.as_slice())?,
         Err(fault) => write!(line, "{fault}")?,
     }
