@@ -1,1 +1,12 @@
+use Rattle.std.proofs.Common.{subst}
+use Rattle.one_playlist.specs.Given.{Refreshes}
+use Rattle.one_playlist.proofs.WholeRun.{on_ok}
 use Rattle.one_playlist.proofs.run.refresh_from.Goals as goal
+
+pub returns-clause-ok : goal.returns-clause-ok
+returns-clause-ok g c =
+    on_ok c.refresh.result c.refresh.ensures.ok (λ refreshed. record {
+      input = c.in_ok-input.input.items;
+      given = c.in_ok-input.ensures.ok;
+      refreshed = subst (λ bytes. Refreshes c.args.channel.now bytes c.refresh.new.channel) c.as_slice.ensures.value refreshed;
+    })
