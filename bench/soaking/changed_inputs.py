@@ -1,5 +1,6 @@
 """A run over changed inputs: which process each goes to, what is checked of it, and what is told of all."""
 import heapq
+import os
 import re
 import statistics
 import subprocess
@@ -37,6 +38,7 @@ class Programs:
 
     def __init__(self, folder):
         self.paths = {name: built(name, folder) for name in ("live_lines", "text_lines", "decision_lines")}
+        self.has_files = os.path.exists(self.paths["decision_lines"])
         self.running, self.started = {}, 0
         self.shown = None  # by the one channel
 
@@ -132,7 +134,7 @@ def give_all(seed, seconds, programs, seen):
         if answers is None:
             continue
         seen.note(number, input, answers, cost)
-        if input.kind == "decisions" and len(seen.costs["decisions"]) % SAMPLE == 0:
+        if input.kind == "decisions" and len(seen.costs["decisions"]) % SAMPLE == 0 and programs.has_files:
             seen.files += 1
             found = programs.file_complaint(input, answers)
             if found:
@@ -179,7 +181,7 @@ def print_names(seen):
 
 def main(folder, seconds=None, seed=USUAL_SEED):
     programs, seen = Programs(folder), Seen()
-    print(f"seed {seed}", flush=True)
+    print(f"seed {seed}" + ("" if programs.has_files else "; decision_lines isn't there, and is left out"), flush=True)
     begun = time.monotonic()
     count = give_all(seed, USUAL_SECONDS if seconds is None else seconds, programs, seen)
     print(f"{count} inputs in {time.monotonic() - begun:.0f} s, {programs.started} processes, "

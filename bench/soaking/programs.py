@@ -9,7 +9,7 @@ from pathlib import Path
 TOP = Path(__file__).resolve().parent.parent.parent
 MARK = b"no event\n"  # what a line that is no event is answered; no answer has such a line
 MARKS = re.compile(rb"^no event\n", re.MULTILINE)
-SECONDS = 120  # for one input
+SECONDS = 120  # for one input, and for the end of a process
 
 
 class Died(Exception):
@@ -93,10 +93,10 @@ class Lines:
         """Ends its input, and tells how it ended, or nothing where it ended well."""
         self.running.stdin.close()
         try:
-            status = self.running.wait(10)
+            status = self.running.wait(SECONDS)
         except subprocess.TimeoutExpired:
             self.running.kill()
-            status = self.running.wait()
+            return f"it doesn't end, {SECONDS} s after its input did (status {self.running.wait()})"
         errors = self.running.stderr.read()
         self.running.stdout.close()
         self.running.stderr.close()
