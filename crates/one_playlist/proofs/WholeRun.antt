@@ -18,9 +18,9 @@ use Rattle.live_counters.specs.Channel.{Channel, Given, readable, refreshed, tol
 use Rattle.live_counters.proofs.Steps.{channel_writes}
 use Rattle.one_playlist.specs.declared.run.TheConstants.{TOLERANCE}
 use Rattle.one_playlist.specs.declared.fault.VodFault.{VodFault}
-use Rattle.one_playlist.specs.declared.fault.VodFault.TheVariants.{BadBase, Decision, Playlist as PlaylistOf, NumberRange, Read, TooManyReads, Write, OutOfMemory}
-use Rattle.one_playlist.specs.Given.{IsNew, given_by, HasDecided, IsDecided, IsOfBeginning, IsRefreshed, PassesItsRange, RefreshesFrom, RefusesInput, RefusesFrom}
-use Rattle.one_playlist.specs.Events.{RefusesDecisions, events_of}
+use Rattle.one_playlist.specs.declared.fault.VodFault.TheVariants.{Playlist as PlaylistOf, NumberRange, Read, TooManyReads, Write, OutOfMemory}
+use Rattle.one_playlist.specs.Given.{given_by, IsDecided, IsRefreshed, PassesItsRange, RefreshesFrom, RefusesInput, RefusesFrom}
+use Rattle.one_playlist.specs.Events.{events_of}
 use Rattle.one_playlist.specs.Runs.{IsFairToSource, IsFairToSink}
 use Rattle.one_playlist.specs.Vod.{told_with, IsInOrder, IsOfVod, HasRead, HasJudged, Writes, WritesFront}
 
@@ -106,26 +106,6 @@ module _ (base : List ℕ) (file : Option (List ℕ)) (c : Channel) (d : IsDecid
         let range : PassesItsRange c refused.input (given_by file) = refused.refused file d.stands in
         judged old new refused.input refused.given range.playlist range.read (Some PassesRange) range.refused
 
--- ---- the base and the decision file
-
-pub is_decided : (text : List ℕ) (file : Option (List ℕ)) (made c : Channel) → IsNew text made → HasDecided file made c → IsDecided text file c
-is_decided text file made c n d = record { base = n.base ∙ ap Some (sym d.base); tolerance = d.tolerance ∙ n.tolerance; said = d.said; stands = d.stands }
-
-pub no_base : (e : VodFault) (base : List ℕ) (file : Option (List ℕ)) → (e ≢ OutOfMemory → (e ≡ BadBase) × (base_of base ≡ None)) → IsInOrder e base file × IsOfBeginning e
-no_base OutOfMemory base file h = (tt, tt)
-no_base BadBase base file h = ((h (λ same. absurd (cc))).1, tt)
-no_base (Decision fault) base file h = let is = (h (λ same. absurd (cc))).0 in absurd (cc)
-no_base (PlaylistOf fault) base file h = let is = (h (λ same. absurd (cc))).0 in absurd (cc)
-no_base NumberRange base file h = let is = (h (λ same. absurd (cc))).0 in absurd (cc)
-no_base Read base file h = let is = (h (λ same. absurd (cc))).0 in absurd (cc)
-no_base TooManyReads base file h = let is = (h (λ same. absurd (cc))).0 in absurd (cc)
-no_base Write base file h = let is = (h (λ same. absurd (cc))).0 in absurd (cc)
-
-pub no_decisions : (e : VodFault) (base : List ℕ) (file : Option (List ℕ)) → IsSome (base_of base) → RefusesDecisions e (events_of file) → IsInOrder e base file × IsOfBeginning e
-no_decisions (Decision fault) base file b h = ((b, h), tt)
-no_decisions OutOfMemory base file b h = (tt, tt)
-no_decisions _ base file b h = absurd h
-
 -- ---- faults that are handed on
 
 pub handed_on : {A : Type 0} (r : Result A VodFault) (e : VodFault) (P : VodFault → Type 0) → IsErrAnd r (λ d. d ≡ e) → P e → IfErr r P
@@ -136,32 +116,32 @@ pub of_writing : {A : Type 0} (r : Result A VodFault) (P : VodFault → Type 0) 
 of_writing (Ok x) P h p = tt
 of_writing (Err e) P h p = subst P (sym h) p
 
-pub in_order : {old new : Option (List ℕ)} {c : Channel} (e : VodFault) (base : List ℕ) (file : Option (List ℕ)) → RefusesFrom e old new c
+pub in_order : (old new : Option (List ℕ)) (c : Channel) (e : VodFault) (base : List ℕ) (file : Option (List ℕ)) → RefusesFrom e old new c
     → IsSome (base_of base) × IsOk (events_of file) → IsInOrder e base file
-in_order (PlaylistOf fault) base file h k = k
-in_order NumberRange base file h k = k
-in_order Read base file h k = k
-in_order TooManyReads base file h k = k
-in_order OutOfMemory base file h k = tt
-in_order _ base file h k = absurd h
+in_order old new c (PlaylistOf fault) base file h k = k
+in_order old new c NumberRange base file h k = k
+in_order old new c Read base file h k = k
+in_order old new c TooManyReads base file h k = k
+in_order old new c OutOfMemory base file h k = tt
+in_order old new c _ base file h k = absurd h
 
-pub of_input : {old new : Option (List ℕ)} {c : Channel} (e : VodFault) → RefusesFrom e old new c → IsOfVod e
-of_input (PlaylistOf fault) h = tt
-of_input NumberRange h = tt
-of_input Read h = tt
-of_input TooManyReads h = tt
-of_input OutOfMemory h = tt
-of_input _ h = absurd h
+pub of_input : (old new : Option (List ℕ)) (c : Channel) (e : VodFault) → RefusesFrom e old new c → IsOfVod e
+of_input old new c (PlaylistOf fault) h = tt
+of_input old new c NumberRange h = tt
+of_input old new c Read h = tt
+of_input old new c TooManyReads h = tt
+of_input old new c OutOfMemory h = tt
+of_input old new c _ h = absurd h
 
-pub no_write : {old new : Option (List ℕ)} {c : Channel} (e : VodFault) → RefusesFrom e old new c → e ≢ Write
-no_write e h same = subst (λ x. RefusesFrom x _ _ _) same h
+pub no_write : (old new : Option (List ℕ)) (c : Channel) (e : VodFault) → RefusesFrom e old new c → e ≢ Write
+no_write old new c e h same = subst (λ x. RefusesFrom x old new c) same h
 
 pub range_of : {A P : Type 0} (r : Result A VodFault) (e : VodFault) → IsErrAnd r (λ d. d ≡ e) → (e ≡ NumberRange → P) → IsErrOf r NumberRange → P
 range_of (Ok x) e h f is = absurd h
 range_of (Err d) e h f is = let same : d ≡ NumberRange = cc in f (sym h ∙ same)
 
 -- what a call said of its source holds where its fault is handed on
-pub fair_on : {A B : Type 0} (r : Result A VodFault) (e : VodFault) (old new : SourceStand) → IsErrAnd r (λ d. d ≡ e) → IsFairToSource {B} (Err e) old new → IsFairToSource r old new
+pub fair_on : {A B : Type 0} (r : Result A VodFault) (e : VodFault) (old new : SourceStand) → IsErrAnd r (λ d. d ≡ e) → IsFairToSource {A = B} (Err e) old new → IsFairToSource r old new
 fair_on (Ok x) e old new h f = absurd h
 fair_on (Err d) e old new h f = subst (λ x. IsFairToSource (Err x) old new) (sym h) (record { blamed = f.blamed; unfailed = tt; told = f.told; too_many = f.too_many; calls = f.calls })
 

@@ -77,11 +77,7 @@ fn hand_text<K: Sink>(channel: &Channel, sink: &mut K) -> Result<(), VodFault>
 }
 
 // The channel of a base, which was given the decision file, where there is one.
-fn decided_channel(
-    alloc: Global,
-    base: &str,
-    decisions: Option<&[u8]>,
-) -> Result<Channel, VodFault>
+fn decided_channel(alloc: Global, base: &str, decisions: Option<&[u8]>) -> Result<Channel, VodFault>
     ensures ok { IfOk result (IsDecided base.now (option_copied decisions.entry)) }
     ensures kind { IfErr result IsOfBeginning }
     ensures order { IfErr result (λ e. IsInOrder e base.now (option_copied decisions.entry)) }

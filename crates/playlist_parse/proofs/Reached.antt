@@ -58,12 +58,6 @@ taken_ok {base = base} {progress = progress} line new r takes =
     subst (λ b. IsOk (said_by limited b r.before line) × (new ≡ progress_at b (with_said r.before (said_by limited b r.before line))))
     (same_base base progress r.before r.progress_is) (takes r.before (own_base base progress r.before r.progress_is))
 
-pub taken_err : {base : Parts} {progress : Progress} {number : ℕ} {left lines : List (List ℕ)} (line : List ℕ) (e : FaultKind) (r : Reached base progress number left lines)
-    → ((before : List Said) → progress ≡ progress_at progress.base before → Refuses e (said_by limited progress.base before line))
-    → Refuses e (said_by limited base r.before line)
-taken_err {base = base} {progress = progress} line e r takes =
-    subst (λ b. Refuses e (said_by limited b r.before line)) (same_base base progress r.before r.progress_is) (takes r.before (own_base base progress r.before r.progress_is))
-
 kept_line : (e : FaultKind) (n : ℕ) → e ≢ OutOfMemory → line_of e n ≡ n
 kept_line OutOfMemory n h = absurd (h refl)
 kept_line _ n h = refl

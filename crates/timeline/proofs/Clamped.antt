@@ -27,10 +27,3 @@ begun segments stack h = record { later = []; whole = after segments; stack_is =
 pub record Timed (from : Option ℤ) (segments rest : List Segment) (stack found : List (Option ℤ)) (ended : Option ℤ) : Type 0 where
   pub all : found ++ instants_after ended rest ≡ instants_after from segments
   pub stack_is : stack ≡ stack_of rest
-
-pub found_all : {from : Option ℤ} {segments rest : List Segment} {stack found : List (Option ℤ)} {ended : Option ℤ} (t : Timed from segments rest stack found ended) → rest ≡ [] → found ≡ instants_after from segments
-found_all {found = found} {ended = ended} t none = sym (nothing_after found) ∙ ap (λ r. found ++ instants_after ended r) (sym none) ∙ t.all
-  where
-    nothing_after : (xs : List (Option ℤ)) → xs ++ [] ≡ xs
-    nothing_after [] = refl
-    nothing_after (x ∷ xs) = ap (λ ys. x ∷ ys) (nothing_after xs)

@@ -6,14 +6,14 @@ use Rattle.one_playlist.proofs.run.vod.Goals as goal
 pub returns-in_err-refresh_from-clause-kind : goal.returns-in_err-refresh_from-clause-kind
 returns-in_err-refresh_from-clause-kind g c =
     let e = c.in_err-refresh_from.field-0.0 in
-    handed_on c.from_residual-in_err-refresh_from.result e _ c.from_residual-in_err-refresh_from.ensures.1 (of_input e c.in_err-refresh_from.ensures.err)
+    handed_on c.from_residual-in_err-refresh_from.result e _ c.from_residual-in_err-refresh_from.ensures.1 (of_input _ _ c.in_ok-channel.channel e c.in_err-refresh_from.ensures.err)
 
 pub returns-in_err-refresh_from-clause-order : goal.returns-in_err-refresh_from-clause-order
 returns-in_err-refresh_from-clause-order g c =
     let file = option_copied c.args.decisions in
     let before = judged_before c.args.base.now file c.in_ok-channel.channel c.in_ok-channel.ensures.ok in
     let e = c.in_err-refresh_from.field-0.0 in
-    handed_on c.from_residual-in_err-refresh_from.result e _ c.from_residual-in_err-refresh_from.ensures.1 (in_order e c.args.base.now file c.in_err-refresh_from.ensures.err before)
+    handed_on c.from_residual-in_err-refresh_from.result e _ c.from_residual-in_err-refresh_from.ensures.1 (in_order _ _ c.in_ok-channel.channel e c.args.base.now file c.in_err-refresh_from.ensures.err before)
 
 pub returns-in_err-refresh_from-clause-playlist : goal.returns-in_err-refresh_from-clause-playlist
 returns-in_err-refresh_from-clause-playlist g c =
@@ -34,7 +34,7 @@ returns-in_err-refresh_from-clause-source g c =
 pub returns-in_err-refresh_from-clause-sink : goal.returns-in_err-refresh_from-clause-sink
 returns-in_err-refresh_from-clause-sink g c =
     let e = c.in_err-refresh_from.field-0.0 in
-    unused_sink c.from_residual-in_err-refresh_from.result _ (handed_on c.from_residual-in_err-refresh_from.result e _ c.from_residual-in_err-refresh_from.ensures.1 (no_write e c.in_err-refresh_from.ensures.err))
+    unused_sink c.from_residual-in_err-refresh_from.result _ (handed_on c.from_residual-in_err-refresh_from.result e _ c.from_residual-in_err-refresh_from.ensures.1 (no_write _ _ c.in_ok-channel.channel e c.in_err-refresh_from.ensures.err))
 
 pub returns-clause-ok : goal.returns-clause-ok
 returns-clause-ok g c =
