@@ -141,9 +141,9 @@ range_of (Ok x) e h f is = absurd h
 range_of (Err d) e h f is = let same : d ≡ NumberRange = cc in f (sym h ∙ same)
 
 -- what a call said of its source holds where its fault is handed on
-pub fair_on : {A B : Type 0} (r : Result A VodFault) (e : VodFault) (old new : SourceStand) → IsErrAnd r (λ d. d ≡ e) → IsFairToSource {A = B} (Err e) old new → IsFairToSource r old new
+pub fair_on : {A : Type 0} (r : Result A VodFault) (e : VodFault) (old new : SourceStand) → IsErrAnd r (λ d. d ≡ e) → IsFairToSource {A = A} (Err e) old new → IsFairToSource r old new
 fair_on (Ok x) e old new h f = absurd h
-fair_on (Err d) e old new h f = subst (λ x. IsFairToSource (Err x) old new) (sym h) (record { blamed = f.blamed; unfailed = tt; told = f.told; too_many = f.too_many; calls = f.calls })
+fair_on {A = A} (Err d) e old new h f = subst (λ x. IsFairToSource {A = A} (Err x) old new) (sym h) f
 
 pub write_is_no_read : (Write ≢ Read) × (Write ≢ TooManyReads)
 write_is_no_read = (λ same. absurd (cc), λ same. absurd (cc))
