@@ -28,8 +28,9 @@ def whole(pattern):
     return re.compile(pattern.encode(), re.DOTALL)
 
 
-FIELDS = (r"pts_adjustment=\d+ cw=\d+ tier=\d+ (command=\d+|event=\d+ (cancelled|out=[01] immediate=[01]"
-          r"( program| component=\d+| pts=\d+)*( auto=[01] ticks=\d+)? upid=\d+ avail=\d+ avails=\d+))")
+FIELDS = (r"pts_adjustment=\d+ cw=\d+ tier=\d+ (command=\d+( bytes=0x[0-9a-f]+)?|event=\d+ (cancelled|out=[01] immediate=[01]"
+          r"( program| component=\d+| pts=(\d+|open))*( auto=[01] ticks=\d+)? upid=\d+ avail=\d+ avails=\d+))"
+          r"( descriptors=0x[0-9a-f]+)?( stuffing=0x[0-9a-f]+)? stated=\d+")
 NAMED = {
     b"channel": whole("ok\n"),
     b"decide": whole(f"(ok|({FILE_FAULTS}){PLACE}|{STORE_FAULTS})\n"),
