@@ -216,6 +216,7 @@ def large(rng, turn):
         text = change(rng, text, ())
     if rng.random() < 0.5:
         target = b"/channels/a/decisions" if word == b"decide" else b"/channels/a/origin"
-        return on_edge("large on an edge", rng, (None, None, b""), b"a", put(target, text))
+        # (in a process of its own: what the C library holds back after 4 MiB is no memory that an edge keeps)
+        return on_edge("large on an edge", rng, (None, None, b""), b"a", put(target, text))._replace(program="large")
     asked = [CHANNEL_LINE, b"playlist", word + b" " + escaped(text), b"playlist", b"known"]
     return Input("large", "large", asked, 2)

@@ -16,7 +16,7 @@ DEADLINE = 10  # seconds that a rude client may hold the server
 # Of a good request: what is read away behind a rude one, and the others' own time, are beside the deadline.
 SLOWEST = DEADLINE + 1
 PAUSE = 20  # seconds from one client that holds the server to the next
-LINGERERS = 3  # clients at once that don't close behind their reply: each holds the server for a quarter of a second
+LINGERERS = 3  # clients at once that are refused and don't close: each holds the server for a quarter of a second
 GROWTH = 512 << 10  # bytes by which resident memory may be above that of the first minute
 EVERY, RUN = 20, 3  # segments from break to break, and within one
 PODS = (["a0", "a1"], ["x0"], ["a0", "a1", "x0"])
@@ -145,10 +145,10 @@ def sends_slowly(server, rng):
 
 
 def linger(server, rng):
-    """Clients that don't close behind their replies."""
-    held = [server.connect() for _ in range(LINGERERS)]
-    for it in held:
-        is_sent(it, get(b"/channels/c2/why"))
+    """Clients that don't close behind their replies, one that is served and others that are refused."""
+    held = [server.connect() for _ in range(LINGERERS + 1)]
+    for place, it in enumerate(held):
+        is_sent(it, get(b"/channels/nobody/why" if place else b"/channels/c2/why"))
     time.sleep(1)
     for it in held:
         it.close()

@@ -2,7 +2,7 @@
 
 use devices::Counted;
 use live_edge::{Edge, EdgeFault, Served, Timed, serve};
-use std::io::{Read, Write};
+use std::io::{ErrorKind, Read, Write};
 use std::net::{Ipv4Addr, Shutdown, SocketAddrV4, TcpListener, TcpStream};
 use std::process::ExitCode;
 use std::time::{Clock, Duration, Instant};
@@ -48,6 +48,32 @@ fn drain<R: Read>(reader: &mut R) {
     }
 }
 
+// Whether all that a client has sent was read. The stream doesn't wait from then on.
+fn is_read_out(stream: &TcpStream) -> bool {
+    if stream.set_nonblocking(true).is_err() {
+        return false;
+    }
+    let mut byte = [0u8; 1];
+    let mut reader = stream;
+    match reader.read(&mut byte) {
+        Ok(count) => count == 0,
+        Err(e) => e.kind() == ErrorKind::WouldBlock,
+    }
+}
+
+// Ends a connection. A request that was granted was read whole, so that nothing has to be read behind its reply, unless
+// the client has sent more than it; of what was refused more may be on its way.
+fn end(rt: &HostRuntime, stream: &TcpStream, granted: bool) {
+    if granted && is_read_out(stream) {
+        return;
+    }
+    let _ = stream.set_nonblocking(false);
+    let _ = stream.shutdown(Shutdown::Write);
+    if let Some(until) = after(rt, DRAIN_MILLIS) {
+        drain(&mut Timed::new(stream, rt, until));
+    }
+}
+
 // Serves a connection, and ends it.
 fn converse(rt: &HostRuntime, edge: &mut Edge, stream: &TcpStream) -> Result<Served, EdgeFault> {
     let Some(until) = after(rt, CONNECTION_MILLIS) else {
@@ -56,10 +82,11 @@ fn converse(rt: &HostRuntime, edge: &mut Edge, stream: &TcpStream) -> Result<Ser
     let mut source = Counted::new(Timed::new(stream, rt, until));
     let mut sink = Counted::new(Timed::new(stream, rt, until));
     let served = serve(rt.alloc(), edge, &mut source, &mut sink);
-    let _ = stream.shutdown(Shutdown::Write);
-    if let Some(until) = after(rt, DRAIN_MILLIS) {
-        drain(&mut Timed::new(stream, rt, until));
-    }
+    let granted = match served {
+        Ok(Served { status }) => status < 300,
+        Err(_) => false,
+    };
+    end(rt, stream, granted);
     served
 }
 

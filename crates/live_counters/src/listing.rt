@@ -80,11 +80,11 @@ fn copied(alloc: Global, marked: &Marked) -> Result<Marked, AllocError>
     })
 }
 
-// Copies of these segments.
-fn copies(alloc: Global, shown: &[Marked]) -> Result<Vec<Marked>, AllocError>
+// Copies of these segments, with room for so many more.
+fn copies(alloc: Global, shown: &[Marked], more: usize) -> Result<Vec<Marked>, AllocError>
     ensures { IfOk result (λ v. v.items ≡ shown.now) }
 {
-    let mut done = Vec::with_capacity(alloc, shown.len())?;
+    let mut done = Vec::with_capacity(alloc, shown.len().saturating_add(more))?;
     let mut rest = shown;
     while let Some((marked, later)) = rest.split_first() {
         done.push(copied(alloc, marked)?)?;
@@ -97,7 +97,10 @@ fn copies(alloc: Global, shown: &[Marked]) -> Result<Vec<Marked>, AllocError>
 fn joined(alloc: Global, shown: &[Marked], fresh: Vec<Marked>) -> Result<Vec<Marked>, AllocError>
     ensures { IfOk result (λ v. v.items ≡ shown.now ++ fresh.items) }
 {
-    let mut list = copies(alloc, shown)?;
+    if shown.is_empty() {
+        return Ok(fresh);
+    }
+    let mut list = copies(alloc, shown, fresh.len())?;
     let mut fresh = fresh;
     list.append(&mut fresh)?;
     Ok(list)
@@ -165,6 +168,18 @@ pub fn count_before(number: u64, list: &[Marked]) -> usize
         rest = before;
     }
     0
+}
+
+/// The values of a list from a place on.
+pub fn from_place<T: Drop>(list: Vec<T>, place: usize) -> Result<Vec<T>, AllocError>
+    requires { place ≤ length list.items }
+    ensures { IfOk result (λ v. v.items ≡ drop place list.items) }
+{
+    if place == 0 {
+        return Ok(list);
+    }
+    let mut list = list;
+    list.split_off(place)
 }
 
 #[tactic(auto, using(crate::proofs::Counted::none_passed, crate::proofs::Counted::one_passed, crate::proofs::Counted::passed_to, crate::proofs::Counted::passed_all))]

@@ -191,7 +191,7 @@ pub fn mark_on(
     ensures { IfOk result (λ v. v.items ≡ mark_on (record { tolerance = limits.now.tolerance; target = limits.now.target; mapped = limits.now.mapped; breaks = knowledge.now; store = store.now }) newest.now last.now segments.now instants.now) }
 {
     let marker = marker_of(alloc, limits, knowledge, store)?;
-    let mut done = Vec::new(alloc);
+    let mut done = Vec::with_capacity(alloc, segments.len())?;
     let mut before = copied_text(newest)?;
     let mut entered = copied_text(last)?;
     let mut rest = segments;

@@ -18,7 +18,7 @@ ghost use Rattle.live_meaning.specs.Successor.{answer_of};
 ghost use Rattle.live_meaning.specs.Kept.{kept_refusal};
 
 use crate::channel::Refreshed;
-use crate::listing::{count_before, fresh_of, last_entered, listed, newest_mark};
+use crate::listing::{count_before, fresh_of, from_place, last_entered, listed, newest_mark};
 use crate::marking::{Limits, text_in};
 use crate::state::State;
 use crate::successor::{check_successor, first_number, is_mapped};
@@ -121,7 +121,7 @@ fn next_kept(
     let knowledge = carried(alloc, &state.knowledge, playlist, &newest)?;
     let limits = limits_of(tolerance, playlist);
     let store = &state.store;
-    let mut list = listed(
+    let list = listed(
         alloc,
         &limits,
         &knowledge,
@@ -147,7 +147,7 @@ fn next_kept(
     Ok(NextKept {
         knowledge,
         fresh: fresh_of(shown, segments).len(),
-        shown: list.split_off(shown_before)?,
+        shown: from_place(list, shown_before)?,
         entered,
         ids,
         numbers,

@@ -14,7 +14,7 @@ ghost use Rattle.live_laws.specs.Owed.{date_range_text};
 ghost use Rattle.live_counters.specs.Marking.{so_far};
 ghost use Rattle.live_counters.specs.Listed.{RefusesList, first_alone, first_numbers_of, pod_keeps, head_of, is_used_from, is_marked_from, states_time, texts_left};
 
-use crate::listing::front_to;
+use crate::listing::{from_place, front_to};
 use crate::placing::place_of;
 use indexmap::IndexSet;
 use live_meaning::RefreshFault;
@@ -55,9 +55,9 @@ pub fn window_of(
     ensures fit { IfOk result (λ v. list_all fits (numbered first (stitched (so_far store.now list.now))) ≡ true) }
     ensures err { IfErr result (λ e. RefusesList e (list_all fits (numbered first (stitched (so_far store.now list.now))) ≡ false)) }
 {
-    let mut items = stitched(alloc, list, store, first)?;
+    let items = stitched(alloc, list, store, first)?;
     let place = place_of(store, front_to(number, list));
-    Ok(items.split_off(place)?)
+    Ok(from_place(items, place)?)
 }
 
 /// The numbers of the first of these items.

@@ -13,7 +13,7 @@ use crate::fault::StitchFault;
 use crate::marked::{Marked, Numbers};
 use playlist_meaning::{Instant, Segment, Shared, Text};
 use pod_store::{Ad, Pod, PodSegment, PodStore};
-use std::alloc::Global;
+use std::alloc::{AllocError, Global};
 use std::marker::Model;
 
 /// The last item of a list.
@@ -76,14 +76,15 @@ fn is_same_run(mark: &Option<Shared<Text>>, previous: &Option<Shared<Text>>) -> 
 }
 
 impl Stitching {
-    fn new(alloc: Global, first: Numbers) -> Stitching
-        ensures { result ≡ record { first = first; last = None; items = [] } }
+    // An empty list with room for so many items.
+    fn with_room(alloc: Global, first: Numbers, room: usize) -> Result<Stitching, AllocError>
+        ensures { IfOk result (λ s. s ≡ record { first = first; last = None; items = [] }) }
     {
-        Stitching {
+        Ok(Stitching {
             first,
             last: None,
-            items: Vec::new(alloc),
-        }
+            items: Vec::with_capacity(alloc, room)?,
+        })
     }
 
     // The steps to a kept segment of this discontinuity number; of the first none are counted.
@@ -232,7 +233,7 @@ pub fn stitch(
     ensures ok { IfOk result (λ v. (v.items ≡ stitched_segments store.now first marked.now) × (list_all item_fits v.items ≡ true)) }
     ensures err { IfErr result (λ e. RefusesNumber e (list_all item_fits (stitched_segments store.now first marked.now) ≡ false)) }
 {
-    let mut stitching = Stitching::new(alloc, first);
+    let mut stitching = Stitching::with_room(alloc, first, marked.len())?;
     let unmarked: Option<Shared<Text>> = None;
     let mut previous = &unmarked;
     let mut rest = marked;

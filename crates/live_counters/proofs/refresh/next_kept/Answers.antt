@@ -60,11 +60,11 @@ returns-clause-ok c =
     let uses : (id : List ℕ) → is_one_of c.in_ok-ids.ids.items id ≡ kept_uses c.args.tolerance (kept_in s) p id = λ id. uses_kept m c.in_ok-entered.entered c.in_ok-ids.ids.items id entered_is (search rules) in
     let counted = c.count_before-shown_before.ensures.seen s.store in
     let dropped_is : so_far s.store (drop c.count_before-shown_before.result list) ≡ shown_from number seen = search rules in
-    let tail = c.in_ok-split_off.ensures.tail in
+    let tail = c.in_ok-from_place.ensures in
     record {
       fit = all_kept m c.in_ok-first.first first_is (search rules);
       breaks = c.knowledge.view_is ∙ breaks_kept m;
-      shown = shown_kept m c.in_ok-split_off.field-0.items (ap (so_far s.store) tail ∙ dropped_is);
+      shown = shown_kept m c.in_ok-from_place.field-0.items (ap (so_far s.store) tail ∙ dropped_is);
       decided = subst (AreDecided s.store) (sym tail) (later_decided s.store c.count_before-shown_before.result list c.in_ok-list.ensures.marks);
       entered = entered_kept m c.in_ok-entered.entered entered_is;
       ids = uses;

@@ -12,8 +12,8 @@ place_of-place-requires c =
     let s = c.in_ok-items.items.small in
     omega (arith, b, e, s)
 
-pub split_off-requires : goal.split_off-requires
-split_off-requires c =
+pub from_place-requires : goal.from_place-requires
+from_place-requires c =
     let b = place_within c.args.store.now c.args.first c.args.list.now c.front_to.result.now c.requires c.front_to.ensures.front in
     let e = ap length c.in_ok-items.ensures.ok.0 in
     let p = c.place_of-place.ensures in
@@ -21,7 +21,7 @@ split_off-requires c =
 
 pub returns-clause-ok : goal.returns-clause-ok
 returns-clause-ok c =
-    c.in_ok-split_off.ensures.tail
+    c.in_ok-from_place.ensures
     ∙ window_left c.args.store.now c.args.first c.args.number c.args.list.now c.front_to.result.now c.in_ok-items.items.items c.place_of-place.result c.requires c.front_to.ensures.front (c.front_to.ensures.seen c.args.store.now) c.in_ok-items.ensures.ok.0 c.place_of-place.ensures
 
 pub returns-clause-fit : goal.returns-clause-fit

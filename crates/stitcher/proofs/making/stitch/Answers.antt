@@ -19,7 +19,7 @@ returns-in_err-put_marked-clause-err c =
     let all = pieces_on store None c.args.marked.now in
     let here = c.in-Some.here.now in
     let walks = subst (λ (ms : List Marked). Walks (nothing c.args.first) c.loop-here.stitching all (pieces_on store c.loop-here.previous.now ms)) c.in-Some.ensures.cases.0 c.loop-here.invariant.walks in
-    handed_on c.from_residual.result c.in_err-put_marked.field-0.0 c.from_residual.ensures.1 c.in_err-put_marked.ensures.err
+    handed_on c.from_residual-in_err-put_marked.result c.in_err-put_marked.field-0.0 c.from_residual-in_err-put_marked.ensures.1 c.in_err-put_marked.ensures.err
     (λ p. ap (list_all item_fits) (in_order store c.args.first c.args.marked.now c.requires)
     ∙ passes_whole (nothing c.args.first) c.loop-here.stitching all (pieces_at store c.loop-here.previous.now here) (pieces_on store here.mark c.in-Some.later.now) walks p)
 
