@@ -62,12 +62,16 @@ def reply_complaint(status, written, is_head):
     return None if (is_head and not body) or re.fullmatch(f"({names})\n".encode(), body) else "the refusal has no name"
 
 
+# (empty lines may stand before a request: RFC 9112, 2.2)
+ASKS_HEAD = re.compile(rb"serve( [0-9]+){4} (\\[rn])*HEAD ")
+
+
 def served_complaint(line, answer):
     outcome = OUTCOME.fullmatch(answer)
     if not outcome:
         return "the outcome has no name"
     if outcome[1].isdigit():
-        return reply_complaint(outcome[1], outcome[2], b" HEAD " in line[:40])
+        return reply_complaint(outcome[1], outcome[2], ASKS_HEAD.match(line))
     return "a request that wasn't whole was answered" if outcome[2] and outcome[1] != b"E2 Write" else None
 
 
