@@ -75,9 +75,9 @@ fn text_with(
     alloc: Global,
     playlist: &Playlist,
     date_ranges: Vec<Text>,
-    items: Vec<OutSegment>,
+    items: Vec<OutSegment<'_>>,
 ) -> Result<Shared<Text>, AllocError>
-    ensures { IfOk result (λ text. text ≡ text_of (out_with playlist.now date_ranges.items items.items)) }
+    ensures { IfOk result (λ text. text ≡ text_of (out_with playlist.now date_ranges.items items.entry.items)) }
 {
     let out = OutPlaylist {
         version: playlist.version.max(6),

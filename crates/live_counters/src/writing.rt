@@ -24,12 +24,12 @@ use std::alloc::{AllocError, Global};
 use stitcher::{Marked, Numbers, OutSegment, StitchFault, stitch};
 
 // The stitched list of these segments, whose first item has these numbers.
-fn stitched(
+fn stitched<'a>(
     alloc: Global,
-    list: &[Marked],
+    list: &'a [Marked],
     store: &PodStore,
     first: Numbers,
-) -> Result<Vec<OutSegment>, RefreshFault>
+) -> Result<Vec<OutSegment<'a>>, RefreshFault>
     requires { AreDecided store.now list.now }
     ensures ok { IfOk result (λ v. (v.items ≡ stitched_segments store.now first list.now) × (list_all item_fits v.items ≡ true)) }
     ensures err { IfErr result (λ e. RefusesList e (list_all fits (numbered first (stitched (so_far store.now list.now))) ≡ false)) }
@@ -43,13 +43,13 @@ fn stitched(
 
 /// The window from the segment of a number on, where the first item of the stitched list of these segments has these
 /// numbers. `NumberRange` where a number would pass 2^64 - 1.
-pub fn window_of(
+pub fn window_of<'a>(
     alloc: Global,
-    list: &[Marked],
+    list: &'a [Marked],
     store: &PodStore,
     first: Numbers,
     number: u64,
-) -> Result<Vec<OutSegment>, RefreshFault>
+) -> Result<Vec<OutSegment<'a>>, RefreshFault>
     requires { AreDecided store.now list.now }
     ensures ok { IfOk result (λ v. v.items ≡ map written_item (window_on first number (so_far store.now list.now))) }
     ensures fit { IfOk result (λ v. list_all fits (numbered first (stitched (so_far store.now list.now))) ≡ true) }
@@ -61,7 +61,7 @@ pub fn window_of(
 }
 
 /// The numbers of the first of these items.
-pub fn head_of(items: &[OutSegment]) -> Numbers
+pub fn head_of(items: &[OutSegment<'_>]) -> Numbers
     ensures { result ≡ head_of items.now }
 {
     match items.first() {
@@ -78,10 +78,10 @@ pub fn head_of(items: &[OutSegment]) -> Numbers
     }
 }
 
-fn is_any_timed(items: &[OutSegment]) -> bool
+fn is_any_timed(items: &[OutSegment<'_>]) -> bool
     ensures { result ≡ list_any states_time items.now }
 {
-    items.iter().any(|out: &OutSegment| out.time.is_some())
+    items.iter().any(|out: &OutSegment<'_>| out.time.is_some())
 }
 
 // The numbers of a first item that a pod stands at.
@@ -202,7 +202,7 @@ fn texts_left(
 /// The texts of the date ranges that are written: none of these breaks, and none at all where no item states a time.
 pub fn ranges_left(
     alloc: Global,
-    items: &[OutSegment],
+    items: &[OutSegment<'_>],
     ids: &[Text],
     date_ranges: &[DateRange],
 ) -> Result<Vec<Text>, AllocError>

@@ -8,7 +8,7 @@ use playlist_meaning::{
 use playlist_write::{OutPlaylist, write};
 use std::alloc::{AllocError, Global};
 use std::test::Fail;
-use stitcher::OutSegment;
+use stitcher::{OutSegment, Played};
 
 const ROOM: usize = 4096;
 
@@ -114,25 +114,25 @@ fn origin_segment(alloc: Global) -> Result<Segment, AllocError> {
     Ok(segment)
 }
 
-fn origin_item(alloc: Global) -> Result<OutSegment, AllocError> {
-    Ok(OutSegment {
-        segment: origin_segment(alloc)?,
+fn origin_item(segment: &Segment) -> OutSegment<'_> {
+    OutSegment {
+        segment: Played::of_origin(segment),
         media: 7,
         discontinuity: 3,
         steps: 1,
         time: Some(Instant(1_714_564_800_000_000_000)),
-    })
+    }
 }
 
 // The first segment of the advertisement, a part of its file.
-fn clear_item(alloc: Global) -> Result<OutSegment, AllocError> {
+fn clear_item<'a>(alloc: Global) -> Result<OutSegment<'a>, AllocError> {
     let mut segment = ad_segment(alloc, "http://ads.example/a0.m4s", Vec::new(alloc))?;
     segment.range = Some(ByteRange {
         length: 30,
         offset: 120,
     });
     Ok(OutSegment {
-        segment,
+        segment: Played::of_ad(Shared::new(alloc, segment)?),
         media: 8,
         discontinuity: 4,
         steps: 1,
@@ -141,10 +141,11 @@ fn clear_item(alloc: Global) -> Result<OutSegment, AllocError> {
 }
 
 // Its second segment, which is encrypted.
-fn encrypted_item(alloc: Global) -> Result<OutSegment, AllocError> {
+fn encrypted_item<'a>(alloc: Global) -> Result<OutSegment<'a>, AllocError> {
     let keys = vec![in alloc; drm_key(alloc)?]?;
+    let segment = ad_segment(alloc, "http://ads.example/a1.m4s", keys)?;
     Ok(OutSegment {
-        segment: ad_segment(alloc, "http://ads.example/a1.m4s", keys)?,
+        segment: Played::of_ad(Shared::new(alloc, segment)?),
         media: 9,
         discontinuity: 4,
         steps: 0,
@@ -152,16 +153,16 @@ fn encrypted_item(alloc: Global) -> Result<OutSegment, AllocError> {
     })
 }
 
-fn segments(alloc: Global) -> Result<Items<OutSegment>, AllocError> {
+fn segments<'a>(alloc: Global, origin: &'a Segment) -> Result<Items<OutSegment<'a>>, AllocError> {
     let mut segments = Vec::new(alloc);
-    segments.push(origin_item(alloc)?)?;
+    segments.push(origin_item(origin))?;
     segments.push(clear_item(alloc)?)?;
     segments.push(encrypted_item(alloc)?)?;
     Ok(Items::from_vec(segments))
 }
 
-fn playlist(alloc: Global) -> Result<OutPlaylist, AllocError> {
-    let segments = segments(alloc)?;
+fn playlist<'a>(alloc: Global, origin: &'a Segment) -> Result<OutPlaylist<'a>, AllocError> {
+    let segments = segments(alloc, origin)?;
     Ok(OutPlaylist {
         version: 7,
         target: 10,
@@ -175,7 +176,8 @@ fn playlist(alloc: Global) -> Result<OutPlaylist, AllocError> {
 
 #[test]
 fn well_formed(rt: HostRuntime) -> Result<(), Fail> {
-    let mut playlist = playlist(rt.alloc())?;
+    let origin = origin_segment(rt.alloc())?;
+    let mut playlist = playlist(rt.alloc(), &origin)?;
     assert!(rt; playlist.well_formed(rt.alloc())?);
     playlist.version = 5;
     assert!(rt; !playlist.well_formed(rt.alloc())?);
@@ -187,7 +189,8 @@ fn well_formed(rt: HostRuntime) -> Result<(), Fail> {
 
 #[test]
 fn written(rt: HostRuntime) -> Result<(), Fail> {
-    let playlist = playlist(rt.alloc())?;
+    let origin = origin_segment(rt.alloc())?;
+    let playlist = playlist(rt.alloc(), &origin)?;
     let mut sink = Taken::new(rt.alloc(), ROOM, 7, 0)?;
     match write(rt.alloc(), &playlist, &mut sink) {
         Ok(()) => assert!(rt; sink.bytes() == WRITTEN.as_bytes()),

@@ -11,7 +11,7 @@ use playlist_meaning::{PlaylistKind, Text};
 use std::alloc::AllocError;
 use stitcher::OutSegment;
 
-fn first_number(segments: &[OutSegment]) -> u64
+fn first_number(segments: &[OutSegment<'_>]) -> u64
     ensures { result ≡ first_number segments.now }
 {
     match segments.first() {
@@ -20,7 +20,7 @@ fn first_number(segments: &[OutSegment]) -> u64
     }
 }
 
-fn first_discontinuity(segments: &[OutSegment]) -> u64
+fn first_discontinuity(segments: &[OutSegment<'_>]) -> u64
     ensures { result ≡ first_discontinuity segments.now }
 {
     match segments.first() {
@@ -81,7 +81,7 @@ fn push_discontinuity_sequence(out: &mut String, sequence: u64) -> Result<(), Al
     push_number_line(out, "#EXT-X-DISCONTINUITY-SEQUENCE:", sequence)
 }
 
-fn push_numbers(out: &mut String, playlist: &OutPlaylist) -> Result<(), AllocError>
+fn push_numbers(out: &mut String, playlist: &OutPlaylist<'_>) -> Result<(), AllocError>
     ensures { Appends result out.old out.new (said_text (numbers_owed playlist.now)) }
 {
     let segments = playlist.segments.as_slice();
@@ -102,7 +102,7 @@ fn push_independent(out: &mut String, independent: bool) -> Result<(), AllocErro
 }
 
 /// Appends the lines that stand before the date ranges.
-pub fn push_header(out: &mut String, playlist: &OutPlaylist) -> Result<(), AllocError>
+pub fn push_header(out: &mut String, playlist: &OutPlaylist<'_>) -> Result<(), AllocError>
     ensures { Appends result out.old out.new (said_text (header_owed playlist.now)) }
 {
     push_numbers(out, playlist)?;

@@ -29,8 +29,8 @@ mod segments;
 mod well_formed;
 
 /// A playlist as it is written.
-#[derive(Clone, PartialEq, Drop)]
-pub struct OutPlaylist {
+#[derive(Drop)]
+pub struct OutPlaylist<'a> {
     /// EXT-X-VERSION.
     pub version: u64,
     /// EXT-X-TARGETDURATION, in seconds.
@@ -44,7 +44,7 @@ pub struct OutPlaylist {
     /// What stands after `#EXT-X-DATERANGE:`, for each date range.
     pub date_ranges: Items<Text>,
     /// The segments, in their order.
-    pub segments: Items<OutSegment>,
+    pub segments: Items<OutSegment<'a>>,
 }
 
 /// Why a playlist was not written, or not whole.
@@ -77,7 +77,7 @@ impl From<SinkFailed> for WriteFault {
 }
 
 // About as much room as the text takes.
-fn room_for(playlist: &OutPlaylist) -> usize {
+fn room_for(playlist: &OutPlaylist<'_>) -> usize {
     let mut room: usize = 256;
     for range in playlist.date_ranges.as_slice() {
         room = room.saturating_add(range.as_str().len()).saturating_add(24);
@@ -95,7 +95,7 @@ fn room_for(playlist: &OutPlaylist) -> usize {
 }
 
 // The text of a playlist.
-fn make_text(alloc: Global, playlist: &OutPlaylist) -> Result<String, AllocError>
+fn make_text(alloc: Global, playlist: &OutPlaylist<'_>) -> Result<String, AllocError>
     ensures { IfOk result (λ text. string_bytes text ≡ text_of playlist.now) }
 {
     let mut text = String::with_capacity(alloc, room_for(playlist))?;
@@ -108,7 +108,7 @@ fn make_text(alloc: Global, playlist: &OutPlaylist) -> Result<String, AllocError
 }
 
 /// The whole text of a playlist.
-pub fn written(alloc: Global, playlist: &OutPlaylist) -> Result<Text, AllocError>
+pub fn written(alloc: Global, playlist: &OutPlaylist<'_>) -> Result<Text, AllocError>
     ensures { IfOk result (λ text. text ≡ text_of playlist.now) }
 {
     Ok(Text::from_string(make_text(alloc, playlist)?))
@@ -116,7 +116,11 @@ pub fn written(alloc: Global, playlist: &OutPlaylist) -> Result<Text, AllocError
 
 #[tactic(auto, using(crate::proofs::Whole::text_denotes))]
 /// Writes a playlist: its whole text, or a front of it where the sink fails.
-pub fn write<S: Sink>(alloc: Global, playlist: &OutPlaylist, sink: &mut S) -> Result<(), WriteFault>
+pub fn write<S: Sink>(
+    alloc: Global,
+    playlist: &OutPlaylist<'_>,
+    sink: &mut S,
+) -> Result<(), WriteFault>
     ensures ok { OnOk result (Appends (S.contents sink.old) (S.contents sink.new) (text_of playlist.now)) }
     ensures err { OnErr result (TookFront (S.contents sink.old) (S.contents sink.new) (text_of playlist.now)) }
 

@@ -151,7 +151,7 @@ fn push_segment(
     out: &mut String,
     keys: &[Key],
     section: Option<&InitSection>,
-    next: &OutSegment,
+    next: &OutSegment<'_>,
 ) -> Result<(), AllocError>
     ensures { OnOk result (string_bytes out.new ≡ string_bytes out.old
         ++ said_text (segment_owed (record { keys = keys.now; section = option_copied section.entry }) next.now)) }
@@ -165,7 +165,7 @@ fn push_segment(
     Ok(())
 }
 
-fn section_of(next: &OutSegment) -> Option<&InitSection>
+fn section_of<'a>(next: &'a OutSegment<'_>) -> Option<&'a InitSection>
     ensures { option_copied result ≡ next.now.segment.section }
 {
     match &next.segment.section {
@@ -175,7 +175,7 @@ fn section_of(next: &OutSegment) -> Option<&InitSection>
 }
 
 /// Appends the lines of all segments.
-pub fn push_segments(out: &mut String, segments: &[OutSegment]) -> Result<(), AllocError>
+pub fn push_segments(out: &mut String, segments: &[OutSegment<'_>]) -> Result<(), AllocError>
     ensures { Appends result out.old out.new (said_text (segments_owed none_yet segments.now)) }
 {
     let mut keys: &[Key] = &[];

@@ -20,7 +20,7 @@ fn is_word(number: u64) -> bool
     number <= u64::MAX
 }
 
-fn numbers_are_words(out: &OutSegment) -> bool
+fn numbers_are_words(out: &OutSegment<'_>) -> bool
     ensures { result ≡ numbers_are_words out.now }
 {
     is_word(out.media) && is_word(out.discontinuity)
@@ -51,7 +51,7 @@ fn optional_time_fits(time: Option<Instant>) -> bool
 }
 
 // Whether a segment can be written, apart from how its numbers follow.
-fn segment_fits(out: &OutSegment) -> bool
+fn segment_fits(out: &OutSegment<'_>) -> bool
     ensures { result ≡ segment_fits out.now }
 {
     let segment = &out.segment;
@@ -64,10 +64,12 @@ fn segment_fits(out: &OutSegment) -> bool
         && optional_time_fits(out.time)
 }
 
-fn segments_fit(segments: &[OutSegment]) -> bool
+fn segments_fit(segments: &[OutSegment<'_>]) -> bool
     ensures { result ≡ list_all segment_fits segments.now }
 {
-    segments.iter().all(|out: &OutSegment| segment_fits(out))
+    segments
+        .iter()
+        .all(|out: &OutSegment<'_>| segment_fits(out))
 }
 
 fn is_sum(sum: u64, one: u64, other: u64) -> bool
@@ -80,14 +82,14 @@ fn is_sum(sum: u64, one: u64, other: u64) -> bool
 }
 
 // Whether the media number goes up by one, and the discontinuity number by the steps.
-fn follows(previous: &OutSegment, next: &OutSegment) -> bool
+fn follows(previous: &OutSegment<'_>, next: &OutSegment<'_>) -> bool
     ensures { result ≡ follows (out_numbers previous.now) (out_numbers next.now) }
 {
     is_sum(next.media, previous.media, 1)
         && is_sum(next.discontinuity, previous.discontinuity, next.steps)
 }
 
-fn all_follow(first: &OutSegment, later: &[OutSegment]) -> bool
+fn all_follow<'a>(first: &OutSegment<'a>, later: &[OutSegment<'a>]) -> bool
     ensures { result ≡ all_follow out_numbers first.now later.now }
 {
     let mut previous = first;
@@ -100,7 +102,7 @@ fn all_follow(first: &OutSegment, later: &[OutSegment]) -> bool
     true
 }
 
-fn numbers_fit(segments: &[OutSegment]) -> bool
+fn numbers_fit(segments: &[OutSegment<'_>]) -> bool
     ensures { result ≡ numbers_fit segments.now }
 {
     let [first, later @ ..] = segments else {
@@ -109,25 +111,25 @@ fn numbers_fit(segments: &[OutSegment]) -> bool
     first.steps <= first.discontinuity && all_follow(first, later)
 }
 
-fn is_mapped(out: &OutSegment) -> bool
+fn is_mapped(out: &OutSegment<'_>) -> bool
     ensures { result ≡ is_mapped out.now }
 {
     out.segment.section.is_some()
 }
 
-fn all_are_mapped(segments: &[OutSegment]) -> bool
+fn all_are_mapped(segments: &[OutSegment<'_>]) -> bool
     ensures { result ≡ list_all is_mapped segments.now }
 {
-    segments.iter().all(|out: &OutSegment| is_mapped(out))
+    segments.iter().all(|out: &OutSegment<'_>| is_mapped(out))
 }
 
-fn one_is_mapped(segments: &[OutSegment]) -> bool
+fn one_is_mapped(segments: &[OutSegment<'_>]) -> bool
     ensures { result ≡ list_any is_mapped segments.now }
 {
-    segments.iter().any(|out: &OutSegment| is_mapped(out))
+    segments.iter().any(|out: &OutSegment<'_>| is_mapped(out))
 }
 
-fn sections_agree(segments: &[OutSegment]) -> bool
+fn sections_agree(segments: &[OutSegment<'_>]) -> bool
     ensures { result ≡ sections_agree segments.now }
 {
     all_are_mapped(segments) || !one_is_mapped(segments)
@@ -140,7 +142,7 @@ fn version_fits(version: u64) -> bool
 }
 
 // Whether a playlist can be written, apart from its date ranges.
-fn fits_without_date_ranges(playlist: &OutPlaylist) -> bool
+fn fits_without_date_ranges(playlist: &OutPlaylist<'_>) -> bool
     ensures { result ≡ fits_without_date_ranges playlist.now }
 {
     let segments = playlist.segments.as_slice();
@@ -151,7 +153,7 @@ fn fits_without_date_ranges(playlist: &OutPlaylist) -> bool
         && sections_agree(segments)
 }
 
-impl OutPlaylist {
+impl<'a> OutPlaylist<'a> {
     /// Whether the playlist can be written so that its text says it: of such a playlist `write` writes
     /// what is read as this playlist, whatever the base (RFC 8216, section 4).
     ///

@@ -3,4 +3,5 @@ pub mod Laws
 pub mod FaultTexts
 pub mod Written
 pub mod StitchedSegments
+pub mod Held
 pub mod Making

@@ -1,7 +1,7 @@
 //! What is put into a playlist: segments with their numbers, runs replaced by their pods, and the key tags between them.
 #![tactic(auto)]
 
-use playlist_meaning::{Instant, Segment};
+use playlist_meaning::Instant;
 
 mod copies;
 mod fault;
@@ -9,18 +9,20 @@ mod key_tags;
 pub mod laws;
 mod making;
 mod marked;
+mod played;
 
 pub use copies::copied_segment;
 pub use fault::StitchFault;
 pub use key_tags::{is_new, keeps_formats, transition};
 pub use making::stitch;
 pub use marked::{Marked, Numbers};
+pub use played::Played;
 
 /// A segment as it stands in a written playlist. Its own numbers and time are not those of `segment`.
-#[derive(Clone, PartialEq, Drop)]
-pub struct OutSegment {
+#[derive(Drop)]
+pub struct OutSegment<'a> {
     /// What is played.
-    pub segment: Segment,
+    pub segment: Played<'a>,
     /// Its media sequence number.
     pub media: u64,
     /// Its discontinuity sequence number.

@@ -8,10 +8,11 @@ ghost use Rattle.stitcher.specs.StitchedSegments.{AreDecided, RefusesNumber, ite
 ghost use Rattle.stitcher.specs.Making.{Passes, Puts, is_same_run, numbers_fit, numbers_with, pieces_at, plain, pushed, steps_from};
 
 use crate::OutSegment;
-use crate::copies::{AdParts, ad_parts, ad_segment, copied_segment};
+use crate::copies::{AdParts, ad_parts, ad_segment};
 use crate::fault::StitchFault;
 use crate::marked::{Marked, Numbers};
-use playlist_meaning::{Instant, Segment, Shared, Text};
+use crate::played::Played;
+use playlist_meaning::{Instant, Shared, Text};
 use pod_store::{Ad, Pod, PodSegment, PodStore};
 use std::alloc::{AllocError, Global};
 use std::marker::Model;
@@ -27,13 +28,13 @@ pub struct Last {
 
 /// A stitched list, as far as it is made.
 #[derive(Drop)]
-pub struct Stitching {
+pub struct Stitching<'a> {
     first: Numbers,
     last: Option<Last>,
-    items: Vec<OutSegment>,
+    items: Vec<OutSegment<'a>>,
 }
 
-impl Model for Stitching {
+impl<'a> Model for Stitching<'a> {
     ghost use Rattle.stitcher.specs.Making.{Made};
 
     ghost Value = { Made };
@@ -75,9 +76,9 @@ fn is_same_run(mark: &Option<Shared<Text>>, previous: &Option<Shared<Text>>) -> 
     }
 }
 
-impl Stitching {
+impl<'a> Stitching<'a> {
     // An empty list with room for so many items.
-    fn with_room(alloc: Global, first: Numbers, room: usize) -> Result<Stitching, AllocError>
+    fn with_room(alloc: Global, first: Numbers, room: usize) -> Result<Stitching<'a>, AllocError>
         ensures { IfOk result (λ s. s ≡ record { first = first; last = None; items = [] }) }
     {
         Ok(Stitching {
@@ -114,12 +115,12 @@ impl Stitching {
 
     fn push(
         &mut self,
-        segment: Segment,
+        segment: Played<'a>,
         time: Option<Instant>,
         numbers: Numbers,
         origin: Option<u64>,
     ) -> Result<(), StitchFault>
-        ensures ok { OnOk result (self.new ≡ pushed self.old segment time numbers origin) }
+        ensures ok { OnOk result (self.new ≡ pushed self.old segment.entry time numbers origin) }
         ensures err { IfErr result (λ e. e ≡ StitchFault.OutOfMemory) }
     {
         self.items.push(OutSegment {
@@ -134,14 +135,14 @@ impl Stitching {
     }
 
     // Puts a segment of the origin at the end.
-    fn keep(&mut self, alloc: Global, marked: &Marked) -> Result<(), StitchFault>
+    fn keep(&mut self, marked: &'a Marked) -> Result<(), StitchFault>
         requires { numbers_fit self.old.first ≡ true }
         ensures ok { OnOk result (Puts self.old self.new (plain marked.now ∷ [])) }
         ensures err { IfErr result (λ e. RefusesNumber e (Passes self.old (plain marked.now ∷ []))) }
     {
         let origin = marked.segment.discontinuity;
         let numbers = self.numbers_with(self.steps_to(origin))?;
-        let segment = copied_segment(alloc, &marked.segment)?;
+        let segment = Played::of_origin(&marked.segment);
         self.push(segment, marked.instant, numbers, Some(origin))
     }
 
@@ -161,7 +162,8 @@ impl Stitching {
     {
         let numbers = self.numbers_with(u64::from(first))?;
         let segment = ad_segment(alloc, ad, parts, segment, numbers)?;
-        self.push(segment, None, numbers, None)
+        let shared = Shared::new(alloc, segment)?;
+        self.push(Played::of_ad(shared), None, numbers, None)
     }
 
     fn put_ad(&mut self, alloc: Global, ad: &Ad) -> Result<(), StitchFault>
@@ -199,7 +201,7 @@ impl Stitching {
     fn put_marked(
         &mut self,
         alloc: Global,
-        marked: &Marked,
+        marked: &'a Marked,
         previous: &Option<Shared<Text>>,
         store: &PodStore,
     ) -> Result<(), StitchFault>
@@ -211,7 +213,7 @@ impl Stitching {
             return Ok(());
         }
         let Some(id) = &marked.mark else {
-            return self.keep(alloc, marked);
+            return self.keep(marked);
         };
         match store.get(id.as_str()) {
             Some(pod) => self.put_pod(alloc, pod),
@@ -223,12 +225,12 @@ impl Stitching {
 /// The stitched list of these segments, in the order of a playlist, whose first item has these numbers: each run
 /// of one mark replaced by the pod that the break has in the store. `NumberRange` exactly where a number would
 /// pass 2^64 - 1, want of memory apart.
-pub fn stitch(
+pub fn stitch<'a>(
     alloc: Global,
-    marked: &[Marked],
+    marked: &'a [Marked],
     store: &PodStore,
     first: Numbers,
-) -> Result<Vec<OutSegment>, StitchFault>
+) -> Result<Vec<OutSegment<'a>>, StitchFault>
     requires { AreDecided store.now marked.now }
     ensures ok { IfOk result (λ v. (v.items ≡ stitched_segments store.now first marked.now) × (list_all item_fits v.items ≡ true)) }
     ensures err { IfErr result (λ e. RefusesNumber e (list_all item_fits (stitched_segments store.now first marked.now) ≡ false)) }
