@@ -1,5 +1,5 @@
 -- Numbers in a fixed number of digits: one more digit, and what they are read as.
-use Rattle.std.proofs.Common.{◌≡◌, ℕ, zero, suc, ◌-◌, ◌+◌, ◌*◌, ◌<◌, ◌≤◌, ◌/◌, ◌%◌, ◌^◌, List, [], ◌∷◌, ◌++◌, length, true, refl, ap, ◌∙◌, subst, arith, length-append}
+use Rattle.std.proofs.Common.{◌≡◌, ℕ, zero, suc, ◌-◌, ◌+◌, ◌*◌, ◌<◌, ◌≤◌, ◌/◌, ◌%◌, ◌^◌, List, [], ◌∷◌, ◌++◌, length, true, refl, ap, ◌∙◌, subst, arith, length-append, append_assoc}
 use Rattle.std.specs.List.{list_all}
 use Rattle.std.specs.Char.{is_ascii_digit, digit_value}
 use Rattle.std.specs.Str.Parse.{digits_value, AllDigits}
@@ -19,6 +19,23 @@ unfolding fixed_digits
 fixed_more base zero n h = absurd (h refl)
 fixed_more base (suc k) n h =
     let e : k ≡ suc k - 1 = omega arith in ap (λ m. fixed_digits base m (n / base) ++ digit_glyph true (n % base) ∷ []) e
+
+-- ---- two digits at the end
+
+pub last_two : (base k n : ℕ) → fixed_digits base (suc (suc k)) n ≡ fixed_digits base k (n / base / base) ++ fixed_digits base 2 n
+unfolding fixed_digits
+last_two base k n = append_assoc (fixed_digits base k (n / base / base)) (digit_glyph true (n / base % base) ∷ []) (digit_glyph true (n % base) ∷ [])
+
+pub last_three : (n : ℕ) → fixed_digits 10 3 n ≡ (digit_glyph true (n / 100 % 10) ∷ []) ++ fixed_digits 10 2 n
+unfolding fixed_digits
+last_three n =
+    let hundreds : n / 10 / 10 ≡ n / 100 = omega arith in
+    last_two 10 1 n ∙ ap (λ m. (digit_glyph true (m % 10) ∷ []) ++ fixed_digits 10 2 n) hundreds
+
+pub last_four : (n : ℕ) → fixed_digits 10 4 n ≡ fixed_digits 10 2 (n / 100) ++ fixed_digits 10 2 n
+last_four n =
+    let hundreds : n / 10 / 10 ≡ n / 100 = omega arith in
+    last_two 10 2 n ∙ ap (λ m. fixed_digits 10 2 m ++ fixed_digits 10 2 n) hundreds
 
 pub decimal_glyph : (d : ℕ) → d < 10 → 48 + d ≡ digit_glyph true d
 decimal_glyph d h = grind (arith, nat_tests)

@@ -54,6 +54,28 @@ fn push_two(out: &mut String, number: u64)
     push_mark(out, (b'0' + (number % 10) as u8) as char);
 }
 
+// Appends the last three decimal digits of a number.
+fn push_three(out: &mut String, number: u64)
+    requires { string_len out.old + 3 ≤ string_capacity out.old }
+    ensures text { string_bytes out.new ≡ string_bytes out.old ++ fixed_digits 10 3 number }
+    ensures len { string_len out.new ≡ string_len out.old + 3 }
+    ensures capacity { string_capacity out.old ≤ string_capacity out.new }
+{
+    push_mark(out, (b'0' + (number / 100 % 10) as u8) as char);
+    push_two(out, number);
+}
+
+// Appends the last four decimal digits of a number.
+fn push_four(out: &mut String, number: u64)
+    requires { string_len out.old + 4 ≤ string_capacity out.old }
+    ensures text { string_bytes out.new ≡ string_bytes out.old ++ fixed_digits 10 4 number }
+    ensures len { string_len out.new ≡ string_len out.old + 4 }
+    ensures capacity { string_capacity out.old ≤ string_capacity out.new }
+{
+    push_two(out, number / 100);
+    push_two(out, number);
+}
+
 fn is_leap(year: u64) -> bool
     ensures { result ≡ is_leap year }
 {
@@ -148,7 +170,7 @@ fn push_date(out: &mut String, days: u64)
 {
     let (year, rest) = year_of(days);
     let (month, day) = month_after(12, year, 1, rest);
-    push_digits(out, year, 4);
+    push_four(out, year);
     push_mark(out, '-');
     push_two(out, month);
     push_mark(out, '-');
@@ -175,7 +197,7 @@ fn push_decimals(out: &mut String, nanos: u64)
     ensures capacity { string_capacity out.old ≤ string_capacity out.new }
 {
     if nanos % 1_000_000 == 0 {
-        push_digits(out, nanos / 1_000_000, 3);
+        push_three(out, nanos / 1_000_000);
     } else {
         push_digits(out, nanos, 9);
     }

@@ -16,7 +16,7 @@ use break_finder::Knowledge;
 use playlist_meaning::{Segment, Shared, Text};
 use pod_store::PodStore;
 use std::alloc::{AllocError, Global};
-use stitcher::{Marked, copied_segment};
+use stitcher::Marked;
 use timeline::{ends_at, instants_after};
 
 #[tactic(auto, using(crate::proofs::Listed::newest_seen, crate::proofs::Listed::newest_decided, crate::proofs::Listed::none_seen))]
@@ -44,7 +44,7 @@ pub fn newest_end(shown: &[Marked]) -> Option<i128>
 
 #[tactic(auto, using(crate::proofs::Listed::rest_after))]
 // Those of a playlist's segments that are numbered after this.
-fn after(number: u64, segments: &[Segment]) -> &[Segment]
+fn after(number: u64, segments: &[Shared<Segment>]) -> &[Shared<Segment>]
     requires { AreContiguous segments.now }
     ensures { result.now ≡ filter (is_after number) segments.now }
 {
@@ -60,7 +60,7 @@ fn after(number: u64, segments: &[Segment]) -> &[Segment]
 
 #[tactic(auto, using(crate::proofs::Listed::same_new, crate::proofs::Listed::all_new))]
 /// The segments of a playlist that weren't shown before.
-pub fn fresh_of<'a>(shown: &[Marked], segments: &'a [Segment]) -> &'a [Segment]
+pub fn fresh_of<'a>(shown: &[Marked], segments: &'a [Shared<Segment>]) -> &'a [Shared<Segment>]
     requires { AreContiguous segments.now }
     ensures { (store : List Entry) → result.now ≡ filter (is_new (so_far store shown.now)) segments.now }
 {
@@ -70,11 +70,11 @@ pub fn fresh_of<'a>(shown: &[Marked], segments: &'a [Segment]) -> &'a [Segment]
     }
 }
 
-fn copied(alloc: Global, marked: &Marked) -> Result<Marked, AllocError>
+fn copied(marked: &Marked) -> Result<Marked, AllocError>
     ensures { IfOk result (λ m. m ≡ marked.now) }
 {
     Ok(Marked {
-        segment: copied_segment(alloc, &marked.segment)?,
+        segment: marked.segment.clone()?,
         instant: marked.instant,
         mark: copied_text(&marked.mark)?,
     })
@@ -87,7 +87,7 @@ fn copies(alloc: Global, shown: &[Marked], more: usize) -> Result<Vec<Marked>, A
     let mut done = Vec::with_capacity(alloc, shown.len().saturating_add(more))?;
     let mut rest = shown;
     while let Some((marked, later)) = rest.split_first() {
-        done.push(copied(alloc, marked)?)?;
+        done.push(copied(marked)?)?;
         rest = later;
     }
     Ok(done)
@@ -115,7 +115,7 @@ pub fn listed(
     store: &PodStore,
     shown: &[Marked],
     entered: &Option<Shared<Text>>,
-    segments: &[Segment],
+    segments: &[Shared<Segment>],
 ) -> Result<Vec<Marked>, AllocError>
     requires numbers { AreContiguous segments.now }
     requires decided { AreDecided store.now shown.now }

@@ -13,7 +13,7 @@ use playlist_meaning::{Instant, Segment, Shared, Text};
 use pod_store::PodStore;
 use std::alloc::{AllocError, Global};
 use std::marker::Model;
-use stitcher::{Marked, copied_segment};
+use stitcher::Marked;
 
 /// What marks are decided by, the known breaks and the store apart.
 #[derive(Clone, Copy)]
@@ -185,7 +185,7 @@ pub fn mark_on(
     store: &PodStore,
     newest: &Option<Shared<Text>>,
     last: &Option<Shared<Text>>,
-    segments: &[Segment],
+    segments: &[Shared<Segment>],
     instants: &[Option<Instant>],
 ) -> Result<Vec<Marked>, AllocError>
     ensures { IfOk result (λ v. v.items ≡ mark_on (record { tolerance = limits.now.tolerance; target = limits.now.target; mapped = limits.now.mapped; breaks = knowledge.now; store = store.now }) newest.now last.now segments.now instants.now) }
@@ -205,7 +205,7 @@ pub fn mark_on(
         before = copied_text(&mark)?;
         entered = or_earlier(&mark, entered)?;
         done.push(Marked {
-            segment: copied_segment(alloc, segment)?,
+            segment: segment.clone()?,
             instant: *instant,
             mark,
         })?;

@@ -1,6 +1,6 @@
 -- Keys and sections that are the same in all their parts are equal.
 use Rattle.std.proofs.Common.{◌≡◌, ℕ, Bool, true, false, List, refl, ap, sym}
-use Rattle.std.specs.Prelude.{◌==◌, bytes_eq, Some, None, Option}
+use Rattle.std.specs.Prelude.{◌==◌, ◌&&◌, bytes_eq, Some, None, Option}
 use Rattle.std.specs.Cmp.Lexicographic.{pointwise}
 use Rattle.std.proofs.lemmas.Bool.{and_parts, and_from, eqb-true, eq-eqb}
 use Rattle.std.proofs.lemmas.Slice.Eq.{bytes_eq-Decides, slice_eq-Decides}
@@ -97,3 +97,13 @@ section_is new None h = cc
 section_is new (Some old) h =
     let a = and_parts _ _ h in let b : (bytes_eq new.uri old.uri ≡ true) × (same_option same_range new.range old.range ≡ true) = and_parts _ _ a.0 in
     ap Some (sym (section_ext _ _ _ _ _ _ ((bytes_eq-Decides new.uri old.uri).0 b.0) (range_is new.range old.range b.1) (keys_are new.keys old.keys a.1)))
+
+none_of : (format method uri other : Bool) → (format && method && uri && false && other) ≡ false
+none_of false m u o = refl
+none_of true false u o = refl
+none_of true true false o = refl
+none_of true true true o = refl
+
+-- keys of which one states another IV differ
+pub other_iv : (j k : Key) → same_option same_number j.iv k.iv ≡ false → false ≡ same_key j k
+other_iv j k h = rw h (sym (none_of (bytes_eq j.format k.format) (bytes_eq j.method k.method) (bytes_eq j.uri k.uri) (pointwise same_attr j.other k.other)))

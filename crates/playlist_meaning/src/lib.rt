@@ -181,7 +181,8 @@ pub struct InitSection {
     pub keys: Keys,
 }
 
-/// A media segment (RFC 8216, sections 3 and 4.3.2). A copy shares its texts, its section and those of its keys.
+/// A media segment (RFC 8216, sections 3 and 4.3.2). It has several owners: the playlist in which it was read, and the list
+/// that is shown.
 #[derive(Clone, PartialEq, Drop)]
 pub struct Segment {
     /// Its Media Sequence Number (section 4.3.3.2).
@@ -191,7 +192,7 @@ pub struct Segment {
     /// How many EXT-X-DISCONTINUITY stand between it and the segment before.
     pub steps: u64,
     /// Its resource: an absolute URI.
-    pub uri: Shared<Text>,
+    pub uri: Text,
     /// The part of the resource, where it isn't the whole.
     pub range: Option<ByteRange>,
     /// The keys that it is encrypted under, sorted by format; none where it is clear.
@@ -243,7 +244,7 @@ pub struct Playlist {
     /// The date ranges, in their order.
     pub date_ranges: Items<DateRange>,
     /// The segments, in their order.
-    pub segments: Items<Segment>,
+    pub segments: Items<Shared<Segment>>,
 }
 
 mod rows;

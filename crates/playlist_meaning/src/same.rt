@@ -1,14 +1,25 @@
 //! Whether keys, initialisation sections and segments are the same.
 ghost use Rattle.std.specs.Prelude.{◌≡◌, true, ◌↔◌};
 ghost use Rattle.std.specs.Cmp.Lexicographic.{pointwise};
-ghost use Rattle.playlist_meaning.specs.Same.{kept_parts, same_key, same_media, same_numbers, same_option, same_protection, same_section, same_segment};
+ghost use Rattle.playlist_meaning.specs.Same.{kept_parts, same_key, same_media, same_number, same_numbers, same_option, same_protection, same_section, same_segment};
 
 use crate::{InitSection, Key, Keys, Segment, Shared};
 
+fn is_same_iv(iv: Option<u128>, other: Option<u128>) -> bool
+    ensures { result ≡ same_option same_number iv other }
+{
+    iv == other
+}
+
+#[tactic(auto, using(crate::proofs::SameParts::other_iv))]
 /// Whether two keys are the same in all their parts.
 pub fn is_same_key(a: &Key, b: &Key) -> bool
     ensures { result ≡ same_key a.now b.now }
 {
+    // Where a key states no IV it differs from segment to segment (RFC 8216, 5.2), and in that alone.
+    if !is_same_iv(a.iv, b.iv) {
+        return false;
+    }
     a == b
 }
 

@@ -13,7 +13,7 @@ use crate::line::{LineKind, kind_of};
 use crate::tag::{Tag, tag_of};
 use attr_list::read_decimal;
 use playlist_meaning::{
-    Base, DateRange, FaultKind, Items, Playlist, PlaylistKind, Segment, has_control,
+    Base, DateRange, FaultKind, Items, Playlist, PlaylistKind, Segment, Shared, has_control,
 };
 use segment_state::State;
 use std::alloc::Global;
@@ -33,7 +33,7 @@ pub struct Progress<'a> {
     has_media: bool,
     state: State<'a>,
     date_ranges: Vec<DateRange>,
-    segments: Vec<Segment>,
+    segments: Vec<Shared<Segment>>,
 }
 
 impl<'a> Model for Progress<'a> {
@@ -292,14 +292,18 @@ fn playlist_type_of(rest: &str) -> Result<PlaylistKind, FaultKind>
     }
 }
 
-fn is_any_mapped(segments: &[Segment]) -> bool
+fn is_any_mapped(segments: &[Shared<Segment>]) -> bool
     ensures { result ≡ list_any has_section segments.now }
 {
-    segments.iter().any(|s: &Segment| s.section.is_some())
+    segments
+        .iter()
+        .any(|s: &Shared<Segment>| s.section.is_some())
 }
 
-fn are_all_mapped(segments: &[Segment]) -> bool
+fn are_all_mapped(segments: &[Shared<Segment>]) -> bool
     ensures { result ≡ list_all has_section segments.now }
 {
-    segments.iter().all(|s: &Segment| s.section.is_some())
+    segments
+        .iter()
+        .all(|s: &Shared<Segment>| s.section.is_some())
 }

@@ -31,15 +31,30 @@ fn push_hex(out: &mut String, number: u128, count: u8) -> Result<(), AllocError>
     Ok(())
 }
 
-// The same of a smaller number, which takes less time.
-fn push_low(out: &mut String, number: u32, count: u8) -> Result<(), AllocError>
-    ensures { Appends result out.old out.new (fixed_digits 16 count number) }
+// Appends the last two hexadecimal digits of a number.
+fn push_two(out: &mut String, number: u32) -> Result<(), AllocError>
+    ensures { Appends result out.old out.new (fixed_digits 16 2 number) }
 {
-    if count == 0 {
-        return Ok(());
-    }
-    push_low(out, number / 16, count - 1)?;
+    out.push(glyph((number / 16 % 16) as u8))?;
     out.push(glyph((number % 16) as u8))?;
+    Ok(())
+}
+
+// The same of four digits.
+fn push_four(out: &mut String, number: u32) -> Result<(), AllocError>
+    ensures { Appends result out.old out.new (fixed_digits 16 4 number) }
+{
+    push_two(out, number / 256)?;
+    push_two(out, number)?;
+    Ok(())
+}
+
+// The same of eight.
+fn push_eight(out: &mut String, number: u32) -> Result<(), AllocError>
+    ensures { Appends result out.old out.new (fixed_digits 16 8 number) }
+{
+    push_four(out, number / 65_536)?;
+    push_four(out, number)?;
     Ok(())
 }
 
@@ -50,7 +65,7 @@ pub fn push_iv_digits(out: &mut String, number: u128) -> Result<(), AllocError>
     // Most are the numbers of segments (RFC 8216, 5.2).
     if number < 4_294_967_296 {
         out.push_str("000000000000000000000000")?;
-        push_low(out, number as u32, 8)?;
+        push_eight(out, number as u32)?;
         return Ok(());
     }
     push_hex(out, number, 32)

@@ -11,30 +11,10 @@ use Rattle.playlist_meaning.specs.declared.InitSection.{InitSection}
 use Rattle.playlist_meaning.specs.Said.{Said, media, uri_of}
 use Rattle.playlist_meaning.specs.LookBack.{Standing, standing_at, number_at, own_duration, effective_key, range_at, range_from, count, is_media, segment_at, extent_with}
 use Rattle.playlist_meaning.specs.Reading.{said_by_uri, limited, passes}
-use Rattle.segment_state.specs.Running.{running_at, after_segment}
+use Rattle.segment_state.specs.Running.{running_at, after_segment, segment_from}
 
 not_past : (n : ℕ) → n < 2 ^ 64 → passes n ≡ false
 not_past n h = grind (arith, nat_tests)
-
--- the segment of what stands
-abbrev pub segment_from : Standing → List ℕ → Option ByteRange → ℕ × List ℕ → Segment
-segment_from s uri range own = record {
-  number = s.sequence + s.media_count;
-  discontinuity = s.discontinuity_sequence + s.discontinuities;
-  steps = s.steps;
-  uri = uri;
-  range = range;
-  keys = map (effective_key (s.sequence + s.media_count)) s.keys;
-  section = s.section;
-  duration = own.0;
-  title = own.1;
-  time = s.time;
-}
-
-pub built : (s : Standing) (uri : List ℕ) (range : Option ByteRange) (own : ℕ × List ℕ) (number discontinuity steps : ℕ) (keys : List Key) (section : Option InitSection) (time : Option ℤ)
-    → number ≡ s.sequence + s.media_count → discontinuity ≡ s.discontinuity_sequence + s.discontinuities → steps ≡ s.steps → keys ≡ map (effective_key number) s.keys → section ≡ s.section → time ≡ s.time
-    → ◌≡◌ {A = Segment} (record { number = number; discontinuity = discontinuity; steps = steps; uri = uri; range = range; keys = keys; section = section; duration = own.0; title = own.1; time = time }) (segment_from s uri range own)
-built s uri range own number discontinuity steps keys section time n d t k c w = cc
 
 -- a URI line whose segment is not one too many, which has a duration, a number, a resource and a range
 pub record Taken (s : Standing) (base : Parts) (reference uri : List ℕ) (range : Option ByteRange) (own : ℕ × List ℕ) : Type 0 where

@@ -1,10 +1,15 @@
--- The reference that is kept with the resource that it names.
-use Rattle.std.specs.Prelude.{◌≡◌, Option, Some, None, Ok, ⊤}
+-- What is kept of a line, with what it said.
+use Rattle.std.specs.Prelude.{◌≡◌, ℕ, List, Option, Some, None, Ok, ⊤}
 use Rattle.url.specs.Parts.{Parts}
-use Rattle.playlist_meaning.specs.Said.{uri_of}
+use Rattle.playlist_meaning.specs.Said.{duration, duration_said, uri_of}
 use Rattle.segment_state.specs.declared.references.Resolved.{Resolved}
 
 -- the resource that is kept is the one that its reference names
 abbrev pub IsResolved : Parts → Option Resolved → Type 0
 IsResolved base None = ⊤
 IsResolved base (Some last) = uri_of base last.reference ≡ Ok last.uri
+
+-- the duration and the title that are kept are those that the text states
+abbrev pub IsSaid : List ℕ → Option (ℕ × List ℕ) → Type 0
+IsSaid text None = ⊤
+IsSaid text (Some own) = duration_said text ≡ Ok (duration own.0 own.1)

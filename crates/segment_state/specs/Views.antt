@@ -1,12 +1,14 @@
 -- What the fields of a state mean.
-use Rattle.std.specs.Prelude.{option_map}
-use Rattle.playlist_meaning.specs.LookBack as look
-use Rattle.segment_state.specs.declared.Extent.{Extent}
+use Rattle.std.specs.Prelude.{Option, Some, None}
+use Rattle.playlist_meaning.specs.declared.Segment.{Segment}
+use Rattle.playlist_meaning.specs.LookBack.{Extent, extent_with}
 use Rattle.segment_state.specs.declared.State.TheInside.{Inside}
 use Rattle.segment_state.specs.Running.{Running}
 
-abbrev pub extent_of : Extent → look.Extent
-extent_of e = record { uri = e.uri; range = e.range }
+-- the last segment's resource, and its range of it, where it has one
+abbrev pub extent_after : Option Segment → Option Extent
+extent_after None = None
+extent_after (Some s) = extent_with s.uri s.range
 
 abbrev pub running_of : Inside → Running
 running_of a = record {
@@ -22,6 +24,6 @@ running_of a = record {
     time = a.time;
     keys = a.keys.items;
     section = a.section;
-    extent = option_map extent_of a.last;
+    extent = extent_after a.last;
   };
 }

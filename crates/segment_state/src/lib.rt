@@ -2,21 +2,20 @@
 //! to what RFC 8216 says by looking back over the lines before.
 #![tactic(auto)]
 
-ghost use Rattle.std.specs.Prelude.{◌≡◌, ◌==◌, ◌+◌, ◌^◌, ◌<◌, ◌≤◌, [], map, Some, None, Ok, Err, IfOk, option_map, nat_lt, length};
-ghost use Rattle.std.specs.List.{before_first, after_first};
+ghost use Rattle.std.specs.Prelude.{◌≡◌, ◌+◌, ◌^◌, ◌<◌, ◌≤◌, [], map, Some, None, Ok, Err, IfOk, nat_lt, length};
 ghost use Rattle.std.specs.Option.{SomeIff};
-ghost use Rattle.playlist_meaning.specs.LookBack.{range_from, range_after, extent_with, effective_key};
+ghost use Rattle.playlist_meaning.specs.LookBack.{range_from, range_after, effective_key};
 ghost use Rattle.playlist_meaning.specs.Reading.{limited, said_by_tag, said_by_uri};
 ghost use Rattle.playlist_meaning.specs.Said as said;
 ghost use Rattle.playlist_meaning.specs.Said.{uri_of};
 ghost use Rattle.playlist_meaning.specs.Refusals.{Gives};
-ghost use Rattle.segment_state.specs.Running.{running_at, after_segment, Follows, Takes, TakesExactly, TakesSegment};
-ghost use Rattle.segment_state.specs.Views.{extent_of};
+ghost use Rattle.segment_state.specs.Running.{running_at, after_segment, segment_from, Follows, Takes, TakesExactly, TakesSegment};
+ghost use Rattle.segment_state.specs.Views.{extent_after};
 
+use crate::durations::Durations;
 use crate::keys::{copied_keys, effective_keys, put_key};
 use crate::references::References;
 use crate::tags::{key_said, range_of, section_said};
-use crate::titles::Titles;
 use fixed_duration::Nanos;
 use playlist_meaning::{
     Base, ByteRange, FaultKind, InitSection, Instant, Items, Key, KeyTag, Keys, MOST_SEGMENTS,
@@ -26,25 +25,18 @@ use std::alloc::{AllocError, Global};
 use std::marker::Model;
 
 pub mod attributes;
+mod durations;
 mod keys;
 mod references;
 mod tags;
 mod times;
-mod titles;
-
-/// The last segment's resource, and its range of it.
-#[derive(Drop)]
-struct Extent {
-    uri: Shared<Text>,
-    range: ByteRange,
-}
 
 /// What stands at a line of a playlist, after the lines before it.
 #[derive(Drop)]
 pub struct State<'a> {
     alloc: Global,
     references: References<'a>,
-    titles: Titles,
+    durations: Durations,
     sequence: u64,
     discontinuity_sequence: u64,
     media: u64,
@@ -55,7 +47,7 @@ pub struct State<'a> {
     time: Option<Instant>,
     keys: Vec<Key>,
     section: Option<Shared<InitSection>>,
-    last: Option<Extent>,
+    last: Option<Shared<Segment>>,
 }
 
 impl<'a> Model for State<'a> {
@@ -79,7 +71,7 @@ impl<'a> State<'a> {
         State {
             alloc,
             references: References::new(alloc, base),
-            titles: Titles::new(alloc),
+            durations: Durations::new(alloc),
             sequence: 0,
             discontinuity_sequence: 0,
             media: 0,
@@ -136,12 +128,7 @@ impl<'a> State<'a> {
     pub fn duration_tag(&mut self, rest: &str) -> Result<(), FaultKind>
         ensures { Takes (λ base before. said_by_tag limited base before said.duration_tag rest.now) self.old self.new result }
     {
-        let (seconds, title) = parts_at_comma(rest);
-        let Ok(nanos) = Nanos::read(seconds) else {
-            return Err(FaultKind::BadDuration);
-        };
-        let title = self.titles.title(title)?;
-        self.duration = Some((nanos, title));
+        self.duration = Some(self.durations.read(rest)?);
         Ok(())
     }
 
@@ -201,7 +188,7 @@ impl<'a> State<'a> {
     }
 
     // The resource of the next segment.
-    fn uri(&mut self, reference: &str) -> Result<Shared<Text>, FaultKind>
+    fn uri(&mut self, reference: &str) -> Result<Text, FaultKind>
         ensures value { Gives (λ uri. uri) result (uri_of self.old.base reference.now) }
         ensures kept { self.new ≡ self.old }
     {
@@ -235,90 +222,103 @@ impl<'a> State<'a> {
         Ok(Items::from_vec(effective_keys(self.alloc, self.keys.as_slice(), number)?))
     }
 
-    // What stands after the URI line of this segment.
-    fn segment_stands(&mut self, last: Option<Extent>)
-        requires { self.old.standing.media_count < MOST_SEGMENTS }
-        ensures { self.new ≡ after_segment self.old (option_map extent_of last) }
+    // The next segment's duration and title.
+    fn own_duration(&self) -> Result<Option<(Nanos, Shared<Text>)>, AllocError>
+        ensures { IfOk result (λ own. own ≡ self.now.standing.duration) }
     {
-        self.media += 1;
-        self.steps = 0;
-        self.duration = None;
-        self.range = None;
-        self.time = None;
-        self.last = last;
+        match &self.duration {
+            Some((nanos, title)) => Ok(Some((*nanos, title.clone()?))),
+            None => Ok(None),
+        }
     }
 
-    /// The segment of a URI line (4.3.2, 5.2), which takes the tags of one segment. The faults, in
-    /// this order: `TooMany` past 10,000 segments, `NoDuration`, `BadValue` where its media number
-    /// passes 2^64 - 1, `BadUri`, `RangeNoStart`, `BadRange`.
-    pub fn take_segment(&mut self, reference: &str) -> Result<Segment, FaultKind>
-        ensures { TakesSegment (λ base before. said_by_uri limited base before reference.now) self.old self.new result }
+    // The initialisation section in force.
+    fn section(&self) -> Result<Option<Shared<InitSection>>, AllocError>
+        ensures { IfOk result (λ section. section ≡ self.now.standing.section) }
     {
-        if self.is_full() {
-            return Err(FaultKind::TooMany);
-        }
-        if self.duration.is_none() {
-            return Err(FaultKind::NoDuration);
-        }
-        let Some(number) = self.number() else {
-            return Err(FaultKind::BadValue);
-        };
-        let uri = self.uri(reference)?;
-        let range = self.next_range(uri.as_str())?;
-        let last = extent_with(&uri, range)?;
-        let keys = self.effective_keys(number)?;
-        let section = self.section.clone()?;
-        let (duration, title) = self.duration.take().unwrap();
+        self.section.clone()
+    }
+
+    // The next segment, of this resource, range, and duration with its title.
+    fn segment_here(
+        &self,
+        number: u64,
+        uri: Text,
+        range: Option<ByteRange>,
+        own: (Nanos, Shared<Text>),
+    ) -> Result<Shared<Segment>, AllocError>
+        requires { number ≡ self.now.standing.sequence + self.now.standing.media_count }
+        ensures { IfOk result (λ segment. segment ≡ segment_from self.now.standing uri range own) }
+    {
+        let (duration, title) = own;
         let segment = Segment {
             number,
             discontinuity: self.discontinuity_number(),
             steps: self.steps,
             uri,
             range,
-            keys,
-            section,
+            keys: self.effective_keys(number)?,
+            section: self.section()?,
             duration,
             title,
             time: self.time,
         };
-        self.segment_stands(last);
+        Shared::new(self.alloc, segment)
+    }
+
+    // What stands after the URI line of this segment.
+    fn segment_stands(&mut self, last: Shared<Segment>)
+        requires { self.old.standing.media_count < MOST_SEGMENTS }
+        ensures { self.new ≡ after_segment self.old (extent_after (Some last)) }
+    {
+        self.media += 1;
+        self.steps = 0;
+        self.duration = None;
+        self.range = None;
+        self.time = None;
+        self.last = Some(last);
+    }
+
+    /// The segment of a URI line (4.3.2, 5.2), which takes the tags of one segment. The faults, in
+    /// this order: `TooMany` past 10,000 segments, `NoDuration`, `BadValue` where its media number
+    /// passes 2^64 - 1, `BadUri`, `RangeNoStart`, `BadRange`.
+    pub fn take_segment(&mut self, reference: &str) -> Result<Shared<Segment>, FaultKind>
+        ensures { TakesSegment (λ base before. said_by_uri limited base before reference.now) self.old self.new result }
+    {
+        if self.is_full() {
+            return Err(FaultKind::TooMany);
+        }
+        let Some(own) = self.own_duration()? else {
+            return Err(FaultKind::NoDuration);
+        };
+        let Some(number) = self.number() else {
+            return Err(FaultKind::BadValue);
+        };
+        let uri = self.uri(reference)?;
+        let range = self.next_range(uri.as_str())?;
+        let segment = self.segment_here(number, uri, range, own)?;
+        self.segment_stands(segment.clone()?);
         Ok(segment)
     }
-}
-
-// The extent of a segment that has a range.
-fn extent_with(uri: &Shared<Text>, range: Option<ByteRange>) -> Result<Option<Extent>, AllocError>
-    ensures { IfOk result (λ last. option_map extent_of last ≡ extent_with uri.now range) }
-{
-    let Some(range) = range else {
-        return Ok(None);
-    };
-    let uri = uri.clone()?;
-    Ok(Some(Extent { uri, range }))
-}
-
-// What stands before the first comma and after it. Without one the whole text stands before it.
-fn parts_at_comma(text: &str) -> (&str, &str)
-    ensures front { result.0.now ≡ before_first (λ b. b == 44) text.now }
-    ensures back { result.1.now ≡ after_first (λ b. b == 44) text.now }
-{
-    text.split_once(',').unwrap_or((text, ""))
 }
 
 fn range_after(
     length: u64,
     uri: &str,
-    last: &Option<Extent>,
+    last: &Option<Shared<Segment>>,
 ) -> Result<Option<ByteRange>, FaultKind>
-    ensures { result ≡ range_after length uri.now (option_map extent_of last.now) }
+    ensures { result ≡ range_after length uri.now (extent_after last.now) }
 {
     let Some(last) = last else {
+        return Err(FaultKind::RangeNoStart);
+    };
+    let Some(range) = last.range else {
         return Err(FaultKind::RangeNoStart);
     };
     if uri != last.uri.as_str() {
         return Err(FaultKind::RangeNoStart);
     }
-    let Some(offset) = last.range.offset.checked_add(last.range.length) else {
+    let Some(offset) = range.offset.checked_add(range.length) else {
         return Err(FaultKind::BadRange);
     };
     match length.checked_add(offset) {

@@ -4,7 +4,7 @@ ghost use Rattle.playlist_meaning.specs.Said.{uri_of};
 ghost use Rattle.playlist_meaning.specs.Refusals.{Gives};
 
 use crate::tags::uri_of;
-use playlist_meaning::{Base, FaultKind, Shared, Text};
+use playlist_meaning::{Base, FaultKind, Text};
 use std::alloc::Global;
 use std::marker::Model;
 
@@ -12,7 +12,7 @@ use std::marker::Model;
 #[derive(Drop)]
 struct Resolved {
     reference: Text,
-    uri: Shared<Text>,
+    uri: Text,
 }
 
 /// The base of a playlist's references, and the last one of a segment that is a part of its resource:
@@ -55,14 +55,14 @@ impl<'a> References<'a> {
     }
 
     /// The resource that a reference names.
-    pub fn resolve(&self, reference: &str) -> Result<Shared<Text>, FaultKind>
+    pub fn resolve(&self, reference: &str) -> Result<Text, FaultKind>
         ensures { Gives (λ uri. uri) result (uri_of self.now reference.now) }
     {
-        uri_of(self.alloc, self.base, reference)
+        uri_of(self.base, reference)
     }
 
-    /// The resource of which a segment is a part. It is kept for the next part, which shares it.
-    pub fn resolve_part(&mut self, reference: &str) -> Result<Shared<Text>, FaultKind>
+    /// The resource of which a segment is a part. It is kept for the next part.
+    pub fn resolve_part(&mut self, reference: &str) -> Result<Text, FaultKind>
         ensures value { Gives (λ uri. uri) result (uri_of self.old reference.now) }
         ensures kept { self.new ≡ self.old }
     {
@@ -71,7 +71,7 @@ impl<'a> References<'a> {
                 return Ok(last.uri.clone()?);
             }
         }
-        let uri = uri_of(self.alloc, self.base, reference)?;
+        let uri = uri_of(self.base, reference)?;
         let reference = Text::copy_of(self.alloc, reference)?;
         self.last = Some(Resolved {
             reference,

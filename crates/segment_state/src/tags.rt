@@ -29,15 +29,22 @@ pub struct SectionTag {
     pub range: Option<ByteRange>,
 }
 
-/// The resource that a reference names, to be shared.
-pub fn uri_of(alloc: Global, base: &Base, reference: &str) -> Result<Shared<Text>, FaultKind>
+/// The resource that a reference names.
+pub fn uri_of(base: &Base, reference: &str) -> Result<Text, FaultKind>
     ensures { Gives (λ uri. uri) result (uri_of base.now reference.now) }
 {
     match base.resolve(reference) {
-        Ok(uri) => Ok(Shared::new(alloc, Text::from_string(uri))?),
+        Ok(uri) => Ok(Text::from_string(uri)),
         Err(BaseFault::OutOfMemory) => Err(FaultKind::OutOfMemory),
         Err(_) => Err(FaultKind::BadUri),
     }
+}
+
+// The same, to be shared.
+fn shared_uri(alloc: Global, base: &Base, reference: &str) -> Result<Shared<Text>, FaultKind>
+    ensures { Gives (λ uri. uri) result (uri_of base.now reference.now) }
+{
+    Ok(Shared::new(alloc, uri_of(base, reference)?)?)
 }
 
 // The IV of a key tag, where it states one.
@@ -95,7 +102,7 @@ fn set_key(alloc: Global, base: &Base, list: &AttrList, method: &str) -> Result<
     let reference = required(list, "URI", true)?;
     let iv = iv_of(list)?;
     let format = optional(list, "KEYFORMAT", true)?;
-    let uri = uri_of(alloc, base, reference)?;
+    let uri = shared_uri(alloc, base, reference)?;
     let other = other_attributes(alloc, list.as_slice())?;
     Ok(Key {
         format: Shared::copy_of(alloc, format.unwrap_or(IDENTITY))?,
@@ -161,6 +168,6 @@ pub fn section_said(alloc: Global, base: &Base, rest: &str) -> Result<SectionTag
     let list = attributes_of(alloc, rest)?;
     let reference = required(&list, "URI", true)?;
     let range = section_range(&list)?;
-    let uri = uri_of(alloc, base, reference)?;
+    let uri = shared_uri(alloc, base, reference)?;
     Ok(SectionTag { uri, range })
 }

@@ -30,24 +30,6 @@ fn shared_section(
     }
 }
 
-/// A copy of a segment of the origin, which shares its texts and its section.
-pub fn copied_segment(alloc: Global, segment: &Segment) -> Result<Segment, AllocError>
-    ensures { IfOk result (λ s. s ≡ segment.now) }
-{
-    Ok(Segment {
-        number: segment.number,
-        discontinuity: segment.discontinuity,
-        steps: segment.steps,
-        uri: segment.uri.clone()?,
-        range: segment.range,
-        keys: copied_keys(alloc, segment.keys.as_slice())?,
-        section: shared_section(&segment.section)?,
-        duration: segment.duration,
-        title: segment.title.clone()?,
-        time: segment.time,
-    })
-}
-
 /// What the segments of an ad share: its section under the ad's keys, and the title, which is empty.
 #[derive(Drop)]
 pub struct AdParts {
@@ -113,7 +95,7 @@ pub fn ad_segment(
         number: numbers.media,
         discontinuity: numbers.discontinuity,
         steps: numbers.steps,
-        uri: segment.uri.clone()?,
+        uri: Text::copy_of(alloc, segment.uri.as_str())?,
         range: segment.range,
         keys: copied_keys(alloc, ad.keys.as_slice())?,
         section: shared_section(&parts.section)?,

@@ -11,7 +11,6 @@ mod making;
 mod marked;
 mod played;
 
-pub use copies::copied_segment;
 pub use fault::StitchFault;
 pub use key_tags::{is_new, keeps_formats, transition};
 pub use making::stitch;

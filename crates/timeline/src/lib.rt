@@ -5,11 +5,10 @@ ghost use Rattle.std.specs.Prelude.{◌≡◌, ℤ, IfOk, option_map, pos, ◌-�
 ghost use Rattle.playlist_meaning.specs.Instants.{bounded, ends_at, instants_after, instants_of};
 ghost use Rattle.playlist_meaning.specs.LookBack.{or_earlier};
 ghost use Rattle.timeline.specs.Reckoned.{clamped, stack_of};
-ghost use Rattle.timeline.specs.Timed.{with_time, timed};
 
 use fixed_duration::Nanos;
 use instants::FIRST_INSTANT;
-use playlist_meaning::{Instant, Segment};
+use playlist_meaning::{Instant, Segment, Shared};
 use std::alloc::{AllocError, Global};
 
 pub mod laws;
@@ -74,7 +73,10 @@ fn begins_at(ended: Option<i128>, segment: &Segment, reckoned: Option<i128>) -> 
 
 // For each segment the first time that is stated from it on, less the durations before it: the first
 // segment's stands last.
-fn reckoned_stack(alloc: Global, segments: &[Segment]) -> Result<Vec<Option<i128>>, AllocError>
+fn reckoned_stack(
+    alloc: Global,
+    segments: &[Shared<Segment>],
+) -> Result<Vec<Option<i128>>, AllocError>
     ensures { IfOk result (λ v. v.items ≡ stack_of segments.now) }
 {
     let mut stack = Vec::with_capacity(alloc, segments.len())?;
@@ -93,7 +95,7 @@ fn reckoned_stack(alloc: Global, segments: &[Segment]) -> Result<Vec<Option<i128
 pub fn instants_after(
     alloc: Global,
     from: Option<i128>,
-    segments: &[Segment],
+    segments: &[Shared<Segment>],
 ) -> Result<Vec<Option<Instant>>, AllocError>
     ensures { IfOk result (λ v. v.items ≡ instants_after from segments.now) }
 {
@@ -115,29 +117,11 @@ pub fn instants_after(
 }
 
 /// The instant at which each of a playlist's segments begins, as `instants_after` none.
-pub fn instants(alloc: Global, segments: &[Segment]) -> Result<Vec<Option<Instant>>, AllocError>
+pub fn instants(
+    alloc: Global,
+    segments: &[Shared<Segment>],
+) -> Result<Vec<Option<Instant>>, AllocError>
     ensures { IfOk result (λ v. v.items ≡ instants_of segments.now) }
 {
     instants_after(alloc, None, segments)
-}
-
-/// The segment, which states this instant, or none.
-pub fn with_time(segment: (Segment, Option<Instant>)) -> Segment
-    ensures { result ≡ with_time segment }
-{
-    let (mut segment, begun) = segment;
-    segment.time = begun;
-    segment
-}
-
-/// The same segments, each of which states the instant at which it begins, where it has one.
-pub fn timed(alloc: Global, segments: Vec<Segment>) -> Result<Vec<Segment>, AllocError>
-    ensures { IfOk result (λ v. v.items ≡ timed segments.items) }
-{
-    let instants = instants(alloc, segments.as_slice())?;
-    segments
-        .into_iter()
-        .zip(instants)
-        .map(with_time)
-        .collect(alloc)
 }
