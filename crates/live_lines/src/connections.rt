@@ -1,8 +1,8 @@
 //! Connections with devices that move few bytes at a time, or fail.
 ghost use Rattle.std.specs.Prelude.{◌<◌};
 
-use crate::body::body_of;
 use devices::{Pieces, Taken};
+use escaped_bytes::bytes_of;
 use live_edge::{Edge, serve};
 use std::alloc::Global;
 use std::io;
@@ -37,7 +37,7 @@ pub fn print_served(
     let (failing_read, words) = number_of(words);
     let (most_written, words) = count_of(words);
     let (failing_write, words) = number_of(words);
-    let bytes = body_of(alloc, words)?;
+    let bytes = bytes_of(alloc, words)?;
     let mut source = Pieces::new(bytes.as_slice(), most_read, 0, failing_read);
     let mut sink = Taken::new(alloc, ROOM, most_written, failing_write)?;
     match serve(alloc, edge, &mut source, &mut sink) {

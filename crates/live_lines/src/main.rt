@@ -19,12 +19,11 @@
 //! byte, and another backslash for a backslash. A line that is none of these, or comes before any channel, prints `no event`.
 #![tactic(auto)]
 
-mod body;
 mod connections;
 mod words;
 
-use body::body_of;
 use connections::print_served;
+use escaped_bytes::bytes_of;
 use fixed_duration::Nanos;
 use live_counters::{Channel, ChannelFault};
 use live_edge::Edge;
@@ -65,7 +64,7 @@ fn print_decision(
     channel: &mut Channel,
     rest: &str,
 ) -> io::Result<()> {
-    match channel.decide(alloc, body_of(alloc, rest)?.as_slice()) {
+    match channel.decide(alloc, bytes_of(alloc, rest)?.as_slice()) {
         Ok(()) => println!(rt; "ok"),
         Err(fault) => println!(rt; "{fault}"),
     }
@@ -84,7 +83,7 @@ fn print_refresh(
     channel: &mut Channel,
     rest: &str,
 ) -> io::Result<()> {
-    match channel.refresh(alloc, body_of(alloc, rest)?.as_slice()) {
+    match channel.refresh(alloc, bytes_of(alloc, rest)?.as_slice()) {
         Ok(done) => println!(rt;
             "ok {} {} {}",
             done.media_sequence, done.segments, done.fresh
@@ -147,7 +146,7 @@ fn print_line(
             return Ok(());
         }
         "serve" => return print_served(rt, alloc, &mut channels.edge, rest),
-        "length" => return println!(rt; "{}", body_of(alloc, rest)?.len()),
+        "length" => return println!(rt; "{}", bytes_of(alloc, rest)?.len()),
         "to" => {
             channels.back = rest.parse().unwrap_or(0);
             return Ok(());

@@ -22,15 +22,17 @@
 #![tactic(auto)]
 
 mod attributes;
-mod body;
 mod durations;
+mod fields;
 mod sections;
+mod shown;
 mod values;
+mod words;
 
 use attr_list::AttrFault;
 use attributes::{attribute_line, attributes_line, decimal_line, hexadecimal_line};
-use body::body_of;
 use durations::{duration_line, fraction_line, rounded_line, seconds_line, sum_line};
+use escaped_bytes::bytes_of;
 use scte35_codec::SpliceFault;
 use sections::{crc_line, rewritten_line, section_line};
 use std::alloc::{AllocError, Global};
@@ -80,7 +82,7 @@ fn text_line(alloc: Global, word: &str, text: &str) -> Result<String, AllocError
 
 fn answer(alloc: Global, line: &str) -> Result<String, AllocError> {
     let (word, rest) = line.split_once(' ').unwrap_or((line, ""));
-    let bytes = body_of(alloc, rest)?;
+    let bytes = bytes_of(alloc, rest)?;
     if word == "crc" {
         return crc_line(alloc, bytes.as_slice());
     }

@@ -1,155 +1,92 @@
 //! The lines of splice sections.
+ghost use Rattle.std.specs.Prelude.{◌≡◌, ◌++◌, IfOk, string_bytes, decimal, codes};
+ghost use Rattle.scte35_codec.specs.Section.{section_of};
+ghost use Rattle.scte35_codec.specs.Hexadecimal.{reading_hex};
+ghost use Rattle.scte35_codec.specs.Crc.{crc_of};
+ghost use Rattle.text_lines.specs.Shown.{hexadecimal};
+ghost use Rattle.text_lines.specs.Sections.{IsFieldsLine, IsCheckedText, IsBytesText, Writes, Reads, crc_line};
 
-use scte35_codec::{
-    BreakDuration, InsertBody, SpliceCommand, SpliceInfo, SpliceInsert, SpliceTarget, SpliceTime,
-    crc_of, read_hex, write, write_with_crc,
-};
+use crate::fields::push_fields;
+use crate::shown::push_bytes;
+use scte35_codec::{SpliceInfo, crc_of, read_hex, write, write_with_crc};
 use std::alloc::{AllocError, Global};
 
-/// What a section in hexadecimal digits says, or its fault.
-pub fn section_line(alloc: Global, hex: &str) -> Result<String, AllocError> {
-    let info = match read_hex(alloc, hex) {
-        Ok(info) => info,
-        Err(fault) => return format!(in alloc; "{fault}"),
-    };
-    let mut line = String::new(alloc);
-    push_fields(&mut line, &info)?;
-    push_rest(&mut line, &info)?;
-    match write_with_crc(alloc, &info) {
-        Ok(bytes) => push_section(&mut line, bytes.as_slice())?,
-        Err(fault) => write!(line, " {fault}")?,
+/// What a section in hexadecimal digits says, and the section that is written of it with its own CRC_32, or the fault of either.
+pub fn section_line(alloc: Global, hex: &str) -> Result<String, AllocError>
+    ensures { IfOk result (λ line. Reads IsFieldsLine (reading_hex hex.now) (string_bytes line)) }
+{
+    match read_hex(alloc, hex) {
+        Ok(info) => fields_line(alloc, &info),
+        Err(fault) => format!(in alloc; "{fault}"),
     }
+}
+
+fn fields_line(alloc: Global, info: &SpliceInfo) -> Result<String, AllocError>
+    ensures { IfOk result (λ line. IsFieldsLine (section_of info.now) (string_bytes line)) }
+{
+    let mut line = String::new(alloc);
+    push_fields(alloc, &mut line, info)?;
+    line.push(' ')?;
+    let written = checked_text(alloc, info)?;
+    line.push_str(written.as_str())?;
     Ok(line)
+}
+
+// The CRC_32 of the whole of a section that is written with its own, and the section; or why it isn't written.
+fn checked_text(alloc: Global, info: &SpliceInfo) -> Result<String, AllocError>
+    ensures { IfOk result (λ text. Writes IsCheckedText (section_of info.now) (string_bytes text)) }
+{
+    match write_with_crc(alloc, info) {
+        Ok(bytes) => crc_and_bytes(alloc, bytes.as_slice()),
+        Err(fault) => format!(in alloc; "{fault}"),
+    }
+}
+
+fn crc_and_bytes(alloc: Global, bytes: &[u8]) -> Result<String, AllocError>
+    ensures { IfOk result (λ text. string_bytes text
+        ≡ codes "crc=" ++ decimal (crc_of bytes.now) ++ codes " " ++ hexadecimal bytes.now) }
+{
+    let mut text = format!(in alloc; "crc={} ", crc_of(bytes))?;
+    push_bytes(alloc, &mut text, bytes)?;
+    Ok(text)
 }
 
 /// The section that is read, copied and written again with the CRC_32 that it states, or the fault of either.
-pub fn rewritten_line(alloc: Global, hex: &str) -> Result<String, AllocError> {
-    let info = match read_hex(alloc, hex) {
-        Ok(info) => info,
-        Err(fault) => return format!(in alloc; "{fault}"),
-    };
-    let copy = info.clone()?;
-    let mut line = String::new(alloc);
-    match write(alloc, &copy) {
-        Ok(bytes) => push_bytes(&mut line, bytes.as_slice())?,
-        Err(fault) => write!(line, "{fault}")?,
+pub fn rewritten_line(alloc: Global, hex: &str) -> Result<String, AllocError>
+    ensures { IfOk result (λ line. Reads (Writes IsBytesText) (reading_hex hex.now) (string_bytes line)) }
+{
+    match read_hex(alloc, hex) {
+        Ok(info) => bytes_line(alloc, &copy_of(&info)?),
+        Err(fault) => format!(in alloc; "{fault}"),
     }
-    Ok(line)
+}
+
+fn copy_of(info: &SpliceInfo) -> Result<SpliceInfo, AllocError>
+    ensures { IfOk result (λ copy. section_of copy ≡ section_of info.now) }
+{
+    info.clone()
+}
+
+fn bytes_line(alloc: Global, info: &SpliceInfo) -> Result<String, AllocError>
+    ensures { IfOk result (λ line. Writes IsBytesText (section_of info.now) (string_bytes line)) }
+{
+    match write(alloc, info) {
+        Ok(bytes) => hexadecimal_of(alloc, bytes.as_slice()),
+        Err(fault) => format!(in alloc; "{fault}"),
+    }
+}
+
+fn hexadecimal_of(alloc: Global, bytes: &[u8]) -> Result<String, AllocError>
+    ensures { IfOk result (λ text. string_bytes text ≡ hexadecimal bytes.now) }
+{
+    let mut text = String::new(alloc);
+    push_bytes(alloc, &mut text, bytes)?;
+    Ok(text)
 }
 
 /// The CRC_32 of bytes.
-pub fn crc_line(alloc: Global, bytes: &[u8]) -> Result<String, AllocError> {
+pub fn crc_line(alloc: Global, bytes: &[u8]) -> Result<String, AllocError>
+    ensures { IfOk result (λ line. string_bytes line ≡ crc_line bytes.now) }
+{
     format!(in alloc; "{}", crc_of(bytes))
-}
-
-fn push_fields(line: &mut String, info: &SpliceInfo) -> Result<(), AllocError> {
-    let SpliceInfo {
-        pts_adjustment,
-        cw_index,
-        tier,
-        ..
-    } = info;
-    write!(
-        line,
-        "pts_adjustment={pts_adjustment} cw={cw_index} tier={tier}"
-    )?;
-    match &info.command {
-        SpliceCommand::Insert(insert) => push_insert(line, insert),
-        SpliceCommand::Other { command, bytes } => {
-            write!(line, " command={command}")?;
-            push_named(line, " bytes=", bytes.as_slice())
-        }
-    }
-}
-
-// What stands behind the command.
-fn push_rest(line: &mut String, info: &SpliceInfo) -> Result<(), AllocError> {
-    push_named(line, " descriptors=", info.descriptors.as_slice())?;
-    push_named(line, " stuffing=", info.stuffing.as_slice())?;
-    let stated = info.crc;
-    write!(line, " stated={stated}")
-}
-
-// Bytes with their name, where there are any.
-fn push_named(line: &mut String, name: &str, bytes: &[u8]) -> Result<(), AllocError> {
-    if bytes.is_empty() {
-        return Ok(());
-    }
-    line.push_str(name)?;
-    push_bytes(line, bytes)
-}
-
-fn push_insert(line: &mut String, insert: &SpliceInsert) -> Result<(), AllocError> {
-    let event_id = insert.event_id;
-    write!(line, " event={event_id}")?;
-    match &insert.body {
-        None => line.push_str(" cancelled"),
-        Some(body) => push_body(line, body),
-    }
-}
-
-fn push_body(line: &mut String, body: &InsertBody) -> Result<(), AllocError> {
-    let out = u8::from(body.out_of_network);
-    let immediate = u8::from(body.immediate);
-    write!(line, " out={out} immediate={immediate}")?;
-    push_target(line, &body.target)?;
-    if let Some(duration) = body.duration {
-        push_duration(line, duration)?;
-    }
-    let InsertBody {
-        unique_program_id,
-        avail_num,
-        avails_expected,
-        ..
-    } = body;
-    write!(
-        line,
-        " upid={unique_program_id} avail={avail_num} avails={avails_expected}"
-    )
-}
-
-fn push_duration(line: &mut String, duration: BreakDuration) -> Result<(), AllocError> {
-    let auto_return = u8::from(duration.auto_return);
-    let ticks = duration.ticks;
-    write!(line, " auto={auto_return} ticks={ticks}")
-}
-
-fn push_target(line: &mut String, target: &SpliceTarget) -> Result<(), AllocError> {
-    match target {
-        SpliceTarget::Program(time) => {
-            line.push_str(" program")?;
-            push_time(line, *time)
-        }
-        SpliceTarget::Components(components) => {
-            for (tag, time) in components {
-                write!(line, " component={tag}")?;
-                push_time(line, *time)?;
-            }
-            Ok(())
-        }
-    }
-}
-
-// A time that is there may leave open which.
-fn push_time(line: &mut String, time: Option<SpliceTime>) -> Result<(), AllocError> {
-    match time {
-        None => Ok(()),
-        Some(SpliceTime { pts: None }) => line.push_str(" pts=open"),
-        Some(SpliceTime { pts: Some(pts) }) => write!(line, " pts={pts}"),
-    }
-}
-
-// The CRC_32 of the whole of a section, and the section.
-fn push_section(line: &mut String, bytes: &[u8]) -> Result<(), AllocError> {
-    let crc = crc_of(bytes);
-    write!(line, " crc={crc} ")?;
-    push_bytes(line, bytes)
-}
-
-fn push_bytes(line: &mut String, bytes: &[u8]) -> Result<(), AllocError> {
-    line.push_str("0x")?;
-    for byte in bytes {
-        write!(line, "{byte:02x}")?;
-    }
-    Ok(())
 }

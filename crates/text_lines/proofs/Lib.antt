@@ -1,0 +1,5 @@
+pub mod Appended
+pub mod Components
+pub mod Copies
+pub mod Listed
+pub mod Parsed
