@@ -44,16 +44,14 @@ fn vod_with(rt: &HostRuntime, base: &str, decisions: Option<&[u8]>) -> ExitCode 
     let mut input = Counted::new(rt.stdin());
     let mut output = Counted::new(rt.stdout());
     let mut faults = Counted::new(rt.stderr());
-    let ended = command_vod(
+    ExitCode::from(command_vod(
         rt.alloc(),
         base,
         decisions,
         &mut input,
         &mut output,
         &mut faults,
-    );
-    // What the channel holds goes with the process: it isn't taken apart.
-    rt.exit(i32::from(ended.status))
+    ))
 }
 
 fn live_or_usage(rt: &HostRuntime, words: &[String]) -> ExitCode {

@@ -1,5 +1,5 @@
 -- What a run comes to: a channel that was given the decision file, if there is one, and then one refresh.
-use Rattle.std.proofs.Common.{◌≡◌, rules, ℕ, List, [], ◌∷◌, ◌++◌, cond, refl, ap, sym, ◌∙◌, subst}
+use Rattle.std.proofs.Common.{◌≡◌, ℕ, List, [], ◌∷◌, ◌++◌, cond, refl, ap, sym, ◌∙◌, subst}
 use Rattle.std.specs.Prelude.{Option, Some, None, Result, Ok, Err, OnOk, IfErr, IsErrOf, IsOk, IsSome, ◌≢◌, is_ok, is_some, is_none, option_map, unwrap_or}
 use Rattle.std.specs.Io.KnownBytes.{Appends}
 use Rattle.std.specs.Result.{IsErrAnd}
@@ -112,6 +112,10 @@ pub handed_on : {A : Type 0} (r : Result A VodFault) (e : VodFault) (P : VodFaul
 handed_on (Ok x) e P h p = absurd h
 handed_on (Err d) e P h p = subst P (sym h) p
 
+pub of_writing : {A : Type 0} (r : Result A VodFault) (P : VodFault → Type 0) → IfErr r (λ e. e ≡ Write) → P Write → IfErr r P
+of_writing (Ok x) P h p = tt
+of_writing (Err e) P h p = subst P (sym h) p
+
 pub in_order : (old new : Option (List ℕ)) (c : Channel) (e : VodFault) (base : List ℕ) (file : Option (List ℕ)) → RefusesFrom e old new c
     → IsSome (base_of base) × IsOk (events_of file) → IsInOrder e base file
 in_order old new c (PlaylistOf fault) base file h k = k
@@ -136,36 +140,10 @@ pub range_of : {A P : Type 0} (r : Result A VodFault) (e : VodFault) → IsErrAn
 range_of (Ok x) e h f is = absurd h
 range_of (Err d) e h f is = let same : d ≡ NumberRange = cc in f (sym h ∙ same)
 
-pub one_of : {A B : Type 0} (e f : VodFault) → IsErrOf {T = A} (Err e) f → IsErrOf {T = B} (Err e) f
-one_of e f is = let same : e ≡ f = cc in search rules
-
-pub fair_to : (A : Type 0) {B : Type 0} {old new : SourceStand} (e : VodFault) → IsFairToSource {A = B} (Err e) old new → IsFairToSource {A = A} (Err e) old new
-fair_to A e f = record {
-  blamed = λ is. f.blamed (one_of e Read is);
-  unfailed = tt;
-  told = f.told;
-  too_many = λ is. f.too_many (one_of e TooManyReads is);
-  calls = f.calls;
-}
-
-pub sink_to : (A : Type 0) {B : Type 0} {old new : SinkStand} (e : VodFault) → IsFairToSink {A = B} (Err e) old new → IsFairToSink {A = A} (Err e) old new
-sink_to A e f = record { blamed = λ is. f.blamed (one_of e Write is); unfailed = tt; told = f.told }
-
 -- what a call said of its source holds where its fault is handed on
-pub fair_on : {A B : Type 0} (r : Result A VodFault) (e : VodFault) (old new : SourceStand) → IsErrAnd r (λ d. d ≡ e) → IsFairToSource {A = B} (Err e) old new → IsFairToSource r old new
+pub fair_on : {A : Type 0} (r : Result A VodFault) (e : VodFault) (old new : SourceStand) → IsErrAnd r (λ d. d ≡ e) → IsFairToSource {A = A} (Err e) old new → IsFairToSource r old new
 fair_on (Ok x) e old new h f = absurd h
-fair_on {A = A} {B = B} (Err d) e old new h f = fair_to A d (subst (λ x. IsFairToSource {A = B} (Err x) old new) (sym h) f)
-
--- what the call that writes said of its sink holds where its fault is handed on, and where it has none
-pub sink_fault : {A B : Type 0} (r : Result A VodFault) (e : VodFault) (old new : SinkStand) → IsErrAnd r (λ d. d ≡ e) → IsFairToSink {A = B} (Err e) old new → IsFairToSink r old new
-sink_fault (Ok x) e old new h f = absurd h
-sink_fault {A = A} {B = B} (Err d) e old new h f = sink_to A d (subst (λ x. IsFairToSink {A = B} (Err x) old new) (sym h) f)
-
-pub sink_used : {A B : Type 0} (x : A) (y : B) (old new : SinkStand) → IsFairToSink {A = B} (Ok y) old new → IsFairToSink {A = A} (Ok x) old new
-sink_used x y old new f = record { blamed = λ is. absurd (cc); unfailed = f.unfailed; told = tt }
-
-pub is_writing : (e : VodFault) → e ≡ Write → IsErrOf {T = Unit {0}} (Err e) Write
-is_writing e same = search rules
+fair_on {A = A} (Err d) e old new h f = subst (λ x. IsFairToSource {A = A} (Err x) old new) (sym h) f
 
 pub write_is_no_read : (Write ≢ Read) × (Write ≢ TooManyReads)
 write_is_no_read = (λ same. absurd (cc), λ same. absurd (cc))

@@ -12,7 +12,6 @@ use crate::fault::VodFault;
 use crate::run::vod;
 use arrayvec::ArrayString;
 use devices::{Sink, Source, hand_out};
-use live_counters::Channel;
 use std::alloc::Global;
 
 /// What the program is asked to do.
@@ -69,15 +68,6 @@ fn print_fault<F: Sink>(fault: VodFault, faults: &mut F)
     let _ = hand_out(line.as_str().as_bytes(), faults);
 }
 
-/// How a run of the program ended.
-#[derive(Drop)]
-pub struct Ended {
-    /// The exit status: 0, or 1 after a fault.
-    pub status: u8,
-    /// The channel that wrote the playlist, where it was written. A process that ends next needn't take it apart.
-    pub channel: Option<Channel>,
-}
-
 /// Runs `vod`, writes the fault's line where there is one, and answers the exit status: 0, or 1
 /// after a fault.
 pub fn command_vod<S: Source, K: Sink, F: Sink>(
@@ -87,15 +77,15 @@ pub fn command_vod<S: Source, K: Sink, F: Sink>(
     input: &mut S,
     output: &mut K,
     faults: &mut F,
-) -> Ended
-    ensures status { result.status ≤ 1 }
-    ensures ok { result.status ≡ 0 → Succeeds base.now (option_copied decisions.entry)
+) -> u8
+    ensures status { result ≤ 1 }
+    ensures ok { result ≡ 0 → Succeeds base.now (option_copied decisions.entry)
         (source_stand S.remaining S.called S.failed input.old) (source_stand S.remaining S.called S.failed input.new)
         (sink_stand K.contents K.failed output.old) (sink_stand K.contents K.failed output.new) }
-    ensures quiet { result.status ≡ 0 → faults.new ≡ faults.old }
+    ensures quiet { result ≡ 0 → faults.new ≡ faults.old }
 
     // 1 only where `vod` answers a fault, and then its line is printed.
-    ensures fault { result.status ≡ 1 → FailsAndPrints base.now (option_copied decisions.entry)
+    ensures fault { result ≡ 1 → FailsAndPrints base.now (option_copied decisions.entry)
         (source_stand S.remaining S.called S.failed input.old) (source_stand S.remaining S.called S.failed input.new)
         (sink_stand K.contents K.failed output.old) (sink_stand K.contents K.failed output.new)
         (sink_stand F.contents F.failed faults.old) (sink_stand F.contents F.failed faults.new) }
@@ -105,16 +95,10 @@ pub fn command_vod<S: Source, K: Sink, F: Sink>(
     ensures undecided { (fault : DecisionFault) → events_of (option_copied decisions.entry) ≡ Err fault → input.new ≡ input.old }
 {
     match vod(alloc, input, output, base, decisions) {
-        Ok(channel) => Ended {
-            status: 0,
-            channel: Some(channel),
-        },
+        Ok(()) => 0,
         Err(fault) => {
             print_fault(fault, faults);
-            Ended {
-                status: 1,
-                channel: None,
-            }
+            1
         }
     }
 }

@@ -104,15 +104,14 @@ fn refresh_from<S: Source>(
 #[tactic(auto, using(crate::proofs::Known::known_bytes))]
 /// Reads a playlist from an input and writes it with its breaks filled: each run of segments that a break of the decision
 /// file marks is replaced by the pod that the file gives it. Without a decision file no break is filled. The faults stand
-/// in this order: the base, the decision file, reading, the playlist, `NumberRange`, writing. Answers the channel that wrote
-/// it: a process that ends next needn't take it apart.
+/// in this order: the base, the decision file, reading, the playlist, `NumberRange`, writing.
 pub fn vod<S: Source, K: Sink>(
     alloc: Global,
     source: &mut S,
     sink: &mut K,
     base: &str,
     decisions: Option<&[u8]>,
-) -> Result<Channel, VodFault>
+) -> Result<(), VodFault>
     ensures ok { OnOk result (Writes base.now (option_copied decisions.entry) (S.remaining source.old) (S.remaining source.new) (K.contents sink.old) (K.contents sink.new)) }
 
     // Where the sink failed it took a front of the text, and else nothing.
@@ -136,6 +135,5 @@ pub fn vod<S: Source, K: Sink>(
 {
     let mut channel = decided_channel(alloc, base, decisions)?;
     refresh_from(alloc, source, &mut channel)?;
-    hand_text(&channel, sink)?;
-    Ok(channel)
+    hand_text(&channel, sink)
 }

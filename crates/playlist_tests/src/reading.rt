@@ -4,68 +4,102 @@ use playlist_meaning::FaultKind;
 use playlist_parse::{LineKind, Lines, kind_of};
 use segment_state::attributes::{attributes_of, optional, required};
 use std::alloc::Global;
-use std::test::Fail;
 
-#[test]
-fn attributes_of_a_tag(rt: HostRuntime) -> Result<(), Fail> {
-    let list = attributes_of(rt.alloc(), "METHOD=AES-128,URI=\"k\"")?;
-    assert_eq!(rt; required(&list, "METHOD", false)?, "AES-128");
-    assert_eq!(rt;
-        required(&list, "METHOD", true),
-        Err(FaultKind::BadAttributes)
-    );
-    assert_eq!(rt;
-        required(&list, "IV", false),
-        Err(FaultKind::MissingAttribute)
-    );
-    assert_eq!(rt; optional(&list, "URI", true)?, Some("k"));
-    assert_eq!(rt;
-        optional(&list, "URI", false),
-        Err(FaultKind::BadAttributes)
-    );
-    assert_eq!(rt; optional(&list, "IV", false)?, None);
-    assert_eq!(rt;
-        attributes_of(rt.alloc(), "METHOD").err(),
-        Some(FaultKind::BadAttributes)
-    );
-    Ok(())
-}
+const LIST: &str = "METHOD=AES-128,URI=\"k\"";
 
-// What a line is: its text where it is a URI, the name and the rest of a tag, a dash where it is passed over.
-fn shown(alloc: Global, line: &str) -> Result<String, Fail> {
-    let mut shown = String::new(alloc);
-    match kind_of(line) {
-        LineKind::Ignored => shown.push_str("-")?,
-        LineKind::Uri(uri) => shown.push_str(uri)?,
-        LineKind::Tag { name, rest, .. } => {
-            shown.push_str(name)?;
-            shown.push_str("|")?;
-            shown.push_str(rest)?;
-        }
-    }
-    Ok(shown)
+// Whether an attribute of the list that has to be there is told so.
+fn is_required(
+    alloc: Global,
+    name: &str,
+    quoted: bool,
+    told: Result<&str, FaultKind>,
+) -> Result<bool, FaultKind> {
+    let list = attributes_of(alloc, LIST)?;
+    Ok(required(&list, name, quoted) == told)
 }
 
 #[test]
-fn kinds_of_lines(rt: HostRuntime) -> Result<(), Fail> {
-    let text = "#EXTM3U\r\n \n#comment\n#EXT-X-KEY:METHOD=NONE:x\n s.ts\n#EXTINF";
-    let owed = [
-        "EXTM3U|",
-        "-",
-        "-",
-        "EXT-X-KEY|METHOD=NONE:x",
-        " s.ts",
-        "EXTINF|",
+fn required_attributes(rt: HostRuntime) {
+    let table = [
+        ("METHOD", false, Ok("AES-128")),
+        ("METHOD", true, Err(FaultKind::BadAttributes)),
+        ("IV", false, Err(FaultKind::MissingAttribute)),
     ];
-    let mut lines = Lines::new(text);
-    for kind in owed {
-        let Some(line) = lines.next() else {
-            return Err(Fail::from("a line is missing"));
-        };
-        let slice = text.as_bytes().get(line.span.start..line.span.end);
-        assert_eq!(rt; slice, Some(line.text.as_bytes()));
-        assert_eq!(rt; shown(rt.alloc(), line.text)?.as_str(), kind);
+    for (name, quoted, told) in table {
+        assert!(rt;
+            matches!(is_required(rt.alloc(), name, quoted, told), Ok(true)),
+            "{name}"
+        );
+    }
+}
+
+// Whether an attribute of the list that may be left out is told so.
+fn is_optional(
+    alloc: Global,
+    name: &str,
+    quoted: bool,
+    told: Result<Option<&str>, FaultKind>,
+) -> Result<bool, FaultKind> {
+    let list = attributes_of(alloc, LIST)?;
+    Ok(optional(&list, name, quoted) == told)
+}
+
+#[test]
+fn optional_attributes(rt: HostRuntime) {
+    let table = [
+        ("URI", true, Ok(Some("k"))),
+        ("URI", false, Err(FaultKind::BadAttributes)),
+        ("IV", false, Ok(None)),
+    ];
+    for (name, quoted, told) in table {
+        assert!(rt;
+            matches!(is_optional(rt.alloc(), name, quoted, told), Ok(true)),
+            "{name}"
+        );
+    }
+}
+
+#[test]
+fn no_attributes(rt: HostRuntime) {
+    let list = attributes_of(rt.alloc(), "METHOD");
+    assert!(rt; matches!(list, Err(FaultKind::BadAttributes)));
+}
+
+const LINES: &str = "#EXTM3U\r\n \n#comment\n#EXT-X-KEY:METHOD=NONE:x\n s.ts\n#EXTINF";
+
+// What a line is: the text of a URI, the name and the rest of a tag.
+fn said(line: &str) -> (&str, &str, &str) {
+    match kind_of(line) {
+        LineKind::Ignored => ("ignored", "", ""),
+        LineKind::Uri(uri) => ("URI", uri, ""),
+        LineKind::Tag { name, rest, .. } => ("tag", name, rest),
+    }
+}
+
+// Whether this is the next line, at its place.
+fn is_next(lines: &mut Lines<'_>, owed: (&str, &str, &str)) -> bool {
+    let Some(line) = lines.next() else {
+        return false;
+    };
+    let slice = LINES.as_bytes().get(line.span.start..line.span.end);
+    slice == Some(line.text.as_bytes()) && said(line.text) == owed
+}
+
+// What each of the lines is.
+static KINDS: [(&str, &str, &str); 6] = [
+    ("tag", "EXTM3U", ""),
+    ("ignored", "", ""),
+    ("ignored", "", ""),
+    ("tag", "EXT-X-KEY", "METHOD=NONE:x"),
+    ("URI", " s.ts", ""),
+    ("tag", "EXTINF", ""),
+];
+
+#[test]
+fn kinds_of_lines(rt: HostRuntime) {
+    let mut lines = Lines::new(LINES);
+    for owed in KINDS.iter() {
+        assert!(rt; is_next(&mut lines, *owed));
     }
     assert!(rt; lines.next().is_none());
-    Ok(())
 }

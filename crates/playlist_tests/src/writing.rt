@@ -1,13 +1,12 @@
 //! Each public call once, and the written text of a playlist with each kind of line.
+use crate::made::key;
 use devices::Taken;
 use fixed_duration::Nanos;
-use part_tests::made::key;
 use playlist_meaning::{
     ByteRange, InitSection, Instant, Items, Key, KeyAttr, PlaylistKind, Segment, Shared, Text,
 };
-use playlist_write::{OutPlaylist, write};
+use playlist_write::{OutPlaylist, WriteFault, write};
 use std::alloc::{AllocError, Global};
-use std::test::Fail;
 use stitcher::{OutSegment, Played};
 
 const ROOM: usize = 4096;
@@ -42,75 +41,92 @@ http://ads.example/a1.m4s
 #EXT-X-ENDLIST
 ";
 
-fn text(alloc: Global, text: &str) -> Result<Text, AllocError> {
-    Text::copy_of(alloc, text)
-}
-
-fn shared(alloc: Global, text: &str) -> Result<Shared<Text>, AllocError> {
-    Shared::copy_of(alloc, text)
-}
-
 fn other(alloc: Global, name: &str, value: &str, quoted: bool) -> Result<KeyAttr, AllocError> {
     Ok(KeyAttr {
-        name: text(alloc, name)?,
-        value: text(alloc, value)?,
+        name: Text::copy_of(alloc, name)?,
+        value: Text::copy_of(alloc, value)?,
         quoted,
     })
 }
 
-fn drm_key(alloc: Global) -> Result<Key, AllocError> {
+fn others(alloc: Global) -> Result<Shared<Items<KeyAttr>>, AllocError> {
     let versions = other(alloc, "KEYFORMATVERSIONS", "1", true)?;
     let others = vec![in alloc; versions, other(alloc, "X", "2", false)?]?;
+    Ok(Shared::new(alloc, Items::from_vec(others))?)
+}
+
+fn drm_key(alloc: Global) -> Result<Key, AllocError> {
     Ok(Key {
         format: Shared::copy_of(alloc, "com.example.drm")?,
         method: Shared::copy_of(alloc, "SAMPLE-AES")?,
         uri: Shared::copy_of(alloc, "skd://1")?,
         iv: None,
-        other: Shared::new(alloc, Items::from_vec(others))?,
+        other: others(alloc)?,
     })
 }
 
-// A segment of 9.5 seconds with the section of an advertisement.
-fn ad_segment(alloc: Global, uri: &str, keys: Vec<Key>) -> Result<Segment, AllocError> {
+fn section(
+    alloc: Global,
+    uri: &str,
+    range: Option<ByteRange>,
+    keys: Vec<Key>,
+) -> Result<Shared<InitSection>, AllocError> {
     let section = InitSection {
-        uri: shared(alloc, "http://ads.example/i.mp4")?,
-        range: Some(ByteRange {
-            length: 100,
-            offset: 20,
-        }),
-        keys: Items::from_vec(Vec::new(alloc)),
+        uri: Shared::copy_of(alloc, uri)?,
+        range,
+        keys: Items::from_vec(keys),
     };
+    Ok(Shared::new(alloc, section)?)
+}
+
+// A clear segment that lasts this many tenths of a second and has no section.
+fn bare(alloc: Global, uri: &str, title: &str, tenths: u32) -> Result<Segment, AllocError> {
     Ok(Segment {
         number: 0,
         discontinuity: 0,
         steps: 0,
-        uri: shared(alloc, uri)?,
+        uri: Text::copy_of(alloc, uri)?,
         range: None,
-        keys: Items::from_vec(keys),
-        section: Some(Shared::new(alloc, section)?),
-        duration: Nanos(9_500_000_000),
-        title: shared(alloc, "")?,
+        keys: Items::from_vec(Vec::new(alloc)),
+        section: None,
+        duration: Nanos(u64::from(tenths) * 100_000_000),
+        title: Shared::copy_of(alloc, title)?,
         time: None,
     })
 }
 
+fn origin_section(alloc: Global) -> Result<Shared<InitSection>, AllocError> {
+    let key = key(alloc, "identity", "http://origin.example/ch/ka", Some(10))?;
+    let keys = vec![in alloc; key]?;
+    section(alloc, "http://origin.example/ch/init.mp4", None, keys)
+}
+
+fn origin_keys(alloc: Global) -> Result<Items<Key>, AllocError> {
+    let key = key(alloc, "identity", "http://origin.example/ch/kb", Some(2))?;
+    Ok(Items::from_vec(vec![in alloc; key]?))
+}
+
 fn origin_segment(alloc: Global) -> Result<Segment, AllocError> {
-    let uri = shared(alloc, "http://origin.example/ch/init.mp4")?;
-    let map_key = key(alloc, "identity", "http://origin.example/ch/ka", Some(10))?;
-    let media_key = key(alloc, "identity", "http://origin.example/ch/kb", Some(2))?;
-    let mut segment = ad_segment(
-        alloc,
-        "http://origin.example/ch/s0.m4s",
-        vec![in alloc; media_key]?,
-    )?;
-    let section = InitSection {
-        uri,
-        range: None,
-        keys: Items::from_vec(vec![in alloc; map_key]?),
+    let mut segment = bare(alloc, "http://origin.example/ch/s0.m4s", "one", 100)?;
+    segment.section = Some(origin_section(alloc)?);
+    segment.keys = origin_keys(alloc)?;
+    Ok(segment)
+}
+
+// A segment of 9.5 seconds with the section of an advertisement.
+fn ad_segment(alloc: Global, uri: &str) -> Result<Segment, AllocError> {
+    let range = ByteRange {
+        length: 100,
+        offset: 20,
     };
-    segment.section = Some(Shared::new(alloc, section)?);
-    segment.duration = Nanos(10_000_000_000);
-    segment.title = shared(alloc, "one")?;
+    let mut segment = bare(alloc, uri, "", 95)?;
+    let section = section(
+        alloc,
+        "http://ads.example/i.mp4",
+        Some(range),
+        Vec::new(alloc),
+    )?;
+    segment.section = Some(section);
     Ok(segment)
 }
 
@@ -126,7 +142,7 @@ fn origin_item(segment: &Segment) -> OutSegment<'_> {
 
 // The first segment of the advertisement, a part of its file.
 fn clear_item<'a>(alloc: Global) -> Result<OutSegment<'a>, AllocError> {
-    let mut segment = ad_segment(alloc, "http://ads.example/a0.m4s", Vec::new(alloc))?;
+    let mut segment = ad_segment(alloc, "http://ads.example/a0.m4s")?;
     segment.range = Some(ByteRange {
         length: 30,
         offset: 120,
@@ -142,8 +158,8 @@ fn clear_item<'a>(alloc: Global) -> Result<OutSegment<'a>, AllocError> {
 
 // Its second segment, which is encrypted.
 fn encrypted_item<'a>(alloc: Global) -> Result<OutSegment<'a>, AllocError> {
-    let keys = vec![in alloc; drm_key(alloc)?]?;
-    let segment = ad_segment(alloc, "http://ads.example/a1.m4s", keys)?;
+    let mut segment = ad_segment(alloc, "http://ads.example/a1.m4s")?;
+    segment.keys = Items::from_vec(vec![in alloc; drm_key(alloc)?]?);
     Ok(OutSegment {
         segment: Played::of_ad(Shared::new(alloc, segment)?),
         media: 9,
@@ -161,40 +177,49 @@ fn segments<'a>(alloc: Global, origin: &'a Segment) -> Result<Items<OutSegment<'
     Ok(Items::from_vec(segments))
 }
 
-fn playlist<'a>(alloc: Global, origin: &'a Segment) -> Result<OutPlaylist<'a>, AllocError> {
+fn playlist<'a>(
+    alloc: Global,
+    origin: &'a Segment,
+    version: u64,
+    range: &str,
+) -> Result<OutPlaylist<'a>, AllocError> {
     let segments = segments(alloc, origin)?;
     Ok(OutPlaylist {
-        version: 7,
+        version,
         target: 10,
         kind: Some(PlaylistKind::Event),
         independent: true,
         ended: true,
-        date_ranges: Items::from_vec(vec![in alloc; text(alloc, DATE_RANGE)?]?),
+        date_ranges: Items::from_vec(vec![in alloc; Text::copy_of(alloc, range)?]?),
         segments,
     })
 }
 
-#[test]
-fn well_formed(rt: HostRuntime) -> Result<(), Fail> {
-    let origin = origin_segment(rt.alloc())?;
-    let mut playlist = playlist(rt.alloc(), &origin)?;
-    assert!(rt; playlist.well_formed(rt.alloc())?);
-    playlist.version = 5;
-    assert!(rt; !playlist.well_formed(rt.alloc())?);
-    playlist.version = 6;
-    playlist.date_ranges = Items::from_vec(vec![in rt.alloc(); text(rt.alloc(), "START-DATE=x")?]?);
-    assert!(rt; !playlist.well_formed(rt.alloc())?);
-    Ok(())
+fn is_well_formed(alloc: Global, version: u64, range: &str) -> Result<bool, AllocError> {
+    let origin = origin_segment(alloc)?;
+    playlist(alloc, &origin, version, range)?.well_formed(alloc)
 }
 
 #[test]
-fn written(rt: HostRuntime) -> Result<(), Fail> {
-    let origin = origin_segment(rt.alloc())?;
-    let playlist = playlist(rt.alloc(), &origin)?;
-    let mut sink = Taken::new(rt.alloc(), ROOM, 7, 0)?;
-    match write(rt.alloc(), &playlist, &mut sink) {
-        Ok(()) => assert!(rt; sink.bytes() == WRITTEN.as_bytes()),
-        Err(_) => assert!(rt; false, "it is written"),
-    }
-    Ok(())
+fn well_formed(rt: HostRuntime) {
+    assert!(rt; matches!(is_well_formed(rt.alloc(), 7, DATE_RANGE), Ok(true)));
+    assert!(rt; matches!(is_well_formed(rt.alloc(), 5, DATE_RANGE), Ok(false)));
+    assert!(rt; matches!(is_well_formed(rt.alloc(), 6, "START-DATE=x"), Ok(false)));
+}
+
+fn taken(alloc: Global, playlist: &OutPlaylist<'_>) -> Result<Taken, WriteFault> {
+    let mut sink = Taken::new(alloc, ROOM, 7, 0)?;
+    write(alloc, playlist, &mut sink)?;
+    Ok(sink)
+}
+
+fn is_written(alloc: Global, want: &str) -> Result<bool, WriteFault> {
+    let origin = origin_segment(alloc)?;
+    let playlist = playlist(alloc, &origin, 7, DATE_RANGE)?;
+    Ok(taken(alloc, &playlist)?.bytes() == want.as_bytes())
+}
+
+#[test]
+fn written(rt: HostRuntime) {
+    assert!(rt; matches!(is_written(rt.alloc(), WRITTEN), Ok(true)));
 }

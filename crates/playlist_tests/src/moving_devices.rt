@@ -1,0 +1,146 @@
+//! Each public call once.
+use devices::{Counted, Pieces, READ_ROOM, Sink, Source, Taken, hand_out};
+use std::alloc::AllocError;
+use std::io;
+use std::io::{ErrorKind, Read, Write};
+
+// How many bytes the next read moves; none where it fails.
+fn read_next<S: Source>(source: &mut S) -> Option<usize> {
+    let mut room = [0u8; READ_ROOM];
+    source.read(&mut room).ok()
+}
+
+// How many of these bytes, which aren't none, the next write takes; none where it fails.
+fn write_next<K: Sink>(sink: &mut K, bytes: &[u8]) -> Option<usize> {
+    if bytes.is_empty() {
+        return None;
+    }
+    sink.write(bytes).ok()
+}
+
+#[test]
+fn pieces_of_a_source(rt: HostRuntime) {
+    let mut source = Pieces::new(b"abcdefg", 3, 4, 2);
+    for moved in [Some(3), None, Some(1), Some(3), Some(0)] {
+        assert!(rt; read_next(&mut source) == moved);
+    }
+    assert!(rt; source.failures() == 1);
+    assert!(rt; source.calls() == 5);
+}
+
+// What is written, and how many bytes of it are taken.
+static WRITES: [(&[u8], Option<usize>); 4] = [
+    (b"abcdefg", Some(3)),
+    (b"defg", None),
+    (b"defg", Some(2)),
+    (b"fg", Some(0)),
+];
+
+#[test]
+fn room_of_a_sink(rt: HostRuntime) -> Result<(), AllocError> {
+    let mut sink = Taken::new(rt.alloc(), 5, 3, 2)?;
+    for (bytes, taken) in WRITES.iter() {
+        assert!(rt; write_next(&mut sink, bytes) == *taken);
+    }
+    assert!(rt; sink.bytes() == b"abcde".as_slice());
+    assert!(rt; sink.failures() == 2);
+    Ok(())
+}
+
+#[test]
+fn counted_source(rt: HostRuntime) {
+    let mut source = Counted::new(b"abc".as_slice());
+    assert!(rt; read_next(&mut source) == Some(3));
+    assert!(rt; read_next(&mut source) == Some(0));
+    assert!(rt; Source::failures(&source) == 0);
+    assert!(rt; source.calls() == 2);
+}
+
+#[test]
+fn counted_sink(rt: HostRuntime) {
+    let mut sink = Counted::new(Vec::new(rt.alloc()));
+    assert!(rt; write_next(&mut sink, b"abc") == Some(3));
+    assert!(rt; Sink::failures(&sink) == 0);
+}
+
+#[test]
+fn bytes_handed_out(rt: HostRuntime) -> Result<(), AllocError> {
+    let mut sink = Taken::new(rt.alloc(), 7, 3, 0)?;
+    assert!(rt; hand_out(b"abcde", &mut sink).is_ok());
+    assert!(rt; hand_out(b"fgh", &mut sink).is_err());
+    assert!(rt; sink.bytes() == b"abcdefg".as_slice());
+    Ok(())
+}
+
+#[test]
+fn handed_out(rt: HostRuntime) -> Result<(), AllocError> {
+    for most in 1..5usize {
+        let mut sink = Taken::new(rt.alloc(), 16, most, 0)?;
+        assert!(rt; hand_out(b"#EXTM3U\n", &mut sink).is_ok());
+        assert!(rt; sink.bytes() == b"#EXTM3U\n".as_slice());
+    }
+    Ok(())
+}
+
+// A reader and writer of std's kind: each call moves one byte, and the second fails.
+#[derive(Drop)]
+struct ByteByByte {
+    calls: u64,
+}
+
+impl ByteByByte {
+    fn is_second(&mut self) -> bool {
+        self.calls = self.calls.saturating_add(1);
+        self.calls == 2
+    }
+}
+
+impl Read for ByteByByte {
+    fn read(&mut self, buf: &mut [u8]) -> io::Result<usize> {
+        if self.is_second() {
+            return Err(io::Error::from(ErrorKind::Other));
+        }
+        let Some(first) = buf.first_mut() else {
+            return Ok(0);
+        };
+        *first = b'x';
+        Ok(1)
+    }
+}
+
+impl Write for ByteByByte {
+    fn write(&mut self, buf: &[u8]) -> io::Result<usize> {
+        if self.is_second() {
+            return Err(io::Error::from(ErrorKind::Other));
+        }
+        Ok(buf.len().min(1))
+    }
+
+    fn flush(&mut self) -> io::Result<()> {
+        Ok(())
+    }
+}
+
+// Whether the next read moves one byte, an x.
+fn reads_one(source: &mut Counted<ByteByByte>) -> bool {
+    let mut room = [0u8; READ_ROOM];
+    matches!(Source::read(source, &mut room), Ok(1)) && room[0] == b'x'
+}
+
+#[test]
+fn counted_reader_is_called(rt: HostRuntime) {
+    let mut source = Counted::new(ByteByByte { calls: 0 });
+    assert!(rt; reads_one(&mut source));
+    assert!(rt; read_next(&mut source).is_none());
+    assert!(rt; reads_one(&mut source));
+    assert!(rt; Source::failures(&source) == 1);
+}
+
+#[test]
+fn counted_writer_is_called(rt: HostRuntime) {
+    let mut sink = Counted::new(ByteByByte { calls: 0 });
+    assert!(rt; write_next(&mut sink, b"abc") == Some(1));
+    assert!(rt; write_next(&mut sink, b"bc").is_none());
+    assert!(rt; write_next(&mut sink, b"bc") == Some(1));
+    assert!(rt; Sink::failures(&sink) == 1);
+}
