@@ -13,6 +13,7 @@ mod timed;
 mod words;
 
 pub use edge::{CHANNEL_LIMIT, Edge};
+pub use fault_texts::{FaultText, refresh_fault_text, why_word};
 pub use laws::{channels_are_isolated, runs_are_isolated};
 pub use serving::{EdgeFault, Served, serve};
 pub use timed::Timed;

@@ -27,7 +27,7 @@ fn count_of(words: &str) -> (usize, &str)
 }
 
 /// Serves a connection as the line says, and prints what came of it and what was written.
-pub fn print_served(
+pub(crate) fn print_served(
     rt: &impl Print,
     alloc: Global,
     edge: &mut Edge,

@@ -20,17 +20,15 @@
 #![tactic(auto)]
 
 mod connections;
-mod words;
 
 use connections::print_served;
 use escaped_bytes::bytes_of;
 use fixed_duration::Nanos;
 use live_counters::{Channel, ChannelFault};
-use live_edge::Edge;
+use live_edge::{Edge, refresh_fault_text, why_word};
 use std::alloc::Global;
 use std::io;
 use std::io::Print;
-use words::{channel_fault, refresh_text, why_word};
 
 #[derive(Drop)]
 // The channels that were made, how many before the last one that is to which events go, and the edge.
@@ -88,7 +86,7 @@ fn print_refresh(
             "ok {} {} {}",
             done.media_sequence, done.segments, done.fresh
         ),
-        Err(fault) => println!(rt; "{}", refresh_text(alloc, fault)?),
+        Err(fault) => println!(rt; "{}", refresh_fault_text(fault)),
     }
 }
 
@@ -114,6 +112,15 @@ fn new_channel(alloc: Global, words: &str) -> Result<Channel, ChannelFault> {
     let (tolerance, base) = words.split_once(' ').unwrap_or(("0", words));
     let tolerance = Nanos(tolerance.parse().unwrap_or(0));
     Channel::new(alloc, base, tolerance)
+}
+
+// The line of a channel that can't be made.
+fn channel_fault(fault: ChannelFault) -> &'static str {
+    match fault {
+        ChannelFault::BadBase => "C1 BadBase",
+        ChannelFault::BadTolerance => "C2 BadTolerance",
+        ChannelFault::OutOfMemory => "C3 OutOfMemory",
+    }
 }
 
 fn print_made(

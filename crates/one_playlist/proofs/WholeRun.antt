@@ -1,5 +1,5 @@
 -- What a run comes to: a channel that was given the decision file, if there is one, and then one refresh.
-use Rattle.std.proofs.Common.{◌≡◌, ℕ, List, [], ◌∷◌, ◌++◌, cond, refl, ap, sym, ◌∙◌, subst}
+use Rattle.std.proofs.Common.{◌≡◌, ℕ, List, [], ◌∷◌, ◌++◌, cond, refl, ap, sym, ◌∙◌, subst, rules}
 use Rattle.std.specs.Prelude.{Option, Some, None, Result, Ok, Err, OnOk, IfErr, IsErrOf, IsOk, IsSome, ◌≢◌, is_ok, is_some, is_none, option_map, unwrap_or}
 use Rattle.std.specs.Io.KnownBytes.{Appends}
 use Rattle.std.specs.Result.{IsErrAnd}
@@ -19,7 +19,7 @@ use Rattle.live_counters.proofs.Steps.{channel_writes}
 use Rattle.one_playlist.specs.declared.run.TheConstants.{TOLERANCE}
 use Rattle.one_playlist.specs.declared.fault.VodFault.{VodFault}
 use Rattle.one_playlist.specs.declared.fault.VodFault.TheVariants.{Playlist as PlaylistOf, NumberRange, Read, TooManyReads, Write, OutOfMemory}
-use Rattle.one_playlist.specs.Given.{given_by, IsDecided, IsRefreshed, PassesItsRange, RefreshesFrom, RefusesInput, RefusesFrom}
+use Rattle.one_playlist.specs.Given.{given_by, IsDecided, IsGivenAll, IsRefreshed, PassesItsRange, RefreshesFrom, RefusesInput, RefusesFrom}
 use Rattle.one_playlist.specs.Events.{events_of}
 use Rattle.one_playlist.specs.Runs.{IsFairToSource, IsFairToSink}
 use Rattle.one_playlist.specs.Vod.{told_with, IsInOrder, IsOfVod, HasRead, HasJudged, Writes, WritesFront}
@@ -90,6 +90,18 @@ module _ (base : List ℕ) (file : Option (List ℕ)) (c : Channel) (d : IsDecid
         → Writes base file old new sink_old sink_new
     writes then r = wrote old new r.input r.given then (r.refreshed file d.stands)
 
+    -- the channel that wrote it
+    pub given_all : (then : Channel) → RefreshesFrom old new c then → IsGivenAll base file old new then
+    given_all then r =
+        let refreshed : IsRefreshed c r.input (given_by file) then = r.refreshed file d.stands in
+        record {
+          base = d.base ∙ ap Some (sym refreshed.base);
+          tolerance = refreshed.tolerance ∙ d.tolerance;
+          input = r.input;
+          given = r.given;
+          stands = refreshed.stands;
+        }
+
     pub writes_front : (then : Channel) → RefreshesFrom old new c then → (sink_old sink_new : Option (List ℕ)) → TookFront sink_old sink_new (unwrap_or then.text [])
         → WritesFront base file old new sink_old sink_new
     writes_front then r = wrote_front old new r.input r.given then (r.refreshed file d.stands)
@@ -112,9 +124,12 @@ pub handed_on : {A : Type 0} (r : Result A VodFault) (e : VodFault) (P : VodFaul
 handed_on (Ok x) e P h p = absurd h
 handed_on (Err d) e P h p = subst P (sym h) p
 
-pub of_writing : {A : Type 0} (r : Result A VodFault) (P : VodFault → Type 0) → IfErr r (λ e. e ≡ Write) → P Write → IfErr r P
-of_writing (Ok x) P h p = tt
-of_writing (Err e) P h p = subst P (sym h) p
+pub is_one : {A : Type 0} (e f : VodFault) → e ≡ f → IsErrOf {T = A} (Err e) f
+is_one e f same = search rules
+
+-- a result of another type with the same fault
+still : {A B : Type 0} (e f : VodFault) → IsErrOf {T = A} (Err e) f → IsErrOf {T = B} (Err e) f
+still e f is = let same : e ≡ f = cc in is_one e f same
 
 pub in_order : (old new : Option (List ℕ)) (c : Channel) (e : VodFault) (base : List ℕ) (file : Option (List ℕ)) → RefusesFrom e old new c
     → IsSome (base_of base) × IsOk (events_of file) → IsInOrder e base file
@@ -140,10 +155,27 @@ pub range_of : {A P : Type 0} (r : Result A VodFault) (e : VodFault) → IsErrAn
 range_of (Ok x) e h f is = absurd h
 range_of (Err d) e h f is = let same : d ≡ NumberRange = cc in f (sym h ∙ same)
 
+pub still_fair : {A B : Type 0} (e : VodFault) (old new : SourceStand) → IsFairToSource {A = A} (Err e) old new → IsFairToSource {A = B} (Err e) old new
+still_fair e old new f = record {
+  blamed = λ is. f.blamed (still e Read is);
+  unfailed = tt;
+  told = f.told;
+  too_many = λ is. f.too_many (still e TooManyReads is);
+  calls = f.calls;
+}
+
+pub still_fair_sink : {A B : Type 0} (e : VodFault) (old new : SinkStand) → IsFairToSink {A = A} (Err e) old new → IsFairToSink {A = B} (Err e) old new
+still_fair_sink e old new f = record { blamed = λ is. f.blamed (still e Write is); unfailed = tt; told = f.told }
+
 -- what a call said of its source holds where its fault is handed on
-pub fair_on : {A : Type 0} (r : Result A VodFault) (e : VodFault) (old new : SourceStand) → IsErrAnd r (λ d. d ≡ e) → IsFairToSource {A = A} (Err e) old new → IsFairToSource r old new
+pub fair_on : {A B : Type 0} (r : Result A VodFault) (e : VodFault) (old new : SourceStand) → IsErrAnd r (λ d. d ≡ e) → IsFairToSource {A = B} (Err e) old new → IsFairToSource r old new
 fair_on (Ok x) e old new h f = absurd h
-fair_on {A = A} (Err d) e old new h f = subst (λ x. IsFairToSource {A = A} (Err x) old new) (sym h) f
+fair_on {A = A} (Err d) e old new h f = subst (λ x. IsFairToSource {A = A} (Err x) old new) (sym h) (still_fair e old new f)
+
+-- the same of its sink
+pub fair_sink_on : {A B : Type 0} (r : Result A VodFault) (e : VodFault) (old new : SinkStand) → IsErrAnd r (λ d. d ≡ e) → IsFairToSink {A = B} (Err e) old new → IsFairToSink r old new
+fair_sink_on (Ok x) e old new h f = absurd h
+fair_sink_on {A = A} (Err d) e old new h f = subst (λ x. IsFairToSink {A = A} (Err x) old new) (sym h) (still_fair_sink e old new f)
 
 pub write_is_no_read : (Write ≢ Read) × (Write ≢ TooManyReads)
 write_is_no_read = (λ same. absurd (cc), λ same. absurd (cc))

@@ -115,3 +115,11 @@ abbrev pub RefusesFrom : VodFault → Option (List ℕ) → Option (List ℕ) �
 RefusesFrom (PlaylistOf fault) source_old source_new old = RefusesInput (PlaylistOf fault) source_old source_new old
 RefusesFrom NumberRange source_old source_new old = RefusesInput NumberRange source_old source_new old
 RefusesFrom e source_old source_new old = IsOfReading e
+
+-- the channel of a base, which was given the decision file, if there is one, and then the input that a source gave, to its end
+pub record IsGivenAll (text : List ℕ) (file source_old source_new : Option (List ℕ)) (c : Channel) : Type 0 where
+  pub base : base_of text ≡ Some c.base
+  pub tolerance : c.tolerance ≡ TOLERANCE
+  pub input : List ℕ
+  pub given : GaveAll source_old source_new input
+  pub stands : StandsFor c (refreshed input ∷ given_by file)

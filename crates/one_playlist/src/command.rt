@@ -13,6 +13,7 @@ use crate::run::vod;
 use arrayvec::ArrayString;
 use devices::{Sink, Source, hand_out};
 use std::alloc::Global;
+use std::mem::forget;
 
 /// What the program is asked to do.
 #[derive(Clone, Copy)]
@@ -69,7 +70,7 @@ fn print_fault<F: Sink>(fault: VodFault, faults: &mut F)
 }
 
 /// Runs `vod`, writes the fault's line where there is one, and answers the exit status: 0, or 1
-/// after a fault.
+/// after a fault. The process ends then, so that the memory of the channel is left to its end.
 pub fn command_vod<S: Source, K: Sink, F: Sink>(
     alloc: Global,
     base: &str,
@@ -95,7 +96,10 @@ pub fn command_vod<S: Source, K: Sink, F: Sink>(
     ensures undecided { (fault : DecisionFault) → events_of (option_copied decisions.entry) ≡ Err fault → input.new ≡ input.old }
 {
     match vod(alloc, input, output, base, decisions) {
-        Ok(()) => 0,
+        Ok(channel) => {
+            forget(channel);
+            0
+        }
         Err(fault) => {
             print_fault(fault, faults);
             1

@@ -9,7 +9,7 @@ ghost use Rattle.live_meaning.specs.declared.fault.RefreshFault.TheVariants.{Num
 ghost use Rattle.live_counters.specs.Channel.{StandsFor};
 ghost use Rattle.pod_store.specs.declared.fault.DecisionFault.{DecisionFault};
 ghost use Rattle.one_playlist.specs.Events.{RefusesDecisions, events_of};
-ghost use Rattle.one_playlist.specs.Given.{IsNew, HasDecided, IsDecided, IsOfBeginning, IsOfRefresh, Refreshes, Refuses, RefreshesFrom, RefusesFrom};
+ghost use Rattle.one_playlist.specs.Given.{IsNew, HasDecided, IsDecided, IsGivenAll, IsOfBeginning, IsOfRefresh, Refreshes, Refuses, RefreshesFrom, RefusesFrom};
 ghost use Rattle.one_playlist.specs.Vod.{IsInOrder, IsOfVod, HasJudged, HasRead, Writes, WritesFront};
 ghost use Rattle.devices.specs.Stands.{source_stand, sink_stand};
 ghost use Rattle.one_playlist.specs.Runs.{IsFairToSource, IsFairToSink};
@@ -104,15 +104,17 @@ fn refresh_from<S: Source>(
 #[tactic(auto, using(crate::proofs::Known::known_bytes))]
 /// Reads a playlist from an input and writes it with its breaks filled: each run of segments that a break of the decision
 /// file marks is replaced by the pod that the file gives it. Without a decision file no break is filled. The faults stand
-/// in this order: the base, the decision file, reading, the playlist, `NumberRange`, writing.
+/// in this order: the base, the decision file, reading, the playlist, `NumberRange`, writing. The channel that wrote it is
+/// answered, so that a program that ends then need not give its memory back.
 pub fn vod<S: Source, K: Sink>(
     alloc: Global,
     source: &mut S,
     sink: &mut K,
     base: &str,
     decisions: Option<&[u8]>,
-) -> Result<(), VodFault>
+) -> Result<Channel, VodFault>
     ensures ok { OnOk result (Writes base.now (option_copied decisions.entry) (S.remaining source.old) (S.remaining source.new) (K.contents sink.old) (K.contents sink.new)) }
+    ensures channel { IfOk result (IsGivenAll base.now (option_copied decisions.entry) (S.remaining source.old) (S.remaining source.new)) }
 
     // Where the sink failed it took a front of the text, and else nothing.
     ensures write { IsErrOf result VodFault.Write → WritesFront base.now (option_copied decisions.entry) (S.remaining source.old) (S.remaining source.new) (K.contents sink.old) (K.contents sink.new) }
@@ -135,5 +137,6 @@ pub fn vod<S: Source, K: Sink>(
 {
     let mut channel = decided_channel(alloc, base, decisions)?;
     refresh_from(alloc, source, &mut channel)?;
-    hand_text(&channel, sink)
+    hand_text(&channel, sink)?;
+    Ok(channel)
 }

@@ -18,13 +18,24 @@ const WRITTEN: &[u8] =
 
 const ROOM: usize = 4096;
 
+// What a run without a decision file answers, its channel left out.
+fn answer_of<S: Source>(
+    alloc: Global,
+    source: &mut S,
+    sink: &mut Taken,
+    base: &str,
+) -> Result<(), VodFault> {
+    vod(alloc, source, sink, base, None)?;
+    Ok(())
+}
+
 #[test]
 fn pieces_of_any_size(rt: HostRuntime) -> Result<(), Fail> {
     for most in 1..5usize {
         for cut in 0..40usize {
             let mut source = Pieces::new(PLAIN, most, cut, 0);
             let mut sink = Taken::new(rt.alloc(), ROOM, most, 0)?;
-            assert_eq!(rt; vod(rt.alloc(), &mut source, &mut sink, BASE, None), Ok(()));
+            assert_eq!(rt; answer_of(rt.alloc(), &mut source, &mut sink, BASE), Ok(()));
             assert_eq!(rt; sink.bytes(), WRITTEN);
         }
     }
@@ -35,7 +46,7 @@ fn pieces_of_any_size(rt: HostRuntime) -> Result<(), Fail> {
 fn carriage_returns_and_no_last_end(rt: HostRuntime) -> Result<(), Fail> {
     let mut source = Pieces::new(WINDOWS_LINES, ROOM, 0, 0);
     let mut sink = Taken::new(rt.alloc(), ROOM, ROOM, 0)?;
-    assert_eq!(rt; vod(rt.alloc(), &mut source, &mut sink, BASE, None), Ok(()));
+    assert_eq!(rt; answer_of(rt.alloc(), &mut source, &mut sink, BASE), Ok(()));
     assert_eq!(rt; sink.bytes(), WRITTEN);
     Ok(())
 }
@@ -46,7 +57,7 @@ fn each_read_fails_in_turn(rt: HostRuntime) -> Result<(), Fail> {
     for fail in 1..=(PLAIN.len() as u64 + 1) {
         let mut source = Pieces::new(PLAIN, 1, 0, fail);
         let mut sink = Taken::new(rt.alloc(), ROOM, 1, 0)?;
-        let answer = vod(rt.alloc(), &mut source, &mut sink, BASE, None);
+        let answer = answer_of(rt.alloc(), &mut source, &mut sink, BASE);
         assert_eq!(rt; answer, Err(VodFault::Read));
         assert_eq!(rt; sink.bytes().len(), 0);
     }
@@ -58,7 +69,7 @@ fn each_write_fails_in_turn(rt: HostRuntime) -> Result<(), Fail> {
     for fail in 1..=WRITTEN.len() + 1 {
         let mut source = Pieces::new(PLAIN, ROOM, 0, 0);
         let mut sink = Taken::new(rt.alloc(), ROOM, 1, fail as u64)?;
-        let answer = vod(rt.alloc(), &mut source, &mut sink, BASE, None);
+        let answer = answer_of(rt.alloc(), &mut source, &mut sink, BASE);
         if fail <= WRITTEN.len() {
             assert_eq!(rt; answer, Err(VodFault::Write));
             assert_eq!(rt; sink.bytes(), &WRITTEN[..fail - 1]);
@@ -73,7 +84,7 @@ fn each_write_fails_in_turn(rt: HostRuntime) -> Result<(), Fail> {
 fn a_sink_without_room(rt: HostRuntime) -> Result<(), Fail> {
     let mut source = Pieces::new(PLAIN, ROOM, 0, 0);
     let mut sink = Taken::new(rt.alloc(), 100, ROOM, 0)?;
-    let answer = vod(rt.alloc(), &mut source, &mut sink, BASE, None);
+    let answer = answer_of(rt.alloc(), &mut source, &mut sink, BASE);
     assert_eq!(rt; answer, Err(VodFault::Write));
     assert_eq!(rt; sink.bytes(), &WRITTEN[..100]);
     Ok(())
@@ -84,7 +95,7 @@ fn too_many_reads(rt: HostRuntime) -> Result<(), Fail> {
     let input = Vec::from_elem(rt.alloc(), b'\n', 70_000)?;
     let mut source = Pieces::new(input.as_slice(), 1, 0, 0);
     let mut sink = Taken::new(rt.alloc(), ROOM, ROOM, 0)?;
-    let answer = vod(rt.alloc(), &mut source, &mut sink, BASE, None);
+    let answer = answer_of(rt.alloc(), &mut source, &mut sink, BASE);
     assert_eq!(rt; answer, Err(VodFault::TooManyReads));
     assert_eq!(rt; source.calls(), 65_536);
     Ok(())
@@ -94,7 +105,7 @@ fn too_many_reads(rt: HostRuntime) -> Result<(), Fail> {
 fn a_base_that_is_none_reads_nothing(rt: HostRuntime) -> Result<(), Fail> {
     let mut source = Pieces::new(PLAIN, ROOM, 0, 1);
     let mut sink = Taken::new(rt.alloc(), ROOM, ROOM, 0)?;
-    let answer = vod(rt.alloc(), &mut source, &mut sink, "ftp://h/", None);
+    let answer = answer_of(rt.alloc(), &mut source, &mut sink, "ftp://h/");
     assert_eq!(rt; answer, Err(VodFault::BadBase));
     assert_eq!(rt; source.calls(), 0);
     Ok(())
@@ -109,7 +120,7 @@ fn the_whole_input_is_judged(rt: HostRuntime) -> Result<(), Fail> {
         kind: FaultKind::TooLong,
         line: 0,
     };
-    let answer = vod(rt.alloc(), &mut source, &mut sink, BASE, None);
+    let answer = answer_of(rt.alloc(), &mut source, &mut sink, BASE);
     assert_eq!(rt; answer, Err(VodFault::Playlist(fault)));
     long.push(0xff)?;
     let mut source = Counted::new(long.as_slice());
@@ -117,7 +128,7 @@ fn the_whole_input_is_judged(rt: HostRuntime) -> Result<(), Fail> {
         kind: FaultKind::NotUtf8,
         line: 0,
     };
-    let answer = vod(rt.alloc(), &mut source, &mut sink, BASE, None);
+    let answer = answer_of(rt.alloc(), &mut source, &mut sink, BASE);
     assert_eq!(rt; answer, Err(VodFault::Playlist(fault)));
     assert_eq!(rt; sink.bytes().len(), 0);
     Ok(())
@@ -127,7 +138,7 @@ fn the_whole_input_is_judged(rt: HostRuntime) -> Result<(), Fail> {
 fn want_of_memory_is_answered(rt: HostRuntime) -> Result<(), Fail> {
     let mut written = Taken::new(rt.alloc(), ROOM, ROOM, 0)?;
     let mut source = Pieces::new(PLAIN, 40, 0, 0);
-    match vod(rt.alloc(), &mut source, &mut written, BASE, None) {
+    match answer_of(rt.alloc(), &mut source, &mut written, BASE) {
         Ok(()) => assert_eq!(rt; written.bytes(), WRITTEN),
         Err(fault) => {
             assert_eq!(rt; fault, VodFault::OutOfMemory);

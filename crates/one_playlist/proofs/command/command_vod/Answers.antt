@@ -1,11 +1,7 @@
-use Rattle.std.proofs.Common.{◌≡◌, ap, rules}
-use Rattle.std.specs.Prelude.{Err, IsErrOf}
+use Rattle.std.proofs.Common.{ap}
 use Rattle.devices.specs.Stands.{sink_stand}
-use Rattle.one_playlist.specs.declared.fault.VodFault.{VodFault}
+use Rattle.one_playlist.proofs.WholeRun.{is_one, still_fair, still_fair_sink}
 use Rattle.one_playlist.proofs.command.command_vod.Goals as goal
-
-one_of : (e f : VodFault) → e ≡ f → IsErrOf {T = Unit {0}} (Err e) f
-one_of e f is = search rules
 
 pub returns-in-Err-clause-fault : goal.returns-in-Err-clause-fault
 returns-in-Err-clause-fault g c one =
@@ -14,13 +10,13 @@ returns-in-Err-clause-fault g c one =
       fault = c.in-Err.fault;
       failed = record {
         kind = said.kind;
-        write = λ is. said.write (one_of _ _ is);
+        write = λ is. said.write (is_one _ _ is);
         nothing = λ other. ap (sink_stand g.K.Sink.contents g.K.Sink.failed) (said.nothing other);
         order = said.order;
         playlist = said.playlist;
-        number_range = λ is. said.number_range (one_of _ _ is);
-        source = said.source;
-        sink = said.sink;
+        number_range = λ is. said.number_range (is_one _ _ is);
+        source = still_fair _ _ _ said.source;
+        sink = still_fair_sink _ _ _ said.sink;
       };
       printed = c.print_fault.ensures;
     }
