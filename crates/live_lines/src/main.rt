@@ -139,6 +139,35 @@ fn print_made(
     }
 }
 
+fn print_length(rt: &impl Print, alloc: Global, body: &str) -> io::Result<()> {
+    println!(rt; "{}", bytes_of(alloc, body)?.len())
+}
+
+// The place of the channel to which events go. It is none of a channel where none was made so far back.
+fn place_of(channels: &Channels) -> usize {
+    let count = channels.made.len();
+    count.wrapping_sub(channels.back).wrapping_sub(1)
+}
+
+fn print_on_channel(
+    rt: &impl Print,
+    alloc: Global,
+    channels: &mut Channels,
+    word: &str,
+    rest: &str,
+) -> io::Result<()> {
+    let place = place_of(channels);
+    match channels.made.get_mut(place) {
+        Some(channel) => print_event(rt, alloc, channel, word, rest),
+        None => println!(rt; "no event"),
+    }
+}
+
+fn make_edge(alloc: Global, channels: &mut Channels) -> io::Result<()> {
+    channels.edge = Edge::new(alloc)?;
+    Ok(())
+}
+
 fn print_line(
     rt: &impl Print,
     alloc: Global,
@@ -147,37 +176,30 @@ fn print_line(
 ) -> io::Result<()> {
     let (word, rest) = line.split_once(' ').unwrap_or((line, ""));
     match word {
-        "channel" => return print_made(rt, alloc, channels, rest),
-        "edge" => {
-            channels.edge = Edge::new(alloc)?;
-            return Ok(());
-        }
-        "serve" => return print_served(rt, alloc, &mut channels.edge, rest),
-        "length" => return println!(rt; "{}", bytes_of(alloc, rest)?.len()),
+        "channel" => print_made(rt, alloc, channels, rest),
+        "edge" => make_edge(alloc, channels),
+        "serve" => print_served(rt, alloc, &mut channels.edge, rest),
+        "length" => print_length(rt, alloc, rest),
         "to" => {
             channels.back = rest.parse().unwrap_or(0);
-            return Ok(());
+            Ok(())
         }
-        _ => {}
+        _ => print_on_channel(rt, alloc, channels, word, rest),
     }
-    let place = channels
-        .made
-        .len()
-        .wrapping_sub(channels.back)
-        .wrapping_sub(1);
-    match channels.made.get_mut(place) {
-        Some(channel) => print_event(rt, alloc, channel, word, rest),
-        None => println!(rt; "no event"),
-    }
+}
+
+fn no_channels(alloc: Global) -> io::Result<Channels> {
+    let edge = Edge::new(alloc)?;
+    Ok(Channels {
+        made: Vec::new(alloc),
+        back: 0,
+        edge,
+    })
 }
 
 fn main(rt: HostRuntime) -> io::Result<()> {
     let alloc = rt.alloc();
-    let mut channels = Channels {
-        made: Vec::new(alloc),
-        back: 0,
-        edge: Edge::new(alloc)?,
-    };
+    let mut channels = no_channels(alloc)?;
     for line in rt.lines(alloc) {
         print_line(&rt, alloc, &mut channels, line?.as_str())?;
     }
