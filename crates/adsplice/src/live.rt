@@ -90,7 +90,20 @@ fn converse(rt: &HostRuntime, edge: &mut Edge, stream: &TcpStream) -> Result<Ser
     served
 }
 
-/// Serves so many connections on a port of the loopback address. A connection's fault is told, and the next one served.
+// Serves so many connections of a listener. A connection's fault is told, and the next one served.
+fn serve_each(rt: &HostRuntime, edge: &mut Edge, listener: &TcpListener, count: u32) -> ExitCode {
+    for _ in 0..count {
+        let Ok((stream, _)) = listener.accept() else {
+            return fails(rt, "cannot accept\n");
+        };
+        if let Err(fault) = converse(rt, edge, &stream) {
+            print_fault(rt, fault);
+        }
+    }
+    ExitCode::SUCCESS
+}
+
+/// Serves so many connections on a port of the loopback address.
 pub fn live(rt: &HostRuntime, port: u16, count: u32) -> ExitCode {
     let Ok(mut edge) = Edge::new(rt.alloc()) else {
         return fails(rt, "E5 OutOfMemory\n");
@@ -98,13 +111,5 @@ pub fn live(rt: &HostRuntime, port: u16, count: u32) -> ExitCode {
     let Ok(listener) = TcpListener::bind(rt, SocketAddrV4::new(Ipv4Addr::LOCALHOST, port)) else {
         return fails(rt, "cannot bind\n");
     };
-    for _ in 0..count {
-        let Ok((stream, _)) = listener.accept() else {
-            return fails(rt, "cannot accept\n");
-        };
-        if let Err(fault) = converse(rt, &mut edge, &stream) {
-            print_fault(rt, fault);
-        }
-    }
-    ExitCode::SUCCESS
+    serve_each(rt, &mut edge, &listener, count)
 }

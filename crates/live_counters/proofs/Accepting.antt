@@ -1,7 +1,7 @@
 -- An accepted refresh, from the segments that a channel holds.
 use Rattle.std.proofs.Common.{zero, suc, drop, ◌≡◌, ℕ, Bool, true, false, cond, ◌||◌, ◌&&◌, not, List, [], ◌∷◌, map, length, refl, ap, sym, ◌∙◌, subst}
 use Rattle.std.specs.Prelude.{Option, Some, None, IsSome, option_map, filter, nat_le, is_some}
-use Rattle.std.specs.List.{list_all, list_any}
+use Rattle.std.specs.List.{list_any}
 use Rattle.std.proofs.lemmas.List.{length-map}
 use mathlib.Core.List.{reverse_aux}
 use Rattle.playlist_meaning.specs.declared.DateRange.{DateRange}
@@ -10,27 +10,26 @@ use Rattle.playlist_meaning.specs.declared.Segment.{Segment}
 use Rattle.playlist_meaning.specs.Pods.{Pod}
 use Rattle.playlist_meaning.specs.Marks.{Marked, newest_mark}
 use Rattle.playlist_meaning.specs.LookBack.{or_earlier}
-use Rattle.playlist_meaning.specs.Stitched.{Numbers, Item, fits, numbered, stitched}
+use Rattle.playlist_meaning.specs.Stitched.{Numbers, Item}
 use Rattle.playlist_write.specs.Owed.{text_of}
 use Rattle.pod_store.specs.Store.{Entry, pod_for, is_one_of}
 use Rattle.stitcher.specs.declared.OutSegment.{OutSegment}
 use Rattle.stitcher.specs.declared.marked.Marked.{Marked as Held}
 use Rattle.stitcher.specs.StitchedSegments.{meant, mark_in, mark_with, IsDecided, AreDecided}
 use Rattle.stitcher.specs.Written.{written_item}
-use Rattle.break_finder.specs.Breaks.{Break}
 use Rattle.break_finder.specs.Known.{is_this, carry}
-use Rattle.live_meaning.specs.declared.fault.RefreshFault.{RefreshFault}
 use Rattle.live_meaning.specs.Successor.{first_number, is_mapped}
 use Rattle.live_meaning.specs.Marking.{mark_id, is_new, last_entered}
 use Rattle.live_meaning.specs.Live.{is_marked, states_instant}
 use Rattle.live_meaning.specs.LiveLaws.{window_on}
-use Rattle.live_meaning.specs.Kept.{shown_from, show_on, head_numbers, numbers_on, kept_acceptance, kept_list, kept_first, kept_window, kept_entered, kept_uses, kept_ranges, date_ranges_after}
+use Rattle.live_meaning.specs.Kept.{show_on, head_numbers, numbers_on, kept_acceptance, kept_ranges}
 use Rattle.live_laws.specs.Owed.{date_range_text}
 use Rattle.live_counters.specs.Marking.{so_far}
-use Rattle.live_counters.specs.Channel.{kept_in, playlist_after}
+use Rattle.live_counters.specs.Channel.{kept_in}
 use Rattle.live_counters.specs.declared.state.State.{State}
-use Rattle.live_counters.specs.Listed.{RefusesList, head_of, is_marked_from, is_used_from, states_time}
-use Rattle.live_counters.specs.Accepting.{out_with}
+use Rattle.live_counters.specs.declared.showing.Showing.{Showing}
+use Rattle.live_counters.specs.Listed.{head_of, is_marked_from, is_used_from, states_time}
+use Rattle.live_counters.specs.Accepting.{IsShown, is_used_after, window_on_list, text_with_window, out_with}
 
 -- ---- the mark that is carried
 
@@ -86,92 +85,69 @@ others p q (r ∷ later) h =
     ap (λ b. cond (not b) (r ∷ filter (λ (x : DateRange). not (p x.id)) later) (filter (λ (x : DateRange). not (p x.id)) later)) (h r.id)
     ∙ ap (λ rs. cond (not (q r.id)) (r ∷ rs) rs) (others p q later h)
 
+-- ---- what is shown
+
+-- the known breaks, and the segments that were shown with the new ones, where the shown segments are handed on as a list
+pub shown_is : (tolerance : ℕ) (state : State) (shown : List Held) (newest : Option (List ℕ)) (a : Showing) (p : Playlist) → shown ≡ state.shown
+    → newest_mark (so_far state.store shown) ≡ mark_in state.store newest → (AreDecided state.store shown → IsDecided state.store newest) → a.knowledge ≡ carry (record { playlist = p; carried = newest }) state.knowledge
+    → so_far state.store a.list.items ≡ show_on (record { tolerance = tolerance; target = p.target; mapped = is_mapped p.segments; breaks = a.knowledge; store = state.store }) (so_far state.store shown) state.entered (filter (is_new (so_far state.store shown)) p.segments)
+    → AreDecided state.store a.list.items → AreDecided state.store state.shown → IsShown tolerance (kept_in state) p a
+shown_is tolerance state shown newest a p e mark named breaks list decided before =
+    let named_now = named (subst (AreDecided state.store) (sym e) before) in
+    let mark_now : newest_mark (so_far state.store state.shown) ≡ mark_in state.store newest = subst (λ (xs : List Held). newest_mark (so_far state.store xs) ≡ mark_in state.store newest) e mark in
+    let breaks_kept : a.knowledge ≡ carry (kept_acceptance (kept_in state) p) state.knowledge =
+    breaks ∙ ap (λ o. carry (record { playlist = p; carried = o }) state.knowledge) (sym (ap (option_map mark_id) mark_now ∙ mark_named state.store newest named_now)) in
+    record {
+      breaks = breaks_kept;
+      list =
+          list
+          ∙ (ap (λ (xs : List Held). show_on (record { tolerance = tolerance; target = p.target; mapped = is_mapped p.segments; breaks = a.knowledge; store = state.store }) (so_far state.store xs) state.entered (filter (is_new (so_far state.store xs)) p.segments)) e
+          ∙ ap (λ b. show_on (record { tolerance = tolerance; target = p.target; mapped = is_mapped p.segments; breaks = b; store = state.store }) (so_far state.store state.shown) state.entered (filter (is_new (so_far state.store state.shown)) p.segments)) breaks_kept);
+      decided = decided;
+    }
+
+-- ---- what is written of it
+
+module _ (state : State) (p : Playlist) (held : List Held) where
+  abbrev seen : List Marked
+  seen = so_far state.store held
+
+  abbrev window : List Item
+  window = window_on_list (kept_in state) p seen
+
+  pub window_seen : (first : Numbers) (items : List OutSegment) → first ≡ numbers_on state.last state.numbers seen → items ≡ map written_item (window_on first (first_number p.segments) seen)
+      → items ≡ map written_item window
+  window_seen first items e h = h ∙ ap (λ (n : Numbers). map written_item (window_on n (first_number p.segments) seen)) e
+
+  pub uses_seen : (now : Option (List ℕ)) (ids : List (List ℕ)) → AreDecided state.store held → now ≡ or_earlier (last_entered seen) state.entered
+      → ((id : List ℕ) → is_one_of ids id ≡ is_used_from (first_number p.segments) held now id) → (id : List ℕ) → is_one_of ids id ≡ is_used_after (kept_in state) p seen id
+  uses_seen now ids d n h id =
+      h id
+      ∙ (ap (λ b. b || is_this id now) (any_seen state.store (first_number p.segments) id held d)
+      ∙ ap (λ o. list_any (λ (s : Marked). nat_le (first_number p.segments) s.segment.number && is_marked id s.mark) seen || is_this id o) n)
+
+  pub text_seen : (items : List OutSegment) (ids : List (List ℕ)) (text : List ℕ)
+      → items ≡ map written_item window → ((id : List ℕ) → is_one_of ids id ≡ is_used_after (kept_in state) p seen id)
+      → text ≡ text_of (out_with p (map date_range_text (kept_ranges (list_any states_time items) (is_one_of ids) p.date_ranges)) items)
+      → text ≡ text_with_window p (is_used_after (kept_in state) p seen) window
+  text_seen items ids text w u t =
+      let stated : list_any states_time items ≡ list_any states_instant window = ap (list_any states_time) w ∙ timed window in
+      t
+      ∙ (ap (λ os. text_of (out_with p (map date_range_text (kept_ranges (list_any states_time items) (is_one_of ids) p.date_ranges)) os)) w
+      ∙ (ap (λ b. text_of (out_with p (map date_range_text (kept_ranges b (is_one_of ids) p.date_ranges)) (map written_item window))) stated
+      ∙ ap (λ (rs : List DateRange). text_of (out_with p (map date_range_text (cond (list_any states_instant window) rs [])) (map written_item window))) (others (is_one_of ids) (is_used_after (kept_in state) p seen) p.date_ranges u)))
+
+  pub numbers_seen : (items : List OutSegment) (n : Numbers) → items ≡ map written_item window → n ≡ head_of items → n ≡ head_numbers window
+  numbers_seen items n w h = h ∙ (ap head_of w ∙ heads window)
+
+  pub count_seen : (items : List OutSegment) (n : ℕ) → items ≡ map written_item window → n ≡ length items → n ≡ length window
+  count_seen items n w h = h ∙ (ap length w ∙ length-map window written_item)
+
 -- ---- the refresh
-
--- the known breaks, the mark that is carried, and the segments that were shown with the new ones
-pub record Made (tolerance : ℕ) (state : State) (after : List Break) (newest : Option (List ℕ)) (list : List Held) (p : Playlist) : Type 0 where
-  pub mark : newest_mark (so_far state.store state.shown) ≡ mark_in state.store newest
-  pub newest_decided : IsDecided state.store newest
-  pub breaks : after ≡ carry (record { playlist = p; carried = newest }) state.knowledge
-  pub list_is : so_far state.store list ≡ show_on (record { tolerance = tolerance; target = p.target; mapped = is_mapped p.segments; breaks = after; store = state.store }) (so_far state.store state.shown) state.entered (filter (is_new (so_far state.store state.shown)) p.segments)
-  pub decided : AreDecided state.store list
-
--- the same, where the shown segments are handed on as a list
-pub made : {tolerance : ℕ} {state : State} {after : List Break} {newest : Option (List ℕ)} {list : List Held} {p : Playlist} (shown : List Held) → shown ≡ state.shown
-    → newest_mark (so_far state.store shown) ≡ mark_in state.store newest → (AreDecided state.store shown → IsDecided state.store newest) → after ≡ carry (record { playlist = p; carried = newest }) state.knowledge
-    → so_far state.store list ≡ show_on (record { tolerance = tolerance; target = p.target; mapped = is_mapped p.segments; breaks = after; store = state.store }) (so_far state.store shown) state.entered (filter (is_new (so_far state.store shown)) p.segments)
-    → AreDecided state.store list → AreDecided state.store state.shown → Made tolerance state after newest list p
-made {tolerance} {state} {after} {newest} {list} {p} shown e mark named breaks list_is decided before = record {
-  mark = subst (λ (xs : List Held). newest_mark (so_far state.store xs) ≡ mark_in state.store newest) e mark;
-  newest_decided = named (subst (AreDecided state.store) (sym e) before);
-  breaks = breaks;
-  list_is =
-      list_is
-      ∙ ap (λ (xs : List Held). show_on (record { tolerance = tolerance; target = p.target; mapped = is_mapped p.segments; breaks = after; store = state.store }) (so_far state.store xs) state.entered (filter (is_new (so_far state.store xs)) p.segments)) e;
-  decided = decided;
-}
 
 pub fresh_kept : (store : List Entry) (shown others : List Held) (segments fresh : List Segment) → shown ≡ others → fresh ≡ filter (is_new (so_far store shown)) segments
     → length fresh ≡ length (filter (is_new (so_far store others)) segments)
 fresh_kept store shown others segments fresh e f = ap length f ∙ ap (λ (xs : List Held). length (filter (is_new (so_far store xs)) segments)) e
-
-module _ {tolerance : ℕ} {state : State} {after : List Break} {newest : Option (List ℕ)} {list : List Held} {p : Playlist} (m : Made tolerance state after newest list p) where
-  abbrev seen : List Marked
-  seen = so_far state.store list
-
-  pub breaks_kept : after ≡ carry (kept_acceptance (kept_in state) p) state.knowledge
-  breaks_kept = m.breaks ∙ ap (λ o. carry (record { playlist = p; carried = o }) state.knowledge) (sym (ap (option_map mark_id) m.mark ∙ mark_named state.store newest m.newest_decided))
-
-  pub list_kept : seen ≡ kept_list tolerance (kept_in state) p
-  list_kept =
-      m.list_is
-      ∙ ap (λ b. show_on (record { tolerance = tolerance; target = p.target; mapped = is_mapped p.segments; breaks = b; store = state.store }) (so_far state.store state.shown) state.entered (filter (is_new (so_far state.store state.shown)) p.segments)) breaks_kept
-
-  pub refuses_kept : (e : RefreshFault) → RefusesList e (list_all fits (numbered (numbers_on state.last state.numbers seen) (stitched seen)) ≡ false)
-      → RefusesList e (list_all fits (numbered (kept_first tolerance (kept_in state) p) (stitched (kept_list tolerance (kept_in state) p))) ≡ false)
-  refuses_kept e = subst (λ (xs : List Marked). RefusesList e (list_all fits (numbered (numbers_on state.last state.numbers xs) (stitched xs)) ≡ false)) list_kept
-
-  pub all_kept : (first : Numbers) → first ≡ numbers_on state.last state.numbers seen → list_all fits (numbered first (stitched seen)) ≡ true
-      → list_all fits (numbered (kept_first tolerance (kept_in state) p) (stitched (kept_list tolerance (kept_in state) p))) ≡ true
-  all_kept first e h = subst (λ (xs : List Marked). list_all fits (numbered (numbers_on state.last state.numbers xs) (stitched xs)) ≡ true) list_kept (subst (λ (n : Numbers). list_all fits (numbered n (stitched seen)) ≡ true) e h)
-
-  pub shown_kept : (shown : List Held) → so_far state.store shown ≡ shown_from (first_number p.segments) seen → so_far state.store shown ≡ shown_from (first_number p.segments) (kept_list tolerance (kept_in state) p)
-  shown_kept shown h = h ∙ ap (shown_from (first_number p.segments)) list_kept
-
-  pub window_kept : (first : Numbers) (items : List OutSegment) → first ≡ numbers_on state.last state.numbers seen → items ≡ map written_item (window_on first (first_number p.segments) seen)
-      → items ≡ map written_item (kept_window tolerance (kept_in state) p)
-  window_kept first items e h =
-      h ∙ (ap (λ (n : Numbers). map written_item (window_on n (first_number p.segments) seen)) e
-      ∙ ap (λ (xs : List Marked). map written_item (window_on (numbers_on state.last state.numbers xs) (first_number p.segments) xs)) list_kept)
-
-  pub entered_kept : (now : Option (List ℕ)) → now ≡ or_earlier (last_entered seen) state.entered → now ≡ kept_entered tolerance (kept_in state) p
-  entered_kept now h = h ∙ ap (λ (xs : List Marked). or_earlier (last_entered xs) state.entered) list_kept
-
-  pub uses_kept : (now : Option (List ℕ)) (ids : List (List ℕ)) (id : List ℕ) → now ≡ or_earlier (last_entered seen) state.entered
-      → is_one_of ids id ≡ is_used_from (first_number p.segments) list now id → is_one_of ids id ≡ kept_uses tolerance (kept_in state) p id
-  uses_kept now ids id n h =
-      h
-      ∙ (ap (λ b. b || is_this id now) (any_seen state.store (first_number p.segments) id list m.decided)
-      ∙ (ap (λ (xs : List Marked). list_any (λ (s : Marked). nat_le (first_number p.segments) s.segment.number && is_marked id s.mark) xs || is_this id now) list_kept
-      ∙ ap (λ o. list_any (λ (s : Marked). nat_le (first_number p.segments) s.segment.number && is_marked id s.mark) (kept_list tolerance (kept_in state) p) || is_this id o) (entered_kept now n)))
-
-  pub text_kept : (items : List OutSegment) (ids date_ranges : List (List ℕ)) (text : List ℕ)
-      → items ≡ map written_item (kept_window tolerance (kept_in state) p) → ((id : List ℕ) → is_one_of ids id ≡ kept_uses tolerance (kept_in state) p id)
-      → date_ranges ≡ map date_range_text (kept_ranges (list_any states_time items) (is_one_of ids) p.date_ranges) → text ≡ text_of (out_with p date_ranges items)
-      → text ≡ text_of (playlist_after tolerance (kept_in state) p)
-  text_kept items ids date_ranges text w u r t =
-      let window = kept_window tolerance (kept_in state) p in
-      let stated : list_any states_time items ≡ list_any states_instant window = ap (list_any states_time) w ∙ timed window in
-      let left : date_ranges ≡ map date_range_text (date_ranges_after tolerance (kept_in state) p) =
-      r ∙ (ap (λ b. map date_range_text (kept_ranges b (is_one_of ids) p.date_ranges)) stated
-      ∙ ap (λ (rs : List DateRange). map date_range_text (cond (list_any states_instant window) rs [])) (others (is_one_of ids) (kept_uses tolerance (kept_in state) p) p.date_ranges u)) in
-      t ∙ (ap (λ rs. text_of (out_with p rs items)) left ∙ ap (λ os. text_of (out_with p (map date_range_text (date_ranges_after tolerance (kept_in state) p)) os)) w)
-
-  pub numbers_kept : (items : List OutSegment) (n : Numbers) → items ≡ map written_item (kept_window tolerance (kept_in state) p) → n ≡ head_of items → n ≡ head_numbers (kept_window tolerance (kept_in state) p)
-  numbers_kept items n w h = h ∙ (ap head_of w ∙ heads (kept_window tolerance (kept_in state) p))
-
-  pub count_kept : (items : List OutSegment) (n : ℕ) → items ≡ map written_item (kept_window tolerance (kept_in state) p) → n ≡ length items → n ≡ length (kept_window tolerance (kept_in state) p)
-  count_kept items n w h = h ∙ (ap length w ∙ length-map (kept_window tolerance (kept_in state) p) written_item)
 
 -- the later ones of decided segments
 pub later_decided : (store : List Entry) (n : ℕ) (held : List Held) → AreDecided store held → AreDecided store (drop n held)

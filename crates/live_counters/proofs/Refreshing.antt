@@ -123,38 +123,38 @@ module _ (base : Parts) (tolerance : ℕ) (state : State) (text : Option (List �
     accepted = h.follows.accepted
 
     abbrev done : Refreshed
-    done = record { media_sequence = a.numbers.media; segments = a.count; fresh = a.fresh }
+    done = record { media_sequence = a.written.numbers.media; segments = a.written.count; fresh = a.fresh }
 
     abbrev after : Channel
-    after = channel_with base tolerance (accepted_state state p a) (Some a.text)
+    after = channel_with base tolerance (accepted_state state p a) (Some a.written.text)
 
     unrefused : kept_refusal tolerance kept p ≡ None
-    unrefused = no_fault (succession_fault kept.last p) (fault_if (not (list_all fits (numbered (kept_first tolerance kept p) (stitched (kept_list tolerance kept p))))) NumberRange) h.follows.succeeds (ap (λ b. fault_if (not b) NumberRange) accepted.fit)
+    unrefused = no_fault (succession_fault kept.last p) (fault_if (not (list_all fits (numbered (kept_first tolerance kept p) (stitched (kept_list tolerance kept p))))) NumberRange) h.follows.succeeds (ap (λ b. fault_if (not b) NumberRange) accepted.written.fit)
 
-    in_use : AllByRecursion (λ (x : Marked). (id : List ℕ) → is_marked id x.mark ≡ true → is_one_of a.ids.items id ≡ true) (so_far state.store a.shown.items)
+    in_use : AllByRecursion (λ (x : Marked). (id : List ℕ) → is_marked id x.mark ≡ true → is_one_of a.written.ids.items id ≡ true) (so_far state.store a.shown.items)
     in_use =
-        subst (λ (xs : List Marked). AllByRecursion (λ (x : Marked). (id : List ℕ) → is_marked id x.mark ≡ true → is_one_of a.ids.items id ≡ true) xs) (sym accepted.shown)
-        (used_from (first_number p.segments) (is_one_of a.ids.items) (kept_list tolerance kept p) (λ id k. accepted.ids id ∙ or_first _ _ k))
+        subst (λ (xs : List Marked). AllByRecursion (λ (x : Marked). (id : List ℕ) → is_marked id x.mark ≡ true → is_one_of a.written.ids.items id ≡ true) xs) (sym accepted.shown)
+        (used_from (first_number p.segments) (is_one_of a.written.ids.items) (kept_list tolerance kept p) (λ id k. accepted.written.ids id ∙ or_first _ _ k))
 
-    stay : Stay state.store (kept_in_use a.ids.items state.store) a.shown.items
+    stay : Stay state.store (kept_in_use a.written.ids.items state.store) a.shown.items
     stay =
-        marks_stay (is_one_of a.ids.items) state.store a.shown.items accepted.decided
-        (unturned (λ (x : Marked). (id : List ℕ) → is_marked id x.mark ≡ true → is_one_of a.ids.items id ≡ true) (map (meant state.store) a.shown.items) [] in_use).0
+        marks_stay (is_one_of a.written.ids.items) state.store a.shown.items accepted.decided
+        (unturned (λ (x : Marked). (id : List ℕ) → is_marked id x.mark ≡ true → is_one_of a.written.ids.items id ≡ true) (map (meant state.store) a.shown.items) [] in_use).0
 
     kept_is : kept_in (accepted_state state p a) ≡ kept_after tolerance kept p
     kept_is =
-        kept_ext (kept_in (accepted_state state p a)) (kept_after tolerance kept p) (store_same (is_one_of a.ids.items) (kept_uses tolerance kept p) state.store accepted.ids) accepted.breaks refl
-        (ap (λ (xs : List Marked). reverse xs) stay.same ∙ accepted.shown) accepted.entered accepted.numbers
+        kept_ext (kept_in (accepted_state state p a)) (kept_after tolerance kept p) (store_same (is_one_of a.written.ids.items) (kept_uses tolerance kept p) state.store accepted.written.ids) accepted.breaks refl
+        (ap (λ (xs : List Marked). reverse xs) stay.same ∙ accepted.shown) accepted.written.entered accepted.written.numbers
 
     steps : Steps before bytes (Ok done) after
     steps = record {
       says =
-          ap Ok (ap (λ (n : Numbers). record done { media_sequence = n.media }) accepted.numbers ∙ ap (λ k. record (refreshed_with (kept_window tolerance kept p) a.fresh) { segments = k }) accepted.count ∙ ap (refreshed_with (kept_window tolerance kept p)) accepted.fresh)
+          ap Ok (ap (λ (n : Numbers). record done { media_sequence = n.media }) accepted.written.numbers ∙ ap (λ k. record (refreshed_with (kept_window tolerance kept p) a.fresh) { segments = k }) accepted.written.count ∙ ap (refreshed_with (kept_window tolerance kept p)) accepted.fresh)
           ∙ (ap (λ o. judged o (refreshed_with (kept_window tolerance kept p) (fresh_after kept.shown p))) (sym unrefused)
           ∙ ap (says_read before) (sym h.read));
       comes =
-          ap (λ k. record { base = base; tolerance = tolerance; kept = k; text = Some a.text }) kept_is
-          ∙ (ap (λ t. record { base = base; tolerance = tolerance; kept = kept_after tolerance kept p; text = Some t }) accepted.text
+          ap (λ k. record { base = base; tolerance = tolerance; kept = k; text = Some a.written.text }) kept_is
+          ∙ (ap (λ t. record { base = base; tolerance = tolerance; kept = kept_after tolerance kept p; text = Some t }) accepted.written.text
           ∙ (ap (step_judged before p) (sym unrefused) ∙ ap (step_read before) (sym h.read)));
       typed = typed p h.read h.texts;
     }
@@ -165,12 +165,12 @@ module _ (base : Parts) (tolerance : ℕ) (state : State) (text : Option (List �
       pub numbers : IsContiguous new.last
       pub refreshes : Refreshes before bytes (Ok answer.0) (channel_with base tolerance new (Some answer.1))
 
-    goes_so : Stands before → Goes (accepted_state state p a) (done, a.text)
+    goes_so : Stands before → Goes (accepted_state state p a) (done, a.written.text)
     goes_so s =
         let r = steps_refresh before bytes (Ok done) after steps in
         record { stands = (refreshed bytes ∷ s.0, (r s.0 s.1).stands); decided = stay.decided; numbers = h.numbers; refreshes = r }
 
-    pub goes : (new : State) (answer : Refreshed × List ℕ) → new ≡ accepted_state state p a → answer ≡ (done, a.text) → Stands before → Goes new answer
+    pub goes : (new : State) (answer : Refreshed × List ℕ) → new ≡ accepted_state state p a → answer ≡ (done, a.written.text) → Stands before → Goes new answer
     goes new answer e f s = subst (λ (x : State). Goes x answer) (sym e) (subst (Goes (accepted_state state p a)) (sym f) (goes_so s))
 
   -- ---- a refused refresh

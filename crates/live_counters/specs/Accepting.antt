@@ -1,11 +1,14 @@
 -- What an accepted refresh comes to, as a channel holds it.
-use Rattle.std.specs.Prelude.{◌≡◌, ◌≢◌, ℕ, List, true, filter, length, max, Option, Some, None, Ok, Err}
-use Rattle.std.specs.List.{list_all}
+use Rattle.std.specs.Prelude.{◌≡◌, ◌≢◌, ℕ, Bool, List, true, filter, map, length, max, Option, Some, None, Ok, Err}
+use Rattle.std.specs.List.{list_all, list_any}
 use Rattle.playlist_meaning.specs.declared.Playlist.{Playlist}
-use Rattle.playlist_meaning.specs.Stitched.{fits, numbered, stitched}
+use Rattle.playlist_meaning.specs.LookBack.{or_earlier}
+use Rattle.playlist_meaning.specs.Marks.{Marked}
+use Rattle.playlist_meaning.specs.Stitched.{Item, fits, numbered, stitched}
 use Rattle.pod_store.specs.Store.{is_one_of, kept_in_use}
 use Rattle.stitcher.specs.declared.OutSegment.{OutSegment}
 use Rattle.stitcher.specs.StitchedSegments.{AreDecided}
+use Rattle.stitcher.specs.Written.{written_item}
 use Rattle.break_finder.specs.Known.{carry}
 use Rattle.playlist_write.specs.declared.OutPlaylist.{OutPlaylist}
 use Rattle.playlist_write.specs.Owed.{text_of}
@@ -15,14 +18,18 @@ use Rattle.playlist_meaning.specs.declared.FaultKind.TheVariants.{OutOfMemory as
 use Rattle.playlist_meaning.specs.Reading.{reading, limited}
 use Rattle.reading_laws.specs.Read.{uris_are_text}
 use Rattle.url.specs.Parts.{Parts}
-use Rattle.live_meaning.specs.Live.{succession_fault}
+use Rattle.live_laws.specs.Owed.{date_range_text}
+use Rattle.live_meaning.specs.Live.{succession_fault, states_instant}
+use Rattle.live_meaning.specs.LiveLaws.{window_on}
 use Rattle.live_meaning.specs.Successor.{first_number}
-use Rattle.live_meaning.specs.Marking.{is_new}
-use Rattle.live_meaning.specs.Kept.{Kept, shown_from, head_numbers, kept_acceptance, kept_list, kept_first, kept_window, kept_entered, kept_uses}
+use Rattle.live_meaning.specs.Marking.{is_new, last_entered}
+use Rattle.live_meaning.specs.Kept.{Kept, shown_from, head_numbers, numbers_on, is_in_use, kept_acceptance, kept_list, kept_ranges}
 use Rattle.live_counters.specs.declared.refresh.NextKept.{NextKept}
+use Rattle.live_counters.specs.declared.showing.Showing.{Showing}
+use Rattle.live_counters.specs.declared.written.Written.{Written}
 use Rattle.live_counters.specs.Marking.{so_far}
 use Rattle.live_counters.specs.Checked.{AreContiguous}
-use Rattle.live_counters.specs.Channel.{Reading, kept_in, channel_with, playlist_after, Steps}
+use Rattle.live_counters.specs.Channel.{Reading, kept_in, channel_with, Steps}
 use Rattle.live_counters.specs.declared.state.State.{State}
 
 -- the playlist that is written with these date ranges and items
@@ -37,22 +44,40 @@ out_with p date_ranges items = record {
   segments = items;
 }
 
--- each number of the stitched list fits
-abbrev pub AllFit : ℕ → Kept → Playlist → Type 0
-AllFit tolerance kept p = list_all fits (numbered (kept_first tolerance kept p) (stitched (kept_list tolerance kept p))) ≡ true
+-- the breaks that are known after the refresh, and the segments that are shown then
+pub record IsShown (tolerance : ℕ) (kept : Kept) (p : Playlist) (a : Showing) : Type 0 where
+  pub breaks : a.knowledge ≡ carry (kept_acceptance kept p) kept.breaks
+  pub list : so_far kept.store a.list.items ≡ kept_list tolerance kept p
+  pub decided : AreDecided kept.store a.list.items
+
+-- the window of these segments, the newest first, from the playlist's first one on
+abbrev pub window_on_list : Kept → Playlist → List Marked → List Item
+window_on_list kept p list = window_on (numbers_on kept.last kept.numbers list) (first_number p.segments) list
+
+-- the break is in use after these segments
+abbrev pub is_used_after : Kept → Playlist → List Marked → List ℕ → Bool
+is_used_after kept p list id = is_in_use (first_number p.segments) list (or_earlier (last_entered list) kept.entered) id
+
+-- the playlist's text with this window in place of its segments, without the date ranges of these breaks
+abbrev pub text_with_window : Playlist → (List ℕ → Bool) → List Item → List ℕ
+text_with_window p uses window = text_of (out_with p (map date_range_text (kept_ranges (list_any states_instant window) uses p.date_ranges)) (map written_item window))
+
+-- what is written, and which breaks are used, where these segments are shown: each number of the stitched list fits
+pub record IsWritten (kept : Kept) (p : Playlist) (list : List Marked) (w : Written) : Type 0 where
+  pub fit : list_all fits (numbered (numbers_on kept.last kept.numbers list) (stitched list)) ≡ true
+  pub entered : w.entered ≡ or_earlier (last_entered list) kept.entered
+  pub ids : (id : List ℕ) → is_one_of w.ids.items id ≡ is_used_after kept p list id
+  pub numbers : w.numbers ≡ head_numbers (window_on_list kept p list)
+  pub count : w.count ≡ length (window_on_list kept p list)
+  pub text : w.text ≡ text_with_window p (is_used_after kept p list) (window_on_list kept p list)
 
 -- what is kept after the refresh, what it answers and what is written
 pub record IsAccepted (tolerance : ℕ) (kept : Kept) (p : Playlist) (a : NextKept) : Type 0 where
-  pub fit : AllFit tolerance kept p
   pub breaks : a.knowledge ≡ carry (kept_acceptance kept p) kept.breaks
   pub shown : so_far kept.store a.shown.items ≡ shown_from (first_number p.segments) (kept_list tolerance kept p)
   pub decided : AreDecided kept.store a.shown.items
-  pub entered : a.entered ≡ kept_entered tolerance kept p
-  pub ids : (id : List ℕ) → is_one_of a.ids.items id ≡ kept_uses tolerance kept p id
-  pub numbers : a.numbers ≡ head_numbers (kept_window tolerance kept p)
-  pub count : a.count ≡ length (kept_window tolerance kept p)
   pub fresh : a.fresh ≡ length (filter (is_new kept.shown) p.segments)
-  pub text : a.text ≡ text_of (playlist_after tolerance kept p)
+  pub written : IsWritten kept p (kept_list tolerance kept p) a.written
 
 -- ---- a refresh, from its bytes on
 
@@ -85,10 +110,10 @@ Refused base tolerance state bytes fault =
 -- what is kept then
 abbrev pub accepted_state : State → Playlist → NextKept → State
 accepted_state state p a = record {
-  store = kept_in_use a.ids.items state.store;
+  store = kept_in_use a.written.ids.items state.store;
   knowledge = a.knowledge;
   last = Some p;
   shown = a.shown.items;
-  entered = a.entered;
-  numbers = a.numbers;
+  entered = a.written.entered;
+  numbers = a.written.numbers;
 }

@@ -8,10 +8,12 @@ mod listing;
 mod marking;
 mod placing;
 mod refresh;
+mod showing;
 mod state;
 mod successor;
 mod types_say;
 mod writing;
+mod written;
 
 pub use channel::{Channel, ChannelFault, Refreshed};
 pub use live_meaning::RefreshFault;

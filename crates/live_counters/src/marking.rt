@@ -176,6 +176,83 @@ fn or_earlier(
     }
 }
 
+// How far the marks are: the mark of the segment before, and the last break entered.
+#[derive(Drop)]
+struct Run {
+    before: Option<Shared<Text>>,
+    entered: Option<Shared<Text>>,
+}
+
+fn run_of(newest: &Option<Shared<Text>>, last: &Option<Shared<Text>>) -> Result<Run, AllocError>
+    ensures { IfOk result (λ run. run ≡ record { before = newest.now; entered = last.now }) }
+{
+    Ok(Run {
+        before: copied_text(newest)?,
+        entered: copied_text(last)?,
+    })
+}
+
+fn marked_with(
+    segment: &Shared<Segment>,
+    instant: &Option<Instant>,
+    mark: Option<Shared<Text>>,
+) -> Result<Marked, AllocError>
+    ensures { IfOk result (λ marked. marked ≡ record { segment = segment.now; instant = instant.now; mark = mark }) }
+{
+    Ok(Marked {
+        segment: segment.clone()?,
+        instant: *instant,
+        mark,
+    })
+}
+
+impl<'a> Marker<'a> {
+    // The mark of the next segment, and how far the marks are with it.
+    fn next(
+        &self,
+        alloc: Global,
+        run: Run,
+        instant: &Option<Instant>,
+    ) -> Result<(Option<Shared<Text>>, Run), AllocError>
+        ensures mark { IfOk result (λ a. a.0 ≡ next_id self.now run.before run.entered instant.now) }
+        ensures run { IfOk result (λ a. a.1 ≡ record { before = a.0; entered = or_earlier a.0 run.entered }) }
+    {
+        let Run { before, entered } = run;
+        let staying = self.stays(&before, *instant);
+        let mark = self.next_id(alloc, staying, &before, &entered, *instant)?;
+        let before = copied_text(&mark)?;
+        let entered = or_earlier(&mark, entered)?;
+        Ok((mark, Run { before, entered }))
+    }
+
+    // These segments, which begin at these instants, with their marks.
+    fn all(
+        &self,
+        alloc: Global,
+        start: Run,
+        segments: &[Shared<Segment>],
+        instants: &[Option<Instant>],
+    ) -> Result<Vec<Marked>, AllocError>
+        ensures { IfOk result (λ v. v.items ≡ mark_on self.now start.before start.entered segments.now instants.now) }
+    {
+        let mut done = Vec::with_capacity(alloc, segments.len())?;
+        let mut run = start;
+        let mut rest = segments;
+        let mut begun = instants;
+        while let Some((segment, later)) = rest.split_first() {
+            let Some((instant, after)) = begun.split_first() else {
+                return Ok(done);
+            };
+            let (mark, next) = self.next(alloc, run, instant)?;
+            run = next;
+            done.push(marked_with(segment, instant, mark)?)?;
+            rest = later;
+            begun = after;
+        }
+        Ok(done)
+    }
+}
+
 /// These segments, which begin at these instants, with their marks: after a segment of this mark, and after this
 /// last break entered.
 pub fn mark_on(
@@ -191,26 +268,6 @@ pub fn mark_on(
     ensures { IfOk result (λ v. v.items ≡ mark_on (record { tolerance = limits.now.tolerance; target = limits.now.target; mapped = limits.now.mapped; breaks = knowledge.now; store = store.now }) newest.now last.now segments.now instants.now) }
 {
     let marker = marker_of(alloc, limits, knowledge, store)?;
-    let mut done = Vec::with_capacity(alloc, segments.len())?;
-    let mut before = copied_text(newest)?;
-    let mut entered = copied_text(last)?;
-    let mut rest = segments;
-    let mut begun = instants;
-    while let Some((segment, later)) = rest.split_first() {
-        let Some((instant, after)) = begun.split_first() else {
-            return Ok(done);
-        };
-        let staying = marker.stays(&before, *instant);
-        let mark = marker.next_id(alloc, staying, &before, &entered, *instant)?;
-        before = copied_text(&mark)?;
-        entered = or_earlier(&mark, entered)?;
-        done.push(Marked {
-            segment: segment.clone()?,
-            instant: *instant,
-            mark,
-        })?;
-        rest = later;
-        begun = after;
-    }
-    Ok(done)
+    let run = run_of(newest, last)?;
+    marker.all(alloc, run, segments, instants)
 }

@@ -2,37 +2,31 @@
 ghost use Rattle.std.specs.Prelude.{◌≡◌, Ok, IfOk, IfErr, true, false};
 ghost use Rattle.std.specs.List.{list_all};
 ghost use Rattle.playlist_meaning.specs.Stitched.{fits, numbered, stitched};
-ghost use Rattle.live_meaning.specs.Kept.{kept_first, kept_list};
-ghost use Rattle.playlist_write.specs.Owed.{text_of};
-ghost use Rattle.stitcher.specs.StitchedSegments.{AreDecided};
-ghost use Rattle.break_finder.specs.Known.{carry};
-ghost use Rattle.live_meaning.specs.Successor.{is_mapped};
-ghost use Rattle.live_counters.specs.Checked.{AreContiguous};
-ghost use Rattle.live_counters.specs.Channel.{kept_in, IsContiguous};
-ghost use Rattle.live_counters.specs.Accepting.{IsAccepted, Follows, Accepts, Refused, RefusesNext, RefusesReading, accepted_state, out_with};
-ghost use Rattle.live_counters.specs.Listed.{RefusesList};
 ghost use Rattle.playlist_meaning.specs.Reading.{reading, limited};
 ghost use Rattle.reading_laws.specs.Read.{uris_are_text};
+ghost use Rattle.stitcher.specs.StitchedSegments.{AreDecided};
+ghost use Rattle.live_meaning.specs.Kept.{kept_first, kept_list, kept_refusal};
 ghost use Rattle.live_meaning.specs.Live.{succession_fault};
 ghost use Rattle.live_meaning.specs.Successor.{answer_of};
-ghost use Rattle.live_meaning.specs.Kept.{kept_refusal};
+ghost use Rattle.live_counters.specs.Checked.{AreContiguous};
+ghost use Rattle.live_counters.specs.Channel.{kept_in, IsContiguous};
+ghost use Rattle.live_counters.specs.Accepting.{IsAccepted, Follows, Accepts, Refused, RefusesNext, RefusesReading, accepted_state};
+ghost use Rattle.live_counters.specs.Listed.{RefusesList};
 
 use crate::channel::Refreshed;
-use crate::listing::{count_before, fresh_of, from_place, last_entered, listed, newest_mark};
-use crate::marking::{Limits, text_in};
+use crate::listing::{count_before, fresh_of, from_place};
+use crate::showing::{Showing, shown_with};
 use crate::state::State;
-use crate::successor::{check_successor, first_number, is_mapped};
+use crate::successor::{check_successor, first_number};
 use crate::types_say::know_texts;
-use crate::writing::{head_of, numbers_on, ranges_left, used_ids, window_of};
-use break_finder::{FindFault, Knowledge};
+use crate::written::{Written, written_of};
+use break_finder::Knowledge;
 use fixed_duration::Nanos;
 use live_meaning::RefreshFault;
 use playlist_meaning::{Base, Items, Playlist, Shared, Text};
 use playlist_parse::read;
-use playlist_write::{OutPlaylist, written};
-use pod_store::PodStore;
-use std::alloc::{AllocError, Global};
-use stitcher::{Marked, Numbers, OutSegment};
+use std::alloc::Global;
+use stitcher::Marked;
 
 /// What a channel comes to by an accepted refresh.
 #[derive(Drop)]
@@ -41,64 +35,10 @@ pub struct NextKept {
     pub knowledge: Knowledge,
     /// The segments that are shown, the oldest first.
     pub shown: Vec<Marked>,
-    /// The last break entered.
-    pub entered: Option<Shared<Text>>,
-    /// The breaks in use.
-    pub ids: Vec<Text>,
-    /// The numbers of the window's first item.
-    pub numbers: Numbers,
-    /// How many items are written.
-    pub count: usize,
     /// How many segments are shown for the first time.
     pub fresh: usize,
-    /// The text that is written.
-    pub text: Shared<Text>,
-}
-
-fn carried(
-    alloc: Global,
-    knowledge: &Knowledge,
-    playlist: &Playlist,
-    newest: &Option<Shared<Text>>,
-) -> Result<Knowledge, RefreshFault>
-    ensures ok { IfOk result (λ after. after ≡ carry (record { playlist = playlist.now; carried = newest.now }) knowledge.now) }
-    ensures err { IfErr result (λ e. e ≡ RefreshFault.OutOfMemory) }
-{
-    match knowledge.carry(alloc, playlist, text_in(newest)) {
-        Ok(after) => Ok(after),
-        Err(FindFault::OutOfMemory) => Err(RefreshFault::OutOfMemory),
-    }
-}
-
-// The text of a playlist with these date ranges and items in place of its own.
-fn text_with(
-    alloc: Global,
-    playlist: &Playlist,
-    date_ranges: Vec<Text>,
-    items: Vec<OutSegment<'_>>,
-) -> Result<Shared<Text>, AllocError>
-    ensures { IfOk result (λ text. text ≡ text_of (out_with playlist.now date_ranges.items items.entry.items)) }
-{
-    let out = OutPlaylist {
-        version: playlist.version.max(6),
-        target: playlist.target,
-        kind: playlist.kind,
-        independent: playlist.independent,
-        ended: playlist.ended,
-        date_ranges: Items::from_vec(date_ranges),
-        segments: Items::from_vec(items),
-    };
-    Shared::new(alloc, written(alloc, &out)?)
-}
-
-fn limits_of(tolerance: Nanos, playlist: &Playlist) -> Limits
-    ensures { result ≡ record { tolerance = tolerance; target = playlist.now.target; mapped = is_mapped playlist.now.segments } }
-{
-    Limits {
-        tolerance,
-        target: playlist.target,
-        mapped: is_mapped(playlist.segments.as_slice()),
-    }
+    /// What is written.
+    pub written: Written,
 }
 
 /// What is kept after a refresh that may follow the last one, and what is written. `NumberRange` where a number would pass
@@ -114,45 +54,15 @@ fn next_kept(
     ensures ok { IfOk result (λ a. IsAccepted tolerance (kept_in state.now) playlist.now a) }
     ensures err { IfErr result (λ e. RefusesList e (list_all fits (numbered (kept_first tolerance (kept_in state.now) playlist.now) (stitched (kept_list tolerance (kept_in state.now) playlist.now))) ≡ false)) }
 {
+    let Showing { knowledge, list } = shown_with(alloc, tolerance, state, playlist)?;
+    let written = written_of(alloc, state, playlist, list.as_slice())?;
     let segments = playlist.segments.as_slice();
-    let shown = state.shown.as_slice();
-    let number = first_number(segments);
-    let newest = newest_mark(shown)?;
-    let knowledge = carried(alloc, &state.knowledge, playlist, &newest)?;
-    let limits = limits_of(tolerance, playlist);
-    let store = &state.store;
-    let list = listed(
-        alloc,
-        &limits,
-        &knowledge,
-        store,
-        shown,
-        &state.entered,
-        segments,
-    )?;
-    let first = numbers_on(&state.last, state.numbers, list.as_slice(), store)?;
-    let window = window_of(alloc, list.as_slice(), store, first, number)?;
-    let entered = last_entered(list.as_slice(), &state.entered)?;
-    let ids = used_ids(alloc, number, list.as_slice(), &entered)?;
-    let date_ranges = ranges_left(
-        alloc,
-        window.as_slice(),
-        ids.as_slice(),
-        playlist.date_ranges.as_slice(),
-    )?;
-    let numbers = head_of(window.as_slice());
-    let count = window.len();
-    let text = text_with(alloc, playlist, date_ranges, window)?;
-    let shown_before = count_before(number, list.as_slice());
+    let shown_before = count_before(first_number(segments), list.as_slice());
     Ok(NextKept {
         knowledge,
-        fresh: fresh_of(shown, segments).len(),
         shown: from_place(list, shown_before)?,
-        entered,
-        ids,
-        numbers,
-        count,
-        text,
+        fresh: fresh_of(state.shown.as_slice(), segments).len(),
+        written,
     })
 }
 
@@ -220,18 +130,25 @@ pub fn next_of(
 /// Keeps what an accepted refresh comes to. Answers what it did, and the text that is written. Takes no memory.
 pub fn accept(state: &mut State, playlist: Playlist, next: NextKept) -> (Refreshed, Shared<Text>)
     ensures state { state.new ≡ accepted_state state.old playlist next }
-    ensures answer { result ≡ (record { media_sequence = next.numbers.media; segments = next.count; fresh = next.fresh }, next.text) }
+    ensures answer { result ≡ (record { media_sequence = next.written.numbers.media; segments = next.written.count; fresh = next.fresh }, next.written.text) }
 {
-    state.store.keep_in_use(next.ids.as_slice());
+    let Written {
+        entered,
+        ids,
+        numbers,
+        count,
+        text,
+    } = next.written;
+    state.store.keep_in_use(ids.as_slice());
     state.knowledge = next.knowledge;
     state.last = Some(playlist);
     state.shown = Items::from_vec(next.shown);
-    state.entered = next.entered;
-    state.numbers = next.numbers;
+    state.entered = entered;
+    state.numbers = numbers;
     let done = Refreshed {
-        media_sequence: next.numbers.media,
-        segments: next.count,
+        media_sequence: numbers.media,
+        segments: count,
         fresh: next.fresh,
     };
-    (done, next.text)
+    (done, text)
 }

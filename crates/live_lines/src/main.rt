@@ -197,11 +197,15 @@ fn no_channels(alloc: Global) -> io::Result<Channels> {
     })
 }
 
+fn print_lines(rt: &HostRuntime, alloc: Global, channels: &mut Channels) -> io::Result<()> {
+    for line in rt.lines(alloc) {
+        print_line(rt, alloc, channels, line?.as_str())?;
+    }
+    Ok(())
+}
+
 fn main(rt: HostRuntime) -> io::Result<()> {
     let alloc = rt.alloc();
     let mut channels = no_channels(alloc)?;
-    for line in rt.lines(alloc) {
-        print_line(&rt, alloc, &mut channels, line?.as_str())?;
-    }
-    Ok(())
+    print_lines(&rt, alloc, &mut channels)
 }

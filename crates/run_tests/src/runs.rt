@@ -2,7 +2,7 @@
 use devices::{Counted, Pieces, Source, Taken};
 use one_playlist::{Command, VodFault, command_vod, read_args, vod};
 use playlist_meaning::{FaultKind, PlaylistFault};
-use std::alloc::Global;
+use std::alloc::{AllocError, Global};
 use std::test::Fail;
 
 const BASE: &str = "http://origin.example/ch/index.m3u8";
@@ -111,27 +111,32 @@ fn a_base_that_is_none_reads_nothing(rt: HostRuntime) -> Result<(), Fail> {
     Ok(())
 }
 
+// Whether this input is refused for this fault of the whole of it, and nothing is written.
+fn is_refused(alloc: Global, input: &[u8], kind: FaultKind) -> Result<bool, AllocError> {
+    let mut source = Counted::new(input);
+    let mut sink = Taken::new(alloc, ROOM, ROOM, 0)?;
+    let answer = answer_of(alloc, &mut source, &mut sink, BASE);
+    let fault = PlaylistFault { kind, line: 0 };
+    Ok(answer == Err(VodFault::Playlist(fault)) && sink.bytes().is_empty())
+}
+
+// One line feed more than a playlist may have bytes, and then these bytes.
+fn too_long(alloc: Global, last: &[u8]) -> Result<Vec<u8>, AllocError> {
+    let mut long = Vec::from_elem(alloc, b'\n', 4_194_305)?;
+    long.extend_from_slice(last)?;
+    Ok(long)
+}
+
+// Whether an input that is too long is refused for this fault where these bytes end it.
+fn is_judged(alloc: Global, last: &[u8], kind: FaultKind) -> Result<bool, AllocError> {
+    let input = too_long(alloc, last)?;
+    is_refused(alloc, input.as_slice(), kind)
+}
+
 #[test]
-fn the_whole_input_is_judged(rt: HostRuntime) -> Result<(), Fail> {
-    let mut long = Vec::from_elem(rt.alloc(), b'\n', 4_194_305)?;
-    let mut sink = Taken::new(rt.alloc(), ROOM, ROOM, 0)?;
-    let mut source = Counted::new(long.as_slice());
-    let fault = PlaylistFault {
-        kind: FaultKind::TooLong,
-        line: 0,
-    };
-    let answer = answer_of(rt.alloc(), &mut source, &mut sink, BASE);
-    assert_eq!(rt; answer, Err(VodFault::Playlist(fault)));
-    long.push(0xff)?;
-    let mut source = Counted::new(long.as_slice());
-    let fault = PlaylistFault {
-        kind: FaultKind::NotUtf8,
-        line: 0,
-    };
-    let answer = answer_of(rt.alloc(), &mut source, &mut sink, BASE);
-    assert_eq!(rt; answer, Err(VodFault::Playlist(fault)));
-    assert_eq!(rt; sink.bytes().len(), 0);
-    Ok(())
+fn the_whole_input_is_judged(rt: HostRuntime) {
+    assert!(rt; matches!(is_judged(rt.alloc(), b"", FaultKind::TooLong), Ok(true)));
+    assert!(rt; matches!(is_judged(rt.alloc(), b"\xff", FaultKind::NotUtf8), Ok(true)));
 }
 
 #[test]
@@ -148,21 +153,22 @@ fn want_of_memory_is_answered(rt: HostRuntime) -> Result<(), Fail> {
     Ok(())
 }
 
-// The exit status of a run over these bytes, and what it prints as faults.
-fn command_run(
+// Whether a run over this source prints these bytes of its fault, and ends with the status 1 where it has one.
+fn prints(
     alloc: Global,
     base: &str,
     mut source: Pieces<'_>,
     write_fail: u64,
-) -> Result<(u8, Taken), Fail> {
+    printed: &[u8],
+) -> Result<bool, AllocError> {
     let mut sink = Taken::new(alloc, ROOM, ROOM, write_fail)?;
     let mut faults = Taken::new(alloc, ROOM, 1, 0)?;
     let status = command_vod(alloc, base, None, &mut source, &mut sink, &mut faults);
-    Ok((status, faults))
+    Ok(faults.bytes() == printed && status == u8::from(!printed.is_empty()))
 }
 
 #[test]
-fn printed_faults(rt: HostRuntime) -> Result<(), Fail> {
+fn printed_faults(rt: HostRuntime) {
     let key: &[u8] =
         b"#EXTM3U\n#EXT-X-TARGETDURATION:10\n#EXT-X-KEY:METHOD=\"NONE\"\n#EXTINF:10,\ns0.ts\n";
     // The base, the input, the read and the write that fail (0: none), and what is printed.
@@ -176,11 +182,9 @@ fn printed_faults(rt: HostRuntime) -> Result<(), Fail> {
     ];
     for (base, input, read, write, printed) in table {
         let source = Pieces::new(input, ROOM, 0, read);
-        let (status, faults) = command_run(rt.alloc(), base, source, write)?;
-        assert_eq!(rt; faults.bytes(), printed);
-        assert_eq!(rt; status, u8::from(!printed.is_empty()));
+        let printed = prints(rt.alloc(), base, source, write, printed);
+        assert!(rt; matches!(printed, Ok(true)), "{base} {read} {write}");
     }
-    Ok(())
 }
 
 #[test]
@@ -198,7 +202,7 @@ fn shown_faults(rt: HostRuntime) -> Result<(), Fail> {
     Ok(())
 }
 
-fn words_of(alloc: Global, words: &[&str]) -> Result<Vec<String>, Fail> {
+fn words_of(alloc: Global, words: &[&str]) -> Result<Vec<String>, AllocError> {
     let mut found = Vec::new(alloc);
     for word in words {
         found.push(String::from_str(alloc, word)?)?;
@@ -206,9 +210,9 @@ fn words_of(alloc: Global, words: &[&str]) -> Result<Vec<String>, Fail> {
     Ok(found)
 }
 
-// Whether these words ask for `vod` with this base and decision file.
-fn asks_vod(words: &[String], base: &str, decisions: Option<&str>) -> bool {
-    match read_args(words) {
+// Whether this is `vod` with this base and decision file.
+fn is_vod(command: Option<Command<'_>>, base: &str, decisions: Option<&str>) -> bool {
+    match command {
         Some(
             Command::Vod {
                 base: found,
@@ -219,19 +223,36 @@ fn asks_vod(words: &[String], base: &str, decisions: Option<&str>) -> bool {
     }
 }
 
+// Whether these words ask for `vod` with the base and this decision file.
+fn ask_vod(alloc: Global, words: &[&str], decisions: Option<&str>) -> Result<bool, AllocError> {
+    let words = words_of(alloc, words)?;
+    Ok(is_vod(read_args(words.as_slice()), BASE, decisions))
+}
+
+// Whether these words ask for nothing.
+fn ask_nothing(alloc: Global, words: &[&str]) -> Result<bool, AllocError> {
+    let words = words_of(alloc, words)?;
+    Ok(read_args(words.as_slice()).is_none())
+}
+
 #[test]
-fn words(rt: HostRuntime) -> Result<(), Fail> {
-    let words = words_of(rt.alloc(), &["vod", BASE])?;
-    assert!(rt; asks_vod(words.as_slice(), BASE, None));
-    let with_file = words_of(rt.alloc(), &["vod", BASE, "decisions.json"])?;
-    assert!(rt; asks_vod(with_file.as_slice(), BASE, Some("decisions.json")));
-    let none = words_of(rt.alloc(), &[])?;
-    assert!(rt; read_args(none.as_slice()).is_none());
+fn words(rt: HostRuntime) {
+    let plain = ask_vod(rt.alloc(), &["vod", BASE], None);
+    assert!(rt; matches!(plain, Ok(true)));
+    let file = "decisions.json";
+    let with_file = ask_vod(rt.alloc(), &["vod", BASE, file], Some(file));
+    assert!(rt; matches!(with_file, Ok(true)));
+}
+
+#[test]
+fn words_of_no_command(rt: HostRuntime) {
+    assert!(rt; matches!(ask_nothing(rt.alloc(), &[]), Ok(true)));
     for other in ["VOD", "live", "vod "] {
-        let words = words_of(rt.alloc(), &[other, BASE])?;
-        assert!(rt; read_args(words.as_slice()).is_none(), "{other}");
+        assert!(rt;
+            matches!(ask_nothing(rt.alloc(), &[other, BASE]), Ok(true)),
+            "{other}"
+        );
     }
-    let many = words_of(rt.alloc(), &["vod", BASE, "decisions.json", "x"])?;
-    assert!(rt; read_args(many.as_slice()).is_none());
-    Ok(())
+    let many = ["vod", BASE, "decisions.json", "x"];
+    assert!(rt; matches!(ask_nothing(rt.alloc(), many.as_slice()), Ok(true)));
 }

@@ -1,5 +1,4 @@
-use Rattle.std.proofs.Common.{rules}
-use Rattle.live_counters.proofs.Refreshing.{read_rises, reading_refused, next_refused}
+use Rattle.live_counters.proofs.Refreshing.{read_rises}
 use Rattle.live_counters.proofs.refresh.next_of.Goals as goal
 
 pub next_after-requires-clause-contiguous : goal.next_after-requires-clause-contiguous

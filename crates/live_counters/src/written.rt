@@ -1,0 +1,106 @@
+//! What a refresh writes of the segments that are shown then.
+ghost use Rattle.std.specs.Prelude.{◌≡◌, IfOk, IfErr, false, map};
+ghost use Rattle.std.specs.List.{list_all, list_any};
+ghost use Rattle.playlist_meaning.specs.Stitched.{fits, numbered, stitched};
+ghost use Rattle.playlist_write.specs.Owed.{text_of};
+ghost use Rattle.pod_store.specs.Store.{is_one_of};
+ghost use Rattle.stitcher.specs.StitchedSegments.{AreDecided};
+ghost use Rattle.live_meaning.specs.Kept.{numbers_on, kept_ranges};
+ghost use Rattle.live_laws.specs.Owed.{date_range_text};
+ghost use Rattle.live_counters.specs.Marking.{so_far};
+ghost use Rattle.live_counters.specs.Channel.{kept_in};
+ghost use Rattle.live_counters.specs.Listed.{RefusesList, states_time};
+ghost use Rattle.live_counters.specs.Accepting.{IsWritten, out_with};
+
+use crate::listing::last_entered;
+use crate::state::State;
+use crate::successor::first_number;
+use crate::writing::{head_of, numbers_on, ranges_left, used_ids, window_of};
+use live_meaning::RefreshFault;
+use playlist_meaning::{Items, Playlist, Shared, Text};
+use playlist_write::{OutPlaylist, written};
+use std::alloc::{AllocError, Global};
+use stitcher::{Marked, Numbers, OutSegment};
+
+/// What a refresh writes, and which breaks it uses.
+#[derive(Drop)]
+pub struct Written {
+    /// The last break entered.
+    pub entered: Option<Shared<Text>>,
+    /// The breaks in use.
+    pub ids: Vec<Text>,
+    /// The numbers of the window's first item.
+    pub numbers: Numbers,
+    /// How many items are written.
+    pub count: usize,
+    /// The text that is written.
+    pub text: Shared<Text>,
+}
+
+// The text of a playlist with these date ranges and items in place of its own.
+fn text_with(
+    alloc: Global,
+    playlist: &Playlist,
+    date_ranges: Vec<Text>,
+    items: Vec<OutSegment<'_>>,
+) -> Result<Shared<Text>, AllocError>
+    ensures { IfOk result (λ text. text ≡ text_of (out_with playlist.now date_ranges.items items.entry.items)) }
+{
+    let out = OutPlaylist {
+        version: playlist.version.max(6),
+        target: playlist.target,
+        kind: playlist.kind,
+        independent: playlist.independent,
+        ended: playlist.ended,
+        date_ranges: Items::from_vec(date_ranges),
+        segments: Items::from_vec(items),
+    };
+    Shared::new(alloc, written(alloc, &out)?)
+}
+
+// The text of a playlist with these items in place of its segments, without the date ranges of the breaks in use.
+fn text_without(
+    alloc: Global,
+    playlist: &Playlist,
+    ids: &[Text],
+    items: Vec<OutSegment<'_>>,
+) -> Result<Shared<Text>, AllocError>
+    ensures { IfOk result (λ text. text ≡ text_of (out_with playlist.now (map date_range_text (kept_ranges (list_any states_time items.entry.items) (is_one_of ids.now) playlist.now.date_ranges)) items.entry.items)) }
+{
+    let date_ranges = ranges_left(
+        alloc,
+        items.as_slice(),
+        ids,
+        playlist.date_ranges.as_slice(),
+    )?;
+    text_with(alloc, playlist, date_ranges, items)
+}
+
+/// What a refresh writes where these segments are shown, and which breaks it uses. `NumberRange` where a number would
+/// pass 2^64 - 1.
+pub fn written_of(
+    alloc: Global,
+    state: &State,
+    playlist: &Playlist,
+    list: &[Marked],
+) -> Result<Written, RefreshFault>
+    requires { AreDecided state.now.store list.now }
+    ensures ok { IfOk result (λ w. IsWritten (kept_in state.now) playlist.now (so_far state.now.store list.now) w) }
+    ensures err { IfErr result (λ e. RefusesList e (list_all fits (numbered (numbers_on state.now.last state.now.numbers (so_far state.now.store list.now)) (stitched (so_far state.now.store list.now))) ≡ false)) }
+{
+    let number = first_number(playlist.segments.as_slice());
+    let first = numbers_on(&state.last, state.numbers, list, &state.store)?;
+    let window = window_of(alloc, list, &state.store, first, number)?;
+    let entered = last_entered(list, &state.entered)?;
+    let ids = used_ids(alloc, number, list, &entered)?;
+    let numbers = head_of(window.as_slice());
+    let count = window.len();
+    let text = text_without(alloc, playlist, ids.as_slice(), window)?;
+    Ok(Written {
+        entered,
+        ids,
+        numbers,
+        count,
+        text,
+    })
+}
