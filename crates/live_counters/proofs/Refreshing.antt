@@ -1,10 +1,9 @@
 -- A channel after a refresh.
-use Rattle.std.proofs.Common.{◌≡◌, ℕ, Bool, true, false, not, cond, ◌&&◌, ◌||◌, List, [], ◌∷◌, map, refl, ap, sym, ◌∙◌, subst, eq-eqb}
-use Rattle.std.specs.Prelude.{◌≢◌, Option, Some, None, IsSome, Result, Ok, Err, IsErr, IfErr, option_map, find, nat_le, reverse}
+use Rattle.std.proofs.Common.{◌≡◌, ℕ, Bool, true, false, not, cond, ◌&&◌, ◌||◌, List, [], ◌∷◌, map, refl, ap, sym, ◌∙◌, subst}
+use Rattle.std.specs.Prelude.{Option, Some, None, IsSome, Result, Ok, Err, IsErr, IfErr, option_map, find, nat_le, reverse}
 use Rattle.std.specs.List.{list_all, list_any, AllByRecursion}
 use Rattle.std.proofs.lemmas.Bool.{and_from}
 use Rattle.url.specs.Parts.{Parts}
-use Rattle.playlist_meaning.specs.declared.FaultKind.TheVariants.{OutOfMemory as NoMemory}
 use Rattle.playlist_meaning.specs.declared.PlaylistFault.{PlaylistFault}
 use Rattle.playlist_meaning.specs.declared.Playlist.{Playlist}
 use Rattle.playlist_meaning.specs.Marks.{Marked}
@@ -18,7 +17,7 @@ use Rattle.break_finder.specs.Breaks.{Break}
 use Rattle.stitcher.specs.declared.marked.Marked.{Marked as Held}
 use Rattle.stitcher.specs.StitchedSegments.{meant, mark_in, mark_with, IsDecided, AreDecided}
 use Rattle.live_meaning.specs.declared.fault.RefreshFault.{RefreshFault}
-use Rattle.live_meaning.specs.declared.fault.RefreshFault.TheVariants.{Playlist as Unreadable, NumberRange, OutOfMemory}
+use Rattle.live_meaning.specs.declared.fault.RefreshFault.TheVariants.{NumberRange}
 use Rattle.live_meaning.specs.Successor.{first_number, fault_if}
 use Rattle.live_meaning.specs.Live.{is_marked, store_after, succession_fault}
 use Rattle.live_meaning.specs.Kept.{Kept, shown_from, kept_after, kept_first, kept_list, kept_window, kept_refusal, kept_uses}
@@ -30,8 +29,8 @@ use Rattle.live_counters.specs.declared.refresh.NextKept.{NextKept}
 use Rattle.live_counters.specs.declared.state.State.{State}
 use Rattle.live_counters.specs.Checked.{AreContiguous}
 use Rattle.live_counters.specs.Marking.{so_far}
-use Rattle.live_counters.specs.Channel.{Channel, Reading, refreshed, IsAsTyped, Stands, IsContiguous, kept_in, channel_with, judged, refreshed_with, fresh_after, step_judged, step_read, says_read, is_memory, is_memory_kind, is_memory_fault, StepsUnless, Steps, Refreshes}
-use Rattle.live_counters.specs.Accepting.{IsAccepted, Accepts, Refused, RefusesNext, RefusesReading, accepted_state}
+use Rattle.live_counters.specs.Channel.{Channel, Reading, refreshed, IsAsTyped, Stands, IsContiguous, kept_in, channel_with, judged, refreshed_with, fresh_after, step_judged, step_read, says_read, Steps, Refreshes}
+use Rattle.live_counters.specs.Accepting.{IsAccepted, Accepts, Refused, accepted_state}
 use Rattle.live_counters.proofs.Accepting.{marked_too}
 use Rattle.live_counters.proofs.Stores.{Stay, unturned}
 use Rattle.live_counters.proofs.Steps.{steps_refresh}
@@ -178,46 +177,6 @@ module _ (base : Parts) (tolerance : ℕ) (state : State) (text : Option (List �
   pub stays : (result : Result Refreshed RefreshFault) → IsErr result → IfErr result (λ e. Refused base tolerance state bytes e) → Refreshes before bytes result before
   stays (Ok answer) h k = absurd (cc)
   stays (Err e) h k = steps_refresh before bytes (Err e) before (k text)
-
-not_memory : (e : RefreshFault) → is_memory (Err e) ≡ false → e ≢ OutOfMemory
-not_memory e h same = let k : true ≡ false = ap (λ x. is_memory (Err x)) (sym same) ∙ h in absurd (cc)
-
-pub next_refused : (base : Parts) (tolerance : ℕ) (state : State) (bytes : List ℕ) (p : Playlist) (e : RefreshFault) → reading limited base bytes ≡ Ok p → list_all uris_are_text p.segments ≡ true
-    → RefusesNext e (kept_refusal tolerance (kept_in state) p) → Refused base tolerance state bytes e
-next_refused base tolerance state bytes p e r t h text = step (is_memory (Err e)) refl
-  where
-    step : (b : Bool) → is_memory (Err e) ≡ b → StepsUnless b (channel_with base tolerance state text) bytes (Err e) (channel_with base tolerance state text)
-    step true k = refl
-    step false k =
-        let o = h (not_memory e k) in
-        record {
-          says = ap (λ x. judged x (refreshed_with (kept_window tolerance (kept_in state) p) (fresh_after (kept_in state).shown p))) (sym o) ∙ ap (says_read (channel_with base tolerance state text)) (sym r);
-          comes = ap (step_judged (channel_with base tolerance state text) p) (sym o) ∙ ap (step_read (channel_with base tolerance state text)) (sym r);
-          typed = typed base tolerance state text bytes p r t;
-        }
-
-read_fault : (base : Parts) (tolerance : ℕ) (state : State) (bytes : List ℕ) (fault : PlaylistFault) → (fault.kind ≢ NoMemory → reading limited base bytes ≡ Err fault) → (fault.kind ≡ NoMemory → fault.line ≡ 0)
-    → Refused base tolerance state bytes (Unreadable fault)
-read_fault base tolerance state bytes fault owed line text = step (is_memory_fault fault) refl
-  where
-    unlike : is_memory_fault fault ≡ false → fault.kind ≢ NoMemory
-    unlike h same =
-        let k : is_memory_fault fault ≡ true = and_from _ _ (ap is_memory_kind same) (eq-eqb fault.line 0 (line same)) in
-        let no : true ≡ false = sym k ∙ h in absurd (cc)
-
-    step : (b : Bool) → is_memory_fault fault ≡ b → StepsUnless b (channel_with base tolerance state text) bytes (Err (Unreadable fault)) (channel_with base tolerance state text)
-    step true k = refl
-    step false k =
-        let o = owed (unlike k) in
-        record {
-          says = ap (says_read (channel_with base tolerance state text)) (sym o);
-          comes = ap (step_read (channel_with base tolerance state text)) (sym o);
-          typed = λ p e. apart p fault (sym e ∙ o);
-        }
-
-pub reading_refused : (base : Parts) (tolerance : ℕ) (state : State) (bytes : List ℕ) (e : RefreshFault) → RefusesReading e (reading limited base bytes) → Refused base tolerance state bytes e
-reading_refused base tolerance state bytes (Unreadable fault) h = read_fault base tolerance state bytes fault h.0 h.1
-reading_refused base tolerance state bytes _ h = absurd h
 
 -- what is read has rising numbers
 pub read_rises : (base : Parts) (bytes : List ℕ) (p : Playlist) → reading limited base bytes ≡ Ok p → AreContiguous p.segments
