@@ -1,45 +1,34 @@
 -- An accepted refresh, from the segments that a channel holds.
-use Rattle.std.proofs.Common.{zero, suc, drop, ◌≡◌, ℕ, Bool, true, false, cond, ◌||◌, ◌&&◌, not, List, [], ◌∷◌, map, length, refl, ap, sym, ◌∙◌, subst}
-use Rattle.std.specs.Prelude.{Option, Some, None, IsSome, option_map, filter, nat_le, is_some}
+use Rattle.std.proofs.Common.{zero, suc, drop, ◌≡◌, ℕ, Bool, true, false, cond, ◌||◌, ◌&&◌, not, List, [], ◌∷◌, map, length, refl, ap, sym, ◌∙◌}
+use Rattle.std.specs.Prelude.{Option, filter, nat_le, is_some}
 use Rattle.std.specs.List.{list_any}
 use Rattle.std.proofs.lemmas.List.{length-map}
 use mathlib.Core.List.{reverse_aux}
 use Rattle.playlist_meaning.specs.declared.DateRange.{DateRange}
 use Rattle.playlist_meaning.specs.declared.Playlist.{Playlist}
 use Rattle.playlist_meaning.specs.declared.Segment.{Segment}
-use Rattle.playlist_meaning.specs.Pods.{Pod}
-use Rattle.playlist_meaning.specs.Marks.{Marked, newest_mark}
+use Rattle.playlist_meaning.specs.Marks.{Marked}
 use Rattle.playlist_meaning.specs.LookBack.{or_earlier}
 use Rattle.playlist_meaning.specs.Stitched.{Numbers, Item}
 use Rattle.playlist_write.specs.Owed.{text_of}
-use Rattle.pod_store.specs.Store.{Entry, pod_for, is_one_of}
+use Rattle.pod_store.specs.Store.{Entry, is_one_of}
 use Rattle.stitcher.specs.declared.OutSegment.{OutSegment}
 use Rattle.stitcher.specs.declared.marked.Marked.{Marked as Held}
-use Rattle.stitcher.specs.StitchedSegments.{meant, mark_in, mark_with, IsDecided, AreDecided}
+use Rattle.stitcher.specs.StitchedSegments.{meant, AreDecided}
 use Rattle.stitcher.specs.Written.{written_item}
-use Rattle.break_finder.specs.Known.{is_this, carry}
-use Rattle.live_meaning.specs.Successor.{first_number, is_mapped}
-use Rattle.live_meaning.specs.Marking.{mark_id, is_new, last_entered}
+use Rattle.break_finder.specs.Known.{is_this}
+use Rattle.live_meaning.specs.Successor.{first_number}
+use Rattle.live_meaning.specs.Marking.{is_new, last_entered}
 use Rattle.live_meaning.specs.Live.{is_marked, states_instant}
 use Rattle.live_meaning.specs.LiveLaws.{window_on}
-use Rattle.live_meaning.specs.Kept.{show_on, head_numbers, numbers_on, kept_acceptance, kept_ranges}
-use Rattle.live_laws.specs.Owed.{date_range_text}
-use Rattle.live_counters.specs.Marking.{so_far}
-use Rattle.live_counters.specs.Channel.{kept_in}
-use Rattle.live_counters.specs.declared.state.State.{State}
-use Rattle.live_counters.specs.declared.showing.Showing.{Showing}
-use Rattle.live_counters.specs.Listed.{head_of, is_marked_from, is_used_from, states_time}
-use Rattle.live_counters.specs.Accepting.{IsShown, is_used_after, window_on_list, text_with_window, out_with}
-
--- ---- the mark that is carried
-
-pod_marks : (id : List ℕ) (o : Option Pod) → IsSome o → option_map mark_id (mark_with id o) ≡ Some id
-pod_marks id None h = absurd (cc)
-pod_marks id (Some pod) h = refl
-
-mark_named : (store : List Entry) (o : Option (List ℕ)) → IsDecided store o → option_map mark_id (mark_in store o) ≡ o
-mark_named store None h = refl
-mark_named store (Some id) h = pod_marks id (pod_for store id) h
+use Rattle.live_meaning.specs.Kept.{head_numbers, numbers_on, kept_ranges}
+use Rattle.live_meaning.specs.Live.{date_range_text}
+use Rattle.live_window.specs.Marking.{so_far}
+use Rattle.live_window.specs.Showing.{kept_in}
+use Rattle.live_window.proofs.Shown.{marked_too}
+use Rattle.live_window.specs.declared.state.State.{State}
+use Rattle.live_window.specs.Listed.{head_of, is_marked_from, is_used_from, states_time}
+use Rattle.live_counters.specs.Accepting.{is_used_after, window_on_list, text_with_window, out_with}
 
 -- ---- items
 
@@ -62,9 +51,6 @@ or_around true true c = refl
 or_around true false c = refl
 or_around false b c = refl
 
-pub marked_too : (store : List Entry) (id : List ℕ) (o : Option (List ℕ)) → IsDecided store o → is_marked id (mark_in store o) ≡ is_this id o
-marked_too store id o d = ap (is_this id) (mark_named store o d)
-
 any_after : (store : List Entry) (number : ℕ) (id : List ℕ) (held : List Held) (before : List Marked) → AreDecided store held
     → list_any (λ (s : Marked). nat_le number s.segment.number && is_marked id s.mark) (reverse_aux (map (meant store) held) before)
     ≡ (list_any (is_marked_from number id) held || list_any (λ (s : Marked). nat_le number s.segment.number && is_marked id s.mark) before)
@@ -84,27 +70,6 @@ others p q [] h = refl
 others p q (r ∷ later) h =
     ap (λ b. cond (not b) (r ∷ filter (λ (x : DateRange). not (p x.id)) later) (filter (λ (x : DateRange). not (p x.id)) later)) (h r.id)
     ∙ ap (λ rs. cond (not (q r.id)) (r ∷ rs) rs) (others p q later h)
-
--- ---- what is shown
-
--- the known breaks, and the segments that were shown with the new ones, where the shown segments are handed on as a list
-pub shown_is : (tolerance : ℕ) (state : State) (shown : List Held) (newest : Option (List ℕ)) (a : Showing) (p : Playlist) → shown ≡ state.shown
-    → newest_mark (so_far state.store shown) ≡ mark_in state.store newest → (AreDecided state.store shown → IsDecided state.store newest) → a.knowledge ≡ carry (record { playlist = p; carried = newest }) state.knowledge
-    → so_far state.store a.list.items ≡ show_on (record { tolerance = tolerance; target = p.target; mapped = is_mapped p.segments; breaks = a.knowledge; store = state.store }) (so_far state.store shown) state.entered (filter (is_new (so_far state.store shown)) p.segments)
-    → AreDecided state.store a.list.items → AreDecided state.store state.shown → IsShown tolerance (kept_in state) p a
-shown_is tolerance state shown newest a p e mark named breaks list decided before =
-    let named_now = named (subst (AreDecided state.store) (sym e) before) in
-    let mark_now : newest_mark (so_far state.store state.shown) ≡ mark_in state.store newest = subst (λ (xs : List Held). newest_mark (so_far state.store xs) ≡ mark_in state.store newest) e mark in
-    let breaks_kept : a.knowledge ≡ carry (kept_acceptance (kept_in state) p) state.knowledge =
-    breaks ∙ ap (λ o. carry (record { playlist = p; carried = o }) state.knowledge) (sym (ap (option_map mark_id) mark_now ∙ mark_named state.store newest named_now)) in
-    record {
-      breaks = breaks_kept;
-      list =
-          list
-          ∙ (ap (λ (xs : List Held). show_on (record { tolerance = tolerance; target = p.target; mapped = is_mapped p.segments; breaks = a.knowledge; store = state.store }) (so_far state.store xs) state.entered (filter (is_new (so_far state.store xs)) p.segments)) e
-          ∙ ap (λ b. show_on (record { tolerance = tolerance; target = p.target; mapped = is_mapped p.segments; breaks = b; store = state.store }) (so_far state.store state.shown) state.entered (filter (is_new (so_far state.store state.shown)) p.segments)) breaks_kept);
-      decided = decided;
-    }
 
 -- ---- what is written of it
 

@@ -16,7 +16,7 @@ use Rattle.live_meaning.specs.Live.{taken}
 use Rattle.live_meaning.specs.LiveLaws.{HasPod}
 use Rattle.live_meaning.proofs.HeldPods.{decide_keeps}
 use Rattle.live_counters.specs.Channel.{Channel, Given, decided, withdrawn, IsAsTyped, StandsFor, Stands, channel_with, with_store, ChangesStore, ChangesStoreExactly, StandsOn, AlwaysStandsOn, after_bytes}
-use Rattle.live_counters.specs.declared.state.State.{State}
+use Rattle.live_window.specs.declared.state.State.{State}
 use Rattle.live_counters.proofs.Steps.{decide_follows, undecided_follows, withdraw_follows}
 use Rattle.live_counters.proofs.Stores.{Stay, all_stay}
 

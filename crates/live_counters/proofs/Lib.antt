@@ -1,15 +1,7 @@
-pub mod Marked
-pub mod Found
-pub mod Placed
-pub mod Sizes
 pub mod Steps
 pub mod Stores
 pub mod Deciding
 pub mod Typed
-pub mod Listed
-pub mod Counted
-pub mod Passing
-pub mod Ranges
 pub mod Accepting
 pub mod Refreshing
 pub mod Owed

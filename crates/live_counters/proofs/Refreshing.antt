@@ -26,12 +26,13 @@ use Rattle.live_meaning.proofs.KeptSteps.{store_same}
 use Rattle.live_laws.proofs.Given.{is_read}
 use Rattle.live_counters.specs.declared.channel.Refreshed.{Refreshed}
 use Rattle.live_counters.specs.declared.refresh.NextKept.{NextKept}
-use Rattle.live_counters.specs.declared.state.State.{State}
-use Rattle.live_counters.specs.Checked.{AreContiguous}
-use Rattle.live_counters.specs.Marking.{so_far}
-use Rattle.live_counters.specs.Channel.{Channel, Reading, refreshed, IsAsTyped, Stands, IsContiguous, kept_in, channel_with, judged, refreshed_with, fresh_after, step_judged, step_read, says_read, Steps, Refreshes}
+use Rattle.live_window.specs.declared.state.State.{State}
+use Rattle.live_window.specs.Checked.{AreContiguous}
+use Rattle.live_window.specs.Marking.{so_far}
+use Rattle.live_window.specs.Showing.{kept_in}
+use Rattle.live_counters.specs.Channel.{Channel, Reading, refreshed, IsAsTyped, Stands, IsContiguous, channel_with, judged, refreshed_with, fresh_after, step_judged, step_read, says_read, Steps, Refreshes}
 use Rattle.live_counters.specs.Accepting.{IsAccepted, Accepts, Refused, accepted_state}
-use Rattle.live_counters.proofs.Accepting.{marked_too}
+use Rattle.live_window.proofs.Shown.{marked_too}
 use Rattle.live_counters.proofs.Stores.{Stay, unturned}
 use Rattle.live_counters.proofs.Steps.{steps_refresh}
 

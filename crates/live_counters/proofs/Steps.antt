@@ -23,10 +23,11 @@ use Rattle.live_meaning.specs.Live as live
 use Rattle.live_meaning.specs.Kept.{Kept, kept_of, kept_refusal, kept_window}
 use Rattle.live_meaning.specs.KeptLaws.{Follows}
 use Rattle.live_meaning.proofs.KeptWhole.{kept_follows}
-use Rattle.live_laws.specs.Owed.{date_range_text, owed_playlist, owed_text}
+use Rattle.live_meaning.specs.Live.{date_range_text}
+use Rattle.live_laws.specs.Owed.{owed_playlist, owed_text}
 use Rattle.live_laws.specs.Laws.{KeepsRules}
 use Rattle.live_laws.proofs.Given.{is_read, all_of}
-use Rattle.live_laws.proofs.Writable.{kept_is_sound}
+use Rattle.live_meaning.proofs.SoundPods.{kept_is_sound}
 use Rattle.live_meaning.specs.Sound.{AllPods}
 use Rattle.pod_store.specs.Store.{Entry}
 use Rattle.pod_store.specs.Decided.{decisions_of}

@@ -18,19 +18,19 @@ use Rattle.playlist_meaning.specs.declared.FaultKind.TheVariants.{OutOfMemory as
 use Rattle.playlist_meaning.specs.Reading.{reading, limited}
 use Rattle.reading_laws.specs.Read.{uris_are_text}
 use Rattle.url.specs.Parts.{Parts}
-use Rattle.live_laws.specs.Owed.{date_range_text}
+use Rattle.live_meaning.specs.Live.{date_range_text}
 use Rattle.live_meaning.specs.Live.{succession_fault, states_instant}
 use Rattle.live_meaning.specs.LiveLaws.{window_on}
 use Rattle.live_meaning.specs.Successor.{first_number}
 use Rattle.live_meaning.specs.Marking.{is_new, last_entered}
 use Rattle.live_meaning.specs.Kept.{Kept, shown_from, head_numbers, numbers_on, is_in_use, kept_acceptance, kept_list, kept_ranges}
 use Rattle.live_counters.specs.declared.refresh.NextKept.{NextKept}
-use Rattle.live_counters.specs.declared.showing.Showing.{Showing}
 use Rattle.live_counters.specs.declared.written.Written.{Written}
-use Rattle.live_counters.specs.Marking.{so_far}
-use Rattle.live_counters.specs.Checked.{AreContiguous}
-use Rattle.live_counters.specs.Channel.{Reading, kept_in, channel_with, Steps}
-use Rattle.live_counters.specs.declared.state.State.{State}
+use Rattle.live_window.specs.Marking.{so_far}
+use Rattle.live_window.specs.Checked.{AreContiguous}
+use Rattle.live_window.specs.Showing.{kept_in}
+use Rattle.live_counters.specs.Channel.{Reading, channel_with, Steps}
+use Rattle.live_window.specs.declared.state.State.{State}
 
 -- the playlist that is written with these date ranges and items
 abbrev pub out_with : Playlist → List (List ℕ) → List OutSegment → OutPlaylist
@@ -43,12 +43,6 @@ out_with p date_ranges items = record {
   date_ranges = date_ranges;
   segments = items;
 }
-
--- the breaks that are known after the refresh, and the segments that are shown then
-pub record IsShown (tolerance : ℕ) (kept : Kept) (p : Playlist) (a : Showing) : Type 0 where
-  pub breaks : a.knowledge ≡ carry (kept_acceptance kept p) kept.breaks
-  pub list : so_far kept.store a.list.items ≡ kept_list tolerance kept p
-  pub decided : AreDecided kept.store a.list.items
 
 -- the window of these segments, the newest first, from the playlist's first one on
 abbrev pub window_on_list : Kept → Playlist → List Marked → List Item

@@ -30,15 +30,15 @@ use Rattle.break_finder.specs.declared.why.Why.{Why}
 use Rattle.break_finder.specs.declared.why.Why.TheVariants.{NotKnown}
 use Rattle.live_meaning.specs.Successor.{first_number, is_mapped}
 use Rattle.live_meaning.specs.Marking.{is_new}
-use Rattle.live_meaning.specs.Live.{Event, Told, told, refusal, last_playlist, in_use, after_refresh, window_after, owed_for}
+use Rattle.live_meaning.specs.Live.{Event, Told, told, refusal, last_playlist, in_use, after_refresh, window_after, owed_for, date_range_text}
 use Rattle.live_meaning.specs.Live as live
 use Rattle.live_meaning.specs.Kept.{Kept, head_numbers, kept_of, kept_refusal, kept_after, kept_window, date_ranges_after}
-use Rattle.live_laws.specs.Owed.{date_range_text, owed_text}
+use Rattle.live_laws.specs.Owed.{owed_text}
 use Rattle.live_laws.specs.Laws.{KeepsRules}
-use Rattle.live_counters.specs.Checked.{AreContiguous}
-use Rattle.live_counters.specs.Marking.{so_far}
+use Rattle.live_window.specs.Checked.{AreContiguous}
 use Rattle.live_counters.specs.declared.channel.Refreshed.{Refreshed}
-use Rattle.live_counters.specs.declared.state.State.{State}
+use Rattle.live_window.specs.declared.state.State.{State}
+use Rattle.live_window.specs.Showing.{kept_in}
 
 -- ---- what is given
 
@@ -291,17 +291,6 @@ nothing_kept = record { store = []; breaks = []; last = None; shown = []; entere
 abbrev pub IsContiguous : Option Playlist → Type 0
 IsContiguous None = Unit {0}
 IsContiguous (Some p) = AreContiguous p.segments
-
--- what is kept in a channel's state, whose shown segments stand with the oldest first
-abbrev pub kept_in : State → Kept
-kept_in state = record {
-  store = state.store;
-  breaks = state.knowledge;
-  last = state.last;
-  shown = so_far state.store state.shown;
-  entered = state.entered;
-  numbers = state.numbers;
-}
 
 abbrev pub channel_with : Parts → ℕ → State → Option (List ℕ) → Channel
 channel_with base tolerance state text = record { base = base; tolerance = tolerance; kept = kept_in state; text = text }

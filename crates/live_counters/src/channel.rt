@@ -9,12 +9,11 @@ ghost use Rattle.break_finder.specs.Entering.{id_of, why};
 ghost use Rattle.live_meaning.specs.Successor.{is_mapped};
 
 use crate::refresh::{accept, next_of};
-use crate::state::State;
-use crate::successor::is_mapped;
 use crate::types_say::know_pods;
 use break_finder::{Knowledge, Why};
 use fixed_duration::Nanos;
 use live_meaning::RefreshFault;
+use live_window::{State, is_mapped};
 use playlist_meaning::{Base, BaseFault, Items, Playlist, Shared, Text};
 use pod_store::{DecisionFault, PodStore, read_decisions};
 use std::alloc::{AllocError, Global};

@@ -1,5 +1,4 @@
-//! Laws of channels, of marks and of windows. Each function's contract is its law; calling it does nothing.
-ghost use Rattle.live_counters.specs.MarkingLaws.{MarksAreShown, PlaceIsCounted};
+//! Laws of channels. Each function's contract is its law; calling it does nothing.
 ghost use Rattle.live_counters.specs.ChannelLaws.{StepFollows, StepsRefresh, DecideFollows, UndecidedFollows, WithdrawFollows, ChannelWrites, AcceptanceIsExact, StitchedListGrows, OwedPlaylistsSucceed};
 
 /// A refresh of what is kept answers what is owed for all that was given.
@@ -36,14 +35,4 @@ pub fn stitched_list_grows()
 /// and no segment that was written changes.
 pub fn owed_playlists_succeed()
     ensures { OwedPlaylistsSucceed }
-{}
-
-/// The segments that are marked after others are those that are shown after them.
-pub fn marks_are_shown()
-    ensures { MarksAreShown }
-{}
-
-/// The place of the newest segment is counted from the oldest on.
-pub fn place_is_counted()
-    ensures { PlaceIsCounted }
 {}

@@ -8,21 +8,21 @@ ghost use Rattle.stitcher.specs.StitchedSegments.{AreDecided};
 ghost use Rattle.live_meaning.specs.Kept.{kept_first, kept_list, kept_refusal};
 ghost use Rattle.live_meaning.specs.Live.{succession_fault};
 ghost use Rattle.live_meaning.specs.Successor.{answer_of};
-ghost use Rattle.live_counters.specs.Checked.{AreContiguous};
-ghost use Rattle.live_counters.specs.Channel.{kept_in, IsContiguous};
+ghost use Rattle.live_window.specs.Checked.{AreContiguous};
+ghost use Rattle.live_window.specs.Showing.{kept_in};
+ghost use Rattle.live_counters.specs.Channel.{IsContiguous};
 ghost use Rattle.live_counters.specs.Accepting.{IsAccepted, Follows, Accepts, Refused, RefusesNext, RefusesReading, accepted_state};
-ghost use Rattle.live_counters.specs.Listed.{RefusesList};
+ghost use Rattle.live_window.specs.Listed.{RefusesList};
 
 use crate::channel::Refreshed;
-use crate::listing::{count_before, fresh_of, from_place};
-use crate::showing::{Showing, shown_with};
-use crate::state::State;
-use crate::successor::{check_successor, first_number};
 use crate::types_say::know_texts;
 use crate::written::{Written, written_of};
 use break_finder::Knowledge;
 use fixed_duration::Nanos;
 use live_meaning::RefreshFault;
+use live_window::{
+    Showing, State, check_successor, count_before, first_number, fresh_of, from_place, shown_with,
+};
 use playlist_meaning::{Base, Items, Playlist, Shared, Text};
 use playlist_parse::read;
 use std::alloc::Global;

@@ -6,17 +6,16 @@ ghost use Rattle.playlist_write.specs.Owed.{text_of};
 ghost use Rattle.pod_store.specs.Store.{is_one_of};
 ghost use Rattle.stitcher.specs.StitchedSegments.{AreDecided};
 ghost use Rattle.live_meaning.specs.Kept.{numbers_on, kept_ranges};
-ghost use Rattle.live_laws.specs.Owed.{date_range_text};
-ghost use Rattle.live_counters.specs.Marking.{so_far};
-ghost use Rattle.live_counters.specs.Channel.{kept_in};
-ghost use Rattle.live_counters.specs.Listed.{RefusesList, states_time};
+ghost use Rattle.live_meaning.specs.Live.{date_range_text};
+ghost use Rattle.live_window.specs.Marking.{so_far};
+ghost use Rattle.live_window.specs.Showing.{kept_in};
+ghost use Rattle.live_window.specs.Listed.{RefusesList, states_time};
 ghost use Rattle.live_counters.specs.Accepting.{IsWritten, out_with};
 
-use crate::listing::last_entered;
-use crate::state::State;
-use crate::successor::first_number;
-use crate::writing::{head_of, numbers_on, ranges_left, used_ids, window_of};
 use live_meaning::RefreshFault;
+use live_window::{
+    State, first_number, head_of, last_entered, numbers_on, ranges_left, used_ids, window_of,
+};
 use playlist_meaning::{Items, Playlist, Shared, Text};
 use playlist_write::{OutPlaylist, written};
 use std::alloc::{AllocError, Global};

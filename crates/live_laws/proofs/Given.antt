@@ -15,7 +15,7 @@ use Rattle.pod_store.specs.declared.Decisions.{Decisions}
 use Rattle.pod_store.specs.declared.Decisions.TheVariants.{Breaks, Withdraw}
 use Rattle.live_meaning.specs.Live.{Event, decided, refreshed}
 use Rattle.live_laws.specs.Laws.{KeepsRules, CanBeGiven}
-use Rattle.live_laws.proofs.Writable.{kept_is_sound}
+use Rattle.live_meaning.proofs.SoundPods.{kept_is_sound}
 
 pub all_more : {A : Type 0} (P Q : A → Type 0) (xs : List A) → ((x : A) → P x → Q x) → AllByRecursion P xs → AllByRecursion Q xs
 all_more P Q [] f h = tt

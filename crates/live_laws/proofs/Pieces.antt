@@ -19,6 +19,7 @@ use Rattle.fitting.specs.Fitting.{if_some, is_clean, uri_fits, range_fits, effec
 use Rattle.playlist_meaning.specs.Numbering.{follows, all_follow}
 use Rattle.playlist_write.specs.WellFormed.{resource_fits, duration_fits, segment_fits, out_numbers, numbers_fit, is_mapped, sections_agree}
 use Rattle.pod_store.specs.Laws.{segment_can_be_written, ad_can_be_written}
+use Rattle.live_meaning.proofs.Reversed.{list_all-reverse}
 use Rattle.live_laws.proofs.Writable.{stitched_ad, stitched_ads, pod_can_be_written}
 use Rattle.live_laws.proofs.AllPods.{OfMark}
 
@@ -65,23 +66,6 @@ ads_stand mark (ad ∷ ads) h =
     list_all-append piece_stands (ad_pieces mark ad ad.segments) (pieces_of_ads mark ads) ∙ and_from _ _ (ad_stands mark ad ad.segments c.0 c.1 b.1) (ads_stand mark ads a.1)
 
 -- ---- list tests
-
-shuffled : (a b c : Bool) → (b && (a && c)) ≡ ((a && b) && c)
-shuffled true true c = refl
-shuffled true false c = refl
-shuffled false true c = refl
-shuffled false false c = refl
-
-list_all_aux : {A : Type 0} (test : A → Bool) (xs acc : List A) → list_all test (reverse_aux xs acc) ≡ (list_all test xs && list_all test acc)
-list_all_aux test [] acc = refl
-list_all_aux test (x ∷ xs) acc = list_all_aux test xs (x ∷ acc) ∙ shuffled (test x) (list_all test xs) (list_all test acc)
-
-and_true : (b : Bool) → (b && true) ≡ b
-and_true true = refl
-and_true false = refl
-
-pub list_all-reverse : {A : Type 0} (test : A → Bool) (xs : List A) → list_all test (reverse xs) ≡ list_all test xs
-list_all-reverse test xs = list_all_aux test xs [] ∙ and_true (list_all test xs)
 
 pub all_taken : {A : Type 0} (test : A → Bool) (n : ℕ) (xs : List A) → list_all test xs ≡ true → list_all test (take n xs) ≡ true
 all_taken test zero xs h = refl

@@ -29,10 +29,12 @@ use Rattle.live_meaning.proofs.Fills.{Mapped, stitched_mapped, IsAlike}
 use Rattle.live_meaning.proofs.Places.{place_inside, stitched_longer, up_to_within, up_to_some}
 use Rattle.live_meaning.proofs.EachWindow.{all_after}
 use Rattle.live_meaning.proofs.LiveState.{Standing, holds, new_standing}
-use Rattle.live_laws.specs.Owed.{owed_playlist, date_range_text}
+use Rattle.live_laws.specs.Owed.{owed_playlist}
+use Rattle.live_meaning.specs.Live.{date_range_text}
+use Rattle.live_meaning.proofs.Reversed.{list_all-reverse}
 use Rattle.live_laws.specs.Laws.{CanBeRead, OwedIsWellFormed, OwedIsDenoted, TextDenotesOwed}
 use Rattle.live_laws.proofs.AllPods.{all_filter}
-use Rattle.live_laws.proofs.Pieces.{list_all-reverse, all_taken, pieces_stand, item_fits, items_fit, all_written, window_numbers, is_mapped_item, agree}
+use Rattle.live_laws.proofs.Pieces.{all_taken, pieces_stand, item_fits, items_fit, all_written, window_numbers, is_mapped_item, agree}
 use Rattle.live_laws.proofs.Told.{Good, refresh_good, good_told}
 use Rattle.live_laws.proofs.Given.{is_read, all_given}
 

@@ -1,9 +1,8 @@
 -- A pod that keeps the rules has segments, and each can be written as it stands in a stitched list.
-use Rattle.std.proofs.Common.{◌≡◌, ℕ, ◌<◌, true, List, [], ◌∷◌, length, map, refl, ap, ◌∙◌, arith}
+use Rattle.std.proofs.Common.{◌≡◌, true, List, [], ◌∷◌, length, map, refl, ap, ◌∙◌, arith}
 use Rattle.std.specs.Prelude.{Bool, Option, Some, None, option_map, nat_le, nat_lt, sum}
-use Rattle.std.specs.List.{list_all, AllByRecursion}
+use Rattle.std.specs.List.{list_all}
 use Rattle.std.proofs.lemmas.Bool.{and_parts, and_from}
-use Rattle.std.proofs.lemmas.Bool.Decides.{nat_tests}
 use Rattle.playlist_meaning.specs.declared.InitSection.{InitSection}
 use Rattle.playlist_meaning.specs.declared.Key.{Key}
 use Rattle.playlist_meaning.specs.Pods.{Ad, Pod}
@@ -12,7 +11,6 @@ use Rattle.pod_store.specs.Laws.{ad_can_be_written}
 use Rattle.pod_store.specs.Pods.{segment_count}
 use Rattle.pod_store.specs.Rules.{key_keeps, section_keeps, ad_keeps, ads_keep}
 use Rattle.pod_store.proofs.Written.{pods_can_be_written}
-use Rattle.live_meaning.specs.Sound.{IsSoundPod}
 
 -- an ad whose section has the ad's keys, as its segments stand in a stitched list
 abbrev pub stitched_ad : Ad → Ad
@@ -57,15 +55,3 @@ rules_kept ads h =
 
 pub kept_is_written : (pod : Pod) → ads_keep pod.ads ≡ true → pod_can_be_written pod ≡ true
 kept_is_written pod h = pods_can_be_written (stitched_ads pod.ads) (rules_kept pod.ads h)
-
-some : (n : ℕ) → nat_lt 0 n ≡ true → 0 < n
-some n h = grind (arith, nat_tests)
-
-filled : (ads : List Ad) → list_all ad_keeps ads ≡ true → AllByRecursion (λ (ad : Ad). 0 < length ad.segments) ads
-filled [] h = tt
-filled (ad ∷ ads) h = let p = and_parts _ _ h in (some (length ad.segments) (and_parts _ _ (and_parts _ _ p.0).0).1, filled ads p.1)
-
-pub kept_is_sound : (pod : Pod) → ads_keep pod.ads ≡ true → IsSoundPod pod
-kept_is_sound pod h =
-    let p = and_parts _ _ h in
-    record { some = some (length pod.ads) (and_parts _ _ p.0).0; filled = filled pod.ads p.1 }

@@ -1,5 +1,5 @@
 -- What holds of what is written for a live playlist, or for one that stands alone.
-use Rattle.std.specs.Prelude.{◌≡◌, ℕ, true, List, ◌∷◌, map, reverse, drop, Some, None}
+use Rattle.std.specs.Prelude.{◌≡◌, ℕ, true, List, ◌∷◌, Some, None}
 use Rattle.std.specs.List.{list_all, AllByRecursion}
 use Rattle.url.specs.Parts.{Parts}
 use Rattle.playlist_meaning.specs.declared.Playlist.{Playlist}
@@ -8,12 +8,6 @@ use Rattle.playlist_meaning.specs.Reading.{limited, unlimited, Denotes}
 use Rattle.playlist_write.specs.WellFormed.{well_formed}
 use Rattle.playlist_write.specs.Denoted.{denoted}
 use Rattle.reading_laws.specs.Read.{uris_are_text, AreRead}
-use Rattle.playlist_meaning.specs.Stitched.{Numbers, fits, stitched, numbered, newest_place, up_to}
-use Rattle.pod_store.specs.Store.{Entry}
-use Rattle.stitcher.specs.declared.marked.Marked.{Marked as Held}
-use Rattle.stitcher.specs.StitchedSegments.{item_fits, meant, stitched_segments}
-use Rattle.stitcher.specs.Written.{written_item}
-use Rattle.live_meaning.specs.LiveLaws.{window_on}
 use Rattle.live_meaning.specs.Sound.{AllPods}
 use Rattle.live_meaning.specs.Live.{Event, decided, refreshed, told, last_playlist, refusal, owed_for}
 use Rattle.pod_store.specs.Rules.{ads_keep}
@@ -55,14 +49,3 @@ abbrev pub AlwaysDenotes : Type 0
 AlwaysDenotes = (tolerance : ℕ) (events : List Event) (playlist : Playlist) (base : Parts) → AllByRecursion CanBeGiven events →
     last_playlist (told tolerance events).accepted ≡ Some playlist →
     Denotes base (owed_text (told tolerance events) playlist) (owed_for (told tolerance events) playlist)
-
--- the window, as it is written, is the rest of what `stitch` answers, without the items before that of its first segment
-abbrev pub WindowIsStitched : Type 0
-WindowIsStitched = (store : List Entry) (first : Numbers) (number : ℕ) (marked : List Held) →
-    map written_item (window_on first number (reverse (map (meant store) marked)))
-    ≡ drop (newest_place (up_to number (reverse (map (meant store) marked)))) (stitched_segments store first marked)
-
--- and a number passes its range there exactly where one of the stitched list does
-abbrev pub RangeIsStitched : Type 0
-RangeIsStitched = (store : List Entry) (first : Numbers) (marked : List Held) →
-    list_all item_fits (stitched_segments store first marked) ≡ list_all fits (numbered first (stitched (reverse (map (meant store) marked))))

@@ -1,14 +1,10 @@
 -- The playlist that is written, and its text.
 use Rattle.std.specs.Prelude.{ℕ, List, map, max}
-use Rattle.playlist_meaning.specs.declared.DateRange.{DateRange}
 use Rattle.playlist_meaning.specs.declared.Playlist.{Playlist}
 use Rattle.stitcher.specs.Written.{written_item}
 use Rattle.playlist_write.specs.declared.OutPlaylist.{OutPlaylist}
 use Rattle.playlist_write.specs.Owed.{text_of}
-use Rattle.live_meaning.specs.Live.{Told, window_after, written_ranges}
-
-abbrev pub date_range_text : DateRange → List ℕ
-date_range_text range = range.text
+use Rattle.live_meaning.specs.Live.{Told, window_after, written_ranges, date_range_text}
 
 -- the playlist that is written after this refresh was accepted
 abbrev pub owed_playlist : Told → Playlist → OutPlaylist

@@ -2,7 +2,7 @@
 //! owed, under every base. Each function's contract is its law; calling it does nothing.
 #![tactic(auto)]
 
-ghost use Rattle.live_laws.specs.Laws.{OwedIsWellFormed, OwedIsDenoted, TextDenotesOwed, AlwaysDenotes, WindowIsStitched, RangeIsStitched};
+ghost use Rattle.live_laws.specs.Laws.{OwedIsWellFormed, OwedIsDenoted, TextDenotesOwed, AlwaysDenotes};
 
 /// What is owed after an accepted refresh can be written.
 pub fn owed_is_well_formed()
@@ -22,10 +22,4 @@ pub fn text_denotes_owed()
 /// After any events the text of what is owed denotes it, under every base.
 pub fn always_denotes()
     ensures { AlwaysDenotes }
-{}
-
-/// The window is the rest of the stitched list from the item of its first segment on.
-pub fn window_is_stitched()
-    ensures window { WindowIsStitched }
-    ensures range { RangeIsStitched }
 {}

@@ -1,8 +1,8 @@
 -- A break is used in the store exactly where it marks a shown segment or was entered last.
-use Rattle.std.proofs.Common.{◌≡◌, inl, inr, ℕ, ◌≤◌, Bool, true, false, cond, ◌&&◌, ◌||◌, not, List, [], ◌∷◌, map, refl, ap, sym, ◌∙◌}
-use Rattle.std.proofs.lemmas.Bool.{and_parts, leb-true}
+use Rattle.std.proofs.Common.{◌≡◌, ℕ, ◌≤◌, Bool, true, false, cond, ◌&&◌, ◌||◌, not, List, [], ◌∷◌, map, refl, ap, sym, ◌∙◌}
+use Rattle.std.proofs.lemmas.Bool.{leb-true}
 use Rattle.std.proofs.lemmas.Slice.Eq.{bytes_eq-Decides}
-use Rattle.std.specs.Prelude.{Option, Some, None, Ok, fold, is_none, option_map, nat_le, nat_lt, bytes_eq, find, filter}
+use Rattle.std.specs.Prelude.{Option, Some, None, Ok, fold, is_none, nat_le, nat_lt, bytes_eq, find, filter}
 use Rattle.std.specs.List.{AllByRecursion, list_any}
 use Rattle.playlist_meaning.specs.declared.Playlist.{Playlist}
 use Rattle.playlist_meaning.specs.Pods.{Pod}
@@ -14,8 +14,7 @@ use Rattle.pod_store.specs.declared.Decisions.{Decisions}
 use Rattle.pod_store.specs.declared.Decisions.TheVariants.{Breaks, Withdraw}
 use Rattle.pod_store.specs.declared.fault.DecisionKind.TheVariants.{Used, Full, Unknown}
 use Rattle.break_finder.specs.Known.{is_this}
-use Rattle.live_meaning.specs.Marking.{last_mark, last_entered, mark_id}
-use Rattle.live_meaning.specs.Successor.{first_number}
+use Rattle.live_meaning.specs.Marking.{last_mark, last_entered}
 use Rattle.live_meaning.specs.Live.{Event, decided, refreshed, Told, told, happens, refusal, after_refresh, taken, decide, is_marked, in_use, store_after}
 use Rattle.live_meaning.specs.LiveLaws.{HasPod, ShownHavePods, first_shown, UsedAreInUse}
 use Rattle.live_meaning.proofs.HeldPods.{marks_have_pods}

@@ -135,6 +135,10 @@ written_ranges told playlist =
     then filter (λ (r : DateRange). not (in_use (first_number playlist.segments) told.history r.id)) playlist.date_ranges
     else []
 
+-- a date range is written as its line was read
+abbrev pub date_range_text : DateRange → List ℕ
+date_range_text range = range.text
+
 -- the playlist owed after this refresh was accepted: the window in place of the segments, of version 6 at least,
 -- which the written tags need (7)
 abbrev pub owed_for : Told → Playlist → Playlist

@@ -1,5 +1,5 @@
 //! A call of live channels that the crates above make, and no program shows alone.
-use live_counters::text_in;
+use live_window::text_in;
 use playlist_meaning::Shared;
 use std::alloc::{AllocError, Global};
 

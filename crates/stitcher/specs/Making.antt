@@ -1,5 +1,5 @@
 -- A stitched list as it is made, item by item, in the order of a playlist. Its words serve proofs and inner contracts: those
--- of `stitch`, and of the place of a window in the list (`live_counters`).
+-- of `stitch`, and of the place of a window in the list (`live_window`).
 use Rattle.std.specs.Prelude.{◌≡◌, ℕ, ◌-◌, ◌^◌, Bool, true, false, ◌&&◌, nat_lt, List, [], ◌∷◌, ◌++◌, map, ℤ, Option, Some, None, bytes_eq, if◌then◌else◌}
 use Rattle.std.specs.List.{list_all}
 use Rattle.playlist_meaning.specs.declared.Segment.{Segment}

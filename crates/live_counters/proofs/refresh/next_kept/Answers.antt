@@ -3,9 +3,9 @@ use Rattle.playlist_meaning.specs.Marks.{Marked}
 use Rattle.live_meaning.specs.Kept.{shown_from}
 use Rattle.live_meaning.specs.Successor.{first_number}
 use Rattle.stitcher.specs.StitchedSegments.{AreDecided}
-use Rattle.live_counters.specs.Marking.{so_far}
-use Rattle.live_counters.specs.Accepting.{IsShown, IsWritten}
-use Rattle.live_counters.specs.Channel.{kept_in}
+use Rattle.live_window.specs.Marking.{so_far}
+use Rattle.live_counters.specs.Accepting.{IsWritten}
+use Rattle.live_window.specs.Showing.{kept_in, IsShown}
 use Rattle.live_counters.proofs.Accepting.{fresh_kept, later_decided}
 use Rattle.live_counters.proofs.refresh.next_kept.Goals as goal
 

@@ -8,8 +8,8 @@ use Rattle.live_meaning.specs.Successor.{first_number}
 use Rattle.live_meaning.specs.LiveLaws.{window_on}
 use Rattle.live_meaning.specs.Kept.{numbers_on}
 use Rattle.live_meaning.specs.Marking.{last_entered}
-use Rattle.live_counters.specs.Marking.{so_far}
-use Rattle.live_counters.specs.Channel.{kept_in}
+use Rattle.live_window.specs.Marking.{so_far}
+use Rattle.live_window.specs.Showing.{kept_in}
 use Rattle.live_counters.specs.Accepting.{is_used_after}
 use Rattle.live_counters.proofs.Accepting.{window_seen, uses_seen, text_seen, numbers_seen, count_seen}
 use Rattle.live_counters.proofs.written.written_of.Goals as goal

@@ -1,0 +1,10 @@
+pub mod Found
+pub mod Marked
+pub mod Placed
+pub mod Sizes
+pub mod Listed
+pub mod Counted
+pub mod Rest
+pub mod Passing
+pub mod Ranges
+pub mod Shown

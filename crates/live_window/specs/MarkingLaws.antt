@@ -1,0 +1,22 @@
+-- What holds of the new segments of a refresh, and of the place of the window.
+use Rattle.std.specs.Prelude.{◌≡◌, ℕ, List, map, reverse, Option, None}
+use Rattle.playlist_meaning.specs.declared.Segment.{Segment}
+use Rattle.playlist_meaning.specs.Marks.{Marked, newest_mark}
+use Rattle.playlist_meaning.specs.Instants.{instants_after}
+use Rattle.playlist_meaning.specs.Stitched.{newest_place}
+use Rattle.pod_store.specs.Store.{Entry}
+use Rattle.stitcher.specs.declared.marked.Marked.{Marked as Held}
+use Rattle.stitcher.specs.StitchedSegments.{meant, mark_in, IsDecided, AreDecided}
+use Rattle.live_meaning.specs.Marking.{Moment, newest_end}
+use Rattle.live_meaning.specs.Kept.{show_on}
+use Rattle.live_window.specs.Marking.{mark_on, reversed_onto, place_on}
+
+-- the segments that are marked after others are those that are shown after them, and each mark is decided
+abbrev pub MarksAreShown : Type 0
+MarksAreShown = (m : Moment) (newest last : Option (List ℕ)) (before : List Marked) (segments : List Segment) → IsDecided m.store newest → newest_mark before ≡ mark_in m.store newest →
+    (reversed_onto (map (meant m.store) (mark_on m newest last segments (instants_after (newest_end before) segments))) before ≡ show_on m before last segments)
+    × AreDecided m.store (mark_on m newest last segments (instants_after (newest_end before) segments))
+
+-- the place of the newest of these segments, counted from the oldest on
+abbrev pub PlaceIsCounted : Type 0
+PlaceIsCounted = (store : List Entry) (held : List Held) → AreDecided store held → newest_place (reverse (map (meant store) held)) ≡ place_on store None 0 0 held

@@ -1,0 +1,19 @@
+//! Laws of marks and of windows. Each function's contract is its law; calling it does nothing.
+ghost use Rattle.live_window.specs.MarkingLaws.{MarksAreShown, PlaceIsCounted};
+ghost use Rattle.live_window.specs.WindowLaws.{WindowIsStitched, RangeIsStitched};
+
+/// The segments that are marked after others are those that are shown after them.
+pub fn marks_are_shown()
+    ensures { MarksAreShown }
+{}
+
+/// The place of the newest segment is counted from the oldest on.
+pub fn place_is_counted()
+    ensures { PlaceIsCounted }
+{}
+
+/// The window is the rest of the stitched list from the item of its first segment on.
+pub fn window_is_stitched()
+    ensures window { WindowIsStitched }
+    ensures range { RangeIsStitched }
+{}

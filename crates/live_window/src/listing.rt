@@ -1,0 +1,201 @@
+//! The segments that a refresh shows, after those that were shown.
+ghost use Rattle.std.specs.Prelude.{◌≡◌, ◌≤◌, ◌++◌, List, IfOk, length, filter, drop};
+ghost use Rattle.playlist_meaning.specs.Marks.{newest_mark};
+ghost use Rattle.playlist_meaning.specs.LookBack.{or_earlier};
+ghost use Rattle.playlist_meaning.specs.Stitched.{up_to};
+ghost use Rattle.pod_store.specs.Store.{Entry};
+ghost use Rattle.stitcher.specs.StitchedSegments.{mark_in, IsDecided, AreDecided};
+ghost use Rattle.live_meaning.specs.Marking.{newest_end, is_new, last_entered};
+ghost use Rattle.live_meaning.specs.Kept.{show_on, shown_from};
+ghost use Rattle.live_window.specs.Checked.{AreContiguous};
+ghost use Rattle.live_window.specs.Marking.{so_far};
+ghost use Rattle.live_window.specs.Listed.{is_after, IsFront};
+
+use crate::marking::{Limits, copied_text, mark_on};
+use break_finder::Knowledge;
+use playlist_meaning::{Segment, Shared, Text};
+use pod_store::PodStore;
+use std::alloc::{AllocError, Global};
+use stitcher::Marked;
+use timeline::{ends_at, instants_after};
+
+#[tactic(auto, using(crate::proofs::Listed::newest_seen, crate::proofs::Listed::newest_decided, crate::proofs::Listed::none_seen))]
+/// The mark of the newest of these segments.
+pub fn newest_mark(shown: &[Marked]) -> Result<Option<Shared<Text>>, AllocError>
+    ensures mark { IfOk result (λ id. (store : List Entry) → newest_mark (so_far store shown.now) ≡ mark_in store id) }
+    ensures decided { IfOk result (λ id. (store : List Entry) → AreDecided store shown.now → IsDecided store id) }
+{
+    match shown.split_last() {
+        Some((newest, _)) => copied_text(&newest.mark),
+        None => Ok(None),
+    }
+}
+
+#[tactic(auto, using(crate::proofs::Listed::newest_ends, crate::proofs::Listed::none_seen))]
+/// Where the newest of these segments ends.
+pub fn newest_end(shown: &[Marked]) -> Option<i128>
+    ensures { (store : List Entry) → result ≡ newest_end (so_far store shown.now) }
+{
+    match shown.split_last() {
+        Some((newest, _)) => ends_at(&newest.instant, newest.segment.duration),
+        None => None,
+    }
+}
+
+#[tactic(auto, using(crate::proofs::Listed::rest_after))]
+// Those of a playlist's segments that are numbered after this.
+fn after(number: u64, segments: &[Shared<Segment>]) -> &[Shared<Segment>]
+    requires { AreContiguous segments.now }
+    ensures { result.now ≡ filter (is_after number) segments.now }
+{
+    let mut rest = segments;
+    while let Some((segment, later)) = rest.split_first() {
+        if segment.number > number {
+            return rest;
+        }
+        rest = later;
+    }
+    rest
+}
+
+#[tactic(auto, using(crate::proofs::Listed::same_new, crate::proofs::Listed::all_new))]
+/// The segments of a playlist that weren't shown before.
+pub fn fresh_of<'a>(shown: &[Marked], segments: &'a [Shared<Segment>]) -> &'a [Shared<Segment>]
+    requires { AreContiguous segments.now }
+    ensures { (store : List Entry) → result.now ≡ filter (is_new (so_far store shown.now)) segments.now }
+{
+    match shown.split_last() {
+        Some((newest, _)) => after(newest.segment.number, segments),
+        None => segments,
+    }
+}
+
+fn copied(marked: &Marked) -> Result<Marked, AllocError>
+    ensures { IfOk result (λ m. m ≡ marked.now) }
+{
+    Ok(Marked {
+        segment: marked.segment.clone()?,
+        instant: marked.instant,
+        mark: copied_text(&marked.mark)?,
+    })
+}
+
+// Copies of these segments, with room for so many more.
+fn copies(alloc: Global, shown: &[Marked], more: usize) -> Result<Vec<Marked>, AllocError>
+    ensures { IfOk result (λ v. v.items ≡ shown.now) }
+{
+    let mut done = Vec::with_capacity(alloc, shown.len().saturating_add(more))?;
+    let mut rest = shown;
+    while let Some((marked, later)) = rest.split_first() {
+        done.push(copied(marked)?)?;
+        rest = later;
+    }
+    Ok(done)
+}
+
+// These segments, and others after them.
+fn joined(alloc: Global, shown: &[Marked], fresh: Vec<Marked>) -> Result<Vec<Marked>, AllocError>
+    ensures { IfOk result (λ v. v.items ≡ shown.now ++ fresh.items) }
+{
+    if shown.is_empty() {
+        return Ok(fresh);
+    }
+    let mut list = copies(alloc, shown, fresh.len())?;
+    let mut fresh = fresh;
+    list.append(&mut fresh)?;
+    Ok(list)
+}
+
+#[tactic(auto, using(crate::proofs::Listed::is_listed, crate::proofs::Listed::is_decided))]
+/// The segments that were shown, with the fresh ones and their marks after them.
+pub fn listed(
+    alloc: Global,
+    limits: &Limits,
+    knowledge: &Knowledge,
+    store: &PodStore,
+    shown: &[Marked],
+    entered: &Option<Shared<Text>>,
+    segments: &[Shared<Segment>],
+) -> Result<Vec<Marked>, AllocError>
+    requires numbers { AreContiguous segments.now }
+    requires decided { AreDecided store.now shown.now }
+    ensures list { IfOk result (λ v. so_far store.now v.items ≡ show_on (record { tolerance = limits.now.tolerance; target = limits.now.target; mapped = limits.now.mapped; breaks = knowledge.now; store = store.now }) (so_far store.now shown.now) entered.now (filter (is_new (so_far store.now shown.now)) segments.now)) }
+    ensures marks { IfOk result (λ v. AreDecided store.now v.items) }
+{
+    let newest = newest_mark(shown)?;
+    let fresh = fresh_of(shown, segments);
+    let begun = instants_after(alloc, newest_end(shown), fresh)?;
+    let marked = mark_on(
+        alloc,
+        limits,
+        knowledge,
+        store,
+        &newest,
+        entered,
+        fresh,
+        begun.as_slice(),
+    )?;
+    Ok(joined(alloc, shown, marked)?)
+}
+
+#[tactic(auto, using(crate::proofs::Counted::front_whole, crate::proofs::Counted::front_less, crate::proofs::Counted::front_seen, crate::proofs::Counted::front_stops, crate::proofs::Counted::front_ends))]
+/// These segments up to the one of this number.
+pub fn front_to(number: u64, list: &[Marked]) -> &[Marked]
+    ensures seen { (store : List Entry) → so_far store result.now ≡ up_to number (so_far store list.now) }
+    ensures front { IsFront result.now list.now }
+{
+    let mut rest = list;
+    while let Some((newest, before)) = rest.split_last() {
+        if newest.segment.number <= number {
+            return rest;
+        }
+        rest = before;
+    }
+    rest
+}
+
+#[tactic(auto, using(crate::proofs::Counted::none_counted, crate::proofs::Counted::counted_on, crate::proofs::Counted::counted_there, crate::proofs::Counted::counted_within, crate::proofs::Counted::counted_all))]
+/// How many of these segments stand before those from this number on.
+pub fn count_before(number: u64, list: &[Marked]) -> usize
+    ensures seen { (store : List Entry) → so_far store (drop result list.now) ≡ shown_from number (so_far store list.now) }
+    ensures within { result ≤ length list.now }
+{
+    let mut rest = list;
+    while let Some((newest, before)) = rest.split_last() {
+        if newest.segment.number < number {
+            return rest.len();
+        }
+        rest = before;
+    }
+    0
+}
+
+/// The values of a list from a place on.
+pub fn from_place<T: Drop>(list: Vec<T>, place: usize) -> Result<Vec<T>, AllocError>
+    requires { place ≤ length list.items }
+    ensures { IfOk result (λ v. v.items ≡ drop place list.items) }
+{
+    if place == 0 {
+        return Ok(list);
+    }
+    let mut list = list;
+    list.split_off(place)
+}
+
+#[tactic(auto, using(crate::proofs::Counted::none_passed, crate::proofs::Counted::one_passed, crate::proofs::Counted::passed_to, crate::proofs::Counted::passed_all))]
+/// The last break entered: that of the newest of these segments that has a mark, else this one.
+pub fn last_entered(
+    list: &[Marked],
+    entered: &Option<Shared<Text>>,
+) -> Result<Option<Shared<Text>>, AllocError>
+    ensures { IfOk result (λ id. (store : List Entry) → AreDecided store list.now → id ≡ or_earlier (last_entered (so_far store list.now)) entered.now) }
+{
+    let mut rest = list;
+    while let Some((newest, before)) = rest.split_last() {
+        if newest.mark.is_some() {
+            return Ok(copied_text(&newest.mark)?);
+        }
+        rest = before;
+    }
+    Ok(copied_text(entered)?)
+}

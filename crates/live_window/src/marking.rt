@@ -1,0 +1,273 @@
+//! The new segments of a refresh, with the breaks that they are marked with.
+ghost use Rattle.std.specs.Prelude.{◌≡◌, length, IfOk, Some, None};
+ghost use Rattle.std.specs.Option.{option_copied};
+ghost use Rattle.playlist_meaning.specs.LookBack.{or_earlier};
+ghost use Rattle.pod_store.specs.Store.{pod_for};
+ghost use Rattle.break_finder.specs.Entering.{entered};
+ghost use Rattle.live_meaning.specs.Marking.{limits};
+ghost use Rattle.live_window.specs.Marking.{is_still_inside, stays, next_id, mark_on};
+
+use break_finder::{Entrances, Knowledge};
+use fixed_duration::Nanos;
+use playlist_meaning::{Instant, Segment, Shared, Text};
+use pod_store::PodStore;
+use std::alloc::{AllocError, Global};
+use std::marker::Model;
+use stitcher::Marked;
+
+/// What marks are decided by, the known breaks and the store apart.
+#[derive(Clone, Copy)]
+pub struct Limits {
+    /// How far an instant may be from the start of a break, and must be before its end.
+    pub tolerance: Nanos,
+    /// The target duration, in seconds.
+    pub target: u64,
+    /// Whether the origin's segments have initialisation sections.
+    pub mapped: bool,
+}
+
+/// The text, where there is one.
+pub fn text_in(text: &Option<Shared<Text>>) -> Option<&str>
+    ensures { option_copied result ≡ text.now }
+{
+    match text {
+        Some(text) => Some(text.as_str()),
+        None => None,
+    }
+}
+
+/// Another owner of a text, where there is one.
+pub fn copied_text(text: &Option<Shared<Text>>) -> Result<Option<Shared<Text>>, AllocError>
+    ensures { IfOk result (λ t. t ≡ text.now) }
+{
+    match text {
+        Some(text) => Ok(Some(text.clone()?)),
+        None => Ok(None),
+    }
+}
+
+// What decides the marks of a refresh's segments, with the breaks that can be entered in it.
+#[derive(Drop)]
+struct Marker<'a> {
+    limits: Limits,
+    knowledge: &'a Knowledge,
+    store: &'a PodStore,
+    entrances: Entrances<'a>,
+}
+
+impl<'a> Model for Marker<'a> {
+    ghost use Rattle.std.specs.Prelude.{◌≡◌};
+    ghost use Rattle.break_finder.specs.Entrances.{entrances_in};
+    ghost use Rattle.live_meaning.specs.Marking.{Moment};
+
+    ghost Value = { Moment };
+
+    ghost view = { λ a. record { tolerance = a.limits.tolerance; target = a.limits.target; mapped = a.limits.mapped; breaks = a.knowledge.now; store = a.store.now } };
+
+    ghost invariant = { λ a. a.entrances ≡ entrances_in a.limits.target a.limits.mapped a.store.now a.knowledge.now };
+}
+
+fn marker_of<'a>(
+    alloc: Global,
+    limits: &Limits,
+    knowledge: &'a Knowledge,
+    store: &'a PodStore,
+) -> Result<Marker<'a>, AllocError>
+    ensures { IfOk result (λ marker. marker ≡ record { tolerance = limits.now.tolerance; target = limits.now.target; mapped = limits.now.mapped; breaks = knowledge.now; store = store.now }) }
+{
+    Ok(Marker {
+        limits: *limits,
+        knowledge,
+        store,
+        entrances: knowledge.entrances(alloc, limits.target, limits.mapped, store)?,
+    })
+}
+
+impl<'a> Marker<'a> {
+    fn is_still_inside(&self, id: &str, instant: Option<Instant>) -> bool
+        ensures { result ≡ is_still_inside self.now id.now instant (pod_for self.now.store id.now) }
+    {
+        match self.store.get(id) {
+            Some(pod) => self
+                .knowledge
+                .inside(id, instant, self.limits.tolerance, pod),
+            None => false,
+        }
+    }
+
+    fn stays(&self, newest: &Option<Shared<Text>>, instant: Option<Instant>) -> bool
+        ensures { result ≡ stays self.now newest.now instant }
+    {
+        match newest {
+            Some(id) => self.is_still_inside(id.as_str(), instant),
+            None => false,
+        }
+    }
+
+    // The first break that is entered at an instant, after this last one.
+    fn entered(
+        &self,
+        alloc: Global,
+        last: Option<&str>,
+        instant: Option<Instant>,
+    ) -> Result<Option<Shared<Text>>, AllocError>
+        ensures { IfOk result (λ id. id ≡ entered (limits self.now (option_copied last.entry)) self.now.store self.now.breaks instant) }
+    {
+        match self.entrances.entered(instant, self.limits.tolerance, last) {
+            Some(id) => Ok(Some(Shared::copy_of(alloc, id)?)),
+            None => Ok(None),
+        }
+    }
+
+    // The first break but this one that is entered at an instant.
+    fn entered_since(
+        &self,
+        alloc: Global,
+        last: &str,
+        instant: Option<Instant>,
+    ) -> Result<Option<Shared<Text>>, AllocError>
+        ensures { IfOk result (λ id. id ≡ entered (limits self.now (Some last.now)) self.now.store self.now.breaks instant) }
+    {
+        self.entered(alloc, Some(last), instant)
+    }
+
+    fn entered_after(
+        &self,
+        alloc: Global,
+        last: &Option<Shared<Text>>,
+        instant: Option<Instant>,
+    ) -> Result<Option<Shared<Text>>, AllocError>
+        ensures { IfOk result (λ id. id ≡ entered (limits self.now last.now) self.now.store self.now.breaks instant) }
+    {
+        match last {
+            Some(last) => self.entered_since(alloc, last.as_str(), instant),
+            None => self.entered(alloc, None, instant),
+        }
+    }
+
+    // The break that marks a segment, by whether it stays on the run of the one before it.
+    fn next_id(
+        &self,
+        alloc: Global,
+        staying: bool,
+        newest: &Option<Shared<Text>>,
+        last: &Option<Shared<Text>>,
+        instant: Option<Instant>,
+    ) -> Result<Option<Shared<Text>>, AllocError>
+        requires { staying ≡ stays self.now newest.now instant }
+        ensures { IfOk result (λ id. id ≡ next_id self.now newest.now last.now instant) }
+    {
+        if staying {
+            return copied_text(newest);
+        }
+        self.entered_after(alloc, last, instant)
+    }
+}
+
+fn or_earlier(
+    text: &Option<Shared<Text>>,
+    earlier: Option<Shared<Text>>,
+) -> Result<Option<Shared<Text>>, AllocError>
+    ensures { IfOk result (λ t. t ≡ or_earlier text.now earlier) }
+{
+    match text {
+        Some(text) => Ok(Some(text.clone()?)),
+        None => Ok(earlier),
+    }
+}
+
+// How far the marks are: the mark of the segment before, and the last break entered.
+#[derive(Drop)]
+struct Run {
+    before: Option<Shared<Text>>,
+    entered: Option<Shared<Text>>,
+}
+
+fn run_of(newest: &Option<Shared<Text>>, last: &Option<Shared<Text>>) -> Result<Run, AllocError>
+    ensures { IfOk result (λ run. run ≡ record { before = newest.now; entered = last.now }) }
+{
+    Ok(Run {
+        before: copied_text(newest)?,
+        entered: copied_text(last)?,
+    })
+}
+
+fn marked_with(
+    segment: &Shared<Segment>,
+    instant: &Option<Instant>,
+    mark: Option<Shared<Text>>,
+) -> Result<Marked, AllocError>
+    ensures { IfOk result (λ marked. marked ≡ record { segment = segment.now; instant = instant.now; mark = mark }) }
+{
+    Ok(Marked {
+        segment: segment.clone()?,
+        instant: *instant,
+        mark,
+    })
+}
+
+impl<'a> Marker<'a> {
+    // The mark of the next segment, and how far the marks are with it.
+    fn next(
+        &self,
+        alloc: Global,
+        run: Run,
+        instant: &Option<Instant>,
+    ) -> Result<(Option<Shared<Text>>, Run), AllocError>
+        ensures mark { IfOk result (λ a. a.0 ≡ next_id self.now run.before run.entered instant.now) }
+        ensures run { IfOk result (λ a. a.1 ≡ record { before = a.0; entered = or_earlier a.0 run.entered }) }
+    {
+        let Run { before, entered } = run;
+        let staying = self.stays(&before, *instant);
+        let mark = self.next_id(alloc, staying, &before, &entered, *instant)?;
+        let before = copied_text(&mark)?;
+        let entered = or_earlier(&mark, entered)?;
+        Ok((mark, Run { before, entered }))
+    }
+
+    // These segments, which begin at these instants, with their marks.
+    fn all(
+        &self,
+        alloc: Global,
+        start: Run,
+        segments: &[Shared<Segment>],
+        instants: &[Option<Instant>],
+    ) -> Result<Vec<Marked>, AllocError>
+        ensures { IfOk result (λ v. v.items ≡ mark_on self.now start.before start.entered segments.now instants.now) }
+    {
+        let mut done = Vec::with_capacity(alloc, segments.len())?;
+        let mut run = start;
+        let mut rest = segments;
+        let mut begun = instants;
+        while let Some((segment, later)) = rest.split_first() {
+            let Some((instant, after)) = begun.split_first() else {
+                return Ok(done);
+            };
+            let (mark, next) = self.next(alloc, run, instant)?;
+            run = next;
+            done.push(marked_with(segment, instant, mark)?)?;
+            rest = later;
+            begun = after;
+        }
+        Ok(done)
+    }
+}
+
+/// These segments, which begin at these instants, with their marks: after a segment of this mark, and after this
+/// last break entered.
+pub fn mark_on(
+    alloc: Global,
+    limits: &Limits,
+    knowledge: &Knowledge,
+    store: &PodStore,
+    newest: &Option<Shared<Text>>,
+    last: &Option<Shared<Text>>,
+    segments: &[Shared<Segment>],
+    instants: &[Option<Instant>],
+) -> Result<Vec<Marked>, AllocError>
+    ensures { IfOk result (λ v. v.items ≡ mark_on (record { tolerance = limits.now.tolerance; target = limits.now.target; mapped = limits.now.mapped; breaks = knowledge.now; store = store.now }) newest.now last.now segments.now instants.now) }
+{
+    let marker = marker_of(alloc, limits, knowledge, store)?;
+    let run = run_of(newest, last)?;
+    marker.all(alloc, run, segments, instants)
+}

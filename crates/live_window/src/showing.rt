@@ -1,0 +1,82 @@
+//! The breaks that are known after a refresh, and the segments that are shown then.
+ghost use Rattle.std.specs.Prelude.{◌≡◌, IfOk, IfErr};
+ghost use Rattle.stitcher.specs.StitchedSegments.{AreDecided};
+ghost use Rattle.break_finder.specs.Known.{carry};
+ghost use Rattle.live_meaning.specs.Successor.{is_mapped};
+ghost use Rattle.live_window.specs.Checked.{AreContiguous};
+ghost use Rattle.live_window.specs.Showing.{kept_in};
+ghost use Rattle.live_window.specs.Showing.{IsShown};
+
+use crate::listing::{listed, newest_mark};
+use crate::marking::{Limits, text_in};
+use crate::state::State;
+use crate::successor::is_mapped;
+use break_finder::{FindFault, Knowledge};
+use fixed_duration::Nanos;
+use live_meaning::RefreshFault;
+use playlist_meaning::{Playlist, Shared, Text};
+use std::alloc::Global;
+use stitcher::Marked;
+
+/// What a channel knows and shows.
+#[derive(Drop)]
+pub struct Showing {
+    /// The breaks that are known.
+    pub knowledge: Knowledge,
+    /// The segments that are shown, the oldest first.
+    pub list: Vec<Marked>,
+}
+
+fn carried(
+    alloc: Global,
+    knowledge: &Knowledge,
+    playlist: &Playlist,
+    newest: &Option<Shared<Text>>,
+) -> Result<Knowledge, RefreshFault>
+    ensures ok { IfOk result (λ after. after ≡ carry (record { playlist = playlist.now; carried = newest.now }) knowledge.now) }
+    ensures err { IfErr result (λ e. e ≡ RefreshFault.OutOfMemory) }
+{
+    match knowledge.carry(alloc, playlist, text_in(newest)) {
+        Ok(after) => Ok(after),
+        Err(FindFault::OutOfMemory) => Err(RefreshFault::OutOfMemory),
+    }
+}
+
+fn limits_of(tolerance: Nanos, playlist: &Playlist) -> Limits
+    ensures { result ≡ record { tolerance = tolerance; target = playlist.now.target; mapped = is_mapped playlist.now.segments } }
+{
+    Limits {
+        tolerance,
+        target: playlist.target,
+        mapped: is_mapped(playlist.segments.as_slice()),
+    }
+}
+
+/// What a channel knows and shows with the segments of a playlist, those that it showed before among them. Fails only
+/// where memory is refused.
+pub fn shown_with(
+    alloc: Global,
+    tolerance: Nanos,
+    state: &State,
+    playlist: &Playlist,
+) -> Result<Showing, RefreshFault>
+    requires contiguous { AreContiguous playlist.now.segments }
+    requires decided { AreDecided state.now.store state.now.shown }
+    ensures ok { IfOk result (λ a. IsShown tolerance (kept_in state.now) playlist.now a) }
+    ensures err { IfErr result (λ e. e ≡ RefreshFault.OutOfMemory) }
+{
+    let shown = state.shown.as_slice();
+    let newest = newest_mark(shown)?;
+    let knowledge = carried(alloc, &state.knowledge, playlist, &newest)?;
+    let limits = limits_of(tolerance, playlist);
+    let list = listed(
+        alloc,
+        &limits,
+        &knowledge,
+        &state.store,
+        shown,
+        &state.entered,
+        playlist.segments.as_slice(),
+    )?;
+    Ok(Showing { knowledge, list })
+}
