@@ -3,7 +3,8 @@
 //! and the benchmark.
 #![tactic(auto)]
 
-use pod_store::{Ad, Decision, Decisions, read_decisions};
+use decision_files::read_decisions;
+use pod_store::{Ad, Decision, Decisions};
 use std::io;
 use std::io::{Print, Read};
 

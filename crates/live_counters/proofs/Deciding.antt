@@ -8,7 +8,7 @@ use Rattle.pod_store.specs.declared.Decisions.{Decisions}
 use Rattle.pod_store.specs.declared.Decisions.TheVariants.{Withdraw}
 use Rattle.pod_store.specs.Store.{Entry, Changes, ChangesExactly}
 use Rattle.pod_store.specs.Store as store
-use Rattle.pod_store.specs.Decided.{decisions_of}
+use Rattle.decision_files.specs.Decided.{decisions_of}
 use Rattle.pod_store.specs.Outcome.{Outcome, ◌>>=◌, Refuses}
 use Rattle.stitcher.specs.declared.marked.Marked.{Marked as Held}
 use Rattle.stitcher.specs.StitchedSegments.{AreDecided}

@@ -12,7 +12,7 @@ use Rattle.reading_laws.proofs.Whole.{can_be_written}
 use Rattle.pod_store.specs.Store.{Entry}
 use Rattle.pod_store.specs.Store.{withdrawn as without_break}
 use Rattle.pod_store.specs.Outcome.{Outcome, Refuses}
-use Rattle.pod_store.specs.Decided.{decisions_of}
+use Rattle.decision_files.specs.Decided.{decisions_of}
 use Rattle.pod_store.specs.declared.Decisions.{Decisions}
 use Rattle.pod_store.specs.declared.Decisions.TheVariants.{Withdraw}
 use Rattle.pod_store.specs.declared.fault.DecisionFault.{DecisionFault}

@@ -30,7 +30,7 @@ use Rattle.live_laws.proofs.Given.{is_read, all_of}
 use Rattle.live_meaning.proofs.SoundPods.{kept_is_sound}
 use Rattle.live_meaning.specs.Sound.{AllPods}
 use Rattle.pod_store.specs.Store.{Entry}
-use Rattle.pod_store.specs.Decided.{decisions_of}
+use Rattle.decision_files.specs.Decided.{decisions_of}
 use Rattle.pod_store.specs.Outcome.{Outcome}
 use Rattle.pod_store.specs.declared.Decisions.{Decisions}
 use Rattle.pod_store.specs.declared.Decisions.TheVariants.{Withdraw}

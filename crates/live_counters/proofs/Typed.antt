@@ -7,7 +7,7 @@ use Rattle.playlist_meaning.specs.Pods.{Pod}
 use Rattle.pod_store.specs.declared.Decisions.{Decisions}
 use Rattle.pod_store.specs.declared.Decisions.TheVariants.{Breaks}
 use Rattle.pod_store.specs.Outcome.{Outcome}
-use Rattle.pod_store.specs.Decided.{decisions_of}
+use Rattle.decision_files.specs.Decided.{decisions_of}
 use Rattle.live_meaning.specs.Sound.{AllPods}
 use Rattle.live_laws.specs.Laws.{KeepsRules}
 use Rattle.live_counters.specs.Typed.{keeps_rules}

@@ -15,7 +15,7 @@ use Rattle.reading_laws.specs.Read.{uris_are_text}
 use Rattle.pod_store.specs.Store.{Entry, is_used}
 use Rattle.pod_store.specs.Store.{decided as after_decisions}
 use Rattle.pod_store.specs.Store.{withdrawn as without_break}
-use Rattle.pod_store.specs.Decided.{decisions_of}
+use Rattle.decision_files.specs.Decided.{decisions_of}
 use Rattle.pod_store.specs.Outcome.{Outcome, ◌>>=◌, no_memory, Refuses}
 use Rattle.pod_store.specs.declared.Decisions.{Decisions}
 use Rattle.pod_store.specs.declared.Decisions.TheVariants.{Withdraw}

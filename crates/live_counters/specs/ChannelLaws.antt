@@ -10,7 +10,7 @@ use Rattle.live_meaning.specs.Live as live
 use Rattle.live_meaning.specs.Live.{last_playlist, after_refresh, owed}
 use Rattle.live_meaning.specs.LiveLaws.{GoesOn}
 use Rattle.live_meaning.specs.Successor.{Succeeds}
-use Rattle.pod_store.specs.Decided.{decisions_of}
+use Rattle.decision_files.specs.Decided.{decisions_of}
 use Rattle.pod_store.specs.declared.Decisions.{Decisions}
 use Rattle.pod_store.specs.declared.Decisions.TheVariants.{Withdraw}
 use Rattle.pod_store.specs.declared.fault.DecisionFault.{DecisionFault}

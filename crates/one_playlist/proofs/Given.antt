@@ -12,7 +12,7 @@ use Rattle.pod_store.specs.declared.Decisions.{Decisions}
 use Rattle.pod_store.specs.declared.fault.DecisionFault.{DecisionFault}
 use Rattle.pod_store.specs.declared.fault.DecisionKind.{DecisionKind}
 use Rattle.pod_store.specs.declared.fault.DecisionKind.TheVariants.{OutOfMemory as NoRoom}
-use Rattle.pod_store.specs.Decided.{decisions_of}
+use Rattle.decision_files.specs.Decided.{decisions_of}
 use Rattle.pod_store.specs.Outcome.{Outcome, ◌>>=◌}
 use Rattle.pod_store.specs.Store.{Entry}
 use Rattle.pod_store.specs.Store.{decided as after_decisions}

@@ -5,7 +5,7 @@ use Rattle.pod_store.specs.declared.fault.DecisionKind.{DecisionKind}
 use Rattle.pod_store.specs.declared.fault.DecisionKind.TheVariants.{OutOfMemory as NoMemory}
 use Rattle.pod_store.specs.declared.Decisions.{Decisions}
 use Rattle.pod_store.specs.Outcome.{Outcome, ◌>>=◌}
-use Rattle.pod_store.specs.Decided.{decisions_of}
+use Rattle.decision_files.specs.Decided.{decisions_of}
 use Rattle.pod_store.specs.Store.{decided as after_decisions}
 use Rattle.live_meaning.specs.Live.{Event, decided}
 use Rattle.one_playlist.specs.declared.fault.VodFault.{VodFault}

@@ -1,5 +1,6 @@
 //! Calls of a store of pods that no program makes.
-use pod_store::{DecisionFault, PodStore, read_decisions};
+use decision_files::read_decisions;
+use pod_store::{DecisionFault, PodStore};
 use std::alloc::Global;
 
 const POD: &[u8] =

@@ -9,7 +9,7 @@ use Rattle.playlist_meaning.specs.Pods.{Pod}
 use Rattle.pod_store.specs.declared.Decisions.TheVariants.{Breaks, Withdraw}
 use Rattle.pod_store.specs.declared.fault.DecisionKind.TheVariants.{Used, Full, Unknown}
 use Rattle.pod_store.specs.Outcome.{Outcome, refuse_if, fault_at, nowhere}
-use Rattle.pod_store.specs.Decided.{Decision}
+use Rattle.pod_store.specs.Pods.{Decision}
 use Rattle.pod_store.specs.Store.{Entry, has_id, entry_for, pod_for, is_used, is_decided, is_new, names_used, count_with, put, without, with_used, with_all, withdrawn}
 use Rattle.pod_store.specs.Laws.{Call, decide, mark_used, release, accepted, after_call, after_calls, are_distinct, StaysSmall, UsedPodsStay, LastPodStands, pod_in, pod_given, pod_left, pod_after}
 

@@ -7,7 +7,7 @@ use Rattle.fitting.specs.Fitting.{if_some, uri_fits, range_fits, duration_fits, 
 use Rattle.pod_store.specs.declared.Decisions.{Decisions}
 use Rattle.pod_store.specs.declared.Decisions.TheVariants.{Breaks, Withdraw}
 use Rattle.pod_store.specs.Outcome.{Outcome}
-use Rattle.pod_store.specs.Decided.{Decision}
+use Rattle.pod_store.specs.Pods.{Decision}
 use Rattle.pod_store.specs.Rules.{ads_keep}
 use Rattle.pod_store.specs.Store.{Entry, has_id, entry_for, pod_for, is_used, with_all, withdrawn, decided, with_used, released}
 

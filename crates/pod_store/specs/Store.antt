@@ -7,7 +7,7 @@ use Rattle.pod_store.specs.declared.fault.DecisionKind.TheVariants.{Used, Full, 
 use Rattle.pod_store.specs.declared.Decisions.{Decisions}
 use Rattle.pod_store.specs.declared.Decisions.TheVariants.{Breaks, Withdraw}
 use Rattle.pod_store.specs.Outcome.{Outcome, nowhere, fault_at, refuse_if, Refuses}
-use Rattle.pod_store.specs.Decided.{Decision}
+use Rattle.pod_store.specs.Pods.{Decision}
 use Rattle.pod_store.specs.Pods.{pod_fits}
 
 -- a decided break: its pod, and whether the break is used

@@ -1,0 +1,260 @@
+-- What a decision file says keeps the rules of pods.
+use Rattle.std.proofs.Common.{ap, suc, ◌≡◌, ◌≤◌, ℕ, ◌+◌, ◌^◌, Bool, true, false, not, List, [], ◌∷◌, ◌++◌, length, map, sum, codes, refl, sym, ◌∙◌, subst, Some, None, arith, length-append}
+use Rattle.std.specs.Prelude.{Option, Result, Ok, Err, ◌==◌, nat_lt, nat_le, unwrap_or}
+use Rattle.std.specs.Str.{is_utf8, chars}
+use Rattle.std.specs.List.{list_all}
+use Rattle.std.proofs.lemmas.Bool.{and_from, le-leb}
+use Rattle.std.proofs.lemmas.Bool.Decides.{nat_tests}
+use Rattle.std.proofs.lemmas.List.{length-map}
+use Rattle.std.proofs.lemmas.List.Folds.{list_all-append}
+use Rattle.fixed_duration.specs.Duration.{duration_of}
+use Rattle.playlist_meaning.specs.declared.ByteRange.{ByteRange}
+use Rattle.playlist_meaning.specs.declared.Key.{Key}
+use Rattle.playlist_meaning.specs.Pods.{PodSegment, Ad}
+use Rattle.serde_json.specs.Data.{Data}
+use Rattle.serde_json.specs.Find.{get, as_object}
+use Rattle.pod_store.specs.declared.fault.DecisionFault.{DecisionFault}
+use Rattle.pod_store.specs.declared.fault.Place.{Place}
+use Rattle.pod_store.specs.declared.fault.DecisionKind.TheVariants.{Shape, BadUri, BadDuration, BadKey, EmptyPod, TooMany}
+use Rattle.pod_store.specs.Outcome.{Outcome, ◌>>=◌, fault_at, in_ad, in_segment, or_fault, mended, refuse_if, optional, some_value, each_after}
+use Rattle.decision_files.specs.Json.{text_at, list_at, u64_of}
+use Rattle.pod_store.specs.Pods.{is_uri, is_method, is_format, segment_count}
+use Rattle.decision_files.specs.Decided as said
+use Rattle.pod_store.specs.Rules.{range_fits, segment_keeps, key_keeps, ad_keeps, ads_keep}
+use Rattle.attr_list.specs.Numbers.{hex_of}
+use Rattle.fitting.specs.Fitting.{iv_fits}
+use Rattle.fitting.proofs.Hexadecimal.{hex_is_iv}
+use Rattle.decision_files.proofs.Bounds.{duration_is_small}
+
+-- ---- steps that are passed
+
+pub record Passed {A B : Type 0} (first : Outcome A) (next : A → Outcome B) (y : B) : Type 0 where
+  pub x : A
+  pub was : first ≡ Ok x
+  pub then : next x ≡ Ok y
+
+module _ {A B : Type 0} where
+  bind_ok : (m : Outcome A) (f : A → Outcome B) (y : B) → (m >>= f) ≡ Ok y → Passed m f y
+  bind_ok (Ok x) f y h = record { x = x; was = refl; then = h }
+  bind_ok (Err e) f y h = absurd (cc)
+
+  -- what holds of each answer of what follows, holds of the answer
+  after : (P : B → Type 0) (m : Outcome A) (f : A → Outcome B) → ((x : A) → m ≡ Ok x → (y : B) → f x ≡ Ok y → P y) → (y : B) → (m >>= f) ≡ Ok y → P y
+  after P m f each y h = let p = bind_ok m f y h in each p.x p.was y p.then
+
+passed : {A : Type 0} (P : A → Type 0) (test : Bool) (e : DecisionFault) (o : Outcome A) → (test ≡ false → (x : A) → o ≡ Ok x → P x) → (x : A) → refuse_if test e o ≡ Ok x → P x
+passed P true e o each x h = absurd (cc)
+passed P false e o each x h = each refl x h
+
+abbrev Are : {A : Type 0} → Outcome A → Outcome A → Type 0
+Are a b = a ≡ b
+
+same_ok : {A : Type 0} (x y : A) → Are (Ok x) (Ok y) → x ≡ y
+same_ok x y h = cc
+
+answers : {A : Type 0} (P : A → Type 0) (x : A) → P x → (y : A) → Are (Ok x) (Ok y) → P y
+answers P x p y h = subst P (same_ok x y h) p
+
+not_is : (b : Bool) → not b ≡ false → b ≡ true
+not_is true e = refl
+not_is false e = absurd (cc)
+
+-- ---- ranges and parts
+
+abbrev Fit : Option ByteRange → Type 0
+Fit range = range_fits range ≡ true
+
+stated_fits : (place : Place) (o l : Option ℕ) (r : ByteRange) → said.stated_range place o l ≡ Ok r → Fit (Some r)
+stated_fits place (Some offset) (Some len) =
+    passed (λ r. Fit (Some r)) (not (nat_lt (len + offset) (2 ^ 64))) (fault_at place Shape) (Ok (record { length = len; offset = offset }))
+    (λ t. answers (λ (r : ByteRange). Fit (Some r)) (record { length = len; offset = offset }) (not_is _ t))
+stated_fits place (Some offset) None = λ r h. absurd (cc)
+stated_fits place None l = λ r h. absurd (cc)
+
+range_is : (place : Place) (o l : Option Data) (range : Option ByteRange) → said.range_from place o l ≡ Ok range → Fit range
+range_is place None None = answers Fit None refl
+range_is place (Some o) (Some l) =
+    after Fit (said.stated_range place (u64_of o) (u64_of l)) (λ r. Ok (Some r)) (λ r was. answers Fit (Some r) (stated_fits place (u64_of o) (u64_of l) r was))
+range_is place (Some o) None = λ range h. absurd (cc)
+range_is place None (Some l) = λ range h. absurd (cc)
+
+abbrev PartKeeps : said.Part → Type 0
+PartKeeps part = (is_uri part.0 ≡ true) × Fit part.1
+
+part_keeps : (place : Place) (uri : List ℕ) (d : Data) (part : said.Part) → said.part_said place uri d ≡ Ok part → PartKeeps part
+part_keeps place uri d =
+    passed PartKeeps (not (is_uri uri)) (fault_at place BadUri) (said.range_said place d >>= λ range. Ok (uri, range))
+    (λ t. after PartKeeps (said.range_said place d) (λ range. Ok (uri, range))
+    (λ range was. answers PartKeeps (uri, range) (not_is _ t, range_is place (get (codes "offset") d) (get (codes "length") d) range was)))
+
+-- ---- segments
+
+abbrev Keeps : PodSegment → Type 0
+Keeps s = segment_keeps s ≡ true
+
+small : (e : DecisionFault) (text : List ℕ) (n : ℕ) → mended e (duration_of text) ≡ Ok n → nat_lt n (10 ^ 15) ≡ true
+small e text n h = by (duration_of text) refl h
+  where
+    by : (o : Result ℕ Rattle.fixed_duration.specs.declared.DurationFault.DurationFault) → duration_of text ≡ o → mended e o ≡ Ok n → nat_lt n (10 ^ 15) ≡ true
+    by (Ok m) was k = subst (λ x. nat_lt x (10 ^ 15) ≡ true) (same_ok m n k) (duration_is_small text m was)
+    by (Err f) was k = absurd (cc)
+
+texts_keep : (place : Place) (uri duration : List ℕ) (d : Data) (s : PodSegment) → said.segment_texts place uri duration d ≡ Ok s → Keeps s
+texts_keep place uri duration d =
+    after Keeps (said.part_said place uri d) (λ part. mended (fault_at place BadDuration) (duration_of duration) >>= λ nanos. Ok (record { uri = part.0; range = part.1; duration = nanos }))
+    (λ part was. after Keeps (mended (fault_at place BadDuration) (duration_of duration)) (λ nanos. Ok (record { uri = part.0; range = part.1; duration = nanos }))
+    (λ nanos is. let k = part_keeps place uri d part was in
+    answers Keeps (record { uri = part.0; range = part.1; duration = nanos }) (and_from _ _ (and_from _ _ k.0 k.1) (small (fault_at place BadDuration) duration nanos is))))
+
+said_keeps : (place : Place) (d : Data) (s : PodSegment) → said.segment_said place d ≡ Ok s → Keeps s
+said_keeps place d =
+    after Keeps (or_fault (fault_at place Shape) (text_at (codes "uri") d)) (λ uri. or_fault (fault_at place Shape) (text_at (codes "duration") d) >>= λ duration. said.segment_texts place uri duration d)
+    (λ uri was. after Keeps (or_fault (fault_at place Shape) (text_at (codes "duration") d)) (λ duration. said.segment_texts place uri duration d)
+    (λ duration is. texts_keep place uri duration d))
+
+next_keeps : (pod ad before : ℕ) (done : List PodSegment) (d : Data) (s : PodSegment) → said.next_segment pod ad before done d ≡ Ok s → Keeps s
+next_keeps pod ad before done d =
+    passed Keeps (nat_le 500 (before + length done)) (fault_at (in_segment pod ad (length done)) TooMany) (said.segment_said (in_segment pod ad (length done)) d)
+    (λ t. said_keeps (in_segment pod ad (length done)) d)
+
+-- ---- lists
+
+module _ {A B : Type 0} (test : B → Bool) (next : List B → A → Outcome B) (keeps : (done : List B) (x : A) (y : B) → next done x ≡ Ok y → test y ≡ true) where
+  pub each_keeps : (done : List B) (xs : List A) → list_all test done ≡ true → (ys : List B) → each_after next done xs ≡ Ok ys → list_all test ys ≡ true
+  each_keeps done [] h = answers (λ ys. list_all test ys ≡ true) done h
+  each_keeps done (x ∷ xs) h =
+      after (λ ys. list_all test ys ≡ true) (next done x) (λ y. each_after next (done ++ y ∷ []) xs)
+      (λ y was. each_keeps (done ++ y ∷ []) xs (list_all-append test done (y ∷ []) ∙ and_from _ _ h (and_from _ _ (keeps done x y was) refl)))
+
+-- ---- an ad's map and key
+
+abbrev KeyKeeps : Key → Type 0
+KeyKeeps k = key_keeps k ≡ true
+
+abbrev HasFormat : Option (List ℕ) → Type 0
+HasFormat o = is_format (unwrap_or o (codes "identity")) ≡ true
+
+identity_is : HasFormat None
+unfolding chars is_utf8 lib.Utf8.encode
+identity_is = refl
+
+method_is : (place : Place) (d : Data) (m : List ℕ) → said.method_said place d ≡ Ok m → is_method m ≡ true
+method_is place d =
+    after (λ m. is_method m ≡ true) (or_fault (fault_at place BadKey) (text_at (codes "method") d)) (λ m. refuse_if (not (is_method m)) (fault_at place BadKey) (Ok m))
+    (λ m was. passed (λ x. is_method x ≡ true) (not (is_method m)) (fault_at place BadKey) (Ok m) (λ t. answers (λ x. is_method x ≡ true) m (not_is _ t)))
+
+key_uri_is : (place : Place) (d : Data) (m : List ℕ) → said.key_uri_said place d ≡ Ok m → is_uri m ≡ true
+key_uri_is place d =
+    after (λ m. is_uri m ≡ true) (or_fault (fault_at place BadKey) (text_at (codes "uri") d)) (λ m. refuse_if (not (is_uri m)) (fault_at place BadUri) (Ok m))
+    (λ m was. passed (λ x. is_uri x ≡ true) (not (is_uri m)) (fault_at place BadUri) (Ok m) (λ t. answers (λ x. is_uri x ≡ true) m (not_is _ t)))
+
+format_is : (place : Place) (d : Data) (m : List ℕ) → said.format_said place d ≡ Ok m → is_format m ≡ true
+format_is place d =
+    after (λ m. is_format m ≡ true) (said.text_of place d) (λ m. refuse_if (not (is_format m)) (fault_at place BadKey) (Ok m))
+    (λ m was. passed (λ x. is_format x ≡ true) (not (is_format m)) (fault_at place BadKey) (Ok m) (λ t. answers (λ x. is_format x ≡ true) m (not_is _ t)))
+
+some_is : {A : Type 0} (P : Option A → Type 0) (o : Outcome A) → ((x : A) → o ≡ Ok x → P (Some x)) → (y : Option A) → some_value o ≡ Ok y → P y
+some_is P (Ok x) each = answers P (Some x) (each x refl)
+some_is P (Err e) each = λ y h. absurd (cc)
+
+optional_is : {A B : Type 0} (P : Option B → Type 0) (read : A → Outcome B) (o : Option A) → P None → ((a : A) (x : B) → read a ≡ Ok x → P (Some x)) → (y : Option B) → optional read o ≡ Ok y → P y
+optional_is P read None none each = answers P None none
+optional_is P read (Some a) none each = some_is P (read a) (each a)
+
+found : {A : Type 0} (e : DecisionFault) (o : Option A) (x : A) → or_fault e o ≡ Ok x → o ≡ Some x
+found e None x h = absurd (cc)
+found e (Some y) x h = ap Some (same_ok y x h)
+
+iv_is : (place : Place) (d : Data) (n : ℕ) → said.iv_said place d ≡ Ok n → iv_fits n ≡ true
+iv_is place d =
+    after (λ n. iv_fits n ≡ true) (or_fault (fault_at place BadKey) (text_at (codes "iv") d)) (λ text. or_fault (fault_at place BadKey) (hex_of text))
+    (λ text was n h. hex_is_iv text n (found (fault_at place BadKey) (hex_of text) n h))
+
+abbrev key : List ℕ → List ℕ → ℕ → Option (List ℕ) → Key
+key method uri iv format = record { format = unwrap_or format (codes "identity"); method = method; uri = uri; iv = Some iv; other = [] }
+
+members_keep : (place : Place) (d : Data) (k : Key) → said.key_members place d ≡ Ok k → KeyKeeps k
+members_keep place d =
+    after KeyKeeps (said.method_said place d) (λ method. said.key_uri_said place d >>= λ uri. said.iv_said place d >>= λ iv. optional (said.format_said place) (get (codes "format") d) >>= λ format. Ok (key method uri iv format))
+    (λ method m. after KeyKeeps (said.key_uri_said place d) (λ uri. said.iv_said place d >>= λ iv. optional (said.format_said place) (get (codes "format") d) >>= λ format. Ok (key method uri iv format))
+    (λ uri u. after KeyKeeps (said.iv_said place d) (λ iv. optional (said.format_said place) (get (codes "format") d) >>= λ format. Ok (key method uri iv format))
+    (λ iv i. after KeyKeeps (optional (said.format_said place) (get (codes "format") d)) (λ format. Ok (key method uri iv format))
+    (λ format f. answers KeyKeeps (key method uri iv format)
+    (and_from _ _ (and_from _ _ (and_from _ _ (and_from _ _ (method_is place d method m) (key_uri_is place d uri u)) (iv_is place d iv i))
+    (optional_is HasFormat (said.format_said place) (get (codes "format") d) identity_is (λ a x e. format_is place a x e) format f)) refl)))))
+
+key_is : (place : Place) (d : Data) (k : Key) → said.key_said place d ≡ Ok k → KeyKeeps k
+key_is place d = after KeyKeeps (or_fault (fault_at place Shape) (as_object d)) (λ members. said.key_members place d) (λ members was. members_keep place d)
+
+map_is : (place : Place) (d : Data) (part : said.Part) → said.map_said place d ≡ Ok part → PartKeeps part
+map_is place d = after PartKeeps (or_fault (fault_at place Shape) (text_at (codes "uri") d)) (λ uri. said.part_said place uri d) (λ uri was. part_keeps place uri d)
+
+-- ---- ads
+
+abbrev OptionalPart : Option said.Part → Type 0
+OptionalPart None = Unit {0}
+OptionalPart (Some part) = PartKeeps part
+
+abbrev OptionalKey : Option Key → Type 0
+OptionalKey None = Unit {0}
+OptionalKey (Some key) = KeyKeeps key
+
+abbrev SegmentsKeep : List PodSegment → Type 0
+SegmentsKeep segments = (nat_lt 0 (length segments) ≡ true) × (list_all segment_keeps segments ≡ true)
+
+abbrev AdKeeps : Ad → Type 0
+AdKeeps ad = ad_keeps ad ≡ true
+
+none_after : {A B : Type 0} (next : List B → A → Outcome B) (done : List B) (xs : List A) (n : ℕ) → length done ≡ n → (ys : List B) → each_after next done xs ≡ Ok ys → length ys ≡ n + length xs
+none_after next done [] n e = answers (λ ys. length ys ≡ n + 0) done (omega (arith, e))
+none_after {B = B} next done (x ∷ xs) n e =
+    after (λ ys. length ys ≡ n + length (x ∷ xs)) (next done x) (λ y. each_after next (done ++ y ∷ []) xs)
+    (λ y was ys h. more (length ys) (length xs) (none_after next (done ++ y ∷ []) xs (n + 1) (one_more done y n e) ys h))
+  where
+    one_more : (done : List B) (y : B) (n : ℕ) → length done ≡ n → length (done ++ y ∷ []) ≡ n + 1
+    one_more done y n e = grind (arith, length-append)
+
+    more : (a b : ℕ) → a ≡ n + 1 + b → a ≡ n + suc b
+    more a b h = omega (arith, h)
+
+not_none : (n : ℕ) → (n == 0) ≡ false → nat_lt 0 n ≡ true
+not_none n h = grind (arith, nat_tests)
+
+some_read : {A B : Type 0} (next : List B → A → Outcome B) (xs : List A) (ys : List B) → (length xs == 0) ≡ false → each_after next [] xs ≡ Ok ys → nat_lt 0 (length ys) ≡ true
+some_read next xs ys some h = let e : length ys ≡ length xs = omega (arith, none_after next [] xs 0 refl ys h) in subst (λ n. nat_lt 0 n ≡ true) (sym e) (not_none (length xs) some)
+
+segments_keep : (pod ad before : ℕ) (d : Data) (segments : List PodSegment) → said.segments_said pod ad before d ≡ Ok segments → SegmentsKeep segments
+segments_keep pod ad before d =
+    after SegmentsKeep (or_fault (fault_at (in_ad pod ad) Shape) (list_at (codes "segments") d))
+    (λ list. refuse_if (length list == 0) (fault_at (in_ad pod ad) EmptyPod) (each_after (said.next_segment pod ad before) [] list))
+    (λ list was. passed SegmentsKeep (length list == 0) (fault_at (in_ad pod ad) EmptyPod) (each_after (said.next_segment pod ad before) [] list)
+    (λ some segments h. (
+      some_read (said.next_segment pod ad before) list segments some h,
+      each_keeps segment_keeps (said.next_segment pod ad before) (next_keeps pod ad before) [] list refl segments h,
+    )))
+
+ad_is : (part : Option said.Part) (key : Option Key) (segments : List PodSegment) → OptionalPart part → OptionalKey key → SegmentsKeep segments → AdKeeps (said.ad_of part key segments)
+ad_is None None segments p k s = and_from _ _ s.0 s.1
+ad_is (Some part) None segments p k s = and_from _ _ (and_from _ _ (and_from _ _ (and_from _ _ (and_from _ _ (and_from _ _ (and_from _ _ p.0 p.1) refl) refl) refl) refl) s.0) s.1
+ad_is None (Some key) segments p k s = and_from _ _ (and_from _ _ (and_from _ _ k refl) s.0) s.1
+ad_is (Some part) (Some key) segments p k s = and_from _ _ (and_from _ _ (and_from _ _ (and_from _ _ (and_from _ _ (and_from _ _ (and_from _ _ p.0 p.1) refl) (and_from _ _ k refl)) refl) (and_from _ _ k refl)) s.0) s.1
+
+ad_said_keeps : (pod ad before : ℕ) (d : Data) (a : Ad) → said.ad_said pod ad before d ≡ Ok a → AdKeeps a
+ad_said_keeps pod ad before d =
+    after AdKeeps (optional (said.map_said (in_ad pod ad)) (get (codes "map") d))
+    (λ part. optional (said.key_said (in_ad pod ad)) (get (codes "key") d) >>= λ key. said.segments_said pod ad before d >>= λ segments. Ok (said.ad_of part key segments))
+    (λ part p. after AdKeeps (optional (said.key_said (in_ad pod ad)) (get (codes "key") d)) (λ key. said.segments_said pod ad before d >>= λ segments. Ok (said.ad_of part key segments))
+    (λ key k. after AdKeeps (said.segments_said pod ad before d) (λ segments. Ok (said.ad_of part key segments))
+    (λ segments s. answers AdKeeps (said.ad_of part key segments)
+    (ad_is part key segments (optional_is OptionalPart (said.map_said (in_ad pod ad)) (get (codes "map") d) tt (λ a x e. map_is (in_ad pod ad) a x e) part p)
+    (optional_is OptionalKey (said.key_said (in_ad pod ad)) (get (codes "key") d) tt (λ a x e. key_is (in_ad pod ad) a x e) key k)
+    (segments_keep pod ad before d segments s)))))
+
+-- the ads that are read keep the rules
+pub ads_read_keep : (pod : ℕ) (list : List Data) (ads : List Ad) → (length list == 0) ≡ false → each_after (said.next_ad pod) [] list ≡ Ok ads → sum (map segment_count ads) ≤ 500 → ads_keep ads ≡ true
+ads_read_keep pod list ads some h most =
+    and_from _ _ (and_from _ _ (some_read (said.next_ad pod) list ads some h) (le-leb _ _ most))
+    (each_keeps ad_keeps (said.next_ad pod) (λ done d a e. ad_said_keeps pod (length done) (sum (map segment_count done)) d a e) [] list refl ads h)
+
+pub some_seen : {A B : Type 0} (f : A → B) (xs : List A) → (length xs == 0) ≡ false → (length (map f xs) == 0) ≡ false
+some_seen f xs h = rw (length-map xs f) h

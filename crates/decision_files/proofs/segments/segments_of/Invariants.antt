@@ -1,0 +1,13 @@
+use Rattle.std.proofs.Common.{◌≡◌, ◌≤◌, ◌+◌, [], map, length}
+use Rattle.serde_json.specs.View.{view}
+use Rattle.pod_store.specs.Outcome.{each_after}
+use Rattle.decision_files.specs.Decided.{next_segment}
+use Rattle.decision_files.proofs.segments.segments_of.Given as goal
+
+abbrev pub invariant-loop-value : goal.invariant-loop-value
+invariant-loop-value l =
+    (each_after (next_segment l.pod l.ad l.before) l.done.items (map view l.rest) ≡ each_after (next_segment l.pod l.ad l.before) [] (map view l.list))
+    × (l.before + length l.done.items ≤ 500)
+
+abbrev pub decreases-loop-value : goal.decreases-loop-value
+decreases-loop-value l = length l.rest

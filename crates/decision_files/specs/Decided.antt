@@ -1,0 +1,190 @@
+-- What a decision file says: a function of its JSON value, with the kind and place of the first fault.
+use Rattle.std.specs.Prelude.{ℕ, ◌+◌, ◌^◌, not, ◌==◌, nat_le, nat_lt, List, [], ◌∷◌, map, sum, length, codes, Option, Some, None, Ok, Err, unwrap_or, option_map, bytes_eq}
+use Rattle.std.specs.List.{list_any}
+use Rattle.std.specs.Str.{is_utf8}
+use Rattle.fixed_duration.specs.Duration.{duration_of}
+use Rattle.attr_list.specs.Numbers.{hex_of}
+use Rattle.playlist_meaning.specs.declared.ByteRange.{ByteRange}
+use Rattle.playlist_meaning.specs.declared.InitSection.{InitSection}
+use Rattle.playlist_meaning.specs.declared.Key.{Key}
+use Rattle.playlist_meaning.specs.Pods.{PodSegment, Ad, Pod}
+use Rattle.serde_json.specs.Data.{Data}
+use Rattle.serde_json.specs.Find.{get, as_str, as_object}
+use Rattle.serde_json.specs.Read.{read}
+use Rattle.pod_store.specs.declared.Decisions.{Decisions}
+use Rattle.pod_store.specs.declared.Decisions.TheVariants.{Breaks, Withdraw}
+use Rattle.pod_store.specs.declared.fault.Place.{Place}
+use Rattle.pod_store.specs.declared.fault.DecisionKind.TheVariants.{NotJson, Shape, BadUri, BadDuration, BadKey, EmptyPod, TooMany}
+use Rattle.pod_store.specs.Outcome.{Outcome, ◌>>=◌, nowhere, in_break, in_ad, in_segment, fault_at, or_fault, mended, refuse_if, optional, each_after}
+use Rattle.decision_files.specs.Json.{text_at, values_of, list_at, u64_of}
+use Rattle.pod_store.specs.Pods.{Decision, is_id, is_uri, is_method, is_format, segment_count}
+
+-- ---- ranges
+
+abbrev pub stated_range : Place → Option ℕ → Option ℕ → Outcome ByteRange
+stated_range place (Some offset) (Some length) =
+    refuse_if (not (nat_lt (length + offset) (2 ^ 64))) (fault_at place Shape) (Ok (record { length = length; offset = offset }))
+stated_range place (Some offset) None = Err (fault_at place Shape)
+stated_range place None length = Err (fault_at place Shape)
+
+-- both or neither of `offset` and `length`
+abbrev pub range_from : Place → Option Data → Option Data → Outcome (Option ByteRange)
+range_from place None None = Ok None
+range_from place (Some offset) (Some length) = stated_range place (u64_of offset) (u64_of length) >>= λ range. Ok (Some range)
+range_from place (Some offset) None = Err (fault_at place Shape)
+range_from place None (Some length) = Err (fault_at place Shape)
+
+abbrev pub range_said : Place → Data → Outcome (Option ByteRange)
+range_said place d = range_from place (get (codes "offset") d) (get (codes "length") d)
+
+-- ---- an ad's map and key
+
+-- a resource, and the part of it where it isn't the whole
+abbrev pub Part : Type 0
+Part = List ℕ × Option ByteRange
+
+abbrev pub part_said : Place → List ℕ → Data → Outcome Part
+part_said place uri d = refuse_if (not (is_uri uri)) (fault_at place BadUri) (range_said place d >>= λ range. Ok (uri, range))
+
+abbrev pub map_said : Place → Data → Outcome Part
+map_said place d = or_fault (fault_at place Shape) (text_at (codes "uri") d) >>= λ uri. part_said place uri d
+
+abbrev pub text_of : Place → Data → Outcome (List ℕ)
+text_of place d = or_fault (fault_at place BadKey) (as_str d)
+
+-- the format, where it is stated
+abbrev pub format_said : Place → Data → Outcome (List ℕ)
+format_said place d = text_of place d >>= λ text. refuse_if (not (is_format text)) (fault_at place BadKey) (Ok text)
+
+abbrev pub method_said : Place → Data → Outcome (List ℕ)
+method_said place d =
+    or_fault (fault_at place BadKey) (text_at (codes "method") d) >>= λ method.
+    refuse_if (not (is_method method)) (fault_at place BadKey) (Ok method)
+
+abbrev pub key_uri_said : Place → Data → Outcome (List ℕ)
+key_uri_said place d =
+    or_fault (fault_at place BadKey) (text_at (codes "uri") d) >>= λ uri.
+    refuse_if (not (is_uri uri)) (fault_at place BadUri) (Ok uri)
+
+abbrev pub iv_said : Place → Data → Outcome ℕ
+iv_said place d =
+    or_fault (fault_at place BadKey) (text_at (codes "iv") d) >>= λ iv. or_fault (fault_at place BadKey) (hex_of iv)
+
+abbrev pub key_members : Place → Data → Outcome Key
+key_members place d =
+    method_said place d >>= λ method.
+    key_uri_said place d >>= λ uri.
+    iv_said place d >>= λ iv.
+    optional (format_said place) (get (codes "format") d) >>= λ format.
+    Ok (record { format = unwrap_or format (codes "identity"); method = method; uri = uri; iv = Some iv; other = [] })
+
+abbrev pub key_said : Place → Data → Outcome Key
+key_said place d = or_fault (fault_at place Shape) (as_object d) >>= λ members. key_members place d
+
+abbrev pub keys_of : Option Key → List Key
+keys_of None = []
+keys_of (Some key) = key ∷ []
+
+-- the section has the ad's keys
+abbrev pub section_with : List Key → Part → InitSection
+section_with keys part = record { uri = part.0; range = part.1; keys = keys }
+
+-- ---- segments
+
+abbrev pub segment_texts : Place → List ℕ → List ℕ → Data → Outcome PodSegment
+segment_texts place uri duration d =
+    part_said place uri d >>= λ part.
+    mended (fault_at place BadDuration) (duration_of duration) >>= λ nanos.
+    Ok (record { uri = part.0; range = part.1; duration = nanos })
+
+abbrev pub segment_said : Place → Data → Outcome PodSegment
+segment_said place d =
+    or_fault (fault_at place Shape) (text_at (codes "uri") d) >>= λ uri.
+    or_fault (fault_at place Shape) (text_at (codes "duration") d) >>= λ duration.
+    segment_texts place uri duration d
+
+-- the segment after these of its ad, where so many of its break stand in the ads before
+abbrev pub next_segment : ℕ → ℕ → ℕ → List PodSegment → Data → Outcome PodSegment
+next_segment pod ad before done d =
+    let place = in_segment pod ad (length done) in
+    refuse_if (nat_le 500 (before + length done)) (fault_at place TooMany) (segment_said place d)
+
+-- ---- ads
+
+abbrev pub segments_said : ℕ → ℕ → ℕ → Data → Outcome (List PodSegment)
+segments_said pod ad before d =
+    or_fault (fault_at (in_ad pod ad) Shape) (list_at (codes "segments") d) >>= λ list.
+    refuse_if (length list == 0) (fault_at (in_ad pod ad) EmptyPod) (each_after (next_segment pod ad before) [] list)
+
+abbrev pub ad_of : Option Part → Option Key → List PodSegment → Ad
+ad_of part key segments = record {
+  section = option_map (section_with (keys_of key)) part;
+  keys = keys_of key;
+  segments = segments;
+}
+
+-- an ad of a break, which has so many segments in the ads before
+abbrev pub ad_said : ℕ → ℕ → ℕ → Data → Outcome Ad
+ad_said pod ad before d =
+    optional (map_said (in_ad pod ad)) (get (codes "map") d) >>= λ part.
+    optional (key_said (in_ad pod ad)) (get (codes "key") d) >>= λ key.
+    segments_said pod ad before d >>= λ segments.
+    Ok (ad_of part key segments)
+
+abbrev pub next_ad : ℕ → List Ad → Data → Outcome Ad
+next_ad pod done d = ad_said pod (length done) (sum (map segment_count done)) d
+
+-- ---- breaks
+
+abbrev pub id_of : Decision → List ℕ
+id_of decision = decision.0
+
+-- the break's ID and ads
+abbrev pub pod_said : ℕ → List Data → Outcome Pod
+pod_said pod ads =
+    refuse_if (length ads == 0) (fault_at (in_break pod) EmptyPod)
+    (each_after (next_ad pod) [] ads >>= λ said. Ok (record { ads = said }))
+
+abbrev pub id_said : ℕ → Data → Outcome (List ℕ)
+id_said pod d =
+    or_fault (fault_at (in_break pod) Shape) (text_at (codes "id") d) >>= λ id.
+    refuse_if (not (is_id id)) (fault_at (in_break pod) Shape) (Ok id)
+
+-- a break, whose ID is none of those before
+abbrev pub break_said : ℕ → List (List ℕ) → Data → Outcome Decision
+break_said pod before d =
+    id_said pod d >>= λ id.
+    or_fault (fault_at (in_break pod) Shape) (list_at (codes "ads") d) >>= λ ads.
+    refuse_if (list_any (bytes_eq id) before) (fault_at (in_break pod) Shape)
+    (pod_said pod ads >>= λ said. Ok (id, said))
+
+abbrev pub next_break : List Decision → Data → Outcome Decision
+next_break done d = break_said (length done) (map id_of done) d
+
+-- ---- the file
+
+abbrev pub breaks_said : Data → Outcome Decisions
+breaks_said d =
+    or_fault (fault_at nowhere Shape) (values_of d) >>= λ breaks. each_after next_break [] breaks >>= λ said. Ok (Breaks said)
+
+abbrev pub withdraw_said : Data → Outcome Decisions
+withdraw_said d =
+    or_fault (fault_at nowhere Shape) (as_str d) >>= λ id. refuse_if (not (is_id id)) (fault_at nowhere Shape) (Ok (Withdraw id))
+
+-- exactly one of `breaks` and `withdraw`
+abbrev pub members_said : Option Data → Option Data → Outcome Decisions
+members_said (Some breaks) None = breaks_said breaks
+members_said None (Some id) = withdraw_said id
+members_said None None = Err (fault_at nowhere Shape)
+members_said (Some breaks) (Some id) = Err (fault_at nowhere Shape)
+
+abbrev pub value_said : Data → Outcome Decisions
+value_said d = members_said (get (codes "breaks") d) (get (codes "withdraw") d)
+
+-- the JSON value of some bytes, as `serde_json` reads it
+abbrev pub json_of : List ℕ → Outcome Data
+json_of bytes = refuse_if (not (is_utf8 bytes)) (fault_at nowhere NotJson) (or_fault (fault_at nowhere NotJson) (read bytes))
+
+-- what the bytes of a decision file say
+abbrev pub decisions_of : List ℕ → Outcome Decisions
+decisions_of bytes = json_of bytes >>= value_said

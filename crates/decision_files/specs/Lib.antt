@@ -1,0 +1,4 @@
+pub mod Json
+pub mod Decided
+pub mod Views
+pub mod Rows

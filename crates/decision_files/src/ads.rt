@@ -1,0 +1,100 @@
+//! The ads of a break.
+ghost use Rattle.std.specs.Prelude.{◌≡◌, ◌≤◌, ◌+◌, IfOk, map, codes, option_map, sum, []};
+ghost use Rattle.serde_json.specs.View.{view};
+ghost use Rattle.serde_json.specs.Find.{get};
+ghost use Rattle.pod_store.specs.Outcome.{Gives, each_after, optional};
+ghost use Rattle.pod_store.specs.Pods.{segment_count};
+ghost use Rattle.decision_files.specs.Decided.{map_said, key_said, ad_said, next_ad, pod_said, ad_of};
+ghost use Rattle.decision_files.specs.Views.{part_of};
+
+use crate::keys::{Part, key_said, keys_of, map_said, section_with};
+use crate::segments::{MOST_SEGMENTS, segments_said};
+use playlist_meaning::{Items, Key};
+use pod_store::{Ad, DecisionFault, DecisionKind, Place, Pod, PodSegment};
+use serde_json::Value;
+use std::alloc::{AllocError, Global};
+
+fn stated_map(alloc: Global, place: Place, value: &Value) -> Result<Option<Part>, DecisionFault>
+    ensures { Gives (option_map part_of) result (optional (map_said place) (get (codes "map") (view value.now))) }
+{
+    match value.get("map") {
+        Some(map) => Ok(Some(map_said(alloc, place, map)?)),
+        None => Ok(None),
+    }
+}
+
+fn stated_key(alloc: Global, place: Place, value: &Value) -> Result<Option<Key>, DecisionFault>
+    ensures { Gives (λ key. key) result (optional (key_said place) (get (codes "key") (view value.now))) }
+{
+    match value.get("key") {
+        Some(key) => Ok(Some(key_said(alloc, place, key)?)),
+        None => Ok(None),
+    }
+}
+
+fn ad_of(
+    alloc: Global,
+    part: Option<Part>,
+    key: Option<Key>,
+    segments: Vec<PodSegment>,
+) -> Result<Ad, AllocError>
+    ensures { IfOk result (λ ad. ad ≡ ad_of (option_map part_of part) key segments.items) }
+{
+    let keys = keys_of(alloc, key)?;
+    let map = match part {
+        Some(part) => Some(section_with(&keys, part)?),
+        None => None,
+    };
+    Ok(Ad {
+        map,
+        keys,
+        segments: Items::from_vec(segments),
+    })
+}
+
+// An ad of a break, which has so many segments in the ads before.
+fn ad_said(
+    alloc: Global,
+    pod: usize,
+    ad: usize,
+    before: usize,
+    value: &Value,
+) -> Result<Ad, DecisionFault>
+    requires { before ≤ MOST_SEGMENTS }
+    ensures said { Gives (λ a. a) result (ad_said pod ad before (view value.now)) }
+    ensures most { IfOk result (λ a. before + segment_count a ≤ MOST_SEGMENTS) }
+{
+    let place = Place::in_ad(pod, ad);
+    let part = stated_map(alloc, place, value)?;
+    let key = stated_key(alloc, place, value)?;
+    let segments = segments_said(alloc, pod, ad, before, value)?;
+    Ok(ad_of(alloc, part, key, segments)?)
+}
+
+// The ads of these objects.
+fn ads_of(alloc: Global, pod: usize, list: &[Value]) -> Result<Vec<Ad>, DecisionFault>
+    ensures said { Gives (λ v. v.items) result (each_after (next_ad pod) [] (map view list.now)) }
+    ensures most { IfOk result (λ v. sum (map segment_count v.items) ≤ MOST_SEGMENTS) }
+{
+    let mut done: Vec<Ad> = Vec::new(alloc);
+    let mut before: usize = 0;
+    let mut rest = list;
+    while let Some((value, later)) = rest.split_first() {
+        let ad = ad_said(alloc, pod, done.len(), before, value)?;
+        before += ad.segments.len();
+        done.push(ad)?;
+        rest = later;
+    }
+    Ok(done)
+}
+
+/// The pod of a break, from its ads.
+pub fn pod_said(alloc: Global, pod: usize, ads: &[Value]) -> Result<Pod, DecisionFault>
+    ensures { Gives (λ p. p) result (pod_said pod (map view ads.now)) }
+{
+    if ads.is_empty() {
+        return Err(Place::in_break(pod).fault(DecisionKind::EmptyPod));
+    }
+    let ads = ads_of(alloc, pod, ads)?;
+    Ok(Pod::new(Items::from_vec(ads)))
+}

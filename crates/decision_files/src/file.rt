@@ -1,0 +1,128 @@
+//! A decision file.
+ghost use Rattle.std.specs.Prelude.{◌≡◌, ◌∷◌, ◌++◌, [], true, not, map, codes, bytes_eq, IfOk};
+ghost use Rattle.std.specs.List.{list_any};
+ghost use Rattle.serde_json.specs.View.{view};
+ghost use Rattle.pod_store.specs.Outcome.{Gives, GivesExactly, each_after};
+ghost use Rattle.decision_files.specs.Decided.{id_said, break_said, next_break, breaks_said, withdraw_said, value_said, json_of, decisions_of};
+ghost use Rattle.decision_files.specs.Views.{texts_of};
+
+use crate::ads::pod_said;
+use crate::members::{list_at, text_at, values_of};
+use crate::texts::is_id;
+use indexmap::IndexSet;
+use playlist_meaning::{Items, Text, text_of};
+use pod_store::{Decision, DecisionFault, DecisionKind, Decisions, Place};
+use serde_json::Value;
+use std::alloc::Global;
+
+fn id_said(pod: usize, value: &Value) -> Result<&str, DecisionFault>
+    ensures { GivesExactly (λ id. id.now) result (id_said pod (view value.now)) }
+{
+    let place = Place::in_break(pod);
+    let id = text_at(value, "id").ok_or(place.fault(DecisionKind::Shape))?;
+    if !is_id(id) {
+        return Err(place.fault(DecisionKind::Shape));
+    }
+    Ok(id)
+}
+
+// Notes an ID beside those of the breaks before. False where it is one of them.
+fn note_id<'a>(before: &mut IndexSet<&'a str>, id: &'a str) -> Result<bool, DecisionFault>
+    ensures first { Gives (λ first. first) result (Ok (not (list_any (bytes_eq id.now) (texts_of before.old.keys)))) }
+    ensures ids { IfOk result (λ first. first ≡ true → texts_of before.new.keys ≡ texts_of before.old.keys ++ id.now ∷ []) }
+{
+    Ok(before.insert(id)?)
+}
+
+// The break of this value, which stands after those whose IDs came before.
+fn break_said<'a>(
+    alloc: Global,
+    pod: usize,
+    before: &mut IndexSet<&'a str>,
+    value: &'a Value,
+) -> Result<Decision, DecisionFault>
+    ensures said { Gives (λ d. d) result (break_said pod (texts_of before.old.keys) (view value.now)) }
+    ensures ids { IfOk result (λ d. texts_of before.new.keys ≡ texts_of before.old.keys ++ d.0 ∷ []) }
+{
+    let place = Place::in_break(pod);
+    let id = id_said(pod, value)?;
+    let ads = list_at(value, "ads").ok_or(place.fault(DecisionKind::Shape))?;
+    if !note_id(before, id)? {
+        return Err(place.fault(DecisionKind::Shape));
+    }
+    let said = pod_said(alloc, pod, ads)?;
+    let id = Text::copy_of(alloc, id)?;
+    Ok((id, said))
+}
+
+fn breaks_of(alloc: Global, list: &[Value]) -> Result<Vec<Decision>, DecisionFault>
+    ensures { Gives (λ v. v.items) result (each_after next_break [] (map view list.now)) }
+{
+    let mut done: Vec<Decision> = Vec::new(alloc);
+    let mut ids: IndexSet<&str> = IndexSet::new(alloc);
+    let mut rest = list;
+    while let Some((value, later)) = rest.split_first() {
+        let decision = break_said(alloc, done.len(), &mut ids, value)?;
+        done.push(decision)?;
+        rest = later;
+    }
+    Ok(done)
+}
+
+fn breaks_said(alloc: Global, value: &Value) -> Result<Decisions, DecisionFault>
+    ensures { Gives (λ d. d) result (breaks_said (view value.now)) }
+{
+    let list = values_of(value).ok_or(Place::nowhere().fault(DecisionKind::Shape))?;
+    let breaks = breaks_of(alloc, list)?;
+    Ok(Decisions::Breaks(Items::from_vec(breaks)))
+}
+
+fn withdraw_said(alloc: Global, value: &Value) -> Result<Decisions, DecisionFault>
+    ensures { Gives (λ d. d) result (withdraw_said (view value.now)) }
+{
+    let id = value
+        .as_str()
+        .ok_or(Place::nowhere().fault(DecisionKind::Shape))?;
+    if !is_id(id) {
+        return Err(Place::nowhere().fault(DecisionKind::Shape));
+    }
+    Ok(Decisions::Withdraw(Text::copy_of(alloc, id)?))
+}
+
+fn value_said(alloc: Global, value: &Value) -> Result<Decisions, DecisionFault>
+    ensures { Gives (λ d. d) result (value_said (view value.now)) }
+{
+    match (value.get("breaks"), value.get("withdraw")) {
+        (Some(breaks), None) => breaks_said(alloc, breaks),
+        (None, Some(id)) => withdraw_said(alloc, id),
+        _ => Err(Place::nowhere().fault(DecisionKind::Shape)),
+    }
+}
+
+// The JSON value of these bytes.
+fn json_of(alloc: Global, bytes: &[u8]) -> Result<Value, DecisionFault>
+    ensures { Gives view result (json_of bytes.now) }
+{
+    let not_json = Place::nowhere().fault(DecisionKind::NotJson);
+    let Ok(text) = text_of(bytes) else {
+        return Err(not_json);
+    };
+    match Value::from_str(alloc, text) {
+        Ok(value) => Ok(value),
+        Err(e) => {
+            if e.is_memory() {
+                return Err(Place::nowhere().fault(DecisionKind::OutOfMemory));
+            }
+            Err(not_json)
+        }
+    }
+}
+
+/// What the bytes of a decision file say. The faults in this order: `NotJson`; for the whole `Shape`; and
+/// then those of each break in turn.
+pub fn read_decisions(alloc: Global, bytes: &[u8]) -> Result<Decisions, DecisionFault>
+    ensures { Gives (λ d. d) result (decisions_of bytes.now) }
+{
+    let value = json_of(alloc, bytes)?;
+    value_said(alloc, &value)
+}

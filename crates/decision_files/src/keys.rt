@@ -1,0 +1,156 @@
+//! The initialisation section and the key of an ad.
+ghost use Rattle.std.specs.Prelude.{◌≡◌, IfOk, option_map, codes};
+ghost use Rattle.std.specs.Option.{option_copied};
+ghost use Rattle.serde_json.specs.View.{view};
+ghost use Rattle.serde_json.specs.Find.{as_str, get};
+ghost use Rattle.pod_store.specs.Outcome.{Gives, GivesExactly, optional, or_fault};
+ghost use Rattle.decision_files.specs.Decided.{part_said, map_said, format_said, text_of, method_said, key_uri_said, iv_said, key_said, key_members, keys_of, section_with};
+ghost use Rattle.decision_files.specs.Views.{part_of};
+
+use crate::members::{range_said, text_at};
+use crate::texts::{is_format, is_method, is_uri};
+use attr_list::read_hex_u128;
+use playlist_meaning::{ByteRange, InitSection, Items, Key, Keys, Shared, Text};
+use pod_store::{DecisionFault, DecisionKind, Place};
+use serde_json::Value;
+use std::alloc::{AllocError, Global};
+
+/// The format of a key that states none.
+const IDENTITY: &str = "identity";
+
+/// A resource, and the part of it.
+#[derive(Drop)]
+pub struct Part {
+    /// Its URI.
+    pub uri: Shared<Text>,
+    /// The part, where it isn't the whole.
+    pub range: Option<ByteRange>,
+}
+
+/// A resource and the part that the object's range states.
+pub fn part_said(
+    alloc: Global,
+    place: Place,
+    uri: &str,
+    value: &Value,
+) -> Result<Part, DecisionFault>
+    ensures { Gives part_of result (part_said place uri.now (view value.now)) }
+{
+    if !is_uri(uri) {
+        return Err(place.fault(DecisionKind::BadUri));
+    }
+    let range = range_said(place, value)?;
+    let uri = Shared::copy_of(alloc, uri)?;
+    Ok(Part { uri, range })
+}
+
+/// What an ad's map says.
+pub fn map_said(alloc: Global, place: Place, value: &Value) -> Result<Part, DecisionFault>
+    ensures { Gives part_of result (map_said place (view value.now)) }
+{
+    let uri = text_at(value, "uri").ok_or(place.fault(DecisionKind::Shape))?;
+    part_said(alloc, place, uri, value)
+}
+
+fn text_of(place: Place, value: &Value) -> Result<&str, DecisionFault>
+    ensures { GivesExactly (λ text. text.now) result (text_of place (view value.now)) }
+{
+    value.as_str().ok_or(place.fault(DecisionKind::BadKey))
+}
+
+fn format_said(place: Place, value: &Value) -> Result<&str, DecisionFault>
+    ensures { GivesExactly (λ text. text.now) result (format_said place (view value.now)) }
+{
+    let text = text_of(place, value)?;
+    if !is_format(text) {
+        return Err(place.fault(DecisionKind::BadKey));
+    }
+    Ok(text)
+}
+
+fn stated_format(place: Place, value: &Value) -> Result<Option<&str>, DecisionFault>
+    ensures { GivesExactly (option_map (λ text. text.now)) result (optional (format_said place) (get (codes "format") (view value.now))) }
+{
+    match value.get("format") {
+        Some(format) => Ok(Some(format_said(place, format)?)),
+        None => Ok(None),
+    }
+}
+
+fn method_said(place: Place, value: &Value) -> Result<&str, DecisionFault>
+    ensures { GivesExactly (λ text. text.now) result (method_said place (view value.now)) }
+{
+    let method = text_at(value, "method").ok_or(place.fault(DecisionKind::BadKey))?;
+    if !is_method(method) {
+        return Err(place.fault(DecisionKind::BadKey));
+    }
+    Ok(method)
+}
+
+fn key_uri_said(place: Place, value: &Value) -> Result<&str, DecisionFault>
+    ensures { GivesExactly (λ text. text.now) result (key_uri_said place (view value.now)) }
+{
+    let uri = text_at(value, "uri").ok_or(place.fault(DecisionKind::BadKey))?;
+    if !is_uri(uri) {
+        return Err(place.fault(DecisionKind::BadUri));
+    }
+    Ok(uri)
+}
+
+fn iv_said(place: Place, value: &Value) -> Result<u128, DecisionFault>
+    ensures { result ≡ iv_said place (view value.now) }
+{
+    let iv = text_at(value, "iv").ok_or(place.fault(DecisionKind::BadKey))?;
+    match read_hex_u128(iv) {
+        Ok(iv) => Ok(iv),
+        Err(_) => Err(place.fault(DecisionKind::BadKey)),
+    }
+}
+
+fn key_members(alloc: Global, place: Place, value: &Value) -> Result<Key, DecisionFault>
+    ensures { Gives (λ key. key) result (key_members place (view value.now)) }
+{
+    let method = method_said(place, value)?;
+    let uri = key_uri_said(place, value)?;
+    let iv = iv_said(place, value)?;
+    let format = stated_format(place, value)?;
+    Ok(Key {
+        format: Shared::copy_of(alloc, format.unwrap_or(IDENTITY))?,
+        method: Shared::copy_of(alloc, method)?,
+        uri: Shared::copy_of(alloc, uri)?,
+        iv: Some(iv),
+        other: Shared::new(alloc, Items::from_vec(Vec::new(alloc)))?,
+    })
+}
+
+/// What an ad's key says.
+pub fn key_said(alloc: Global, place: Place, value: &Value) -> Result<Key, DecisionFault>
+    ensures { Gives (λ key. key) result (key_said place (view value.now)) }
+{
+    if !value.is_object() {
+        return Err(place.fault(DecisionKind::Shape));
+    }
+    key_members(alloc, place, value)
+}
+
+/// The keys of an ad that states this key, or none.
+pub fn keys_of(alloc: Global, key: Option<Key>) -> Result<Keys, AllocError>
+    ensures { IfOk result (λ keys. keys ≡ keys_of key) }
+{
+    let mut keys = Vec::new(alloc);
+    if let Some(key) = key {
+        keys.push(key)?;
+    }
+    Ok(Items::from_vec(keys))
+}
+
+/// The section of this part, with copies of these keys.
+pub fn section_with(keys: &Keys, part: Part) -> Result<InitSection, AllocError>
+    ensures { IfOk result (λ section. section ≡ section_with keys.now (part_of part)) }
+{
+    Ok(InitSection {
+        uri: part.uri,
+        range: part.range,
+        keys: keys.clone()?,
+    })
+}

@@ -1,0 +1,12 @@
+//! What a decision file says: a JSON value that gives breaks their pods of advertisements, or takes one back.
+#![tactic(auto)]
+
+mod ads;
+mod file;
+mod keys;
+mod members;
+mod rows;
+mod segments;
+mod texts;
+
+pub use file::read_decisions;

@@ -1,0 +1,79 @@
+//! The members of the objects of a decision file.
+ghost use Rattle.std.specs.Prelude.{◌≡◌, codes, map, option_map, length, ◌≤◌};
+ghost use Rattle.serde_json.specs.View.{view};
+ghost use Rattle.decision_files.specs.Json.{text_at, values_of, list_at, u64_of};
+ghost use Rattle.decision_files.specs.Decided.{stated_range, range_said};
+
+use playlist_meaning::ByteRange;
+use pod_store::{DecisionFault, DecisionKind, Place};
+use serde_json::Value;
+
+/// The text at a name, where there is one.
+pub fn text_at<'a>(value: &'a Value, name: &str) -> Option<&'a str>
+    ensures { option_map (λ text. text.now) result ≡ text_at name.now (view value.now) }
+{
+    match value.get(name) {
+        Some(found) => found.as_str(),
+        None => None,
+    }
+}
+
+#[tactic(auto, using(crate::proofs::Lists::list_of_items))]
+/// The values of an array.
+pub fn values_of(value: &Value) -> Option<&[Value]>
+    ensures { option_map (λ list. map view list.now) result ≡ values_of (view value.now) }
+{
+    match value.as_array() {
+        Some(list) => Some(list.as_slice()),
+        None => None,
+    }
+}
+
+/// The values of the array at a name, where there is one.
+pub fn list_at<'a>(value: &'a Value, name: &str) -> Option<&'a [Value]>
+    ensures { option_map (λ list. map view list.now) result ≡ list_at name.now (view value.now) }
+{
+    match value.get(name) {
+        Some(found) => values_of(found),
+        None => None,
+    }
+}
+
+fn u64_of(value: &Value) -> Option<u64>
+    ensures { result ≡ u64_of (view value.now) }
+{
+    value.as_u64()
+}
+
+fn stated_range(
+    place: Place,
+    offset: Option<u64>,
+    length: Option<u64>,
+) -> Result<ByteRange, DecisionFault>
+    ensures { result ≡ stated_range place offset length }
+{
+    let Some(offset) = offset else {
+        return Err(place.fault(DecisionKind::Shape));
+    };
+    let Some(length) = length else {
+        return Err(place.fault(DecisionKind::Shape));
+    };
+    if length.checked_add(offset).is_none() {
+        return Err(place.fault(DecisionKind::Shape));
+    }
+    Ok(ByteRange { length, offset })
+}
+
+/// The byte range that `offset` and `length` state: both or neither is there.
+pub fn range_said(place: Place, value: &Value) -> Result<Option<ByteRange>, DecisionFault>
+    ensures { result ≡ range_said place (view value.now) }
+{
+    match (value.get("offset"), value.get("length")) {
+        (None, None) => Ok(None),
+        (Some(offset), Some(length)) => {
+            let range = stated_range(place, u64_of(offset), u64_of(length))?;
+            Ok(Some(range))
+        }
+        _ => Err(place.fault(DecisionKind::Shape)),
+    }
+}
