@@ -16,7 +16,8 @@ use Rattle.http_messages.specs.Replies.{bare}
 use Rattle.live_edge.specs.Channels.{Given, IsGiven, with_event, told_of, playlist_of}
 use Rattle.live_counters.proofs.Owed.{explains}
 use Rattle.break_finder.specs.Known.{known}
-use Rattle.live_edge.specs.Replies.{why_text, refresh_reply, refresh_owed, decisions_reply, decisions_owed}
+use Rattle.edge_messages.specs.Replies.{why_text, decisions_reply}
+use Rattle.live_edge.specs.Replies.{refresh_reply, refresh_owed, decisions_owed}
 use Rattle.live_edge.specs.Events.{TakesOne}
 
 -- ---- what stands for the same

@@ -10,13 +10,14 @@ use Rattle.live_counters.specs.Channel as channel
 use Rattle.http_messages.specs.declared.message.Request.{Request}
 use Rattle.http_messages.specs.declared.message.Reply.{Reply}
 use Rattle.http_messages.specs.Replies.{bare}
-use Rattle.live_edge.specs.declared.channel_body.BodyFault.{BodyFault}
-use Rattle.live_edge.specs.declared.routes.Resource.{Resource}
-use Rattle.live_edge.specs.declared.routes.Resource.TheVariants.{Channel, Origin, Decisions, Live, Why}
+use Rattle.edge_messages.specs.declared.channel_body.BodyFault.{BodyFault}
+use Rattle.edge_messages.specs.declared.routes.Resource.{Resource}
+use Rattle.edge_messages.specs.declared.routes.Resource.TheVariants.{Channel, Origin, Decisions, Live, Why}
 use Rattle.live_edge.specs.Channels.{Given, with_event}
-use Rattle.live_edge.specs.ChannelBody.{body_said}
-use Rattle.live_edge.specs.Replies.{exists, bad_tolerance, refresh_owed, decisions_owed, live_owed, why_owed}
-use Rattle.live_edge.specs.Routes.{path_of, route_of}
+use Rattle.edge_messages.specs.ChannelBody.{body_said}
+use Rattle.edge_messages.specs.Replies.{exists, bad_tolerance}
+use Rattle.live_edge.specs.Replies.{refresh_owed, decisions_owed, live_owed, why_owed}
+use Rattle.edge_messages.specs.Routes.{path_of, route_of}
 use Rattle.live_edge.specs.Table.{Table, Entry, Turn, unmoved, event_turn, given_at, put_given, without, removed, read_turn, made, tried, added, fresh, most_tolerance, is_method, turn_at, routed, turn, table_of, reply_to}
 use Rattle.live_edge.specs.Isolation.{names, is_on, replies_on, was_served, IsIsolated}
 

@@ -1,5 +1,4 @@
 pub mod Given
-pub mod Lines
 pub mod Tables
 pub mod Turns
 pub mod Isolated

@@ -16,13 +16,14 @@ use Rattle.live_counters.specs.Channel as channel
 use Rattle.http_messages.specs.declared.message.Request.{Request}
 use Rattle.http_messages.specs.declared.message.Reply.{Reply}
 use Rattle.http_messages.specs.Replies.{bare}
-use Rattle.live_edge.specs.declared.channel_body.BodyFault.{BodyFault}
-use Rattle.live_edge.specs.declared.routes.Resource.{Resource}
-use Rattle.live_edge.specs.declared.routes.Resource.TheVariants.{Channel, Origin, Decisions, Live, Why}
+use Rattle.edge_messages.specs.declared.channel_body.BodyFault.{BodyFault}
+use Rattle.edge_messages.specs.declared.routes.Resource.{Resource}
+use Rattle.edge_messages.specs.declared.routes.Resource.TheVariants.{Channel, Origin, Decisions, Live, Why}
 use Rattle.live_edge.specs.Channels.{Given, told_of}
-use Rattle.live_edge.specs.ChannelBody.{body_said}
-use Rattle.live_edge.specs.Replies.{refresh_status, refresh_reply, refresh_owed, decision_status, decisions_reply, decisions_owed, live_owed, why_owed}
-use Rattle.live_edge.specs.Routes.{path_of, route_of}
+use Rattle.edge_messages.specs.ChannelBody.{body_said}
+use Rattle.edge_messages.specs.Replies.{refresh_status, decision_status, decisions_reply}
+use Rattle.live_edge.specs.Replies.{refresh_reply, refresh_owed, decisions_owed, live_owed, why_owed}
+use Rattle.edge_messages.specs.Routes.{path_of, route_of}
 use Rattle.live_edge.specs.Table.{Table, Turn, event_turn, given_at, removed, read_turn, made, tried, most_tolerance, is_method, turn_at, routed, turn, table_of}
 use Rattle.live_edge.specs.Edges.{Kept, StandsFor, Stands, TakesTurn}
 use Rattle.live_edge.specs.Isolation.{is_on, was_served, Exchange, IsRun, is_served_on, asked_of, answered_of, RunsAreIsolated}

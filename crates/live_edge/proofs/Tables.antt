@@ -3,15 +3,13 @@ use Rattle.std.proofs.Common.{◌≡◌, ℕ, Bool, true, false, cond, List, [],
 use Rattle.std.specs.Prelude.{Option, Some, None, bytes_eq, String, string_bytes}
 use Rattle.std.specs.Map.{lookup, set_value, remove_entry}
 use Rattle.live_counters.specs.Channel as channel
+use Rattle.edge_messages.specs.Named.{is_at}
 use Rattle.live_edge.specs.Channels.{Given, IsGiven}
 use Rattle.live_edge.specs.Table.{Table, Entry, given_at, put_given, without}
 use Rattle.live_edge.specs.Edges.{kept_of, Stands}
 
 abbrev pub Entries : Type 0 → Type 0
 Entries A = List (String A × channel.Channel)
-
-abbrev pub is_at : {A : Type 0} → List ℕ → String A → Bool
-is_at name key = bytes_eq name (string_bytes key)
 
 -- a channel, or none, and what it was given
 abbrev pub Agree : Option channel.Channel → Option Given → Type 0

@@ -1,6 +1,7 @@
 -- What the edge's calls do, as turns.
 use Rattle.std.proofs.Common.{◌≡◌, ℕ, ◌<◌, ◌≤◌, Bool, true, false, List, [], ◌∷◌, ◌++◌, length, map, refl, sym, ap, subst, cond, ◌∙◌, arith, true≢false}
-use Rattle.std.specs.Prelude.{Option, Some, None, Result, Ok, Err, IfOk, IsErr, IsSome, unwrap_or, bytes_eq, is_some, String, string_bytes, nat_lt, nat_le}
+use Rattle.std.specs.Prelude.{Option, Some, None, Result, Ok, Err, IfOk, IsErr, IsSome, unwrap_or, bytes_eq, is_some, nat_lt, nat_le}
+use Rattle.std.specs.declared.alloc.AllocError.{AllocError}
 use Rattle.std.specs.Map.{lookup, set_value, remove_entry}
 use Rattle.std.proofs.lemmas.Bool.Decides.{nat_tests}
 use Rattle.url.specs.Parts.{Parts}
@@ -11,14 +12,18 @@ use Rattle.live_counters.specs.Channel.{explained}
 use Rattle.live_counters.specs.Channel as channel
 use Rattle.http_messages.specs.declared.message.Reply.{Reply}
 use Rattle.http_messages.specs.Replies.{bare}
-use Rattle.live_edge.specs.declared.channel_body.BodyFault.{BodyFault}
+use Rattle.edge_messages.specs.declared.channel_body.BodyFault.{BodyFault}
+use Rattle.edge_messages.specs.declared.named.Naming.TheVariants as naming
+use Rattle.edge_messages.specs.Named.{is_at, PutsNamed}
+use Rattle.edge_messages.proofs.Names.{none_is}
 use Rattle.live_edge.specs.Channels.{Given, IsGiven, with_event}
-use Rattle.live_edge.specs.Replies.{not_found, channel_fault_reply, bad_base, bad_tolerance, exists, live_reply, live_owed, why_text, text_reply, why_owed}
+use Rattle.edge_messages.specs.Replies.{not_found, bad_base, bad_tolerance, exists, live_reply, why_text, text_reply}
+use Rattle.live_edge.specs.Replies.{channel_fault_reply, live_owed, why_owed}
 use Rattle.live_edge.specs.Table.{Table, Entry, Turn, unmoved, event_turn, given_at, put_given, without, removed, read_turn, made, tried, added, most_tolerance, fresh}
 use Rattle.live_edge.specs.Events.{TakesOne, Takes}
 use Rattle.live_edge.specs.Edges.{Kept, kept_of, Stands, TakenTurn}
 use Rattle.live_edge.proofs.Given.{text_is, why_is}
-use Rattle.live_edge.proofs.Tables.{Entries, is_at, Agree, none_agrees, some_agrees, found, put, taken_out, added_behind}
+use Rattle.live_edge.proofs.Tables.{Entries, Agree, none_agrees, some_agrees, found, put, taken_out, added_behind, as_many}
 
 -- nothing moved
 pub unmoved_turn : {E : Type 0} (table : Table) (x : Reply) (t : Turn) (r : Result Reply E) (kept : List Kept) → t ≡ unmoved table x
@@ -93,18 +98,23 @@ without_none name [] e = refl
 without_none name (t ∷ ts) e = first_kept (bytes_eq name t.name) t ts (without name ts) (given_at name ts) e (without_none name ts)
 
 pub removed_none : {A E : Type 0} (es fs : Entries A) (table : Table) (name : List ℕ) (r : Result Reply E) → Stands (map kept_of es) table
-    → None ≡ lookup (is_at name) es → fs ≡ remove_entry (is_at name) es → IfOk r (λ y. y ≡ not_found)
+    → is_some (lookup (is_at name) es) ≡ false → fs ≡ remove_entry (is_at name) es → IfOk r (λ y. y ≡ not_found)
     → TakenTurn (removed table name (given_at name table)) table r (map kept_of fs)
 removed_none es fs table name r s there after q =
-    let none = none_at es table name s there in
+    let none = none_at es table name s (sym (none_is _ there)) in
     let out = subst (Stands (map kept_of (remove_entry (is_at name) es))) (without_none name table none) (taken_out name es table s) in
     unmoved_turn table not_found _ r _ (ap (removed table name) none) q (subst (λ l. Stands (map kept_of l) table) (sym after) out)
 
-pub removed_some : {A : Type 0} (E : Type 0) (es fs : Entries A) (table : Table) (name : List ℕ) (k : channel.Channel) (y : Reply) → Stands (map kept_of es) table
-    → Some k ≡ lookup (is_at name) es → fs ≡ remove_entry (is_at name) es → y ≡ bare 204
+some_is : {X : Type 0} (o : Option X) → IsSome o → (x : X) × (o ≡ Some x)
+some_is None h = absurd (true≢false (sym h))
+some_is (Some x) h = (x, refl)
+
+pub removed_some : {A : Type 0} (E : Type 0) (es fs : Entries A) (table : Table) (name : List ℕ) (y : Reply) → Stands (map kept_of es) table
+    → IsSome (lookup (is_at name) es) → fs ≡ remove_entry (is_at name) es → y ≡ bare 204
     → TakenTurn {E = E} (removed table name (given_at name table)) table (Ok y) (map kept_of fs)
-removed_some E es fs table name k y s there after q =
-    let f = some_at es table name k s there in
+removed_some E es fs table name y s there after q =
+    let k = some_is _ there in
+    let f = some_at es table name k.0 s (sym k.1) in
     subst (λ o. TakenTurn {E = E} (removed table name o) table (Ok y) (map kept_of fs)) (sym f.1)
     (q, subst (λ l. Stands (map kept_of l) (without name table)) (sym after) (taken_out name es table s))
 
@@ -114,10 +124,6 @@ removed_some E es fs table name k y s there after q =
 no_reply : {E : Type 0} (table : Table) (t : Turn) (r : Result Reply E) (kept : List Kept) → IsErr r → Stands kept table → TakenTurn t table r kept
 no_reply table t (Ok reply) kept e s = absurd (true≢false (sym e))
 no_reply table t (Err x) kept e s = s
-
-some_is : {X : Type 0} (o : Option X) → IsSome o → (x : X) × (o ≡ Some x)
-some_is None h = absurd (true≢false (sym h))
-some_is (Some x) h = (x, refl)
 
 is_over : (tolerance : ℕ) → 10000000000 < tolerance → nat_lt most_tolerance tolerance ≡ true
 is_over tolerance h = grind (arith, nat_tests)
@@ -147,6 +153,22 @@ module _ (table : Table) (name base : List ℕ) (tolerance : ℕ) (said : Result
   made_is_added parts b within =
       made_is_tried ∙ ap (tried table name tolerance) b ∙ ap (λ c. cond c (unmoved table bad_tolerance) (added table name parts tolerance)) (is_within tolerance within)
 
+same_some : (o : Option channel.Channel) (q : Option Given) → Agree o q → is_some o ≡ is_some q
+same_some None None h = refl
+same_some (Some k) (Some g) h = refl
+same_some None (Some g) h = absurd h
+same_some (Some k) None h = absurd h
+
+there_as : {A : Type 0} (es : Entries A) (table : Table) (name : List ℕ) (b : Bool) → Stands (map kept_of es) table → is_some (lookup (is_at name) es) ≡ b
+    → is_some (given_at name table) ≡ b
+there_as es table name b s e = sym (same_some (lookup (is_at name) es) (given_at name table) (found name es table s)) ∙ e
+
+as_full : (n m : ℕ) → 64 ≤ n → n ≡ m → nat_le 64 m ≡ true
+as_full n m h e = grind (arith, nat_tests)
+
+as_room : (n m : ℕ) → n < 64 → n ≡ m → nat_le 64 m ≡ false
+as_room n m h e = grind (arith, nat_tests)
+
 -- a channel that is taken in, or not
 module _ (table : Table) (name : List ℕ) (parts : Parts) (tolerance : ℕ) where
   abbrev there : Turn
@@ -158,43 +180,26 @@ module _ (table : Table) (name : List ℕ) (parts : Parts) (tolerance : ℕ) whe
   abbrev room : Turn
   room = cond (nat_le 64 (length table)) (unmoved table (bare 503)) grown
 
-  pub is_there : {E : Type 0} (r : Result Reply E) (kept : List Kept) → is_some (given_at name table) ≡ true → IfOk r (λ y. y ≡ exists)
-      → Stands kept table → TakenTurn (added table name parts tolerance) table r kept
-  is_there r kept h q s = unmoved_turn table exists _ r kept (ap (λ c. cond c there room) h) q s
+  module _ {A : Type 0} (es fs : Entries A) (k : channel.Channel) (s : Stands (map kept_of es) table) where
+    left : fs ≡ es → Stands (map kept_of fs) table
+    left e = subst (λ l. Stands (map kept_of l) table) (sym e) s
 
-  pub is_full : {E : Type 0} (r : Result Reply E) (kept : List Kept) → is_some (given_at name table) ≡ false → nat_le 64 (length table) ≡ true → IfOk r (λ y. y ≡ bare 503)
-      → Stands kept table → TakenTurn (added table name parts tolerance) table r kept
-  is_full r kept free full q s =
-      unmoved_turn table (bare 503) _ r kept (ap (λ c. cond c there room) free ∙ ap (λ c. cond c (unmoved table (bare 503)) grown) full) q s
+    is_free : lookup (is_at name) es ≡ None → added table name parts tolerance ≡ room
+    is_free h = ap (λ c. cond c there room) (there_as es table name false s (ap is_some h))
 
-  pub is_added : {A : Type 0} (E : Type 0) (es fs : Entries A) (key : String A) (k : channel.Channel) (y : Reply) → is_some (given_at name table) ≡ false
-      → nat_le 64 (length table) ≡ false → fs ≡ es ++ (key, k) ∷ [] → Stands (map kept_of es) table → string_bytes key ≡ name
-      → IsGiven k (record { base = parts; tolerance = tolerance; events = [] }) → y ≡ bare 201 → TakenTurn {E = E} (added table name parts tolerance) table (Ok y) (map kept_of fs)
-  is_added E es fs key k y free room_is after s n h q =
-      let t = ap (λ c. cond c there room) free ∙ ap (λ c. cond c (unmoved table (bare 503)) grown) room_is in
-      subst (λ x. TakenTurn {E = E} x table (Ok y) (map kept_of fs)) (sym t)
-      (q, subst (λ l. Stands (map kept_of l) grown.table) (sym after) (added_behind name es table key k (record { base = parts; tolerance = tolerance; events = [] }) s n h))
+    pub is_taken : {E : Type 0} (r : Result Reply E) → PutsNamed {E = AllocError} 64 name k es (Ok naming.Taken) fs → IfOk r (λ y. y ≡ exists)
+        → TakenTurn (added table name parts tolerance) table r (map kept_of fs)
+    is_taken r p q = unmoved_turn table exists _ r _ (ap (λ c. cond c there room) (there_as es table name true s p.0)) q (left p.1)
 
-same_some : (o : Option channel.Channel) (q : Option Given) → Agree o q → is_some o ≡ is_some q
-same_some None None h = refl
-same_some (Some k) (Some g) h = refl
-same_some None (Some g) h = absurd h
-same_some (Some k) None h = absurd h
+    pub is_full : {E : Type 0} (r : Result Reply E) → PutsNamed {E = AllocError} 64 name k es (Ok naming.Full) fs → IfOk r (λ y. y ≡ bare 503)
+        → TakenTurn (added table name parts tolerance) table r (map kept_of fs)
+    is_full r p q =
+        let full = as_full _ _ p.1 (as_many es table s) in
+        unmoved_turn table (bare 503) _ r _ (is_free p.0 ∙ ap (λ c. cond c (unmoved table (bare 503)) grown) full) q (left p.2)
 
-pub there_as : {A : Type 0} (es : Entries A) (table : Table) (name : List ℕ) (b c : Bool) → Stands (map kept_of es) table → b ≡ is_some (lookup (is_at name) es) → b ≡ c
-    → is_some (given_at name table) ≡ c
-there_as es table name b c s e f = sym (same_some (lookup (is_at name) es) (given_at name table) (found name es table s)) ∙ sym e ∙ f
-
-pub as_full : (n m : ℕ) → 64 ≤ n → n ≡ m → nat_le 64 m ≡ true
-as_full n m h e = grind (arith, nat_tests)
-
-pub as_room : (n m : ℕ) → n < 64 → n ≡ m → nat_le 64 m ≡ false
-as_room n m h e = grind (arith, nat_tests)
-
-none_is : {X : Type 0} (o : Option X) → is_some o ≡ false → o ≡ None
-none_is None h = refl
-none_is (Some x) h = absurd (true≢false h)
-
-pub none_of : {A : Type 0} (es : Entries A) (name : List ℕ) (key : String A) → is_some (lookup (is_at name) es) ≡ false → string_bytes key ≡ name
-    → lookup (λ k. bytes_eq (string_bytes key) (string_bytes k)) es ≡ None
-none_of es name key h n = none_is _ (subst (λ m. is_some (lookup (is_at m) es) ≡ false) (sym n) h)
+    pub is_added : (E : Type 0) (y : Reply) → PutsNamed {E = AllocError} 64 name k es (Ok naming.Done) fs
+        → IsGiven k (record { base = parts; tolerance = tolerance; events = [] }) → y ≡ bare 201 → TakenTurn {E = E} (added table name parts tolerance) table (Ok y) (map kept_of fs)
+    is_added E y p h q =
+        let t = is_free p.0 ∙ ap (λ c. cond c (unmoved table (bare 503)) grown) (as_room _ _ p.1 (as_many es table s)) in
+        subst (λ x. TakenTurn {E = E} x table (Ok y) (map kept_of fs)) (sym t)
+        (q, subst (λ l. Stands (map kept_of l) grown.table) (sym p.4) (added_behind name es table p.2 k (record { base = parts; tolerance = tolerance; events = [] }) s p.3 h))

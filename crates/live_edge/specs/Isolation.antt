@@ -3,8 +3,8 @@ use Rattle.std.specs.Prelude.{◌≡◌, ℕ, ◌==◌, ◌&&◌, Bool, true, fa
 use Rattle.std.specs.List.{list_all}
 use Rattle.http_messages.specs.declared.message.Request.{Request}
 use Rattle.http_messages.specs.declared.message.Reply.{Reply}
-use Rattle.live_edge.specs.declared.routes.Resource.{Resource}
-use Rattle.live_edge.specs.Routes.{path_of, route_of}
+use Rattle.edge_messages.specs.declared.routes.Resource.{Resource}
+use Rattle.edge_messages.specs.Routes.{path_of, route_of}
 use Rattle.live_edge.specs.Table.{reply_to}
 use Rattle.live_edge.specs.Edges.{Kept, StandsFor, Answers}
 

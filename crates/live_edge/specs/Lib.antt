@@ -1,11 +1,8 @@
-pub mod Routes
 pub mod FaultTexts
 pub mod Channels
-pub mod ChannelBody
 pub mod Replies
 pub mod Table
 pub mod Events
 pub mod Edges
 pub mod Served
 pub mod Isolation
-pub mod Words

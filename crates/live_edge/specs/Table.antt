@@ -1,5 +1,5 @@
 -- The channels, and what is owed for a request.
-use Rattle.std.specs.Prelude.{◌≡◌, ℕ, Bool, nat_le, nat_lt, List, [], ◌∷◌, ◌++◌, codes, length, bytes_eq, Option, Some, None, is_some, Result, Ok, Err, if◌then◌else◌}
+use Rattle.std.specs.Prelude.{ℕ, Bool, nat_le, nat_lt, List, [], ◌∷◌, ◌++◌, codes, length, bytes_eq, Option, Some, None, is_some, Result, Ok, Err, if◌then◌else◌}
 use Rattle.url.specs.Parts.{Parts}
 use Rattle.playlist_meaning.specs.Uri.{base_of}
 use Rattle.live_counters.specs.Channel.{decided, refreshed}
@@ -8,14 +8,15 @@ use Rattle.http_messages.specs.declared.message.Request.{Request}
 use Rattle.http_messages.specs.declared.message.Reply.{Reply}
 use Rattle.http_messages.specs.declared.message.Allow.TheVariants as allow
 use Rattle.http_messages.specs.Replies.{bare}
-use Rattle.live_edge.specs.declared.channel_body.BodyFault.{BodyFault}
-use Rattle.live_edge.specs.declared.routes.Resource.{Resource}
-use Rattle.live_edge.specs.declared.routes.Resource.TheVariants.{Channel, Origin, Decisions, Live, Why}
+use Rattle.edge_messages.specs.declared.channel_body.BodyFault.{BodyFault}
+use Rattle.edge_messages.specs.declared.routes.Resource.{Resource}
+use Rattle.edge_messages.specs.declared.routes.Resource.TheVariants.{Channel, Origin, Decisions, Live, Why}
 use Rattle.live_edge.specs.declared.edge.TheConstants.{CHANNEL_LIMIT}
 use Rattle.live_edge.specs.Channels.{Given, with_event}
-use Rattle.live_edge.specs.ChannelBody.{body_said}
-use Rattle.live_edge.specs.Replies.{not_found, not_allowed, body_fault_reply, bad_base, bad_tolerance, exists, refresh_owed, decisions_owed, live_owed, why_owed}
-use Rattle.live_edge.specs.Routes.{path_of, route_of}
+use Rattle.edge_messages.specs.ChannelBody.{body_said}
+use Rattle.edge_messages.specs.Replies.{not_found, not_allowed, body_fault_reply, bad_base, bad_tolerance, exists}
+use Rattle.live_edge.specs.Replies.{refresh_owed, decisions_owed, live_owed, why_owed}
+use Rattle.edge_messages.specs.Routes.{path_of, route_of}
 
 -- ---- the table
 

@@ -1,19 +1,21 @@
 //! The channels, and what a request does to them.
-ghost use Rattle.std.specs.Prelude.{◌≡◌, [], IfOk, IsErr};
+ghost use Rattle.std.specs.Prelude.{◌≡◌, [], IfOk};
 ghost use Rattle.live_counters.specs.Channel.{refreshed, decided, StandsFor as IsChannelOf};
-ghost use Rattle.live_edge.specs.ChannelBody.{body_said};
-ghost use Rattle.live_edge.specs.Replies.{channel_fault_reply, refresh_owed, decisions_owed, live_owed, why_owed};
+ghost use Rattle.edge_messages.specs.ChannelBody.{body_said};
+ghost use Rattle.live_edge.specs.Replies.{refresh_owed, decisions_owed, live_owed, why_owed};
 ghost use Rattle.live_edge.specs.Table.{Table, turn, turn_at, is_method, made, added, removed, event_turn, read_turn, given_at};
 ghost use Rattle.live_edge.specs.Edges.{StandsFor, Answers, Stands, TakenTurn};
 
-use crate::channel_body::read_body;
 use crate::events::{decide, live, refresh};
-use crate::replies::{body_fault_reply, line, not_allowed, not_found, why_reply};
-use crate::routes::{Resource, Routes};
+use crate::replies::{channel_fault_reply, why_reply};
+use edge_messages::{
+    Naming, Resource, Routes, body_fault_reply, line, not_allowed, not_found, put_named, read_body,
+    remove_named,
+};
 use http::StatusCode;
 use http_messages::{Allow, Reply, Request};
 use indexmap::IndexMap;
-use live_counters::{Channel, ChannelFault};
+use live_counters::Channel;
 use std::alloc::{AllocError, Global};
 use std::marker::Model;
 
@@ -42,23 +44,6 @@ fn is_method(request: &Request, name: &str) -> bool
 {
     request.method.as_str() == name
 }
-
-// What a new channel was to be made with has a fault.
-fn channel_fault_reply(alloc: Global, fault: ChannelFault) -> Result<Reply, AllocError>
-    ensures reply { IfOk result (λ reply. reply ≡ channel_fault_reply fault) }
-    ensures memory { fault ≡ ChannelFault.OutOfMemory → IsErr result }
-{
-    match fault {
-        ChannelFault::BadBase => line(alloc, StatusCode::UNPROCESSABLE_ENTITY, "C1 BadBase"),
-        ChannelFault::BadTolerance => {
-            line(alloc, StatusCode::UNPROCESSABLE_ENTITY, "C2 BadTolerance")
-        }
-        ChannelFault::OutOfMemory => Err(AllocError),
-    }
-}
-
-// A channel that isn't taken in.
-fn discard(_channel: Channel) {}
 
 impl Edge {
     /// An edge without channels: it stands for no request. Fails only where memory is refused.
@@ -169,27 +154,19 @@ impl Edge {
         ensures { (table : Table) → Stands self.old table → TakenTurn (added table name.now channel.base channel.tolerance) table result self.new }
     {
         let alloc = self.alloc;
-        if self.channels.contains_key(name) {
-            discard(channel);
-            return line(alloc, StatusCode::CONFLICT, "channel exists");
-        }
-        if self.channels.len() >= CHANNEL_LIMIT {
-            discard(channel);
-            return Ok(Reply::bare(StatusCode::SERVICE_UNAVAILABLE));
-        }
-        let name = String::from_str(alloc, name)?;
-        match self.channels.insert(name, channel) {
-            Ok(_) => Ok(Reply::bare(StatusCode::CREATED)),
-            Err(_) => Err(AllocError),
+        match put_named(alloc, &mut self.channels, CHANNEL_LIMIT, name, channel)? {
+            Naming::Done => Ok(Reply::bare(StatusCode::CREATED)),
+            Naming::Taken => line(alloc, StatusCode::CONFLICT, "channel exists"),
+            Naming::Full => Ok(Reply::bare(StatusCode::SERVICE_UNAVAILABLE)),
         }
     }
 
     fn remove(&mut self, name: &str) -> Result<Reply, AllocError>
         ensures { (table : Table) → Stands self.old table → TakenTurn (removed table name.now (given_at name.now table)) table result self.new }
     {
-        let Some(_channel) = self.channels.shift_remove(name) else {
+        if !remove_named(&mut self.channels, name) {
             return not_found(self.alloc);
-        };
+        }
         Ok(Reply::bare(StatusCode::NO_CONTENT))
     }
 

@@ -1,10 +1,11 @@
 //! What a channel answers to the requests on it.
 ghost use Rattle.std.specs.Prelude.{◌≡◌, IfOk, Err};
 ghost use Rattle.live_counters.specs.Channel.{refreshed, decided, is_memory};
-ghost use Rattle.live_edge.specs.Replies.{refresh_owed, decisions_owed, live_reply};
+ghost use Rattle.edge_messages.specs.Replies.{live_reply};
+ghost use Rattle.live_edge.specs.Replies.{refresh_owed, decisions_owed};
 ghost use Rattle.live_edge.specs.Events.{Takes};
 
-use crate::replies::{not_found, refused_decisions, refused_refresh};
+use edge_messages::{not_found, refused_decisions, refused_refresh};
 use http::StatusCode;
 use http_messages::{Content, ContentType, Reply};
 use live_counters::Channel;

@@ -1,4 +1,4 @@
-use Rattle.std.proofs.Common.{subst, sym, ap, ◌∙◌}
+use Rattle.std.proofs.Common.{subst, sym, ◌∙◌}
 use Rattle.live_counters.specs.Channel.{Answers}
 use Rattle.live_edge.proofs.Given.{refresh_refused}
 use Rattle.live_edge.proofs.events.refresh.Goals as goal

@@ -2,10 +2,10 @@ use Rattle.std.proofs.Common.{◌≡◌, ◌+◌, ◌++◌, ◌∷◌, [], ◌�
 use Rattle.std.specs.Prelude.{string_bytes}
 use Rattle.std.specs.List.{flat_map}
 use Rattle.break_finder.specs.Entering.{id_of}
-use Rattle.live_edge.specs.FaultTexts.{why_word}
+use Rattle.edge_messages.specs.FaultTexts.{why_word}
 use Rattle.live_counters.specs.Channel.{explained}
-use Rattle.live_edge.specs.Replies.{why_line}
-use Rattle.live_edge.proofs.Lines.{one_more, no_more}
+use Rattle.edge_messages.specs.Replies.{why_line}
+use Rattle.edge_messages.proofs.Lines.{one_more, no_more}
 use Rattle.live_edge.proofs.replies.why_lines.Goals as goal
 
 pub loop-id-preserved : goal.loop-id-preserved

@@ -3,7 +3,7 @@ use Rattle.std.specs.Prelude.{string_bytes}
 use Rattle.std.specs.List.{flat_map}
 use Rattle.break_finder.specs.Entering.{id_of}
 use Rattle.live_counters.specs.Channel.{explained}
-use Rattle.live_edge.specs.Replies.{why_line}
+use Rattle.edge_messages.specs.Replies.{why_line}
 use Rattle.live_edge.proofs.replies.why_lines.Given as goal
 
 abbrev pub invariant-loop-id : goal.invariant-loop-id

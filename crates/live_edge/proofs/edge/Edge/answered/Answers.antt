@@ -1,6 +1,6 @@
 use Rattle.std.proofs.Common.{subst, sym, ap, ◌∙◌}
 use Rattle.std.specs.Prelude.{Some}
-use Rattle.live_edge.specs.Routes.{path_of, route_of}
+use Rattle.edge_messages.specs.Routes.{path_of, route_of}
 use Rattle.live_edge.specs.Table.{routed}
 use Rattle.live_edge.specs.Edges.{TakenTurn}
 use Rattle.live_edge.proofs.edge.Edge.answered.Goals as goal

@@ -1,6 +1,7 @@
 use Rattle.std.proofs.Common.{subst, sym, ap, map}
 use Rattle.live_counters.specs.Channel.{decided}
-use Rattle.live_edge.specs.Replies.{not_found, decisions_owed}
+use Rattle.edge_messages.specs.Replies.{not_found}
+use Rattle.live_edge.specs.Replies.{decisions_owed}
 use Rattle.live_edge.specs.Table.{event_turn}
 use Rattle.live_edge.specs.Edges.{Stands, kept_of}
 use Rattle.live_edge.proofs.Turns.{unmoved_turn, event_done, none_at}

@@ -1,5 +1,6 @@
 use Rattle.std.proofs.Common.{subst, sym, ap}
-use Rattle.live_edge.specs.Replies.{not_found, why_owed}
+use Rattle.edge_messages.specs.Replies.{not_found}
+use Rattle.live_edge.specs.Replies.{why_owed}
 use Rattle.live_edge.specs.Table.{read_turn}
 use Rattle.live_edge.specs.Edges.{Stands}
 use Rattle.live_edge.proofs.Turns.{unmoved_turn, why_turn, none_at}

@@ -3,7 +3,7 @@ ghost use Rattle.std.specs.Prelude.{◌≡◌, Ok, Err, Some, None, IfOk, IfErr,
 ghost use Rattle.serde_json.specs.View.{view};
 ghost use Rattle.serde_json.specs.Find.{get, as_str};
 ghost use Rattle.fixed_duration.specs.Duration.{duration_of};
-ghost use Rattle.live_edge.specs.ChannelBody.{json_said, value_said, body_said, tolerance_said, nanos_or_most, RefusesBody};
+ghost use Rattle.edge_messages.specs.ChannelBody.{json_said, value_said, body_said, tolerance_said, nanos_or_most, RefusesBody};
 
 use fixed_duration::Nanos;
 use playlist_meaning::{Text, text_of};

@@ -1,7 +1,7 @@
 //! The words of the program that serves live channels.
 ghost use Rattle.std.specs.Prelude.{◌≡◌, map, option_map, string_bytes};
 ghost use Rattle.attr_list.specs.Numbers.{decimal_of};
-ghost use Rattle.live_edge.specs.Words.{port_said, count_said, live_said, live_asked};
+ghost use Rattle.edge_messages.specs.Words.{port_said, count_said, live_said, live_asked};
 
 use attr_list::read_decimal;
 

@@ -1,7 +1,7 @@
 -- What the words of the program that serves live channels ask for.
 use Rattle.std.specs.Prelude.{ℕ, ◌||◌, ◌==◌, nat_lt, List, [], ◌∷◌, codes, Option, Some, None, bytes_eq, if◌then◌else◌}
 use Rattle.attr_list.specs.Numbers.{decimal_of}
-use Rattle.live_edge.specs.declared.words.LiveWords.{LiveWords}
+use Rattle.edge_messages.specs.declared.words.LiveWords.{LiveWords}
 
 -- from 1 to 65535
 abbrev pub port_said : Option ℕ → Option ℕ

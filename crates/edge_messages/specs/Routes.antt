@@ -6,8 +6,8 @@ use Rattle.std.specs.Char.{is_ascii_digit, is_ascii_lowercase}
 use Rattle.matchit.specs.Rows.{RowsOf}
 use Rattle.matchit.specs.Router.{RouteOf}
 use Rattle.matchit.specs.Seek.{first}
-use Rattle.live_edge.specs.declared.routes.Resource.{Resource}
-use Rattle.live_edge.specs.declared.routes.Resource.TheVariants.{Channel, Origin, Decisions, Live, Why}
+use Rattle.edge_messages.specs.declared.routes.Resource.{Resource}
+use Rattle.edge_messages.specs.declared.routes.Resource.TheVariants.{Channel, Origin, Decisions, Live, Why}
 
 abbrev pub is_name_byte : ℕ → Bool
 is_name_byte b = is_ascii_lowercase b || is_ascii_digit b || b == 45

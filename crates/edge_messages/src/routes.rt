@@ -1,7 +1,7 @@
 //! What a path names.
-ghost use Rattle.std.specs.Prelude.{◌≡◌, drop, option_map, false, MatchOption};
+ghost use Rattle.std.specs.Prelude.{◌≡◌, [], drop, option_map, false, MatchOption, OnOk};
 ghost use Rattle.std.specs.List.{list_all};
-ghost use Rattle.live_edge.specs.Routes.{is_name_byte, is_name, path_of, name_in, found_at, route_of, pair};
+ghost use Rattle.edge_messages.specs.Routes.{is_name_byte, is_name, path_of, route_rows, name_in, found_at, route_of, pair};
 
 use matchit::{InsertError, Router};
 use std::alloc::Global;
@@ -25,7 +25,7 @@ pub struct Routes {
 
 impl Model for Routes {
     ghost use Rattle.std.specs.Prelude.{◌≡◌};
-    ghost use Rattle.live_edge.specs.Routes.{route_rows};
+    ghost use Rattle.edge_messages.specs.Routes.{route_rows};
 
     ghost Value = { Unit {0} };
 
@@ -86,14 +86,23 @@ pub fn is_name(name: &str) -> bool
     are_name_bytes(name.as_bytes())
 }
 
+// The routes go into a router that has none.
+fn insert_routes(router: &mut Router<Resource>) -> Result<(), InsertError>
+    requires { router.old ≡ [] }
+    ensures { OnOk result (router.new ≡ route_rows) }
+{
+    router.insert("/channels/{name}", Resource::Channel)?;
+    router.insert("/channels/{name}/origin", Resource::Origin)?;
+    router.insert("/channels/{name}/decisions", Resource::Decisions)?;
+    router.insert("/channels/{name}/live.m3u8", Resource::Live)?;
+    router.insert("/channels/{name}/why", Resource::Why)?;
+    Ok(())
+}
+
 impl Routes {
     pub fn new(alloc: Global) -> Result<Routes, InsertError> {
         let mut router = Router::new(alloc);
-        router.insert("/channels/{name}", Resource::Channel)?;
-        router.insert("/channels/{name}/origin", Resource::Origin)?;
-        router.insert("/channels/{name}/decisions", Resource::Decisions)?;
-        router.insert("/channels/{name}/live.m3u8", Resource::Live)?;
-        router.insert("/channels/{name}/why", Resource::Why)?;
+        insert_routes(&mut router)?;
         Ok(Routes { router })
     }
 

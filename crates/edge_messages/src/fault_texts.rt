@@ -1,6 +1,6 @@
 //! How a refused refresh and the state of a break are told.
 ghost use Rattle.std.specs.Prelude.{◌≡◌, ◌≤◌, length};
-ghost use Rattle.live_edge.specs.FaultTexts.{refresh_fault_text, why_word};
+ghost use Rattle.edge_messages.specs.FaultTexts.{refresh_fault_text, why_word};
 
 use arrayvec::ArrayString;
 use break_finder::Why;

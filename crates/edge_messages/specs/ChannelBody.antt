@@ -6,9 +6,9 @@ use Rattle.serde_json.specs.Read.{read as read_text}
 use Rattle.serde_json.specs.Find.{get, as_str}
 use Rattle.fixed_duration.specs.Duration.{duration_of}
 use Rattle.fixed_duration.specs.declared.DurationFault.{DurationFault}
-use Rattle.live_edge.specs.declared.channel_body.BodyFault.{BodyFault}
-use Rattle.live_edge.specs.declared.channel_body.BodyFault.TheVariants.{NotJson, Shape, OutOfMemory}
-use Rattle.live_edge.specs.declared.channel_body.TheConstants.{USUAL_TOLERANCE}
+use Rattle.edge_messages.specs.declared.channel_body.BodyFault.{BodyFault}
+use Rattle.edge_messages.specs.declared.channel_body.BodyFault.TheVariants.{NotJson, Shape, OutOfMemory}
+use Rattle.edge_messages.specs.declared.channel_body.TheConstants.{USUAL_TOLERANCE}
 
 -- the JSON value of a body, as `serde_json` reads it
 abbrev pub json_said : List ℕ → Option Data

@@ -1,0 +1,21 @@
+//! What requests on the edge name and say, the replies to them, and values under names, no channel among them.
+#![tactic(auto)]
+
+mod channel_body;
+mod fault_texts;
+mod named;
+mod replies;
+mod routes;
+mod timed;
+mod words;
+
+pub use channel_body::{BodyFault, Wanted, read_body};
+pub use fault_texts::{FaultText, refresh_fault_text, why_word};
+pub use named::{Naming, put_named, remove_named};
+pub use replies::{
+    body_fault_reply, line, not_allowed, not_found, push_line, refused_decisions, refused_refresh,
+    text_reply,
+};
+pub use routes::{Resource, Routes};
+pub use timed::Timed;
+pub use words::{LiveWords, read_live_words};
