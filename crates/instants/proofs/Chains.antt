@@ -23,7 +23,3 @@ as_text s h e = h ∙ ap (λ x. s ++ x) e
 -- nothing was added
 pub unchanged : (s a : List ℕ) → a ≡ [] → s ≡ s ++ a
 unchanged s a e = sym (append-nil s) ∙ ap (λ x. s ++ x) (sym e)
-
-pub grown6 : (s a b c d e f : List ℕ) {s1 s2 s3 s4 s5 s6 : List ℕ} → s1 ≡ s ++ a → s2 ≡ s1 ++ b → s3 ≡ s2 ++ c → s4 ≡ s3 ++ d → s5 ≡ s4 ++ e → s6 ≡ s5 ++ f
-    → s6 ≡ s ++ (a ++ (b ++ (c ++ (d ++ (e ++ f)))))
-grown6 s a b c d e f {s1} {s2} {s3} h1 h2 h3 h4 h5 h6 = grown3 s a b (c ++ (d ++ (e ++ f))) h1 h2 (grown4 s2 c d e f h3 h4 h5 h6)

@@ -1,6 +1,8 @@
 pub mod Chains
 pub mod FixedDigits
 pub mod WalkedDates
+pub mod DividedDates
+pub mod AsciiTexts
 pub mod Dates
 pub mod TimeLaws
 pub mod CivilDays

@@ -1,13 +1,13 @@
 //! How an instant is written.
-ghost use Rattle.std.specs.Prelude.{◌≡◌, ◌++◌, ◌<◌, ◌≤◌, ◌^◌, ◌+◌, [], ◌∷◌, OnOk, OnErr, string_bytes, string_len, string_capacity, Some, true};
-ghost use Rattle.std.specs.Prelude.{◌/◌, ◌%◌};
+ghost use Rattle.std.specs.Prelude.{◌≡◌, ◌++◌, ◌<◌, ◌≤◌, ◌^◌, ◌+◌, ◌-◌, ◌*◌, ◌/◌, [], ◌∷◌, take, OnErr, string_bytes, Some, true};
 ghost use Rattle.instants.specs.Instant.{is_leap, days_in_month, in_range, instant_of};
 ghost use Rattle.instants.specs.Digits.{fixed_digits};
-ghost use Rattle.instants.specs.Times.{from_1900, days_in_year, year_after, month_after, decimals, date_at, clock_text, time_text};
+ghost use Rattle.instants.specs.Times.{from_1900, days_in_year, year_after, month_after, decimals, date_at, clock_text, text_at, time_text};
 ghost use Rattle.fixed_duration.specs.Appended.{Appends};
 
 use crate::{FIRST_INSTANT, Instant};
 use std::alloc::AllocError;
+use std::str;
 
 // `YYYY-MM-DDThh:mm:ss.nnnnnnnnnZ` has this many bytes.
 const LONGEST: usize = 30;
@@ -15,65 +15,56 @@ const LONGEST: usize = 30;
 /// The nanoseconds from the first instant to 1970.
 const NANOS_TO_1970: u64 = (-FIRST_INSTANT) as u64;
 
-/// The days from the first of 1900 to the first of 2020.
-const DAYS_TO_2020: u64 = 43_829;
+/// The days from the first of 1900 to the first of 1901.
+const DAYS_TO_1901: u64 = 365;
 
-// Appends an ASCII character.
-fn push_mark(out: &mut String, mark: char)
-    requires ascii { mark < 128 }
-    requires room { string_len out.old + 1 ≤ string_capacity out.old }
-    ensures text { string_bytes out.new ≡ string_bytes out.old ++ mark ∷ [] }
-    ensures len { string_len out.new ≡ string_len out.old + 1 }
-    ensures capacity { string_capacity out.old ≤ string_capacity out.new }
+/// The days from the first of 1900 to the first of 2100.
+const DAYS_TO_2100: u64 = 73_049;
+
+/// The days of each four years in which one is a leap year.
+const DAYS_OF_FOUR_YEARS: u64 = 1461;
+
+// The two digits of each number below 100.
+static PAIRS: [u8; 200] =
+    *b"00010203040506070809101112131415161718192021222324252627282930313233343536373839404142434445464748495051525354555657585960616263646566676869707172737475767778798081828384858687888990919293949596979899";
+
+// Writes one character behind the first `at` ones.
+fn put_mark(text: &mut [u8; LONGEST], at: usize, mark: u8)
+    requires { at < 30 }
+    ensures { take (at + 1) text.new ≡ take at text.old ++ mark ∷ [] }
 {
-    out.push(mark).unwrap();
+    text[at] = mark;
 }
 
-// Appends the last `count` decimal digits of a number.
-fn push_digits(out: &mut String, number: u64, count: u8)
-    requires { string_len out.old + count ≤ string_capacity out.old }
-    ensures text { string_bytes out.new ≡ string_bytes out.old ++ fixed_digits 10 count number }
-    ensures len { string_len out.new ≡ string_len out.old + count }
-    ensures capacity { string_capacity out.old ≤ string_capacity out.new }
+// Writes the two digits of a number.
+fn put_two(text: &mut [u8; LONGEST], at: usize, number: u64)
+    requires small { number < 100 }
+    requires room { at + 2 ≤ 30 }
+    ensures { take (at + 2) text.new ≡ take at text.old ++ fixed_digits 10 2 number }
 {
-    if count == 0 {
-        return;
-    }
-    push_digits(out, number / 10, count - 1);
-    push_mark(out, (b'0' + (number % 10) as u8) as char);
+    let from = number as usize * 2;
+    put_mark(text, at, PAIRS[from]);
+    put_mark(text, at + 1, PAIRS[from + 1]);
 }
 
-// Appends the last two decimal digits of a number.
-fn push_two(out: &mut String, number: u64)
-    requires { string_len out.old + 2 ≤ string_capacity out.old }
-    ensures text { string_bytes out.new ≡ string_bytes out.old ++ fixed_digits 10 2 number }
-    ensures len { string_len out.new ≡ string_len out.old + 2 }
-    ensures capacity { string_capacity out.old ≤ string_capacity out.new }
+// Writes the three digits of a number.
+fn put_three(text: &mut [u8; LONGEST], at: usize, number: u64)
+    requires small { number < 1000 }
+    requires room { at + 3 ≤ 30 }
+    ensures { take (at + 3) text.new ≡ take at text.old ++ fixed_digits 10 3 number }
 {
-    push_mark(out, (b'0' + (number / 10 % 10) as u8) as char);
-    push_mark(out, (b'0' + (number % 10) as u8) as char);
+    put_mark(text, at, b'0' + (number / 100) as u8);
+    put_two(text, at + 1, number % 100);
 }
 
-// Appends the last three decimal digits of a number.
-fn push_three(out: &mut String, number: u64)
-    requires { string_len out.old + 3 ≤ string_capacity out.old }
-    ensures text { string_bytes out.new ≡ string_bytes out.old ++ fixed_digits 10 3 number }
-    ensures len { string_len out.new ≡ string_len out.old + 3 }
-    ensures capacity { string_capacity out.old ≤ string_capacity out.new }
+// Writes the four digits of a number.
+fn put_four(text: &mut [u8; LONGEST], at: usize, number: u64)
+    requires small { number < 10000 }
+    requires room { at + 4 ≤ 30 }
+    ensures { take (at + 4) text.new ≡ take at text.old ++ fixed_digits 10 4 number }
 {
-    push_mark(out, (b'0' + (number / 100 % 10) as u8) as char);
-    push_two(out, number);
-}
-
-// Appends the last four decimal digits of a number.
-fn push_four(out: &mut String, number: u64)
-    requires { string_len out.old + 4 ≤ string_capacity out.old }
-    ensures text { string_bytes out.new ≡ string_bytes out.old ++ fixed_digits 10 4 number }
-    ensures len { string_len out.new ≡ string_len out.old + 4 }
-    ensures capacity { string_capacity out.old ≤ string_capacity out.new }
-{
-    push_two(out, number / 100);
-    push_two(out, number);
+    put_two(text, at, number / 100);
+    put_two(text, at + 2, number % 100);
 }
 
 fn is_leap(year: u64) -> bool
@@ -105,6 +96,7 @@ fn days_in_month(year: u64, month: u64) -> u64
 fn year_after(turns: u16, year: u64, days: u64) -> (u64, u64)
     requires { year + turns < 2 ^ 64 }
     ensures value { result ≡ year_after turns year days }
+    ensures bound { result.0 ≤ year + turns }
     ensures within { result.1 ≤ days }
 {
     if turns == 0 {
@@ -117,22 +109,25 @@ fn year_after(turns: u16, year: u64, days: u64) -> (u64, u64)
 }
 
 // The year in which a day lies that is so many days after the first of 1900, and which day of it.
-#[tactic(auto, using(crate::proofs::WalkedDates::years_skipped))]
 fn year_of(days: u64) -> (u64, u64)
     ensures value { result ≡ year_after 300 1900 days }
+    ensures bound { result.0 ≤ 2200 }
     ensures within { result.1 ≤ days }
 {
-    // Most playlists are of these years: the walk begins near them.
-    if days >= DAYS_TO_2020 {
-        return year_after(180, 2020, days - DAYS_TO_2020);
+    if days < DAYS_TO_1901 || days >= DAYS_TO_2100 {
+        return year_after(300, 1900, days);
     }
-    year_after(300, 1900, days)
+    // From 1901 to 2099 each fourth year is a leap year.
+    let since = days - DAYS_TO_1901;
+    let years = (4 * since + 3) / DAYS_OF_FOUR_YEARS;
+    (1901 + years, since - DAYS_OF_FOUR_YEARS * years / 4)
 }
 
 // The same with months of a year.
 fn month_after(turns: u16, year: u64, month: u64, days: u64) -> (u64, u64)
     requires { month + turns < 2 ^ 64 }
     ensures value { result ≡ month_after turns year month days }
+    ensures bound { result.0 ≤ month + turns }
     ensures within { result.1 ≤ days }
 {
     if turns == 0 {
@@ -149,6 +144,34 @@ fn month_after(turns: u16, year: u64, month: u64, days: u64) -> (u64, u64)
     )
 }
 
+// The month of a day and which day of it, in a year whose February has 30 days: its months begin
+// at even steps of 367 twelfths of a day.
+fn even_month(days: u64) -> (u64, u64)
+    requires { days < 367 }
+    ensures month { result.0 ≡ (12 * days + 373) / 367 }
+    ensures day { result.1 ≡ days - (367 * ((12 * days + 373) / 367) - 362) / 12 }
+{
+    let month = (12 * days + 373) / 367;
+    (month, days - (367 * month - 362) / 12)
+}
+
+// The month in which a day of a year lies, and which day of it.
+fn month_of(year: u64, days: u64) -> (u64, u64)
+    ensures value { result ≡ month_after 12 year 1 days }
+    ensures bound { result.0 ≤ 13 }
+    ensures within { result.1 ≤ days }
+{
+    let year_days = days_in_year(year);
+    if days >= year_days {
+        return month_after(12, year, 1, days);
+    }
+    // 306 days of each year lie behind its February.
+    if days + 306 < year_days {
+        return even_month(days);
+    }
+    even_month(days + 367 - year_days)
+}
+
 // Nanoseconds from 1900.
 fn from_1900(time: Instant) -> u64
     ensures { result ≡ from_1900 time }
@@ -161,46 +184,58 @@ fn from_1900(time: Instant) -> u64
     }
 }
 
-fn push_date(out: &mut String, days: u64)
-    requires days { days < 2 ^ 40 }
-    requires room { string_len out.old + 10 ≤ string_capacity out.old }
-    ensures text { string_bytes out.new ≡ string_bytes out.old ++ date_at days }
-    ensures len { string_len out.new ≡ string_len out.old + 10 }
-    ensures capacity { string_capacity out.old ≤ string_capacity out.new }
+fn put_date(text: &mut [u8; LONGEST], days: u64)
+    requires { days < 2 ^ 40 }
+    ensures { take 10 text.new ≡ date_at days }
 {
     let (year, rest) = year_of(days);
-    let (month, day) = month_after(12, year, 1, rest);
-    push_four(out, year);
-    push_mark(out, '-');
-    push_two(out, month);
-    push_mark(out, '-');
-    push_two(out, day + 1);
+    let (month, day) = month_of(year, rest);
+    put_four(text, 0, year);
+    put_mark(text, 4, b'-');
+    put_two(text, 5, month);
+    put_mark(text, 7, b'-');
+    put_two(text, 8, (day + 1) % 100);
 }
 
-fn push_clock(out: &mut String, seconds: u64)
-    requires { string_len out.old + 8 ≤ string_capacity out.old }
-    ensures text { string_bytes out.new ≡ string_bytes out.old ++ clock_text seconds [] }
-    ensures len { string_len out.new ≡ string_len out.old + 8 }
-    ensures capacity { string_capacity out.old ≤ string_capacity out.new }
+fn put_clock(text: &mut [u8; LONGEST], seconds: u64)
+    requires { seconds < 86400 }
+    ensures { take 19 text.new ≡ take 11 text.old ++ clock_text seconds [] }
 {
-    push_two(out, seconds / 3600);
-    push_mark(out, ':');
-    push_two(out, seconds / 60 % 60);
-    push_mark(out, ':');
-    push_two(out, seconds % 60);
+    put_two(text, 11, seconds / 3600);
+    put_mark(text, 13, b':');
+    put_two(text, 14, seconds / 60 % 60);
+    put_mark(text, 16, b':');
+    put_two(text, 17, seconds % 60);
 }
 
-fn push_decimals(out: &mut String, nanos: u64)
-    requires { string_len out.old + 9 ≤ string_capacity out.old }
-    ensures text { string_bytes out.new ≡ string_bytes out.old ++ decimals nanos }
-    ensures len { string_len out.new ≤ string_len out.old + 9 }
-    ensures capacity { string_capacity out.old ≤ string_capacity out.new }
+// Writes the decimals, and returns where they end.
+fn put_decimals(text: &mut [u8; LONGEST], nanos: u64) -> usize
+    requires { nanos < 1000000000 }
+    ensures text { take result text.new ≡ take 20 text.old ++ decimals nanos }
+    ensures room { result < 30 }
 {
     if nanos % 1_000_000 == 0 {
-        push_three(out, nanos / 1_000_000);
-    } else {
-        push_digits(out, nanos, 9);
+        put_three(text, 20, nanos / 1_000_000);
+        return 23;
     }
+    put_three(text, 20, nanos / 1_000_000);
+    put_three(text, 23, nanos / 1000 % 1000);
+    put_three(text, 26, nanos % 1000);
+    29
+}
+
+// Writes the instant so many nanoseconds after 1900, and returns where it ends.
+fn put_time(text: &mut [u8; LONGEST], nanos: u64) -> usize
+    ensures text { take result text.new ≡ text_at nanos }
+    ensures room { result ≤ 30 }
+{
+    put_date(text, nanos / 86_400_000_000_000);
+    put_mark(text, 10, b'T');
+    put_clock(text, nanos / 1_000_000_000 % 86_400);
+    put_mark(text, 19, b'.');
+    let end = put_decimals(text, nanos % 1_000_000_000);
+    put_mark(text, end, b'Z');
+    end + 1
 }
 
 /// Appends an instant in UTC with `Z`, with three decimals of a second, or nine where three would
@@ -214,12 +249,9 @@ pub fn write_instant(instant: Instant, out: &mut String) -> Result<(), AllocErro
     ensures again { in_range instant ≡ true → instant_of (time_text instant) ≡ Some instant }
 {
     let nanos = from_1900(instant);
-    out.reserve(LONGEST)?;
-    push_date(out, nanos / 86_400_000_000_000);
-    push_mark(out, 'T');
-    push_clock(out, nanos / 1_000_000_000 % 86_400);
-    push_mark(out, '.');
-    push_decimals(out, nanos % 1_000_000_000);
-    push_mark(out, 'Z');
-    Ok(())
+    let mut bytes = [b'0'; LONGEST];
+    let end = put_time(&mut bytes, nanos);
+    // What is written is ASCII.
+    let text = unsafe { str::from_utf8_unchecked(&bytes[..end]) };
+    out.push_str(text)
 }
