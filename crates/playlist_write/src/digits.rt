@@ -6,17 +6,16 @@ ghost use Rattle.fixed_duration.specs.Appended.{Appends};
 
 use std::alloc::AllocError;
 
+static GLYPHS: [u8; 16] = *b"0123456789ABCDEF";
+
 // The digit of a value below 16.
 fn glyph(value: u8) -> char
     requires { value < 16 }
     ensures glyph { result ≡ digit_glyph true value }
     ensures ascii { result < 128 }
 {
-    if value < 10 {
-        (b'0' + value) as char
-    } else {
-        (b'A' + (value - 10)) as char
-    }
+    // By the remainder the compiler knows that `push` need not look for wide characters.
+    (GLYPHS[value as usize] % 128) as char
 }
 
 // Appends the last `count` hexadecimal digits of a number.
@@ -40,8 +39,8 @@ fn push_two(out: &mut String, number: u32) -> Result<(), AllocError>
     Ok(())
 }
 
-// The same of four digits.
-fn push_four(out: &mut String, number: u32) -> Result<(), AllocError>
+/// Appends the last four hexadecimal digits of a number.
+pub fn push_four(out: &mut String, number: u32) -> Result<(), AllocError>
     ensures { Appends result out.old out.new (fixed_digits 16 4 number) }
 {
     push_two(out, number / 256)?;

@@ -1,5 +1,5 @@
 //! Key tags and map tags (RFC 8216, sections 4.3.2.4 and 4.3.2.5).
-ghost use Rattle.std.specs.Prelude.{◌≡◌, ◌++◌, OnOk, string_bytes, map, filter, Some};
+ghost use Rattle.std.specs.Prelude.{◌≡◌, ◌∷◌, ◌++◌, OnOk, string_bytes, map, filter, Some};
 ghost use Rattle.attr_list.specs.Attributes.{pair_spelling};
 ghost use Rattle.playlist_write.specs.Spelling.{plain, in_quotes, iv_pairs, format_pairs, attr_pair, part_pairs, after_commas};
 ghost use Rattle.playlist_meaning.specs.Said as Said;
@@ -7,7 +7,7 @@ ghost use Rattle.playlist_write.specs.Owed.{line_of, said_text, keys_owed, set_t
 ghost use Rattle.stitcher.specs.KeyTags.{is_new};
 ghost use Rattle.fixed_duration.specs.Appended.{Appends};
 
-use crate::digits::push_iv_digits;
+use crate::digits::{push_four, push_iv_digits};
 use crate::lines::{push_feed, push_line, push_range};
 use playlist_meaning::{ByteRange, InitSection, Key, KeyAttr};
 use std::alloc::AllocError;
@@ -32,14 +32,29 @@ fn push_quoted(out: &mut String, name: &str, value: &str) -> Result<(), AllocErr
     out.push('"')
 }
 
-fn push_iv(out: &mut String, iv: Option<u128>) -> Result<(), AllocError>
-    ensures { Appends result out.old out.new (after_commas (iv_pairs iv)) }
+// Appends the closing quote of a value, and then an initialisation vector.
+fn push_quote_and_iv(out: &mut String, iv: u128) -> Result<(), AllocError>
+    ensures { Appends result out.old out.new (34 ∷ after_commas (iv_pairs (Some iv))) }
 {
-    if let Some(iv) = iv {
-        out.push_str(",IV=0x")?;
-        push_iv_digits(out, iv)?;
+    // The first segments' numbers have four digits (RFC 8216, 5.2).
+    if iv < 65_536 {
+        out.push_str("\",IV=0x0000000000000000000000000000")?;
+        push_four(out, iv as u32)?;
+        return Ok(());
     }
+    out.push_str("\",IV=0x")?;
+    push_iv_digits(out, iv)?;
     Ok(())
+}
+
+// Appends the closing quote of a value, and then the initialisation vector where there is one.
+fn push_iv(out: &mut String, iv: Option<u128>) -> Result<(), AllocError>
+    ensures { Appends result out.old out.new (34 ∷ after_commas (iv_pairs iv)) }
+{
+    match iv {
+        Some(iv) => push_quote_and_iv(out, iv),
+        None => out.push('"'),
+    }
 }
 
 fn push_format(out: &mut String, format: &str) -> Result<(), AllocError>
@@ -75,9 +90,10 @@ fn push_attrs(out: &mut String, attrs: &[KeyAttr]) -> Result<(), AllocError>
 fn push_key(out: &mut String, key: &Key) -> Result<(), AllocError>
     ensures { Appends result out.old out.new (key_line key.now) }
 {
-    out.push_str("#EXT-X-KEY:")?;
-    push_plain(out, "METHOD", key.method.as_str())?;
-    push_quoted(out, ",URI", key.uri.as_str())?;
+    out.push_str("#EXT-X-KEY:METHOD=")?;
+    out.push_str(key.method.as_str())?;
+    out.push_str(",URI=\"")?;
+    out.push_str(key.uri.as_str())?;
     push_iv(out, key.iv)?;
     push_format(out, key.format.as_str())?;
     push_attrs(out, key.other.as_slice())?;
@@ -112,8 +128,7 @@ fn push_no_keys(out: &mut String) -> Result<(), AllocError>
     push_line(out, "#EXT-X-KEY:METHOD=NONE")
 }
 
-/// Appends the key tags that lead from keys to keys.
-pub fn push_key_tags(out: &mut String, old: &[Key], new: &[Key]) -> Result<(), AllocError>
+fn push_tags_between(out: &mut String, old: &[Key], new: &[Key]) -> Result<(), AllocError>
     ensures { Appends result out.old out.new (said_text (keys_owed old.now new.now)) }
 {
     if keeps_formats(old, new) {
@@ -121,6 +136,17 @@ pub fn push_key_tags(out: &mut String, old: &[Key], new: &[Key]) -> Result<(), A
     }
     push_no_keys(out)?;
     push_keys(out, new)
+}
+
+/// Appends the key tags that lead from keys to keys.
+pub fn push_key_tags(out: &mut String, old: &[Key], new: &[Key]) -> Result<(), AllocError>
+    ensures { Appends result out.old out.new (said_text (keys_owed old.now new.now)) }
+{
+    // Most playlists have no keys.
+    if old.is_empty() && new.is_empty() {
+        return Ok(());
+    }
+    push_tags_between(out, old, new)
 }
 
 fn push_part(out: &mut String, part: Option<ByteRange>) -> Result<(), AllocError>

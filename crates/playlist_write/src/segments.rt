@@ -3,7 +3,7 @@ ghost use Rattle.std.specs.Prelude.{◌≡◌, ◌++◌, [], OnOk, string_bytes,
 ghost use Rattle.std.specs.Option.{option_copied};
 ghost use Rattle.playlist_meaning.specs.Said as Said;
 ghost use Rattle.playlist_meaning.specs.Same.{same_option, same_section};
-ghost use Rattle.playlist_write.specs.Owed.{none_yet, line_of, said_text, changed_section, section_owed, keys_then, time_owed, range_owed, media_owed, segment_owed, segments_owed};
+ghost use Rattle.playlist_write.specs.Owed.{none_yet, line_of, with_feed, said_text, changed_section, section_owed, keys_then, time_owed, range_owed, media_owed, segment_owed, segments_owed};
 ghost use Rattle.fixed_duration.specs.Appended.{Appends};
 
 use crate::keys::{push_key_tags, push_section};
@@ -102,13 +102,23 @@ fn push_time_tag(out: &mut String, time: Option<Instant>) -> Result<(), AllocErr
     Ok(())
 }
 
+fn push_title(out: &mut String, title: &str) -> Result<(), AllocError>
+    ensures { Appends result out.old out.new (with_feed title.now) }
+{
+    // Most segments have none.
+    if title.is_empty() {
+        return push_feed(out);
+    }
+    push_line(out, title)
+}
+
 fn push_duration(out: &mut String, duration: Nanos, title: &str) -> Result<(), AllocError>
     ensures { Appends result out.old out.new (line_of (Said.duration duration title.now)) }
 {
     out.push_str("#EXTINF:")?;
     duration.write_to(out)?;
     out.push_str(",")?;
-    push_line(out, title)?;
+    push_title(out, title)?;
     Ok(())
 }
 
@@ -156,12 +166,13 @@ fn push_segment(
     ensures { OnOk result (string_bytes out.new ≡ string_bytes out.old
         ++ said_text (segment_owed (record { keys = keys.now; section = option_copied section.entry }) next.now)) }
 {
-    let changed = changed_section(section, &next.segment.section);
+    let segment: &Segment = &next.segment;
+    let changed = changed_section(section, &segment.section);
     push_steps(out, next.steps)?;
     push_changed_section(out, keys, changed)?;
-    push_key_tags(out, keys_then(keys, changed), next.segment.keys.as_slice())?;
+    push_key_tags(out, keys_then(keys, changed), segment.keys.as_slice())?;
     push_time_tag(out, next.time)?;
-    push_media(out, &next.segment)?;
+    push_media(out, segment)?;
     Ok(())
 }
 
