@@ -1,3 +1,4 @@
+pub mod Feeds
 pub mod HasCount
 pub mod Kept
 pub mod LineLemmas
