@@ -39,19 +39,11 @@ fn is_blank(line: &str) -> bool
     line.as_bytes().iter().all(|b| *b == b' ')
 }
 
-#[tactic(auto, using(crate::proofs::LineLemmas::duration_tag, crate::proofs::LineLemmas::tag_without_colon, crate::proofs::LineLemmas::tag_with_colon))]
+#[tactic(auto, using(crate::proofs::LineLemmas::tag_without_colon, crate::proofs::LineLemmas::tag_with_colon))]
 /// What kind of line a text without a line feed is.
 pub fn kind_of(line: &str) -> LineKind<'_>
     ensures { line_kind_view result ≡ kind_of line.now }
 {
-    // The tag that every segment has, known without a search.
-    if let Some(stated) = line.strip_prefix("#EXTINF:") {
-        return LineKind::Tag {
-            name: "EXTINF",
-            rest: stated,
-            colon: true,
-        };
-    }
     if is_blank(line) {
         return LineKind::Ignored;
     }

@@ -73,6 +73,10 @@ impl<'a> Progress<'a> {
         if has_control(line) {
             return Err(FaultKind::Control);
         }
+        // The tag that every segment has, taken without the other tags' names.
+        if let Some(stated) = line.strip_prefix("#EXTINF:") {
+            return self.duration(stated);
+        }
         match kind_of(line) {
             LineKind::Ignored => Ok(()),
             LineKind::Uri(uri) => self.uri(uri),

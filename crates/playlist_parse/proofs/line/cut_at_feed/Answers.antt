@@ -1,4 +1,3 @@
-use Rattle.std.proofs.Common.{◌≡◌, ◌∙◌}
 use Rattle.playlist_parse.proofs.Feeds.{no_feed, feed_ends, cut}
 use Rattle.playlist_parse.proofs.line.cut_at_feed.Goals as goal
 
