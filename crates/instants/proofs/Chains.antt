@@ -11,11 +11,6 @@ grown3 s a b c {t} h g f = grown2 s a (b ++ c) h (grown2 t b c g f)
 pub grown4 : (s a b c d : List ℕ) {t u v w : List ℕ} → t ≡ s ++ a → u ≡ t ++ b → v ≡ u ++ c → w ≡ v ++ d → w ≡ s ++ (a ++ (b ++ (c ++ d)))
 grown4 s a b c d {t} h g f e = grown2 s a (b ++ (c ++ d)) h (grown3 t b c d g f e)
 
-pub grown7 : (s a b c d e f g : List ℕ) {s1 s2 s3 s4 s5 s6 s7 : List ℕ} → s1 ≡ s ++ a → s2 ≡ s1 ++ b → s3 ≡ s2 ++ c → s4 ≡ s3 ++ d → s5 ≡ s4 ++ e → s6 ≡ s5 ++ f → s7 ≡ s6 ++ g
-    → s7 ≡ s ++ (a ++ (b ++ (c ++ (d ++ (e ++ (f ++ g))))))
-grown7 s a b c d e f g {s1} {s2} {s3} {s4} h1 h2 h3 h4 h5 h6 h7 =
-    grown4 s a b c (d ++ (e ++ (f ++ g))) h1 h2 h3 (grown4 s3 d e f g h4 h5 h6 h7)
-
 -- the same text in other words
 pub as_text : (s : List ℕ) {t a b : List ℕ} → t ≡ s ++ a → a ≡ b → t ≡ s ++ b
 as_text s h e = h ∙ ap (λ x. s ++ x) e
