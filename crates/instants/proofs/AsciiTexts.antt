@@ -5,7 +5,7 @@ use Rattle.std.proofs.lemmas.Str.{IsAscii-append}
 use Rattle.std.proofs.lemmas.Str.Ascii.{IsAscii-nil, IsAscii-cons}
 use Rattle.instants.specs.Digits.{fixed_digits}
 use Rattle.instants.specs.Times.{decimals, text_at}
-use Rattle.instants.proofs.FixedDigits.{fixed_ascii}
+use Rattle.instants.proofs.WrittenDigits.{fixed_ascii}
 
 one_ascii : (b : Bool) (x y : List ℕ) → IsAscii x → IsAscii y → IsAscii (cond b x y)
 one_ascii true x y h g = h

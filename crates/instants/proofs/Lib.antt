@@ -1,5 +1,6 @@
 pub mod Chains
 pub mod FixedDigits
+pub mod WrittenDigits
 pub mod WalkedDates
 pub mod DividedDates
 pub mod AsciiTexts

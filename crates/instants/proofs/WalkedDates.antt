@@ -2,7 +2,7 @@
 use Rattle.std.proofs.Common.{◌≡◌, ℕ, zero, suc, ◌+◌, ◌-◌, ◌%◌, ◌<◌, ◌≤◌, [], ◌∷◌, ◌++◌, refl, ap, sym, ◌∙◌, arith, append-nil}
 use Rattle.std.proofs.lemmas.Bool.{lt-ltb, le-ltb, cond-true, cond-false}
 use Rattle.instants.specs.Instant.{days_in_month}
-use Rattle.instants.proofs.FixedDigits.{two_left}
+use Rattle.instants.proofs.WrittenDigits.{two_left}
 use Rattle.instants.specs.Times.{days_in_year, year_after, month_after, date_text, date_at}
 use Rattle.instants.specs.Digits.{fixed_digits}
 

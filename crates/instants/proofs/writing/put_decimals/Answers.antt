@@ -2,7 +2,7 @@ use Rattle.std.proofs.Common.{◌/◌, ◌%◌, take, sym, ◌∙◌}
 use Rattle.std.proofs.lemmas.Bool.{cond-false, ne_eqb}
 use Rattle.instants.specs.Digits.{fixed_digits}
 use Rattle.instants.proofs.Chains.{grown3, as_text}
-use Rattle.instants.proofs.FixedDigits.{in_nine}
+use Rattle.instants.proofs.WrittenDigits.{in_nine}
 use Rattle.instants.proofs.writing.put_decimals.Goals as goal
 
 pub returns-clause-text : goal.returns-clause-text

@@ -1,7 +1,7 @@
 use Rattle.std.proofs.Common.{◌≡◌, ◌∷◌, [], ◌+◌, ◌/◌, ◌%◌, take, ap, ◌∙◌, arith}
 use Rattle.instants.specs.Digits.{fixed_digits}
 use Rattle.instants.proofs.Chains.{grown2, as_text}
-use Rattle.instants.proofs.FixedDigits.{in_three}
+use Rattle.instants.proofs.WrittenDigits.{in_three}
 use Rattle.instants.proofs.writing.put_three.Goals as goal
 
 pub returns : goal.returns

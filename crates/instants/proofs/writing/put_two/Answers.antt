@@ -1,7 +1,7 @@
 use Rattle.std.proofs.Common.{◌≡◌, ◌∷◌, [], ◌+◌, ◌*◌, take, get_or, ap, ◌∙◌, arith}
 use Rattle.instants.specs.declared.writing.TheConstants.{PAIRS}
 use Rattle.instants.proofs.Chains.{grown2, as_text}
-use Rattle.instants.proofs.FixedDigits.{in_table}
+use Rattle.instants.proofs.WrittenDigits.{in_table}
 use Rattle.instants.proofs.writing.put_two.Goals as goal
 
 pub returns : goal.returns
