@@ -1,7 +1,7 @@
 -- What lines say, whatever holds their texts.
-use Rattle.std.specs.Prelude.{ℕ, ◌+◌, Bool, ◌==◌, List, map, length}
+use Rattle.std.specs.Prelude.{ℕ, ◌+◌, Bool, not, ◌==◌, ◌||◌, List, map, length}
 use Rattle.std.specs.List.{slice_split}
-use Rattle.playlist_meaning.specs.Lines.{Kind, ignored, uri, tag, placed_from}
+use Rattle.playlist_meaning.specs.Lines.{Kind, ignored, uri, tag, placed_from, has_control, is_printable}
 use Rattle.playlist_meaning.specs.Said.{Name, version_tag, target_tag, sequence_tag, discontinuity_sequence_tag, type_tag, ended_tag, independent_tag, frames_tag, master_tag, duration_tag, range_tag, discontinuity_tag, key_tag, map_tag, time_tag, date_range_tag, unknown_tag}
 use Rattle.playlist_parse.specs.declared.line.Line.{Line}
 use Rattle.playlist_parse.specs.declared.line.LineKind.{LineKind}
@@ -30,6 +30,13 @@ with_end placed = ((placed.0, placed.0 + length placed.1), placed.1)
 
 abbrev pub is_feed : ℕ → Bool
 is_feed b = b == 10
+
+-- a byte of a text whose lines have printable ASCII characters alone
+abbrev pub is_plain_byte : ℕ → Bool
+is_plain_byte b = is_feed b || is_printable b
+
+abbrev pub is_free : List ℕ → Bool
+is_free line = not (has_control line)
 
 -- the lines of a text that begins at a place, each with its own
 abbrev pub lines_from : ℕ → List ℕ → List ((ℕ × ℕ) × List ℕ)

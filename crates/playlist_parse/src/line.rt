@@ -1,10 +1,10 @@
 //! The lines of a playlist and their kinds (RFC 8216, section 4.1).
 ghost use Rattle.std.specs.Prelude.{◌≡◌, [], ◌∷◌, map, ◌+◌, ◌^◌, ◌<◌, length, MatchOption};
-ghost use Rattle.std.specs.List.{position_or_len, before_first, after_first};
+ghost use Rattle.std.specs.List.{list_all, position_or_len, before_first, after_first};
 ghost use Rattle.std.specs.Str.Lines.{lines, strip_carriage_return};
 ghost use Rattle.attr_list.specs.Attributes.{slices_at};
 ghost use Rattle.playlist_meaning.specs.Lines.{kind_of, is_blank, placed_lines};
-ghost use Rattle.playlist_parse.specs.LineViews.{line_kind_view, line_span, line_view, is_feed, lines_from, with_end};
+ghost use Rattle.playlist_parse.specs.LineViews.{line_kind_view, line_span, line_view, is_feed, is_plain_byte, lines_from, with_end};
 
 use attr_list::Span;
 use memchr::memchr;
@@ -69,12 +69,27 @@ pub fn kind_of(line: &str) -> LineKind<'_>
     }
 }
 
-#[tactic(auto, using(crate::proofs::Places::stripped))]
 // The carriage return goes only with the line feed after it.
 fn without_carriage_return(piece: &str) -> &str
     ensures { result.now ≡ strip_carriage_return piece.now }
 {
-    piece.strip_suffix("\r").unwrap_or(piece)
+    let bytes = piece.as_bytes();
+    if !bytes.is_empty() && bytes[bytes.len() - 1] == b'\r' {
+        return &piece[..bytes.len() - 1];
+    }
+    piece
+}
+
+/// Whether bytes are printable ASCII characters and line feeds alone, so that no line of them has a control character. It
+/// looks at all of them, many at a time.
+pub fn are_plain(bytes: &[u8]) -> bool
+    ensures { result ≡ list_all is_plain_byte bytes.now }
+{
+    let mut plain = true;
+    for byte in bytes {
+        plain &= *byte == b'\n' || (*byte >= b' ' && *byte < 127);
+    }
+    plain
 }
 
 // A line that begins at a place.
@@ -101,6 +116,7 @@ fn last_line(start: usize, rest: &str) -> Option<Line<'_>>
 }
 
 // A text's two parts around its first line feed: as `split_once`, by vectors, since the search takes most of the time.
+#[inline(always)]
 fn cut_at_feed(text: &str) -> Option<(&str, &str)>
     ensures { MatchOption result (position_or_len is_feed text.now ≡ length text.now) (λ parts. (position_or_len is_feed text.now < length text.now) × (parts.0.now ≡ before_first is_feed text.now) × (parts.1.now ≡ after_first is_feed text.now)) }
 {
@@ -145,6 +161,7 @@ impl<'a> Lines<'a> {
     }
 
     /// The next line, where there is one.
+    #[inline(always)]
     pub fn next(&mut self) -> Option<Line<'a>>
         ensures { MatchOption result ((self.old ≡ []) × (self.new ≡ [])) (λ line. self.old ≡ line_view line ∷ self.new) }
     {

@@ -1,8 +1,9 @@
 //! A playlist as far as it has been read, and what each tag adds to it.
-ghost use Rattle.std.specs.Prelude.{◌≡◌, [], ◌∷◌, Some, None, Ok, Err};
+ghost use Rattle.std.specs.Prelude.{◌≡◌, [], ◌∷◌, true, false, Some, None, Ok, Err};
 ghost use Rattle.std.specs.List.{list_any, list_all};
 ghost use Rattle.playlist_meaning.specs.Reading.{said_by, said_by_kind, said_by_tag, said_by_uri, has_section};
 ghost use Rattle.playlist_meaning.specs.Lines as kinds;
+ghost use Rattle.playlist_meaning.specs.Lines.{has_control};
 ghost use Rattle.playlist_meaning.specs.Said as said;
 ghost use Rattle.playlist_meaning.specs.Said.{number, version_of, playlist_type_of};
 ghost use Rattle.playlist_meaning.specs.Reading.{limited};
@@ -66,17 +67,28 @@ impl<'a> Progress<'a> {
         }
     }
 
-    /// What one line adds.
-    pub fn line(&mut self, line: &str) -> Result<(), FaultKind>
+    /// What one line adds. A line of a text that was seen to be plain need not be looked at for control characters.
+    #[inline(always)]
+    pub fn line(&mut self, line: &str, is_plain: bool) -> Result<(), FaultKind>
+        requires { is_plain ≡ true → has_control line.now ≡ false }
         ensures { Takes (λ base before. said_by limited base before line.now) self.old self.new result }
     {
-        if has_control(line) {
+        if has_control_in(line, is_plain) {
             return Err(FaultKind::Control);
         }
         // The tag that every segment has, taken without the other tags' names.
         if let Some(stated) = line.strip_prefix("#EXTINF:") {
             return self.duration(stated);
         }
+        self.other_line(line)
+    }
+
+    // What a line without control characters adds.
+    #[inline(never)]
+    fn other_line(&mut self, line: &str) -> Result<(), FaultKind>
+        requires { has_control line.now ≡ false }
+        ensures { Takes (λ base before. said_by limited base before line.now) self.old self.new result }
+    {
         match kind_of(line) {
             LineKind::Ignored => Ok(()),
             LineKind::Uri(uri) => self.uri(uri),
@@ -266,6 +278,15 @@ impl<'a> Progress<'a> {
             segments: Items::from_vec(self.segments),
         })
     }
+}
+
+// Whether a line has a control character: one that is known to be plain isn't looked at.
+#[inline(always)]
+fn has_control_in(line: &str, is_plain: bool) -> bool
+    requires { is_plain ≡ true → has_control line.now ≡ false }
+    ensures { result ≡ has_control line.now }
+{
+    !is_plain && has_control(line)
 }
 
 fn number(rest: &str) -> Result<u64, FaultKind>

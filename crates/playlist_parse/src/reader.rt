@@ -1,12 +1,13 @@
 //! The reader: from bytes to a playlist, or its first fault.
-ghost use Rattle.std.specs.Prelude.{◌≡◌, ◌^◌, ◌<◌, [], ◌∷◌, map, length, Ok, Err};
+ghost use Rattle.std.specs.Prelude.{◌≡◌, ◌^◌, ◌<◌, [], ◌∷◌, map, length, true, Ok, Err};
+ghost use Rattle.std.specs.List.{list_all};
 ghost use Rattle.playlist_meaning.specs.Said.{nothing};
 ghost use Rattle.playlist_meaning.specs.Reading.{reading, said_by, said_from, and_whole};
 ghost use Rattle.playlist_meaning.specs.Reading.{limited};
-ghost use Rattle.playlist_parse.specs.LineViews.{line_text};
+ghost use Rattle.playlist_parse.specs.LineViews.{is_free, line_text};
 ghost use Rattle.playlist_parse.specs.Answers.{Answers, fault_at};
 
-use crate::line::Lines;
+use crate::line::{Lines, are_plain};
 use crate::progress::Progress;
 use playlist_meaning::{Base, FaultKind, MOST_BYTES, Playlist, PlaylistFault, text_of};
 use std::alloc::Global;
@@ -23,15 +24,21 @@ fn fault_at(kind: FaultKind, line: u64) -> PlaylistFault
     PlaylistFault { kind, line }
 }
 
-// Reads the lines after the header.
-fn read_lines(alloc: Global, lines: &mut Lines<'_>, base: &Base) -> Result<Playlist, PlaylistFault>
-    requires { length lines.old < 2 ^ 63 }
+// Reads the lines after the header, those of a plain text or of any.
+fn read_lines(
+    alloc: Global,
+    lines: &mut Lines<'_>,
+    is_plain: bool,
+    base: &Base,
+) -> Result<Playlist, PlaylistFault>
+    requires few { length lines.old < 2 ^ 63 }
+    requires plain { is_plain ≡ true → list_all is_free (map line_text lines.old) ≡ true }
     ensures { Answers result (and_whole (said_from (said_by limited base.now) (nothing ∷ []) (map line_text lines.old))) }
 {
     let mut progress = Progress::new(alloc, base);
     let mut number: u64 = 2;
     while let Some(line) = lines.next() {
-        match progress.line(line.text) {
+        match progress.line(line.text, is_plain) {
             Ok(()) => number += 1,
             Err(kind) => return Err(fault_at(kind, number)),
         }
@@ -61,5 +68,5 @@ pub fn read(alloc: Global, bytes: &[u8], base: &Base) -> Result<Playlist, Playli
     if first.text != "#EXTM3U" {
         return Err(fault_at(FaultKind::NoHeader, 1));
     }
-    read_lines(alloc, &mut lines, base)
+    read_lines(alloc, &mut lines, are_plain(bytes), base)
 }

@@ -1,8 +1,17 @@
-use Rattle.std.proofs.Common.{rules, ◌≤◌, length}
+use Rattle.std.proofs.Common.{rules, ◌≡◌, true, ap, sym, ◌∙◌, ◌≤◌, length}
+use Rattle.std.specs.List.{list_all}
+use Rattle.playlist_parse.specs.LineViews.{is_plain_byte}
 use Rattle.playlist_parse.proofs.Places.{few_left}
+use Rattle.playlist_parse.proofs.PlainLines.{later_lines}
 use Rattle.playlist_parse.proofs.reader.read.Goals as goal
 
-pub read_lines-requires : goal.read_lines-requires
-read_lines-requires c =
+pub read_lines-requires-clause-few : goal.read_lines-requires-clause-few
+read_lines-requires-clause-few c =
     let small : length c.in-Ok.text.now ≤ 4194304 = search rules in
     few_left c.in-Ok.text.now c.new-lines.result _ c.next.new.self c.new-lines.ensures.lines c.in-Some.ensures small
+
+pub read_lines-requires-clause-plain : goal.read_lines-requires-clause-plain
+read_lines-requires-clause-plain c = λ plain.
+    let same : c.in-Ok.text.now ≡ c.args.bytes.now = search rules in
+    let text : list_all is_plain_byte c.in-Ok.text.now ≡ true = ap (list_all is_plain_byte) same ∙ sym c.are_plain.ensures ∙ plain in
+    later_lines c.in-Ok.text.now c.new-lines.result _ c.next.new.self c.new-lines.ensures.lines c.in-Some.ensures text

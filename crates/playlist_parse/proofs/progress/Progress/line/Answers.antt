@@ -11,6 +11,6 @@ returns-in-Some c = λ before e.
     let base = c.args.self.now.base in
     let line : c.args.line.now ≡ codes "#EXTINF:" ++ c.in-Some.stated.now =
     c.in-Some.ensures.cases.1.1 ∙ ap (λ rest. codes "#EXTINF:" ++ rest) (sym c.in-Some.ensures.cases.2) in
-    let said = duration_line base before c.args.line.now c.in-Some.stated.now line (sym c.if-has_control.ensures) in
+    let said = duration_line base before c.args.line.now c.in-Some.stated.now line (sym c.if-has_control_in.ensures) in
     subst (λ o. MatchResult c.duration.result (λ _. IsOk o × (c.duration.new.self ≡ progress_at base (with_said before o))) (λ fault. Refuses fault o))
     (sym said) (c.duration.ensures before e)
