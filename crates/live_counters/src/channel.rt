@@ -8,7 +8,7 @@ ghost use Rattle.pod_store.specs.Store.{is_used};
 ghost use Rattle.break_finder.specs.Entering.{id_of, why};
 ghost use Rattle.live_meaning.specs.Successor.{is_mapped};
 
-use crate::refresh::{accept, next_of};
+use crate::refresh::{accept, next_of, next_of_owned};
 use crate::types_say::know_pods;
 use break_finder::{Knowledge, Why};
 use decision_files::read_decisions;
@@ -115,6 +115,22 @@ impl Channel {
         let (done, text) = accept(&mut self.state, playlist, next);
         self.text = Some(text);
         Ok(done)
+    }
+
+    /// The same of bytes that the caller gives up: their memory is given back once they are read, so that a large input and
+    /// the text that is written of it needn't be held at once.
+    pub fn refresh_owned(
+        &mut self,
+        alloc: Global,
+        bytes: Vec<u8>,
+    ) -> Result<Refreshed, RefreshFault>
+        ensures { Refreshes self.old bytes.items result self.new }
+    {
+        let (base, tolerance) = (&self.base, self.tolerance);
+        let (playlist, next) = next_of_owned(alloc, base, tolerance, &self.state, bytes)?;
+        let (refreshed, written) = accept(&mut self.state, playlist, next);
+        self.text = Some(written);
+        Ok(refreshed)
     }
 
     /// Takes the decisions that a file says.

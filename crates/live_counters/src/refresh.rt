@@ -127,6 +127,25 @@ pub fn next_of(
     Ok((playlist, next))
 }
 
+/// The same of bytes that the caller gives up: their memory is given back once they are read, before anything is written.
+pub fn next_of_owned(
+    alloc: Global,
+    base: &Base,
+    tolerance: Nanos,
+    state: &State,
+    bytes: Vec<u8>,
+) -> Result<(Playlist, NextKept), RefreshFault>
+    requires decided { AreDecided state.now.store state.now.shown }
+    requires last { IsContiguous state.now.last }
+    ensures ok { IfOk result (λ a. Accepts base.now tolerance state.now bytes.items a.0 a.1) }
+    ensures err { IfErr result (λ e. Refused base.now tolerance state.now bytes.items e) }
+{
+    let read = playlist_read(alloc, bytes.as_slice(), base)?;
+    drop(bytes);
+    let next = next_after(alloc, tolerance, state, &read)?;
+    Ok((read, next))
+}
+
 /// Keeps what an accepted refresh comes to. Answers what it did, and the text that is written. Takes no memory.
 pub fn accept(state: &mut State, playlist: Playlist, next: NextKept) -> (Refreshed, Shared<Text>)
     ensures state { state.new ≡ accepted_state state.old playlist next }

@@ -50,13 +50,13 @@ fn decide(alloc: Global, channel: &mut Channel, file: Option<&[u8]>) -> Result<(
     }
 }
 
-// Gives a channel its one refresh.
-fn refresh(alloc: Global, channel: &mut Channel, input: &[u8]) -> Result<(), VodFault>
-    ensures ok { OnOk result (Refreshes channel.old input.now channel.new) }
+// Gives a channel its one refresh, and the input up: its memory is given back before the text is written.
+fn refresh(alloc: Global, channel: &mut Channel, input: Vec<u8>) -> Result<(), VodFault>
+    ensures ok { OnOk result (Refreshes channel.old input.items channel.new) }
     ensures kind { IfErr result IsOfRefresh }
-    ensures err { IfErr result (λ e. Refuses e channel.old input.now) }
+    ensures err { IfErr result (λ e. Refuses e channel.old input.items) }
 {
-    match channel.refresh(alloc, input) {
+    match channel.refresh_owned(alloc, input) {
         Ok(_) => Ok(()),
         Err(fault) => Err(VodFault::from(fault)),
     }
@@ -98,7 +98,7 @@ fn refresh_from<S: Source>(
     ensures source { IsFairToSource result (source_stand S.remaining S.called S.failed source.old) (source_stand S.remaining S.called S.failed source.new) }
 {
     let input = read_input(alloc, source)?;
-    refresh(alloc, channel, input.as_slice())
+    refresh(alloc, channel, input)
 }
 
 #[tactic(auto, using(crate::proofs::Known::known_bytes))]

@@ -8,5 +8,5 @@ returns-clause-ok g c =
     on_ok c.refresh.result c.refresh.ensures.ok (λ refreshed. record {
       input = c.in_ok-input.input.items;
       given = c.in_ok-input.ensures.ok;
-      refreshed = subst (λ bytes. Refreshes c.args.channel.now bytes c.refresh.new.channel) c.as_slice.ensures.value refreshed;
+      refreshed = refreshed;
     })
