@@ -1,4 +1,3 @@
 pub mod KeyLemmas
 pub mod Ranges
-pub mod Taken
 pub mod Timed

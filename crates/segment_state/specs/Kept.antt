@@ -1,7 +1,8 @@
 -- What is kept of a line, with what it said.
-use Rattle.std.specs.Prelude.{◌≡◌, ℕ, List, Option, Some, None, Ok, ⊤}
+use Rattle.std.specs.Prelude.{◌≡◌, ℕ, List, Option, Some, None, Ok, ⊤, if◌then◌else◌}
 use Rattle.url.specs.Parts.{Parts}
 use Rattle.playlist_meaning.specs.Said.{duration, duration_said, uri_of}
+use Rattle.segment_state.specs.declared.durations.Durations.TheInside.{Inside}
 use Rattle.segment_state.specs.declared.references.Resolved.{Resolved}
 
 -- the resource that is kept is the one that its reference names
@@ -13,3 +14,12 @@ IsResolved base (Some last) = uri_of base last.reference ≡ Ok last.uri
 abbrev pub IsSaid : List ℕ → Option (ℕ × List ℕ) → Type 0
 IsSaid text None = ⊤
 IsSaid text (Some own) = duration_said text ≡ Ok (duration own.0 own.1)
+
+-- they are the next segment's from their line to its URI line
+abbrev pub due_of : Inside → Option (ℕ × List ℕ)
+due_of a = if a.is_due then a.said else None
+
+-- the next segment has the duration and the title that the text states
+abbrev pub IsDue : List ℕ → Option (ℕ × List ℕ) → Type 0
+IsDue text None = ⊥
+IsDue text (Some own) = duration_said text ≡ Ok (duration own.0 own.1)

@@ -1,5 +1,5 @@
 -- What a key tag or a map tag says, as the reader of one tag answers it.
-use Rattle.std.specs.Prelude.{not, List, map, filter, length, Some, Ok}
+use Rattle.std.specs.Prelude.{not, List, map, filter, length, Ok}
 use Rattle.attr_list.specs.declared.attr.Attr.{Attr}
 use Rattle.playlist_meaning.specs.declared.FaultKind.TheVariants as fault
 use Rattle.playlist_meaning.specs.declared.Key.{Key}

@@ -1,10 +1,10 @@
 //! The durations and titles of a playlist's segments (RFC 8216, 4.3.2.1), of which most are the same.
-ghost use Rattle.std.specs.Prelude.{◌≡◌, Ok, IfOk};
+ghost use Rattle.std.specs.Prelude.{◌≡◌, Some, None, Ok, IfOk, IfErr, OnOk, OnErr};
 ghost use Rattle.std.specs.List.{before_first, after_first};
 ghost use Rattle.std.specs.Prelude.{◌==◌};
 ghost use Rattle.playlist_meaning.specs.Said.{duration, duration_said};
-ghost use Rattle.playlist_meaning.specs.Refusals.{Gives};
-ghost use Rattle.segment_state.specs.Kept.{IsSaid};
+ghost use Rattle.playlist_meaning.specs.Refusals.{Gives, Refuses};
+ghost use Rattle.segment_state.specs.Kept.{IsDue};
 
 use fixed_duration::Nanos;
 use playlist_meaning::{FaultKind, Shared, Text};
@@ -17,15 +17,16 @@ pub struct Durations {
     alloc: Global,
     text: String,
     said: Option<(Nanos, Shared<Text>)>,
+    is_due: bool,
 }
 
 impl Model for Durations {
-    ghost use Rattle.std.specs.Prelude.{List, ℕ, string_bytes};
-    ghost use Rattle.segment_state.specs.Kept.{IsSaid};
+    ghost use Rattle.std.specs.Prelude.{List, ℕ, Option, string_bytes};
+    ghost use Rattle.segment_state.specs.Kept.{IsSaid, due_of};
 
-    ghost Value = { List ℕ };
+    ghost Value = { Option (ℕ × List ℕ) };
 
-    ghost view = { λ a. string_bytes a.text };
+    ghost view = { due_of };
 
     ghost invariant = { λ a. IsSaid (string_bytes a.text) a.said };
 }
@@ -40,11 +41,14 @@ fn parts_at_comma(text: &str) -> (&str, &str)
 
 impl Durations {
     /// None was stated yet.
-    pub fn new(alloc: Global) -> Durations {
+    pub fn new(alloc: Global) -> Durations
+        ensures { result ≡ None }
+    {
         Durations {
             alloc,
             text: String::new(alloc),
             said: None,
+            is_due: false,
         }
     }
 
@@ -71,38 +75,65 @@ impl Durations {
         Ok((nanos, self.title(title)?))
     }
 
-    // What the last one said, where it had this text.
-    fn again(&self, text: &str) -> Result<Option<(Nanos, Shared<Text>)>, AllocError>
-        ensures { IfOk result (IsSaid text.now) }
+    // Keeps what a text says, in the room of the last one.
+    fn keep(&mut self, text: &str, own: (Nanos, Shared<Text>)) -> Result<(), AllocError>
+        requires { duration_said text.now ≡ Ok (duration own.0 own.1) }
+        ensures due { OnOk result (self.new ≡ Some own) }
+        ensures kept { OnErr result (self.new ≡ self.old) }
+    {
+        self.text.reserve(text.len())?;
+        self.text.clear();
+        self.text.push_str(text)?;
+        self.said = Some(own);
+        self.is_due = true;
+        Ok(())
+    }
+
+    // Reads a text that is not the last one's. Out of line, so that the same text again takes few steps.
+    #[inline(never)]
+    fn read_other(&mut self, text: &str) -> Result<(), FaultKind>
+        ensures due { OnOk result (IsDue text.now self.new) }
+        ensures err { IfErr result (λ e. Refuses e (duration_said text.now)) }
+        ensures kept { OnErr result (self.new ≡ self.old) }
+    {
+        let own = self.parsed(text)?;
+        self.keep(text, own)?;
+        Ok(())
+    }
+
+    /// Reads the duration and the title that EXTINF states for the next segment. `BadDuration` where
+    /// it states none.
+    #[inline]
+    pub fn read(&mut self, text: &str) -> Result<(), FaultKind>
+        ensures due { OnOk result (IsDue text.now self.new) }
+        ensures err { IfErr result (λ e. Refuses e (duration_said text.now)) }
+        ensures kept { OnErr result (self.new ≡ self.old) }
     {
         match &self.said {
-            Some((nanos, title)) if text == self.text.as_str() => {
-                Ok(Some((*nanos, title.clone()?)))
+            Some(_) if text == self.text.as_str() => {
+                self.is_due = true;
+                Ok(())
             }
+            _ => self.read_other(text),
+        }
+    }
+
+    /// The duration and the title that the next segment has.
+    #[inline]
+    pub fn own(&self) -> Result<Option<(Nanos, Shared<Text>)>, AllocError>
+        ensures { IfOk result (λ own. own ≡ self.now) }
+    {
+        match &self.said {
+            Some((nanos, title)) if self.is_due => Ok(Some((*nanos, title.clone()?))),
             _ => Ok(None),
         }
     }
 
-    // Keeps what a text says, in the room of the last one.
-    fn keep(&mut self, text: &str, nanos: Nanos, title: Shared<Text>) -> Result<(), AllocError>
-        requires { duration_said text.now ≡ Ok (duration nanos title) }
+    /// The segment ends: the next one has none yet.
+    #[inline]
+    pub fn end(&mut self)
+        ensures { self.new ≡ None }
     {
-        self.said = None;
-        self.text.clear();
-        self.text.push_str(text)?;
-        self.said = Some((nanos, title));
-        Ok(())
-    }
-
-    /// The duration and the title that EXTINF states. `BadDuration` where it states none.
-    pub fn read(&mut self, text: &str) -> Result<(Nanos, Shared<Text>), FaultKind>
-        ensures { Gives (λ own. duration own.0 own.1) result (duration_said text.now) }
-    {
-        if let Some(own) = self.again(text)? {
-            return Ok(own);
-        }
-        let (nanos, title) = self.parsed(text)?;
-        self.keep(text, nanos, title.clone()?)?;
-        Ok((nanos, title))
+        self.is_due = false;
     }
 }

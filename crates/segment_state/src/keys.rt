@@ -15,18 +15,32 @@ pub fn copied_keys(alloc: Global, keys: &[Key]) -> Result<Vec<Key>, AllocError>
     Vec::from_clones(alloc, keys)
 }
 
-// A key with the media number as its IV, where it is of the format `identity` and states none.
+// The IV of a key: the media number, where the key is of the format `identity` and states none.
+fn effective_iv(key: &Key, number: u64) -> Option<u128>
+    ensures { result ≡ (effective_key number key.now).iv }
+{
+    if key.iv.is_none() && key.format.as_str() == "identity" {
+        return Some(u128::from(number));
+    }
+    key.iv
+}
+
+// A key with its IV for the segment of this number. Its parts are shared one by one, so that each is
+// written once.
 fn effective_key(key: &Key, number: u64) -> Result<Key, AllocError>
     ensures { IfOk result (λ k. k ≡ effective_key number key.now) }
 {
-    let mut found = key.clone()?;
-    if found.format.as_str() == "identity" && found.iv.is_none() {
-        found.iv = Some(u128::from(number));
-    }
-    Ok(found)
+    Ok(Key {
+        format: key.format.clone()?,
+        method: key.method.clone()?,
+        uri: key.uri.clone()?,
+        iv: effective_iv(key, number),
+        other: key.other.clone()?,
+    })
 }
 
 /// The keys, as they decrypt the segment of this media sequence number.
+#[inline(never)]
 pub fn effective_keys(alloc: Global, keys: &[Key], number: u64) -> Result<Vec<Key>, AllocError>
     ensures { IfOk result (λ v. v.items ≡ map (effective_key number) keys.now) }
 {

@@ -4,7 +4,7 @@
 
 ghost use Rattle.std.specs.Prelude.{◌≡◌, ◌+◌, ◌^◌, ◌<◌, ◌≤◌, [], map, Some, None, Ok, Err, IfOk, nat_lt, length};
 ghost use Rattle.std.specs.Option.{SomeIff};
-ghost use Rattle.playlist_meaning.specs.LookBack.{range_from, range_after, effective_key};
+ghost use Rattle.playlist_meaning.specs.LookBack.{range_from, range_after, effective_key, extent_with};
 ghost use Rattle.playlist_meaning.specs.Reading.{limited, said_by_tag, said_by_uri};
 ghost use Rattle.playlist_meaning.specs.Said as said;
 ghost use Rattle.playlist_meaning.specs.Said.{uri_of};
@@ -42,7 +42,6 @@ pub struct State<'a> {
     media: u64,
     discontinuities: u64,
     steps: u64,
-    duration: Option<(Nanos, Shared<Text>)>,
     range: Option<(u64, Option<u64>)>,
     time: Option<Instant>,
     keys: Vec<Key>,
@@ -77,7 +76,6 @@ impl<'a> State<'a> {
             media: 0,
             discontinuities: 0,
             steps: 0,
-            duration: None,
             range: None,
             time: None,
             keys: Vec::new(alloc),
@@ -128,8 +126,7 @@ impl<'a> State<'a> {
     pub fn duration_tag(&mut self, rest: &str) -> Result<(), FaultKind>
         ensures { Takes (λ base before. said_by_tag limited base before said.duration_tag rest.now) self.old self.new result }
     {
-        self.duration = Some(self.durations.read(rest)?);
-        Ok(())
+        self.durations.read(rest)
     }
 
     /// A key tag (4.3.2.4). The faults, in this order: `BadAttributes` for the list,
@@ -187,17 +184,6 @@ impl<'a> State<'a> {
         self.sequence.checked_add(self.media)
     }
 
-    // The resource of the next segment.
-    fn uri(&mut self, reference: &str) -> Result<Text, FaultKind>
-        ensures value { Gives (λ uri. uri) result (uri_of self.old.base reference.now) }
-        ensures kept { self.new ≡ self.old }
-    {
-        match self.range {
-            None => self.references.resolve(reference),
-            Some(_) => self.references.resolve_part(reference),
-        }
-    }
-
     // The range of a segment of this resource here.
     fn next_range(&self, uri: &str) -> Result<Option<ByteRange>, FaultKind>
         ensures { result ≡ range_from self.now.standing.range uri.now self.now.standing.extent }
@@ -216,20 +202,16 @@ impl<'a> State<'a> {
     }
 
     // The keys in force, as they decrypt the segment of this media number.
+    #[inline(always)]
     fn effective_keys(&self, number: u64) -> Result<Keys, AllocError>
         ensures { IfOk result (λ keys. keys ≡ map (effective_key number) self.now.standing.keys) }
     {
-        Ok(Items::from_vec(effective_keys(self.alloc, self.keys.as_slice(), number)?))
-    }
-
-    // The next segment's duration and title.
-    fn own_duration(&self) -> Result<Option<(Nanos, Shared<Text>)>, AllocError>
-        ensures { IfOk result (λ own. own ≡ self.now.standing.duration) }
-    {
-        match &self.duration {
-            Some((nanos, title)) => Ok(Some((*nanos, title.clone()?))),
-            None => Ok(None),
-        }
+        let keys = if self.keys.is_empty() {
+            Vec::new(self.alloc)
+        } else {
+            effective_keys(self.alloc, self.keys.as_slice(), number)?
+        };
+        Ok(Items::from_vec(keys))
     }
 
     // The initialisation section in force.
@@ -240,6 +222,7 @@ impl<'a> State<'a> {
     }
 
     // The next segment, of this resource, range, and duration with its title.
+    #[inline(always)]
     fn segment_here(
         &self,
         number: u64,
@@ -266,17 +249,18 @@ impl<'a> State<'a> {
         Shared::new(self.alloc, segment)
     }
 
-    // What stands after the URI line of this segment.
-    fn segment_stands(&mut self, last: Shared<Segment>)
+    // What stands after a URI line, of whose segment this is kept.
+    #[inline(always)]
+    fn segment_stands(&mut self, last: Option<Shared<Segment>>)
         requires { self.old.standing.media_count < MOST_SEGMENTS }
-        ensures { self.new ≡ after_segment self.old (extent_after (Some last)) }
+        ensures { self.new ≡ after_segment self.old (extent_after last) }
     {
         self.media += 1;
         self.steps = 0;
-        self.duration = None;
+        self.durations.end();
         self.range = None;
         self.time = None;
-        self.last = Some(last);
+        self.last = last;
     }
 
     /// The segment of a URI line (4.3.2, 5.2), which takes the tags of one segment. The faults, in
@@ -288,17 +272,34 @@ impl<'a> State<'a> {
         if self.is_full() {
             return Err(FaultKind::TooMany);
         }
-        let Some(own) = self.own_duration()? else {
+        let Some(own) = self.durations.own()? else {
             return Err(FaultKind::NoDuration);
         };
         let Some(number) = self.number() else {
             return Err(FaultKind::BadValue);
         };
-        let uri = self.uri(reference)?;
+        if self.range.is_none() {
+            let uri = self.references.resolve(reference)?;
+            let segment = self.segment_here(number, uri, None, own)?;
+            self.segment_stands(None);
+            return Ok(segment);
+        }
+        let uri = self.references.resolve_part(reference)?;
         let range = self.next_range(uri.as_str())?;
         let segment = self.segment_here(number, uri, range, own)?;
-        self.segment_stands(segment.clone()?);
+        let last = last_part(&segment)?;
+        self.segment_stands(last);
         Ok(segment)
+    }
+}
+
+// What is kept of a segment for the next one's range: itself, where it is a part of its resource.
+fn last_part(segment: &Shared<Segment>) -> Result<Option<Shared<Segment>>, AllocError>
+    ensures { IfOk result (λ last. extent_after last ≡ extent_with segment.now.uri segment.now.range) }
+{
+    match segment.range {
+        None => Ok(None),
+        Some(_) => Ok(Some(segment.clone()?)),
     }
 }
 

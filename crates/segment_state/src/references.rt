@@ -62,6 +62,7 @@ impl<'a> References<'a> {
     }
 
     /// The resource of which a segment is a part. It is kept for the next part.
+    #[inline(never)]
     pub fn resolve_part(&mut self, reference: &str) -> Result<Text, FaultKind>
         ensures value { Gives (λ uri. uri) result (uri_of self.old reference.now) }
         ensures kept { self.new ≡ self.old }
