@@ -1,6 +1,6 @@
 -- What is before the first instant stays there.
-use Rattle.std.proofs.Common.{◌≡◌, ℕ, true, List, [], ◌∷◌, ◌++◌, refl, ap, sym, ◌∙◌, arith, ℤ, pos}
-use Rattle.std.specs.Prelude.{◌-ℤ◌, int_lt, Option, None}
+use Rattle.std.proofs.Common.{◌≡◌, ℕ, true, List, [], ◌∷◌, ◌++◌, refl, ap, arith, ℤ, pos}
+use Rattle.std.specs.Prelude.{◌-ℤ◌, int_lt, Option, None, IfSome}
 use Rattle.playlist_meaning.specs.declared.Segment.{Segment}
 use Rattle.instants.specs.Instant.{first_instant}
 use Rattle.playlist_meaning.specs.Instants.{instants_after}
@@ -24,6 +24,6 @@ begun segments stack h = record { later = []; whole = after segments; stack_is =
 -- ---- walking on
 
 -- the instants of some of the first segments are found
-pub record Timed (from : Option ℤ) (segments rest : List Segment) (stack found : List (Option ℤ)) (ended : Option ℤ) : Type 0 where
+pub record Timed (from : Option ℤ) (segments rest : List Segment) (stack : Option (List (Option ℤ))) (found : List (Option ℤ)) (ended : Option ℤ) : Type 0 where
   pub all : found ++ instants_after ended rest ≡ instants_after from segments
-  pub stack_is : stack ≡ stack_of rest
+  pub stack_is : IfSome stack (λ items. items ≡ stack_of rest)

@@ -4,7 +4,7 @@
 ghost use Rattle.std.specs.Prelude.{◌≡◌, ℤ, IfOk, option_map, pos, ◌-ℤ◌};
 ghost use Rattle.playlist_meaning.specs.Instants.{bounded, ends_at, instants_after, instants_of};
 ghost use Rattle.playlist_meaning.specs.LookBack.{or_earlier};
-ghost use Rattle.timeline.specs.Reckoned.{clamped, stack_of};
+ghost use Rattle.timeline.specs.Reckoned.{clamped, stack_of, NextReckoned};
 
 use fixed_duration::Nanos;
 use instants::FIRST_INSTANT;
@@ -90,6 +90,16 @@ fn reckoned_stack(
     Ok(stack)
 }
 
+// Takes the last of a stack, where there is one.
+fn next_reckoned(stack: &mut Option<Vec<Option<i128>>>) -> Option<i128>
+    ensures { NextReckoned (option_map (λ v. v.items) stack.old) (option_map (λ v. v.items) stack.new) result }
+{
+    match stack {
+        Some(stack) => stack.pop().unwrap_or(None),
+        None => None,
+    }
+}
+
 /// The instant at which each of these segments begins, after one that ended at `from`, if any: its stated time; else
 /// where the one before it ended; else back from the first time stated later; none outside the range of instants.
 pub fn instants_after(
@@ -99,15 +109,16 @@ pub fn instants_after(
 ) -> Result<Vec<Option<Instant>>, AllocError>
     ensures { IfOk result (λ v. v.items ≡ instants_after from segments.now) }
 {
-    let mut stack = reckoned_stack(alloc, segments)?;
+    let mut stack: Option<Vec<Option<i128>>> = None;
     let mut found = Vec::with_capacity(alloc, segments.len())?;
     let mut ended = from;
     let mut rest = segments;
     while let Some((segment, later)) = rest.split_first() {
-        let reckoned = match stack.pop() {
-            Some(reckoned) => reckoned,
-            None => None,
-        };
+        // Most segments state a time or follow one that begins somewhere, so that nothing is reckoned back.
+        if stack.is_none() && segment.time.is_none() && ended.is_none() {
+            stack = Some(reckoned_stack(alloc, rest)?);
+        }
+        let reckoned = next_reckoned(&mut stack);
         let begun = begins_at(ended, segment, reckoned);
         ended = ends_at(&begun, segment.duration);
         found.push(begun)?;
