@@ -9,3 +9,5 @@ pub mod Machine
 pub mod Groups
 pub mod Whole
 pub mod ZerosInFront
+pub mod HexPairs
+pub mod KeyFormats

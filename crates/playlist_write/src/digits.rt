@@ -1,71 +1,100 @@
-//! Numbers in a fixed number of digits.
-ghost use Rattle.std.specs.Prelude.{◌≡◌, ◌++◌, ◌<◌, OnOk, string_bytes, true};
-ghost use Rattle.std.specs.Fmt.{digit_glyph};
+//! Initialisation vectors as they are written (RFC 8216, section 4.3.2.4).
+ghost use Rattle.std.specs.Prelude.{◌≡◌, ◌++◌, ◌∷◌, [], ◌<◌, ◌≤◌, ◌+◌, take, codes, OnOk, string_bytes};
 ghost use Rattle.instants.specs.Digits.{fixed_digits};
 ghost use Rattle.fixed_duration.specs.Appended.{Appends};
 
 use std::alloc::AllocError;
+use std::str;
 
-static GLYPHS: [u8; 16] = *b"0123456789ABCDEF";
+// `",IV=0x`, 32 digits and a line feed have this many bytes.
+const LENGTH: usize = 40;
 
-// The digit of a value below 16.
-fn glyph(value: u8) -> char
-    requires { value < 16 }
-    ensures glyph { result ≡ digit_glyph true value }
-    ensures ascii { result < 128 }
+// A closing quote and the initialisation vector zero, with room for a line feed.
+const ZERO: [u8; LENGTH] = *b"\",IV=0x000000000000000000000000000000000";
+
+// The two hexadecimal digits of each byte.
+static PAIRS: [u8; 512] =
+    *b"000102030405060708090A0B0C0D0E0F101112131415161718191A1B1C1D1E1F202122232425262728292A2B2C2D2E2F303132333435363738393A3B3C3D3E3F404142434445464748494A4B4C4D4E4F505152535455565758595A5B5C5D5E5F606162636465666768696A6B6C6D6E6F707172737475767778797A7B7C7D7E7F808182838485868788898A8B8C8D8E8F909192939495969798999A9B9C9D9E9FA0A1A2A3A4A5A6A7A8A9AAABACADAEAFB0B1B2B3B4B5B6B7B8B9BABBBCBDBEBFC0C1C2C3C4C5C6C7C8C9CACBCCCDCECFD0D1D2D3D4D5D6D7D8D9DADBDCDDDEDFE0E1E2E3E4E5E6E7E8E9EAEBECEDEEEFF0F1F2F3F4F5F6F7F8F9FAFBFCFDFEFF";
+
+// Writes one character behind the first `at` ones.
+fn put_mark(text: &mut [u8; LENGTH], at: usize, mark: u8)
+    requires { at < 40 }
+    ensures { take (at + 1) text.new ≡ take at text.old ++ mark ∷ [] }
 {
-    // By the remainder the compiler knows that `push` need not look for wide characters.
-    (GLYPHS[value as usize] % 128) as char
+    text[at] = mark;
 }
 
-// Appends the last `count` hexadecimal digits of a number.
-fn push_hex(out: &mut String, number: u128, count: u8) -> Result<(), AllocError>
-    ensures { Appends result out.old out.new (fixed_digits 16 count number) }
+// Writes the last two hexadecimal digits of a number.
+fn put_two(text: &mut [u8; LENGTH], at: usize, number: u128)
+    requires { at + 2 ≤ 40 }
+    ensures { take (at + 2) text.new ≡ take at text.old ++ fixed_digits 16 2 number }
 {
-    if count == 0 {
-        return Ok(());
-    }
-    push_hex(out, number / 16, count - 1)?;
-    out.push(glyph((number % 16) as u8))?;
-    Ok(())
+    let from = (number % 256) as usize * 2;
+    put_mark(text, at, PAIRS[from]);
+    put_mark(text, at + 1, PAIRS[from + 1]);
 }
 
-// Appends the last two hexadecimal digits of a number.
-fn push_two(out: &mut String, number: u32) -> Result<(), AllocError>
-    ensures { Appends result out.old out.new (fixed_digits 16 2 number) }
+// The same of four.
+fn put_four(text: &mut [u8; LENGTH], at: usize, number: u128)
+    requires { at + 4 ≤ 40 }
+    ensures { take (at + 4) text.new ≡ take at text.old ++ fixed_digits 16 4 number }
 {
-    out.push(glyph((number / 16 % 16) as u8))?;
-    out.push(glyph((number % 16) as u8))?;
-    Ok(())
-}
-
-/// Appends the last four hexadecimal digits of a number.
-pub fn push_four(out: &mut String, number: u32) -> Result<(), AllocError>
-    ensures { Appends result out.old out.new (fixed_digits 16 4 number) }
-{
-    push_two(out, number / 256)?;
-    push_two(out, number)?;
-    Ok(())
+    put_two(text, at, number / 256);
+    put_two(text, at + 2, number);
 }
 
 // The same of eight.
-fn push_eight(out: &mut String, number: u32) -> Result<(), AllocError>
-    ensures { Appends result out.old out.new (fixed_digits 16 8 number) }
+fn put_eight(text: &mut [u8; LENGTH], at: usize, number: u128)
+    requires { at + 8 ≤ 40 }
+    ensures { take (at + 8) text.new ≡ take at text.old ++ fixed_digits 16 8 number }
 {
-    push_four(out, number / 65_536)?;
-    push_four(out, number)?;
-    Ok(())
+    put_four(text, at, number / 65_536);
+    put_four(text, at + 4, number);
 }
 
-/// Appends the 32 hexadecimal digits of an initialisation vector (RFC 8216, 4.3.2.4).
-pub fn push_iv_digits(out: &mut String, number: u128) -> Result<(), AllocError>
-    ensures { Appends result out.old out.new (fixed_digits 16 32 number) }
+// The same of 16.
+fn put_sixteen(text: &mut [u8; LENGTH], at: usize, number: u128)
+    requires { at + 16 ≤ 40 }
+    ensures { take (at + 16) text.new ≡ take at text.old ++ fixed_digits 16 16 number }
+{
+    put_eight(text, at, number / 4_294_967_296);
+    put_eight(text, at + 8, number);
+}
+
+// Writes the digits of an initialisation vector over zeros.
+fn put_iv(text: &mut [u8; LENGTH], iv: u128)
+    requires { take 31 text.old ≡ codes "\",IV=0x000000000000000000000000" }
+    ensures { take 39 text.new ≡ codes "\",IV=0x" ++ fixed_digits 16 32 iv }
 {
     // Most are the numbers of segments (RFC 8216, 5.2).
-    if number < 4_294_967_296 {
-        out.push_str("000000000000000000000000")?;
-        push_eight(out, number as u32)?;
-        return Ok(());
+    if iv < 4_294_967_296 {
+        put_eight(text, 31, iv);
+        return;
     }
-    push_hex(out, number, 32)
+    put_sixteen(text, 7, iv / 18_446_744_073_709_551_616);
+    put_sixteen(text, 23, iv);
+}
+
+/// Appends the closing quote of a value and an initialisation vector.
+pub fn push_quote_and_iv(out: &mut String, iv: u128) -> Result<(), AllocError>
+    ensures { Appends result out.old out.new (codes "\",IV=0x" ++ fixed_digits 16 32 iv) }
+{
+    let mut bytes = ZERO;
+    put_iv(&mut bytes, iv);
+    // What is written is ASCII.
+    let text = unsafe { str::from_utf8_unchecked(&bytes[..39]) };
+    out.push_str(text)
+}
+
+/// The same, and ends the line.
+pub fn push_last_iv(out: &mut String, iv: u128) -> Result<(), AllocError>
+    ensures { Appends result out.old out.new (codes "\",IV=0x" ++ (fixed_digits 16 32 iv ++ 10 ∷ [])) }
+{
+    let mut bytes = ZERO;
+    put_iv(&mut bytes, iv);
+    put_mark(&mut bytes, 39, b'\n');
+    // What is written is ASCII.
+    let text = unsafe { str::from_utf8_unchecked(&bytes) };
+    out.push_str(text)?;
+    Ok(())
 }

@@ -1,13 +1,15 @@
 //! Key tags and map tags (RFC 8216, sections 4.3.2.4 and 4.3.2.5).
-ghost use Rattle.std.specs.Prelude.{◌≡◌, ◌∷◌, ◌++◌, OnOk, string_bytes, map, filter, Some};
+ghost use Rattle.std.specs.Prelude.{◌≡◌, ◌∷◌, ◌++◌, [], codes, OnOk, string_bytes, map, filter};
+ghost use Rattle.std.specs.List.{list_all};
 ghost use Rattle.attr_list.specs.Attributes.{pair_spelling};
 ghost use Rattle.playlist_write.specs.Spelling.{plain, in_quotes, iv_pairs, format_pairs, attr_pair, part_pairs, after_commas};
+ghost use Rattle.playlist_write.specs.KeyParts.{rest_of, is_identity};
 ghost use Rattle.playlist_meaning.specs.Said as Said;
 ghost use Rattle.playlist_write.specs.Owed.{line_of, said_text, keys_owed, set_tags, key_line, section_line};
-ghost use Rattle.stitcher.specs.KeyTags.{is_new};
+ghost use Rattle.stitcher.specs.KeyTags.{is_new, keeps_formats};
 ghost use Rattle.fixed_duration.specs.Appended.{Appends};
 
-use crate::digits::{push_four, push_iv_digits};
+use crate::digits::{push_last_iv, push_quote_and_iv};
 use crate::lines::{push_feed, push_line, push_range};
 use playlist_meaning::{ByteRange, InitSection, Key, KeyAttr};
 use std::alloc::AllocError;
@@ -32,21 +34,6 @@ fn push_quoted(out: &mut String, name: &str, value: &str) -> Result<(), AllocErr
     out.push('"')
 }
 
-// Appends the closing quote of a value, and then an initialisation vector.
-fn push_quote_and_iv(out: &mut String, iv: u128) -> Result<(), AllocError>
-    ensures { Appends result out.old out.new (34 ∷ after_commas (iv_pairs (Some iv))) }
-{
-    // The first segments' numbers have four digits (RFC 8216, 5.2).
-    if iv < 65_536 {
-        out.push_str("\",IV=0x0000000000000000000000000000")?;
-        push_four(out, iv as u32)?;
-        return Ok(());
-    }
-    out.push_str("\",IV=0x")?;
-    push_iv_digits(out, iv)?;
-    Ok(())
-}
-
 // Appends the closing quote of a value, and then the initialisation vector where there is one.
 fn push_iv(out: &mut String, iv: Option<u128>) -> Result<(), AllocError>
     ensures { Appends result out.old out.new (34 ∷ after_commas (iv_pairs iv)) }
@@ -54,6 +41,16 @@ fn push_iv(out: &mut String, iv: Option<u128>) -> Result<(), AllocError>
     match iv {
         Some(iv) => push_quote_and_iv(out, iv),
         None => out.push('"'),
+    }
+}
+
+// The same, and ends the line.
+fn push_iv_and_feed(out: &mut String, iv: Option<u128>) -> Result<(), AllocError>
+    ensures { Appends result out.old out.new (34 ∷ after_commas (iv_pairs iv) ++ 10 ∷ []) }
+{
+    match iv {
+        Some(iv) => push_last_iv(out, iv),
+        None => out.push_str("\"\n"),
     }
 }
 
@@ -87,17 +84,49 @@ fn push_attrs(out: &mut String, attrs: &[KeyAttr]) -> Result<(), AllocError>
     Ok(())
 }
 
-fn push_key(out: &mut String, key: &Key) -> Result<(), AllocError>
-    ensures { Appends result out.old out.new (key_line key.now) }
+// Appends the front of a key tag, up to its URI.
+fn push_method(out: &mut String, method: &str) -> Result<(), AllocError>
+    ensures { Appends result out.old out.new (codes "#EXT-X-KEY:METHOD=" ++ (method.now ++ codes ",URI=\"")) }
 {
+    // Most keys have this method.
+    if method == "AES-128" {
+        out.push_str("#EXT-X-KEY:METHOD=AES-128,URI=\"")?;
+        return Ok(());
+    }
     out.push_str("#EXT-X-KEY:METHOD=")?;
-    out.push_str(key.method.as_str())?;
+    out.push_str(method)?;
     out.push_str(",URI=\"")?;
-    out.push_str(key.uri.as_str())?;
+    Ok(())
+}
+
+// Appends what stands behind the URI of a key.
+fn push_rest(out: &mut String, key: &Key) -> Result<(), AllocError>
+    ensures { Appends result out.old out.new (rest_of key.now) }
+{
     push_iv(out, key.iv)?;
     push_format(out, key.format.as_str())?;
     push_attrs(out, key.other.as_slice())?;
     push_feed(out)?;
+    Ok(())
+}
+
+// The same, where most keys have no other attributes.
+fn push_short_rest(out: &mut String, key: &Key) -> Result<(), AllocError>
+    ensures { Appends result out.old out.new (rest_of key.now) }
+{
+    if key.other.as_slice().is_empty() && key.format.as_str() == "identity" {
+        push_iv_and_feed(out, key.iv)?;
+        return Ok(());
+    }
+    push_rest(out, key)
+}
+
+fn push_key(out: &mut String, key: &Key) -> Result<(), AllocError>
+    ensures { Appends result out.old out.new (key_line key.now) }
+{
+    push_method(out, key.method.as_str())?;
+    out.push_str(key.uri.as_str())?;
+    push_short_rest(out, key)?;
     Ok(())
 }
 
@@ -128,10 +157,28 @@ fn push_no_keys(out: &mut String) -> Result<(), AllocError>
     push_line(out, "#EXT-X-KEY:METHOD=NONE")
 }
 
+// Whether all keys have the format that goes without saying.
+fn are_identity(keys: &[Key]) -> bool
+    ensures { result ≡ list_all is_identity keys.now }
+{
+    keys.iter().all(|key: &Key| key.format.as_str() == "identity")
+}
+
+// Whether no format ends, where most keys have the same.
+fn keeps_all(old: &[Key], new: &[Key]) -> bool
+    ensures { result ≡ keeps_formats old.now new.now }
+{
+    if !new.is_empty() && are_identity(old) && are_identity(new) {
+        return true;
+    }
+    keeps_formats(old, new)
+}
+
+#[inline(never)]
 fn push_tags_between(out: &mut String, old: &[Key], new: &[Key]) -> Result<(), AllocError>
     ensures { Appends result out.old out.new (said_text (keys_owed old.now new.now)) }
 {
-    if keeps_formats(old, new) {
+    if keeps_all(old, new) {
         return push_new_keys(out, old, new);
     }
     push_no_keys(out)?;
@@ -139,6 +186,7 @@ fn push_tags_between(out: &mut String, old: &[Key], new: &[Key]) -> Result<(), A
 }
 
 /// Appends the key tags that lead from keys to keys.
+#[inline(always)]
 pub fn push_key_tags(out: &mut String, old: &[Key], new: &[Key]) -> Result<(), AllocError>
     ensures { Appends result out.old out.new (said_text (keys_owed old.now new.now)) }
 {

@@ -1,0 +1,19 @@
+use Rattle.std.proofs.Common.{◌≡◌, ◌∷◌, [], ◌++◌, ap, ◌∙◌, sym, subst, arith, string_bytes}
+use Rattle.std.specs.Prelude.{codes, IsUtf8, take}
+use Rattle.std.proofs.lemmas.Str.{IsUtf8-from_ascii}
+use Rattle.std.proofs.lemmas.List.{take_all}
+use Rattle.instants.specs.Digits.{fixed_digits}
+use Rattle.instants.proofs.Chains.{as_text}
+use Rattle.playlist_write.proofs.HexPairs.{last_iv_ascii}
+use Rattle.playlist_write.proofs.digits.push_last_iv.Goals as goal
+
+
+pub from_utf8_unchecked-text-requires : goal.from_utf8_unchecked-text-requires
+from_utf8_unchecked-text-requires c =
+    let whole = sym (take_all 40 c.put_mark.new.text (omega (arith, c.put_mark.array_long))) ∙ c.put_mark.ensures ∙ ap (λ t. t ++ 10 ∷ []) c.put_iv.ensures in
+    subst IsUtf8 (sym whole) (IsUtf8-from_ascii _ (last_iv_ascii c.args.iv))
+
+pub returns : goal.returns
+returns c =
+    let whole = sym (take_all 40 c.put_mark.new.text (omega (arith, c.put_mark.array_long))) ∙ c.put_mark.ensures ∙ ap (λ t. t ++ 10 ∷ []) c.put_iv.ensures in
+    as_text (string_bytes c.args.out.now) c.in_ok-push_str.ensures.bytes (c.from_utf8_unchecked-text.ensures ∙ whole)
