@@ -1,23 +1,29 @@
--- Keys of one format: none of them ends.
-use Rattle.std.proofs.Common.{◌≡◌, List, [], ◌∷◌, true, false, length, ◌∙◌, ap, sym, refl, ℕ, ◌<◌, arith}
-use Rattle.std.specs.Prelude.{bytes_eq, codes}
-use Rattle.std.specs.List.{list_all, list_any}
-use Rattle.std.proofs.lemmas.Bool.{and_parts, and_from, or_left}
+-- A key that differs from the one before by its initialisation vector alone, as far as tags go.
+use Rattle.std.proofs.Common.{◌≡◌, List, [], ◌∷◌, Bool, true, false, ◌∙◌, ap, sym, refl, length, get_or, arith}
+use Rattle.std.specs.Prelude.{bytes_eq, codes, not, ◌&&◌}
+use Rattle.std.proofs.lemmas.Bool.{and_parts}
 use Rattle.std.proofs.lemmas.Slice.Eq.{bytes_eq-Decides}
 use Rattle.playlist_meaning.specs.declared.Key.{Key}
-use Rattle.stitcher.specs.KeyTags.{keeps_formats, has_its_format}
+use Rattle.playlist_meaning.specs.Same.{same_option, same_number}
+use Rattle.playlist_meaning.proofs.SameParts.{other_iv}
 use Rattle.playlist_write.specs.KeyParts.{is_identity}
+use Rattle.playlist_write.specs.Owed.{set_tags, keys_owed}
 
 same_format : (a b : Key) → is_identity a ≡ true → is_identity b ≡ true → bytes_eq a.format b.format ≡ true
 same_format a b h g = (bytes_eq-Decides a.format b.format).1 ((bytes_eq-Decides a.format (codes "identity")).0 h ∙ sym ((bytes_eq-Decides b.format (codes "identity")).0 g))
 
--- the first of the new keys has the format of each old one
-pub keeps_identity : (old : List Key) (first : Key) (new : List Key) → list_all is_identity old ≡ true → is_identity first ≡ true → keeps_formats old (first ∷ new) ≡ true
-keeps_identity [] first new h g = refl
-keeps_identity (k ∷ old) first new h g =
-    let parts = and_parts (is_identity k) (list_all is_identity old) h in
-    and_from _ _ (or_left _ _ (same_format k first parts.0 g)) (keeps_identity old first new parts.1 g)
+untrue : (b : Bool) → not b ≡ true → b ≡ false
+untrue true h = cc
+untrue false h = refl
 
-pub keeps_all_identity : (old new : List Key) → 0 < length new → list_all is_identity old ≡ true → list_all is_identity new ≡ true → keeps_formats old new ≡ true
-keeps_all_identity old [] n h g = absurd (omega (arith, n))
-keeps_all_identity old (first ∷ new) n h g = keeps_identity old first new h (and_parts (is_identity first) (list_all is_identity new) g).0
+pub next_tags : (old «new» : Key) → (is_identity old && (is_identity «new» && not (same_option same_number «new».iv old.iv))) ≡ true → set_tags («new» ∷ []) ≡ keys_owed (old ∷ []) («new» ∷ [])
+next_tags old «new» h =
+    let parts = and_parts (is_identity old) (is_identity «new» && not (same_option same_number «new».iv old.iv)) h in
+    let rest = and_parts (is_identity «new») (not (same_option same_number «new».iv old.iv)) parts.1 in
+    let other = untrue (same_option same_number «new».iv old.iv) rest.1 in
+    rw (same_format old «new» parts.0 rest.0) (rw (sym (other_iv «new» old other)) refl)
+
+pub only : (keys : List Key) (k : Key) → length keys ≡ 1 → k ≡ get_or keys 0 k → keys ≡ k ∷ []
+only [] k n e = absurd (omega (arith, n))
+only (first ∷ []) k n e = ap (λ x. x ∷ []) (sym e)
+only (first ∷ second ∷ rest) k n e = absurd (omega (arith, n))

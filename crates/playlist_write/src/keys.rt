@@ -1,12 +1,12 @@
 //! Key tags and map tags (RFC 8216, sections 4.3.2.4 and 4.3.2.5).
-ghost use Rattle.std.specs.Prelude.{◌≡◌, ◌∷◌, ◌++◌, [], codes, OnOk, string_bytes, map, filter};
-ghost use Rattle.std.specs.List.{list_all};
+ghost use Rattle.std.specs.Prelude.{◌≡◌, ◌∷◌, ◌++◌, [], codes, OnOk, string_bytes, map, filter, ◌&&◌, not};
 ghost use Rattle.attr_list.specs.Attributes.{pair_spelling};
 ghost use Rattle.playlist_write.specs.Spelling.{plain, in_quotes, iv_pairs, format_pairs, attr_pair, part_pairs, after_commas};
 ghost use Rattle.playlist_write.specs.KeyParts.{rest_of, is_identity};
 ghost use Rattle.playlist_meaning.specs.Said as Said;
 ghost use Rattle.playlist_write.specs.Owed.{line_of, said_text, keys_owed, set_tags, key_line, section_line};
-ghost use Rattle.stitcher.specs.KeyTags.{is_new, keeps_formats};
+ghost use Rattle.playlist_meaning.specs.Same.{same_option, same_number};
+ghost use Rattle.stitcher.specs.KeyTags.{is_new};
 ghost use Rattle.fixed_duration.specs.Appended.{Appends};
 
 use crate::digits::{push_last_iv, push_quote_and_iv};
@@ -157,32 +157,48 @@ fn push_no_keys(out: &mut String) -> Result<(), AllocError>
     push_line(out, "#EXT-X-KEY:METHOD=NONE")
 }
 
-// Whether all keys have the format that goes without saying.
-fn are_identity(keys: &[Key]) -> bool
-    ensures { result ≡ list_all is_identity keys.now }
+// Appends the key tags that lead from any keys to others.
+fn push_any_tags(out: &mut String, old: &[Key], new: &[Key]) -> Result<(), AllocError>
+    ensures { Appends result out.old out.new (said_text (keys_owed old.now new.now)) }
 {
-    keys.iter().all(|key: &Key| key.format.as_str() == "identity")
+    if keeps_formats(old, new) {
+        return push_new_keys(out, old, new);
+    }
+    push_no_keys(out)?;
+    push_keys(out, new)
 }
 
-// Whether no format ends, where most keys have the same.
-fn keeps_all(old: &[Key], new: &[Key]) -> bool
-    ensures { result ≡ keeps_formats old.now new.now }
+fn is_identity(key: &Key) -> bool
+    ensures { result ≡ is_identity key.now }
 {
-    if !new.is_empty() && are_identity(old) && are_identity(new) {
-        return true;
-    }
-    keeps_formats(old, new)
+    key.format.as_str() == "identity"
+}
+
+fn has_same_iv(one: &Key, other: &Key) -> bool
+    ensures { result ≡ same_option same_number one.now.iv other.now.iv }
+{
+    one.iv == other.iv
+}
+
+// Whether a key differs from the one before by its initialisation vector, and not by its format.
+fn has_next_iv(old: &Key, new: &Key) -> bool
+    ensures { result ≡ (is_identity old.now && (is_identity new.now && not (same_option same_number new.now.iv old.now.iv))) }
+{
+    is_identity(old) && is_identity(new) && !has_same_iv(new, old)
 }
 
 #[inline(never)]
 fn push_tags_between(out: &mut String, old: &[Key], new: &[Key]) -> Result<(), AllocError>
     ensures { Appends result out.old out.new (said_text (keys_owed old.now new.now)) }
 {
-    if keeps_all(old, new) {
-        return push_new_keys(out, old, new);
+    // Most segments have one key, with an initialisation vector of their own (RFC 8216, 5.2).
+    if let ([before], [after]) = (old, new) {
+        if has_next_iv(before, after) {
+            push_key(out, after)?;
+            return Ok(());
+        }
     }
-    push_no_keys(out)?;
-    push_keys(out, new)
+    push_any_tags(out, old, new)
 }
 
 /// Appends the key tags that lead from keys to keys.
