@@ -1,5 +1,5 @@
 -- Hexadecimal digits as they are written: in twos by a table, in halves, and all of them ASCII.
-use Rattle.std.proofs.Common.{◌≡◌, ℕ, zero, suc, Bool, get_or, take, inl, inr, ◌+◌, ◌*◌, ◌<◌, ◌/◌, ◌%◌, [], ◌∷◌, ◌++◌, true, refl, ap, ◌∙◌, sym, subst, arith, append_assoc}
+use Rattle.std.proofs.Common.{◌≡◌, ℕ, zero, suc, Bool, get_or, inl, inr, ◌+◌, ◌*◌, ◌<◌, ◌/◌, ◌%◌, [], ◌∷◌, ◌++◌, true, refl, ap, ◌∙◌, sym, subst, arith, append_assoc}
 use Rattle.std.specs.Prelude.{codes, ◌==◌, ◌&&◌, IsAscii, List}
 use Rattle.std.specs.Fmt.{digit_glyph}
 use Rattle.std.proofs.lemmas.Bool.{and_parts, cases_lt, eqb-true}
@@ -9,7 +9,6 @@ use Rattle.std.proofs.lemmas.Str.Ascii.{IsAscii-nil, IsAscii-cons, IsAscii-push}
 use Rattle.instants.specs.Digits.{fixed_digits}
 use Rattle.instants.proofs.FixedDigits.{last_two}
 use Rattle.playlist_write.specs.declared.digits.TheConstants.{PAIRS}
-use Rattle.playlist_write.proofs.ZerosInFront.{last_eight}
 
 -- ---- the table of two digits
 

@@ -1,8 +1,7 @@
-use Rattle.std.proofs.Common.{◌≡◌, ◌∷◌, [], ◌++◌, ap, ◌∙◌, sym, subst, arith, string_bytes}
-use Rattle.std.specs.Prelude.{codes, IsUtf8, take}
+use Rattle.std.proofs.Common.{◌∷◌, [], ◌++◌, ap, ◌∙◌, sym, subst, arith, string_bytes}
+use Rattle.std.specs.Prelude.{IsUtf8}
 use Rattle.std.proofs.lemmas.Str.{IsUtf8-from_ascii}
 use Rattle.std.proofs.lemmas.List.{take_all}
-use Rattle.instants.specs.Digits.{fixed_digits}
 use Rattle.instants.proofs.Chains.{as_text}
 use Rattle.playlist_write.proofs.HexPairs.{last_iv_ascii}
 use Rattle.playlist_write.proofs.digits.push_last_iv.Goals as goal
