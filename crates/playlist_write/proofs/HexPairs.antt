@@ -53,14 +53,15 @@ last_eight_after k n =
     let two = λ (m : ℕ). fixed_digits 16 2 m in
     last_two 16 (suc (suc (suc (suc (suc (suc k)))))) n
     ∙ ap (λ t. t ++ two n) (last_two 16 (suc (suc (suc (suc k)))) (n / 16 / 16)
-      ∙ ap (λ t. t ++ two (n / 16 / 16)) (last_two 16 (suc (suc k)) (n / 16 / 16 / 16 / 16)
-        ∙ ap (λ t. t ++ two (n / 16 / 16 / 16 / 16)) (last_two 16 k (n / 16 / 16 / 16 / 16 / 16 / 16))))
+    ∙ ap (λ t. t ++ two (n / 16 / 16)) (last_two 16 (suc (suc k)) (n / 16 / 16 / 16 / 16)
+    ∙ ap (λ t. t ++ two (n / 16 / 16 / 16 / 16)) (last_two 16 k (n / 16 / 16 / 16 / 16 / 16 / 16))))
     ∙ regroup (fixed_digits 16 k (n / 16 / 16 / 16 / 16 / 16 / 16 / 16 / 16)) (two (n / 16 / 16 / 16 / 16 / 16 / 16)) (two (n / 16 / 16 / 16 / 16)) (two (n / 16 / 16)) (two n)
     ∙ ap (λ t. fixed_digits 16 k (n / 16 / 16 / 16 / 16 / 16 / 16 / 16 / 16) ++ t) (sym (in_twos n))
     ∙ ap (λ m. fixed_digits 16 k m ++ fixed_digits 16 8 n) front
   where
     regroup : (a b c d e : List ℕ) → (((a ++ b) ++ c) ++ d) ++ e ≡ a ++ (((b ++ c) ++ d) ++ e)
     regroup a b c d e = simp append_assoc
+
     in_twos : (n : ℕ) → fixed_digits 16 8 n ≡ ((fixed_digits 16 2 (n / 16 / 16 / 16 / 16 / 16 / 16) ++ fixed_digits 16 2 (n / 16 / 16 / 16 / 16)) ++ fixed_digits 16 2 (n / 16 / 16)) ++ fixed_digits 16 2 n
     in_twos n =
         last_two 16 6 n ∙ ap (λ t. t ++ fixed_digits 16 2 n) (last_two 16 4 (n / 16 / 16)

@@ -6,7 +6,6 @@ use Rattle.instants.proofs.Chains.{as_text}
 use Rattle.playlist_write.proofs.HexPairs.{last_iv_ascii}
 use Rattle.playlist_write.proofs.digits.push_last_iv.Goals as goal
 
-
 pub from_utf8_unchecked-text-requires : goal.from_utf8_unchecked-text-requires
 from_utf8_unchecked-text-requires c =
     let whole = sym (take_all 40 c.put_mark.new.text (omega (arith, c.put_mark.array_long))) ∙ c.put_mark.ensures ∙ ap (λ t. t ++ 10 ∷ []) c.put_iv.ensures in
