@@ -9,4 +9,4 @@ pub mod Pointwise
 pub mod SameParts
 pub mod SameSegments
 pub mod PlainJoin
-pub mod PlainBytes
+pub mod SegmentBytes
