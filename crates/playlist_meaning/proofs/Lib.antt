@@ -10,3 +10,4 @@ pub mod SameParts
 pub mod SameSegments
 pub mod PlainJoin
 pub mod SegmentBytes
+pub mod SegmentRuns
