@@ -54,4 +54,4 @@ stops question segment slash dot query later q s n = rw q (rw s (rw n refl))
 pub other_stops : (b : ℕ) (bytes : List ℕ) → is_segment_byte b ≡ false → ¬ (b ≡ 63) → ¬ (b ≡ 47) → are_plain false (b ∷ bytes) ≡ false
 other_stops b bytes other question slash =
     stops (b == 63) (is_segment_byte b) (b == 47) (b == 46) (list_all is_query_byte bytes) (are_plain (b == 47) bytes)
-        (grind (arith, nat_tests)) other (grind (arith, nat_tests))
+    (grind (arith, nat_tests)) other (grind (arith, nat_tests))

@@ -8,7 +8,7 @@ pub loop-four-preserved : goal.loop-four-preserved
 loop-four-preserved c =
     let parts = c.in-Some.ensures.cases in
     let all : list_all is_segment_byte (take 4 c.loop-four.rest.now) ≡ true =
-        ap (λ four. list_all is_segment_byte four) (sym parts.0) ∙ sym c.are_segment_bytes.ensures ∙ c.if-not-are_segment_bytes.false in
+    ap (λ four. list_all is_segment_byte four) (sym parts.0) ∙ sym c.are_segment_bytes.ensures ∙ c.if-not-are_segment_bytes.false in
     ap (λ rest. after is_segment_byte rest) parts.1 ∙ taken_go_on is_segment_byte 4 c.loop-four.rest.now all ∙ c.loop-four.invariant
 
 pub loop-byte-preserved : goal.loop-byte-preserved

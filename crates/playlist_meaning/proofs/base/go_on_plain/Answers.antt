@@ -1,6 +1,5 @@
-use Rattle.std.proofs.Common.{◌≡◌, ◌∷◌, false, sym, ◌∙◌}
-use Rattle.playlist_meaning.specs.Plain.{is_segment_byte}
-use Rattle.playlist_meaning.proofs.SegmentRuns.{after, nothing_left, query_leads, slash_leads, dot_ends, other_ends}
+use Rattle.std.proofs.Common.{sym, ◌∙◌}
+use Rattle.playlist_meaning.proofs.SegmentRuns.{nothing_left, query_leads, slash_leads, dot_ends, other_ends}
 use Rattle.playlist_meaning.proofs.base.go_on_plain.Goals as goal
 use Rattle.playlist_meaning.proofs.base.go_on_plain.Goals.{then-byte-ne47-via-then-byte-ne47, then-byte-ne47-via-else-byte-ne47+then-begins_with_dot}
 

@@ -1,7 +1,6 @@
 -- The table is held against the definition at each of the 256 bytes, by computing.
-use Rattle.std.proofs.Common.{◌≡◌, ℕ, zero, suc, ◌<◌, Bool, true, false, ◌&&◌, not, nat_eq, get_or, List, refl, arith, inl, inr}
+use Rattle.std.proofs.Common.{◌≡◌, ℕ, ◌<◌, Bool, true, false, not, nat_eq, get_or, List, refl, arith}
 use Rattle.std.specs.Bool.{beq}
-use Rattle.std.proofs.lemmas.Bool.{cases_eq}
 use Rattle.url.proofs.SetLemmas.{all_below, checked}
 use Rattle.playlist_meaning.specs.declared.base.TheConstants.{SEGMENT_BYTES}
 use Rattle.playlist_meaning.specs.Plain.{is_segment_byte}
