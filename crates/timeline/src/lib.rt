@@ -4,7 +4,7 @@
 ghost use Rattle.std.specs.Prelude.{◌≡◌, ℤ, IfOk, option_map, pos, ◌-ℤ◌};
 ghost use Rattle.playlist_meaning.specs.Instants.{bounded, ends_at, instants_after, instants_of};
 ghost use Rattle.playlist_meaning.specs.LookBack.{or_earlier};
-ghost use Rattle.timeline.specs.Reckoned.{clamped, stack_of, NextReckoned};
+ghost use Rattle.timeline.specs.Reckoned.{clamped, stack_of};
 
 use fixed_duration::Nanos;
 use instants::FIRST_INSTANT;
@@ -90,16 +90,6 @@ fn reckoned_stack(
     Ok(stack)
 }
 
-// Takes the last of a stack, where there is one.
-fn next_reckoned(stack: &mut Option<Vec<Option<i128>>>) -> Option<i128>
-    ensures { NextReckoned (option_map (λ v. v.items) stack.old) (option_map (λ v. v.items) stack.new) result }
-{
-    match stack {
-        Some(stack) => stack.pop().unwrap_or(None),
-        None => None,
-    }
-}
-
 /// The instant at which each of these segments begins, after one that ended at `from`, if any: its stated time; else
 /// where the one before it ended; else back from the first time stated later; none outside the range of instants.
 pub fn instants_after(
@@ -118,7 +108,10 @@ pub fn instants_after(
         if stack.is_none() && segment.time.is_none() && ended.is_none() {
             stack = Some(reckoned_stack(alloc, rest)?);
         }
-        let reckoned = next_reckoned(&mut stack);
+        let reckoned = match &mut stack {
+            Some(stack) => stack.pop().unwrap_or(None),
+            None => None,
+        };
         let begun = begins_at(ended, segment, reckoned);
         ended = ends_at(&begun, segment.duration);
         found.push(begun)?;
