@@ -76,7 +76,8 @@ impl From<SinkFailed> for WriteFault {
     }
 }
 
-// About as much room as the text takes.
+// At least as much room as most texts take: a text that grows is held twice while it is moved, and room that isn't used takes
+// no memory.
 fn room_for(playlist: &OutPlaylist<'_>) -> usize {
     let mut room: usize = 256;
     for range in playlist.date_ranges.as_slice() {
@@ -89,7 +90,11 @@ fn room_for(playlist: &OutPlaylist<'_>) -> usize {
             .as_str()
             .len()
             .saturating_add(segment.title.as_str().len());
-        room = room.saturating_add(texts).saturating_add(80);
+        let keys = segment.keys.len().saturating_mul(160);
+        room = room
+            .saturating_add(texts)
+            .saturating_add(keys)
+            .saturating_add(88);
     }
     room
 }
