@@ -1,5 +1,5 @@
--- Numbers in a fixed number of digits: one more digit, and what they are read as.
-use Rattle.std.proofs.Common.{◌≡◌, ℕ, zero, suc, ◌-◌, ◌+◌, ◌*◌, ◌<◌, ◌≤◌, ◌/◌, ◌%◌, ◌^◌, List, [], ◌∷◌, ◌++◌, length, true, refl, ap, ◌∙◌, subst, arith, length-append, append_assoc}
+-- Numbers in a fixed number of digits: their last ones, and what they are read as.
+use Rattle.std.proofs.Common.{◌≡◌, ℕ, zero, suc, ◌+◌, ◌*◌, ◌<◌, ◌≤◌, ◌/◌, ◌%◌, ◌^◌, List, [], ◌∷◌, ◌++◌, length, true, refl, ap, ◌∙◌, subst, arith, length-append, append_assoc}
 use Rattle.std.specs.List.{list_all}
 use Rattle.std.specs.Char.{is_ascii_digit, digit_value}
 use Rattle.std.specs.Str.Parse.{digits_value, AllDigits}
@@ -9,16 +9,6 @@ use Rattle.std.proofs.lemmas.Bool.{and_from}
 use Rattle.std.proofs.lemmas.Bool.Decides.{nat_tests}
 use Rattle.std.proofs.lemmas.Int.Digits.{digits_value_push, digits_push}
 use Rattle.instants.specs.Digits.{fixed_digits}
-
-pub fixed_none : (base k n : ℕ) → k ≡ 0 → fixed_digits base k n ≡ []
-unfolding fixed_digits
-fixed_none base k n e = rw e refl
-
-pub fixed_more : (base k n : ℕ) → (k ≡ 0 → ⊥) → fixed_digits base k n ≡ fixed_digits base (k - 1) (n / base) ++ digit_glyph true (n % base) ∷ []
-unfolding fixed_digits
-fixed_more base zero n h = absurd (h refl)
-fixed_more base (suc k) n h =
-    let e : k ≡ suc k - 1 = omega arith in ap (λ m. fixed_digits base m (n / base) ++ digit_glyph true (n % base) ∷ []) e
 
 -- ---- two digits at the end
 

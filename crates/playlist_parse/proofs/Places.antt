@@ -1,49 +1,16 @@
 -- Lines and their places.
-use Rattle.std.proofs.Common.{◌≡◌, ℕ, ◌+◌, ◌-◌, ◌<◌, ◌≤◌, Bool, true, false, cond, not, List, [], ◌∷◌, ◌++◌, map, take, drop, length, refl, ap, sym, ◌∙◌, arith, length-append, length-take, length-drop, suc, zero, Bor}
-use Rattle.std.specs.Prelude.{◌≢◌, ◌==◌, slice_index, Option, Some, None, unwrap_or, MatchOption}
+use Rattle.std.proofs.Common.{◌≡◌, ℕ, ◌+◌, ◌-◌, ◌<◌, ◌≤◌, Bool, true, false, cond, not, List, [], ◌∷◌, map, take, drop, length, refl, ap, sym, ◌∙◌, arith, length-take, length-drop}
+use Rattle.std.specs.Prelude.{◌==◌}
 use Rattle.std.specs.List.{slice_split, position_or_len, before_first, after_first, onto_first}
 use Rattle.std.specs.Str.Lines.{strip_carriage_return, lines}
-use Rattle.std.proofs.lemmas.Bool.{eqb-true}
 use Rattle.std.proofs.lemmas.List.Splits.{slice_split_first, length-slice_split}
 use Rattle.std.proofs.lemmas.List.Sums.{count_by-le-length}
-use Rattle.std.proofs.Math.Seq.{get_or-append_seam, take-append_seam}
 use Rattle.attr_list.specs.Attributes.{slices_at}
 use Rattle.playlist_meaning.specs.Laws.{AreSlices}
 use Rattle.playlist_meaning.proofs.LineLaws.{lines_are_slices}
 use Rattle.playlist_meaning.specs.Lines.{placed_from, placed_lines}
 use Rattle.playlist_parse.specs.LineViews.{is_feed, with_end, line_span, line_text, lines_from}
 use Rattle.playlist_parse.proofs.LineLemmas.{map_twice}
-
--- ---- without the carriage return
-
-some_stripped : (front : List ℕ) → front ≡ strip_carriage_return (front ++ 13 ∷ [])
-some_stripped front =
-    let n : length (front ++ 13 ∷ []) - 1 ≡ length front = omega (arith, length-append front (13 ∷ [])) in
-    let last : slice_index (front ++ 13 ∷ []) (length front) ≡ 13 = get_or-append_seam front 13 [] 0 in
-    let before : take (length front) (front ++ 13 ∷ []) ≡ front = take-append_seam front (13 ∷ []) in
-    rw (n, last, before) refl
-
-ends : (xs : List ℕ) (n : ℕ) → length xs ≡ suc n → slice_index xs n ≡ 13 → xs ≡ take n xs ++ 13 ∷ []
-ends [] n size h = absurd (omega (arith, size))
-ends (x ∷ []) zero size h = ap (λ y. y ∷ []) h
-ends (x ∷ []) (suc n) size h = absurd (omega (arith, size))
-ends (x ∷ y ∷ xs) zero size h = absurd (omega (arith, size))
-ends (x ∷ y ∷ xs) (suc n) size h = ap (λ ys. x ∷ ys) (ends (y ∷ xs) n (omega (arith, size)) h)
-
-kept : (piece : List ℕ) (n : ℕ) (b : Bool) → length piece ≡ suc n → (slice_index piece n == 13) ≡ b → ((front : List ℕ) → piece ≢ front ++ 13 ∷ []) → piece ≡ cond b (take n piece) piece
-kept piece n true size e h = absurd (h _ (ends piece n size (eqb-true _ _ e)))
-kept piece n false size e h = refl
-
-none_stripped : (piece : List ℕ) → ((front : List ℕ) → piece ≢ front ++ 13 ∷ []) → piece ≡ strip_carriage_return piece
-none_stripped [] h = refl
-none_stripped (x ∷ xs) h =
-    let n : length (x ∷ xs) - 1 ≡ length xs = omega arith in
-    rw n (kept (x ∷ xs) (length xs) _ refl refl h)
-
-pub stripped : (piece : Bor (List ℕ)) (r : Option (Bor (List ℕ))) → MatchOption r ((front : List ℕ) → piece.now ≢ front ++ 13 ∷ []) (λ x. piece.now ≡ x.now ++ 13 ∷ [])
-    → (unwrap_or r piece).now ≡ strip_carriage_return piece.now
-stripped piece None h = none_stripped piece.now h
-stripped piece (Some x) h = some_stripped x.now ∙ ap strip_carriage_return (sym h)
 
 -- ---- lines from a place on
 

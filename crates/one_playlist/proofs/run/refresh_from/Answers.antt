@@ -1,5 +1,3 @@
-use Rattle.std.proofs.Common.{subst}
-use Rattle.one_playlist.specs.Given.{Refreshes}
 use Rattle.one_playlist.proofs.WholeRun.{on_ok}
 use Rattle.one_playlist.proofs.run.refresh_from.Goals as goal
 
