@@ -13,8 +13,11 @@ every other one is decided (a decision file holds 256 breaks at most), each with
 
 Hostile, each as large as a playlist may be, or with as many segments: many-breaks has 10,000 segments and 5,000
 breaks, of which 250 are decided; one-start the same with all breaks at one instant, and all segments near it;
-date-ranges 145,000 date ranges of one segment."""
+date-ranges 145,000 date ranges of one segment. Without decisions: dated-ranges has 67,600 date ranges with a time,
+empty-lines four million empty lines, many-attributes 10,000 keys of 42 attributes."""
 import json, os, sys
+
+MOST_BYTES = 4_194_304  # of a playlist that is read
 
 OUT30 = "0xFC302000000000000000FFF00F05000000017FFFFE002932E00001" + "0" * 16
 RANGE = '#EXT-X-DATERANGE:ID="b1",START-DATE="2024-05-01T12:00:10Z",SCTE35-OUT=' + OUT30
@@ -142,7 +145,33 @@ def date_ranges():
     return l, {"breaks": [pod_of_two("%05x" % k) for k in range(0, 256)]}
 
 
-HOSTILE = (("many-breaks", spread_breaks), ("one-start", one_start), ("date-ranges", date_ranges))
+def as_large_as_may_be(lines):
+    """As many of these lines, each as long as the first, as a playlist of the largest size has room for, and a segment."""
+    head = ["#EXTM3U", "#EXT-X-TARGETDURATION:10"]
+    tail = ["#EXT-X-PROGRAM-DATE-TIME:2024-05-01T12:00:00Z", "#EXTINF:10,", "s0.ts", "#EXT-X-ENDLIST"]
+    room = MOST_BYTES - len(text(head + tail))
+    return head + lines[:room // len(text(lines[:1]))] + tail, None
+
+
+def dated_ranges():
+    return as_large_as_may_be(['#EXT-X-DATERANGE:ID="%05x",START-DATE="2024-05-01T12:00:00Z"' % k for k in range(70_000)])
+
+
+def empty_lines():
+    return as_large_as_may_be([""] * MOST_BYTES)
+
+
+def many_attributes():
+    """10,000 keys of 42 attributes each."""
+    l = ["#EXTM3U", "#EXT-X-TARGETDURATION:10"]
+    for i in range(10_000):
+        others = ",".join("A%d=%04d" % (k, i) for k in range(40))
+        l += ['#EXT-X-KEY:METHOD=AES-128,URI="k",' + others, "#EXTINF:10,", "%d" % i]
+    return l + ["#EXT-X-ENDLIST"], None
+
+
+HOSTILE = (("many-breaks", spread_breaks), ("one-start", one_start), ("date-ranges", date_ranges),
+           ("dated-ranges", dated_ranges), ("empty-lines", empty_lines), ("many-attributes", many_attributes))
 
 
 def text(lines):
