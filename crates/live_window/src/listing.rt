@@ -17,7 +17,7 @@ use playlist_meaning::{Segment, Shared, Text};
 use pod_store::PodStore;
 use std::alloc::{AllocError, Global};
 use stitcher::Marked;
-use timeline::{ends_at, instants_after};
+use timeline::{Beginnings, ends_at};
 
 #[tactic(auto, using(crate::proofs::Listed::newest_seen, crate::proofs::Listed::newest_decided, crate::proofs::Listed::none_seen))]
 /// The mark of the newest of these segments.
@@ -124,16 +124,9 @@ pub fn listed(
 {
     let newest = newest_mark(shown)?;
     let fresh = fresh_of(shown, segments);
-    let begun = instants_after(alloc, newest_end(shown), fresh)?;
+    let instants = Beginnings::new(alloc, newest_end(shown), fresh);
     let marked = mark_on(
-        alloc,
-        limits,
-        knowledge,
-        store,
-        &newest,
-        entered,
-        fresh,
-        begun.as_slice(),
+        alloc, limits, knowledge, store, &newest, entered, fresh, instants,
     )?;
     Ok(joined(alloc, shown, marked)?)
 }

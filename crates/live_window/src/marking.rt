@@ -14,6 +14,7 @@ use pod_store::PodStore;
 use std::alloc::{AllocError, Global};
 use std::marker::Model;
 use stitcher::Marked;
+use timeline::Beginnings;
 
 /// What marks are decided by, the known breaks and the store apart.
 #[derive(Clone, Copy)]
@@ -231,23 +232,22 @@ impl<'a> Marker<'a> {
         alloc: Global,
         start: Run,
         segments: &[Shared<Segment>],
-        instants: &[Option<Instant>],
+        instants: Beginnings<'_>,
     ) -> Result<Vec<Marked>, AllocError>
-        ensures { IfOk result (λ v. v.items ≡ mark_on self.now start.before start.entered segments.now instants.now) }
+        ensures { IfOk result (λ v. v.items ≡ mark_on self.now start.before start.entered segments.now instants.entry) }
     {
         let mut done = Vec::with_capacity(alloc, segments.len())?;
         let mut run = start;
         let mut rest = segments;
         let mut begun = instants;
         while let Some((segment, later)) = rest.split_first() {
-            let Some((instant, after)) = begun.split_first() else {
+            let Some(instant) = begun.next()? else {
                 return Ok(done);
             };
-            let (mark, next) = self.next(alloc, run, instant)?;
+            let (mark, next) = self.next(alloc, run, &instant)?;
             run = next;
-            done.push(marked_with(segment, instant, mark)?)?;
+            done.push(marked_with(segment, &instant, mark)?)?;
             rest = later;
-            begun = after;
         }
         Ok(done)
     }
@@ -263,9 +263,9 @@ pub fn mark_on(
     newest: &Option<Shared<Text>>,
     last: &Option<Shared<Text>>,
     segments: &[Shared<Segment>],
-    instants: &[Option<Instant>],
+    instants: Beginnings<'_>,
 ) -> Result<Vec<Marked>, AllocError>
-    ensures { IfOk result (λ v. v.items ≡ mark_on (record { tolerance = limits.now.tolerance; target = limits.now.target; mapped = limits.now.mapped; breaks = knowledge.now; store = store.now }) newest.now last.now segments.now instants.now) }
+    ensures { IfOk result (λ v. v.items ≡ mark_on (record { tolerance = limits.now.tolerance; target = limits.now.target; mapped = limits.now.mapped; breaks = knowledge.now; store = store.now }) newest.now last.now segments.now instants.entry) }
 {
     let marker = marker_of(alloc, limits, knowledge, store)?;
     let run = run_of(newest, last)?;

@@ -1,10 +1,9 @@
 -- What is before the first instant stays there.
 use Rattle.std.proofs.Common.{◌≡◌, ℕ, true, List, [], ◌∷◌, ◌++◌, refl, ap, arith, ℤ, pos}
-use Rattle.std.specs.Prelude.{◌-ℤ◌, int_lt, Option, None, IfSome}
+use Rattle.std.specs.Prelude.{◌-ℤ◌, int_lt, Option, None}
 use Rattle.playlist_meaning.specs.declared.Segment.{Segment}
 use Rattle.instants.specs.Instant.{first_instant}
-use Rattle.playlist_meaning.specs.Instants.{instants_after}
-use Rattle.timeline.specs.Reckoned.{stack_of, Walked}
+use Rattle.timeline.specs.Reckoned.{Walked}
 
 lower : (x : ℤ) (d : ℕ) → int_lt x first_instant ≡ true → int_lt (x -ℤ pos d) first_instant ≡ true
 lower x d h = grind (arith)
@@ -20,10 +19,3 @@ begun segments stack h = record { later = []; whole = after segments; stack_is =
     after : (xs : List Segment) → xs ++ [] ≡ xs
     after [] = refl
     after (x ∷ xs) = ap (λ ys. x ∷ ys) (after xs)
-
--- ---- walking on
-
--- the instants of some of the first segments are found
-pub record Timed (from : Option ℤ) (segments rest : List Segment) (stack : Option (List (Option ℤ))) (found : List (Option ℤ)) (ended : Option ℤ) : Type 0 where
-  pub all : found ++ instants_after ended rest ≡ instants_after from segments
-  pub stack_is : IfSome stack (λ items. items ≡ stack_of rest)

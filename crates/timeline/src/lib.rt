@@ -1,7 +1,7 @@
 //! The instants at which a playlist's segments begin (RFC 8216, sections 4.3.2.6 and 6.2.1).
 #![tactic(auto)]
 
-ghost use Rattle.std.specs.Prelude.{◌≡◌, ℤ, IfOk, option_map, pos, ◌-ℤ◌};
+ghost use Rattle.std.specs.Prelude.{◌≡◌, ℤ, [], ◌∷◌, IfOk, IfErr, MatchOption, option_map, pos, ◌-ℤ◌};
 ghost use Rattle.playlist_meaning.specs.Instants.{bounded, ends_at, instants_after, instants_of};
 ghost use Rattle.playlist_meaning.specs.LookBack.{or_earlier};
 ghost use Rattle.timeline.specs.Reckoned.{clamped, stack_of};
@@ -10,6 +10,7 @@ use fixed_duration::Nanos;
 use instants::FIRST_INSTANT;
 use playlist_meaning::{Instant, Segment, Shared};
 use std::alloc::{AllocError, Global};
+use std::marker::Model;
 
 pub mod laws;
 
@@ -90,42 +91,81 @@ fn reckoned_stack(
     Ok(stack)
 }
 
-/// The instant at which each of these segments begins, after one that ended at `from`, if any: its stated time; else
-/// where the one before it ended; else back from the first time stated later; none outside the range of instants.
-pub fn instants_after(
+/// The instants at which segments begin, one after the other.
+#[derive(Drop)]
+pub struct Beginnings<'a> {
     alloc: Global,
-    from: Option<i128>,
-    segments: &[Shared<Segment>],
-) -> Result<Vec<Option<Instant>>, AllocError>
-    ensures { IfOk result (λ v. v.items ≡ instants_after from segments.now) }
-{
-    let mut stack: Option<Vec<Option<i128>>> = None;
-    let mut found = Vec::with_capacity(alloc, segments.len())?;
-    let mut ended = from;
-    let mut rest = segments;
-    while let Some((segment, later)) = rest.split_first() {
-        // Most segments state a time or follow one that begins somewhere, so that nothing is reckoned back.
-        if stack.is_none() && segment.time.is_none() && ended.is_none() {
-            stack = Some(reckoned_stack(alloc, rest)?);
+    ended: Option<i128>,
+    segments: &'a [Shared<Segment>],
+    // What is reckoned of the segments that are left, once one of them needed it.
+    stack: Option<Vec<Option<i128>>>,
+}
+
+impl<'a> Model for Beginnings<'a> {
+    ghost use Rattle.std.specs.Prelude.{◌≡◌, ℤ, List, Option, IfSome, option_map};
+    ghost use Rattle.playlist_meaning.specs.Instants.{instants_after};
+    ghost use Rattle.timeline.specs.Reckoned.{stack_of};
+
+    ghost Value = { List (Option ℤ) };
+
+    ghost view = { λ a. instants_after a.ended a.segments.now };
+
+    ghost invariant = { λ a. IfSome (option_map (λ v. v.items) a.stack) (λ items. items ≡ stack_of a.segments.now) };
+}
+
+impl<'a> Beginnings<'a> {
+    /// The instant at which each of these segments begins, after one that ended at `ended`, if any: its stated time; else
+    /// where the one before it ended; else back from the first time stated later; none outside the range of instants.
+    pub fn new(
+        alloc: Global,
+        ended: Option<i128>,
+        segments: &'a [Shared<Segment>],
+    ) -> Beginnings<'a>
+        ensures { result ≡ instants_after ended segments.now }
+    {
+        Beginnings {
+            alloc,
+            ended,
+            segments,
+            stack: None,
         }
-        let reckoned = match &mut stack {
+    }
+
+    /// Where the next segment begins, if there is one. Where memory is refused, all are still to come.
+    pub fn next(&mut self) -> Result<Option<Option<Instant>>, AllocError>
+        ensures next { IfOk result (λ next. MatchOption next ((self.old ≡ []) × (self.new ≡ [])) (λ begun. self.old ≡ begun ∷ self.new)) }
+        ensures refused { IfErr result (λ _. self.new ≡ self.old) }
+    {
+        let segments = self.segments;
+        let Some((segment, later)) = segments.split_first() else {
+            return Ok(None);
+        };
+        // Most segments state a time or follow one that begins somewhere, so that nothing is reckoned back.
+        if self.stack.is_none() && segment.time.is_none() && self.ended.is_none() {
+            self.stack = Some(reckoned_stack(self.alloc, segments)?);
+        }
+        let reckoned = match &mut self.stack {
             Some(stack) => stack.pop().unwrap_or(None),
             None => None,
         };
-        let begun = begins_at(ended, segment, reckoned);
-        ended = ends_at(&begun, segment.duration);
-        found.push(begun)?;
-        rest = later;
+        let begun = begins_at(self.ended, segment, reckoned);
+        self.ended = ends_at(&begun, segment.duration);
+        self.segments = later;
+        Ok(Some(begun))
     }
-    Ok(found)
 }
 
-/// The instant at which each of a playlist's segments begins, as `instants_after` none.
+/// The instant at which each of a playlist's segments begins, as `Beginnings` tells it.
 pub fn instants(
     alloc: Global,
     segments: &[Shared<Segment>],
 ) -> Result<Vec<Option<Instant>>, AllocError>
     ensures { IfOk result (λ v. v.items ≡ instants_of segments.now) }
 {
-    instants_after(alloc, None, segments)
+    let mut found = Vec::with_capacity(alloc, segments.len())?;
+    let mut beginnings = Beginnings::new(alloc, None, segments);
+    while let Some(begun) = beginnings.next()? {
+        found.push(begun)?;
+    }
+    Ok(found)
 }
