@@ -9,13 +9,13 @@ pub struct Span {
     pub end: usize,
 }
 
-/// An attribute `NAME=VALUE` (RFC 8216, section 4.2).
-#[derive(PartialEq, Eq, Debug, Drop)]
-pub struct Attr {
+/// An attribute `NAME=VALUE` (RFC 8216, section 4.2), as slices of the text of its list.
+#[derive(Clone, Copy, PartialEq, Eq, Debug)]
+pub struct Attr<'a> {
     /// Its name: capital letters, digits and `-`.
-    pub name: String,
+    pub name: &'a str,
     /// The value, without its quotes.
-    pub value: String,
+    pub value: &'a str,
     /// Whether the value stands between quotes.
     pub quoted: bool,
     /// Where it stands in the text of its list.

@@ -12,20 +12,20 @@ ghost use Rattle.attr_list.specs.Scanning.{first_piece, StartsWithPair};
 
 use crate::scan::{split_name, split_value};
 use crate::{Attr, AttrFault, Span};
-use std::alloc::{AllocError, Global};
+use std::alloc::Global;
 use std::marker::Model;
 use std::slice::Iter;
 
 /// The most attributes that a list may have.
 pub const MOST_ATTRIBUTES: usize = 64;
 
-/// The attributes of a tag, in order (RFC 8216, section 4.2).
+/// The attributes of a tag, in order (RFC 8216, section 4.2), as slices of its text.
 #[derive(Debug, Drop)]
-pub struct AttrList {
-    attrs: Vec<Attr>,
+pub struct AttrList<'a> {
+    attrs: Vec<Attr<'a>>,
 }
 
-impl Model for AttrList {
+impl<'a> Model for AttrList<'a> {
     ghost use Rattle.std.specs.Prelude.{List};
     ghost use Rattle.attr_list.specs.declared.attr.Attr.{Attr};
 
@@ -34,12 +34,12 @@ impl Model for AttrList {
     ghost view = { λ list. list.attrs.items };
 }
 
-impl AttrList {
+impl<'a> AttrList<'a> {
     /// Reads a text as an attribute list of at most [`MOST_ATTRIBUTES`] attributes.
     ///
     /// The first faulty attribute decides the fault, and in it the order TooMany, BadName, NoEquals,
     /// Twice, OpenQuote, BadValue. The first attribute is judged before any memory is taken.
-    pub fn read(alloc: Global, text: &str) -> Result<AttrList, AttrFault>
+    pub fn read(alloc: Global, text: &'a str) -> Result<AttrList<'a>, AttrFault>
         // What is read is in the grammar.
         ensures list { IfOk result (λ list. IsAttributeList text.now (map attr_pair list)) }
         // What is in the grammar is read, up to the limit.
@@ -64,7 +64,7 @@ impl AttrList {
     }
 
     /// The attribute of this name, if there is one. Names are compared with their case.
-    pub fn get(&self, name: &str) -> Option<&Attr>
+    pub fn get(&self, name: &str) -> Option<&Attr<'a>>
         ensures pair { option_map attr_pair (option_copied result)
             ≡ attribute (map attr_pair self.now) name.now }
         ensures item { option_copied result
@@ -74,7 +74,7 @@ impl AttrList {
     }
 
     /// The attributes in the order of the text.
-    pub fn iter(&self) -> Iter<'_, Attr>
+    pub fn iter(&self) -> Iter<'_, Attr<'a>>
         ensures rest { iter_rest result ≡ self.now }
         ensures runs { IterYieldsInOrder Attr }
     {
@@ -82,7 +82,7 @@ impl AttrList {
     }
 
     /// The same as a slice.
-    pub fn as_slice(&self) -> &[Attr]
+    pub fn as_slice(&self) -> &[Attr<'a>]
         ensures { result.now ≡ self.now }
     {
         self.attrs.as_slice()
@@ -90,14 +90,14 @@ impl AttrList {
 }
 
 // The attributes of a text, in one pass.
-fn read_attrs(alloc: Global, text: &str) -> Result<Vec<Attr>, AttrFault>
+fn read_attrs(alloc: Global, text: &str) -> Result<Vec<Attr<'_>>, AttrFault>
     ensures ok { IfOk result (λ v. attributes_of (Some MOST_ATTRIBUTES) text.now ≡ Ok (map attr_pair v.items)) }
     ensures fault { IfErr result
         (λ e. (e ≡ AttrFault.OutOfMemory) ⊎ (attributes_of (Some MOST_ATTRIBUTES) text.now ≡ Err e)) }
     ensures told { (e : AttrFault) → pair_of (Some MOST_ATTRIBUTES) [] (first_piece text.now) ≡ Err e → result ≡ Err e }
     ensures spans { IfOk result (λ v. map attr_span v.items ≡ spans_from 0 (pieces text.now)) }
 {
-    let mut attrs: Vec<Attr> = Vec::new(alloc);
+    let mut attrs: Vec<Attr<'_>> = Vec::new(alloc);
     let mut rest = text;
     loop {
         let pair = read_pair(rest, &attrs)?;
@@ -106,7 +106,7 @@ fn read_attrs(alloc: Global, text: &str) -> Result<Vec<Attr>, AttrFault>
             start: text.len() - rest.len(),
             end: text.len() - after.len(),
         };
-        attrs.push(to_attr(alloc, pair, span)?)?;
+        attrs.push(to_attr(pair, span))?;
         match after.strip_prefix(',') {
             Some(next) => rest = next,
             None => return Ok(attrs),
@@ -124,7 +124,7 @@ struct PairText<'a> {
 }
 
 // The attribute at the front of a text, after these. Takes no memory.
-fn read_pair<'a>(text: &'a str, before: &[Attr]) -> Result<PairText<'a>, AttrFault>
+fn read_pair<'a>(text: &'a str, before: &[Attr<'_>]) -> Result<PairText<'a>, AttrFault>
     ensures { MatchResult result
         (λ p. let pair : Pair = record { name = p.name.now; value = p.value.now; quoted = p.quoted } in
         StartsWithPair text.now pair p.after.now
@@ -148,30 +148,29 @@ fn read_pair<'a>(text: &'a str, before: &[Attr]) -> Result<PairText<'a>, AttrFau
 }
 
 // The first attribute of this name.
-fn find_named<'a>(attrs: &'a [Attr], name: &str) -> Option<&'a Attr>
+fn find_named<'s, 'a>(attrs: &'s [Attr<'a>], name: &str) -> Option<&'s Attr<'a>>
     ensures { option_copied result ≡ find (λ attr. is_named name.now (attr_pair attr)) attrs.now }
 {
-    attrs.iter().find(|attr| name == attr.name.as_str())
+    attrs.iter().find(|attr| name == attr.name)
 }
 
 // Whether an attribute has this name.
-fn has_named(attrs: &[Attr], name: &str) -> bool
+fn has_named(attrs: &[Attr<'_>], name: &str) -> bool
     ensures { result ≡ list_any (λ attr. is_named name.now (attr_pair attr)) attrs.now }
 {
-    attrs.iter().any(|attr| name == attr.name.as_str())
+    attrs.iter().any(|attr| name == attr.name)
 }
 
-// A copy of the parts.
-fn to_attr(alloc: Global, pair: PairText<'_>, span: Span) -> Result<Attr, AllocError>
-    ensures { IfOk result (λ attr. (attr.span ≡ span) × (attr_pair attr
-        ≡ record { name = pair.entry.name.now; value = pair.entry.value.now; quoted = pair.entry.quoted })) }
+// The attribute of these parts, at its place.
+fn to_attr(pair: PairText<'_>, span: Span) -> Attr<'_>
+    ensures place { result.span ≡ span }
+    ensures parts { attr_pair result
+        ≡ record { name = pair.entry.name.now; value = pair.entry.value.now; quoted = pair.entry.quoted } }
 {
-    let name = String::from_str(alloc, pair.name)?;
-    let value = String::from_str(alloc, pair.value)?;
-    Ok(Attr {
-        name,
-        value,
+    Attr {
+        name: pair.name,
+        value: pair.value,
         quoted: pair.quoted,
         span,
-    })
+    }
 }

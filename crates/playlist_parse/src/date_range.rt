@@ -41,36 +41,36 @@ pub fn date_range_of(alloc: Global, rest: &str) -> Result<DateRange, FaultKind>
     })
 }
 
-fn instant_of(attributes: &AttrList, name: &str) -> Result<Option<Instant>, FaultKind>
+fn instant_of(attributes: &AttrList<'_>, name: &str) -> Result<Option<Instant>, FaultKind>
     ensures { result ≡ optional time_of (attribute (pairs_of attributes.now) name.now) }
 {
     let Some(attribute) = attributes.get(name) else {
         return Ok(None);
     };
-    match read_instant(attribute.value.as_str()) {
+    match read_instant(attribute.value) {
         Ok(instant) => Ok(Some(instant)),
         Err(_) => Err(FaultKind::BadTime),
     }
 }
 
-fn duration_of(attributes: &AttrList, name: &str) -> Result<Option<Nanos>, FaultKind>
+fn duration_of(attributes: &AttrList<'_>, name: &str) -> Result<Option<Nanos>, FaultKind>
     ensures { result ≡ optional length_of (attribute (pairs_of attributes.now) name.now) }
 {
     let Some(attribute) = attributes.get(name) else {
         return Ok(None);
     };
-    match Nanos::read(attribute.value.as_str()) {
+    match Nanos::read(attribute.value) {
         Ok(duration) => Ok(Some(duration)),
         Err(_) => Err(FaultKind::BadDuration),
     }
 }
 
 // The value of an attribute.
-fn copied(alloc: Global, attributes: &AttrList, name: &str) -> Result<Option<Text>, AllocError>
+fn copied(alloc: Global, attributes: &AttrList<'_>, name: &str) -> Result<Option<Text>, AllocError>
     ensures { IfOk result (λ text. text ≡ option_map value_of (attribute (pairs_of attributes.now) name.now)) }
 {
     let Some(attribute) = attributes.get(name) else {
         return Ok(None);
     };
-    Ok(Some(Text::copy_of(alloc, attribute.value.as_str())?))
+    Ok(Some(Text::copy_of(alloc, attribute.value)?))
 }

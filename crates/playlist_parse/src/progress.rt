@@ -69,7 +69,7 @@ impl<'a> Progress<'a> {
 
     /// What one line adds. A line of a text that was seen to be plain need not be looked at for control characters.
     #[inline(always)]
-    pub fn line(&mut self, line: &str, is_plain: bool) -> Result<(), FaultKind>
+    pub fn line(&mut self, line: &'a str, is_plain: bool) -> Result<(), FaultKind>
         requires { is_plain ≡ true → has_control line.now ≡ false }
         ensures { Takes (λ base before. said_by limited base before line.now) self.old self.new result }
     {
@@ -85,7 +85,7 @@ impl<'a> Progress<'a> {
 
     // What a line without control characters adds.
     #[inline(never)]
-    fn other_line(&mut self, line: &str) -> Result<(), FaultKind>
+    fn other_line(&mut self, line: &'a str) -> Result<(), FaultKind>
         requires { has_control line.now ≡ false }
         ensures { Takes (λ base before. said_by limited base before line.now) self.old self.new result }
     {
@@ -105,7 +105,7 @@ impl<'a> Progress<'a> {
         Ok(())
     }
 
-    fn tag(&mut self, name: &str, rest: &str, colon: bool) -> Result<(), FaultKind>
+    fn tag(&mut self, name: &str, rest: &'a str, colon: bool) -> Result<(), FaultKind>
         ensures { Takes (λ base before. said_by_kind limited base before (kinds.tag name.now rest.now colon)) self.old self.new result }
     {
         match tag_of(name, colon) {
@@ -132,7 +132,7 @@ impl<'a> Progress<'a> {
         }
     }
 
-    fn duration(&mut self, rest: &str) -> Result<(), FaultKind>
+    fn duration(&mut self, rest: &'a str) -> Result<(), FaultKind>
         ensures { Takes (λ base before. said_by_tag limited base before said.duration_tag rest.now) self.old self.new result }
     {
         self.state.duration_tag(rest)

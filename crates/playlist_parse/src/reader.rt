@@ -25,11 +25,11 @@ fn fault_at(kind: FaultKind, line: u64) -> PlaylistFault
 }
 
 // Reads the lines after the header, those of a plain text or of any.
-fn read_lines(
+fn read_lines<'a>(
     alloc: Global,
-    lines: &mut Lines<'_>,
+    lines: &mut Lines<'a>,
     is_plain: bool,
-    base: &Base,
+    base: &'a Base,
 ) -> Result<Playlist, PlaylistFault>
     requires few { length lines.old < 2 ^ 63 }
     requires plain { is_plain ≡ true → list_all is_free (map line_text lines.old) ≡ true }
@@ -51,7 +51,7 @@ fn read_lines(
 
 /// The playlist that bytes denote under a base, of at most 4,194,304 bytes, 10,000 segments, 64
 /// attributes in a tag and 16 key formats in force; or its first fault and the line of that.
-pub fn read(alloc: Global, bytes: &[u8], base: &Base) -> Result<Playlist, PlaylistFault>
+pub fn read<'a>(alloc: Global, bytes: &'a [u8], base: &'a Base) -> Result<Playlist, PlaylistFault>
     ensures { Answers result (reading limited base.now bytes.now) }
 {
     let text = match text_of(bytes) {

@@ -28,7 +28,7 @@ fn is_duration(text: &str) -> bool
     Nanos::read(text).is_ok()
 }
 
-fn is_id(attr: Option<&Attr>) -> bool
+fn is_id(attr: Option<&Attr<'_>>) -> bool
     ensures { result ≡ is_id (option_map attr_pair (option_copied attr.entry)) }
 {
     match attr {
@@ -37,27 +37,27 @@ fn is_id(attr: Option<&Attr>) -> bool
     }
 }
 
-fn says_time(attr: Option<&Attr>) -> bool
+fn says_time(attr: Option<&Attr<'_>>) -> bool
     ensures { result ≡ if_some says_time (option_map attr_pair (option_copied attr.entry)) }
 {
     match attr {
-        Some(attr) => is_time(attr.value.as_str()),
+        Some(attr) => is_time(attr.value),
         None => true,
     }
 }
 
-fn says_duration(attr: Option<&Attr>) -> bool
+fn says_duration(attr: Option<&Attr<'_>>) -> bool
     ensures { result ≡ if_some says_duration (option_map attr_pair (option_copied attr.entry)) }
 {
     match attr {
-        Some(attr) => is_duration(attr.value.as_str()),
+        Some(attr) => is_duration(attr.value),
         None => true,
     }
 }
 
 // Whether attributes say a date range: they have an ID in quotes, and what times and durations they
 // state are such.
-fn is_date_range(list: &AttrList) -> bool
+fn is_date_range(list: &AttrList<'_>) -> bool
     ensures { result ≡ is_date_range (map attr_pair list.now) }
 {
     is_id(list.get("ID"))

@@ -12,7 +12,7 @@ use std::alloc::Global;
 
 /// The attributes that stand after a tag's colon. `BadAttributes` exactly where that text is no
 /// attribute list of at most 64 attributes; want of memory apart.
-pub fn attributes_of(alloc: Global, rest: &str) -> Result<AttrList, FaultKind>
+pub fn attributes_of(alloc: Global, rest: &str) -> Result<AttrList<'_>, FaultKind>
     ensures { Gives pairs_of result (attributes limited rest.now) }
 {
     match AttrList::read(alloc, rest) {
@@ -25,7 +25,7 @@ pub fn attributes_of(alloc: Global, rest: &str) -> Result<AttrList, FaultKind>
 /// The value of an attribute that may be left out. `BadAttributes` exactly where it is there, and in
 /// quotes though it has to stand without, or without though it has to stand in quotes.
 pub fn optional<'a>(
-    list: &'a AttrList,
+    list: &AttrList<'a>,
     name: &str,
     quoted: bool,
 ) -> Result<Option<&'a str>, FaultKind>
@@ -37,13 +37,13 @@ pub fn optional<'a>(
     if attr.quoted != quoted {
         return Err(FaultKind::BadAttributes);
     }
-    Ok(Some(attr.value.as_str()))
+    Ok(Some(attr.value))
 }
 
 /// The value of an attribute that has to be there. `MissingAttribute` exactly where it is not;
 /// `BadAttributes` exactly where it is, and in quotes though it has to stand without, or without though
 /// it has to stand in quotes.
-pub fn required<'a>(list: &'a AttrList, name: &str, quoted: bool) -> Result<&'a str, FaultKind>
+pub fn required<'a>(list: &AttrList<'a>, name: &str, quoted: bool) -> Result<&'a str, FaultKind>
     ensures { GivesExactly (λ value. value.now) result (required quoted (attribute (pairs_of list.now) name.now)) }
 {
     optional(list, name, quoted)?.ok_or(FaultKind::MissingAttribute)

@@ -13,22 +13,22 @@ use std::marker::Model;
 
 /// What EXTINF stated last: the next one says the same where its text is the same.
 #[derive(Drop)]
-pub struct Durations {
+pub struct Durations<'a> {
     alloc: Global,
-    text: String,
+    text: &'a str,
     said: Option<(Nanos, Shared<Text>)>,
     is_due: bool,
 }
 
-impl Model for Durations {
-    ghost use Rattle.std.specs.Prelude.{List, ℕ, Option, string_bytes};
+impl<'a> Model for Durations<'a> {
+    ghost use Rattle.std.specs.Prelude.{List, ℕ, Option};
     ghost use Rattle.segment_state.specs.Kept.{IsSaid, due_of};
 
     ghost Value = { Option (ℕ × List ℕ) };
 
     ghost view = { due_of };
 
-    ghost invariant = { λ a. IsSaid (string_bytes a.text) a.said };
+    ghost invariant = { λ a. IsSaid a.text.now a.said };
 }
 
 // What stands before the first comma and after it. Without one the whole text stands before it.
@@ -39,14 +39,14 @@ fn parts_at_comma(text: &str) -> (&str, &str)
     text.split_once(',').unwrap_or((text, ""))
 }
 
-impl Durations {
+impl<'a> Durations<'a> {
     /// None was stated yet.
-    pub fn new(alloc: Global) -> Durations
+    pub fn new(alloc: Global) -> Durations<'a>
         ensures { result ≡ None }
     {
         Durations {
             alloc,
-            text: String::new(alloc),
+            text: "",
             said: None,
             is_due: false,
         }
@@ -75,42 +75,38 @@ impl Durations {
         Ok((nanos, self.title(title)?))
     }
 
-    // Keeps what a text says, in the room of the last one.
-    fn keep(&mut self, text: &str, own: (Nanos, Shared<Text>)) -> Result<(), AllocError>
+    // Keeps a text with what it says.
+    fn keep(&mut self, text: &'a str, own: (Nanos, Shared<Text>))
         requires { duration_said text.now ≡ Ok (duration own.0 own.1) }
-        ensures due { OnOk result (self.new ≡ Some own) }
-        ensures kept { OnErr result (self.new ≡ self.old) }
+        ensures { self.new ≡ Some own }
     {
-        self.text.reserve(text.len())?;
-        self.text.clear();
-        self.text.push_str(text)?;
+        self.text = text;
         self.said = Some(own);
         self.is_due = true;
-        Ok(())
     }
 
     // Reads a text that is not the last one's. Out of line, so that the same text again takes few steps.
     #[inline(never)]
-    fn read_other(&mut self, text: &str) -> Result<(), FaultKind>
+    fn read_other(&mut self, text: &'a str) -> Result<(), FaultKind>
         ensures due { OnOk result (IsDue text.now self.new) }
         ensures err { IfErr result (λ e. Refuses e (duration_said text.now)) }
         ensures kept { OnErr result (self.new ≡ self.old) }
     {
         let own = self.parsed(text)?;
-        self.keep(text, own)?;
+        self.keep(text, own);
         Ok(())
     }
 
     /// Reads the duration and the title that EXTINF states for the next segment. `BadDuration` where
     /// it states none.
     #[inline]
-    pub fn read(&mut self, text: &str) -> Result<(), FaultKind>
+    pub fn read(&mut self, text: &'a str) -> Result<(), FaultKind>
         ensures due { OnOk result (IsDue text.now self.new) }
         ensures err { IfErr result (λ e. Refuses e (duration_said text.now)) }
         ensures kept { OnErr result (self.new ≡ self.old) }
     {
         match &self.said {
-            Some(_) if text == self.text.as_str() => {
+            Some(_) if text == self.text => {
                 self.is_due = true;
                 Ok(())
             }

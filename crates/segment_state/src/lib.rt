@@ -31,12 +31,12 @@ mod references;
 mod tags;
 mod times;
 
-/// What stands at a line of a playlist, after the lines before it.
+/// What stands at a line of a playlist, after the lines before it: with its base, and a slice of its text.
 #[derive(Drop)]
 pub struct State<'a> {
     alloc: Global,
     references: References<'a>,
-    durations: Durations,
+    durations: Durations<'a>,
     sequence: u64,
     discontinuity_sequence: u64,
     media: u64,
@@ -123,7 +123,7 @@ impl<'a> State<'a> {
     }
 
     /// The duration and the title of the next segment (4.3.2.1). `BadDuration` where it states none.
-    pub fn duration_tag(&mut self, rest: &str) -> Result<(), FaultKind>
+    pub fn duration_tag(&mut self, rest: &'a str) -> Result<(), FaultKind>
         ensures { Takes (λ base before. said_by_tag limited base before said.duration_tag rest.now) self.old self.new result }
     {
         self.durations.read(rest)

@@ -48,7 +48,7 @@ fn shared_uri(alloc: Global, base: &Base, reference: &str) -> Result<Shared<Text
 }
 
 // The IV of a key tag, where it states one.
-fn iv_of(list: &AttrList) -> Result<Option<u128>, FaultKind>
+fn iv_of(list: &AttrList<'_>) -> Result<Option<u128>, FaultKind>
     ensures { result ≡ said.optional iv_of (attribute (pairs_of list.now) (codes "IV")) }
 {
     let Some(value) = optional(list, "IV", false)? else {
@@ -61,10 +61,10 @@ fn iv_of(list: &AttrList) -> Result<Option<u128>, FaultKind>
 }
 
 // Whether an attribute of a key tag has a meaning of its own here.
-fn is_key_attribute(attr: &Attr) -> bool
+fn is_key_attribute(attr: &Attr<'_>) -> bool
     ensures { result ≡ is_key_attribute (attr_pair attr.now) }
 {
-    match attr.name.as_str() {
+    match attr.name {
         "METHOD" => true,
         "URI" => true,
         "IV" => true,
@@ -73,18 +73,18 @@ fn is_key_attribute(attr: &Attr) -> bool
     }
 }
 
-fn key_attr(alloc: Global, attr: &Attr) -> Result<KeyAttr, AllocError>
+fn key_attr(alloc: Global, attr: &Attr<'_>) -> Result<KeyAttr, AllocError>
     ensures { IfOk result (λ a. a ≡ key_attr (attr_pair attr.now)) }
 {
     Ok(KeyAttr {
-        name: Text::copy_of(alloc, attr.name.as_str())?,
-        value: Text::copy_of(alloc, attr.value.as_str())?,
+        name: Text::copy_of(alloc, attr.name)?,
+        value: Text::copy_of(alloc, attr.value)?,
         quoted: attr.quoted,
     })
 }
 
 // The attributes that are carried as they stand.
-fn other_attributes(alloc: Global, list: &[Attr]) -> Result<Vec<KeyAttr>, AllocError>
+fn other_attributes(alloc: Global, list: &[Attr<'_>]) -> Result<Vec<KeyAttr>, AllocError>
     ensures { IfOk result (λ v. v.items ≡ others_of list.now) }
 {
     let mut others = Vec::new(alloc);
@@ -96,7 +96,7 @@ fn other_attributes(alloc: Global, list: &[Attr]) -> Result<Vec<KeyAttr>, AllocE
     Ok(others)
 }
 
-fn set_key(alloc: Global, base: &Base, list: &AttrList, method: &str) -> Result<Key, FaultKind>
+fn set_key(alloc: Global, base: &Base, list: &AttrList<'_>, method: &str) -> Result<Key, FaultKind>
     ensures { Gives said.key result (set_key base.now (pairs_of list.now) method.now) }
 {
     let reference = required(list, "URI", true)?;
@@ -149,7 +149,7 @@ pub fn range_of(text: &str) -> Result<(u64, Option<u64>), FaultKind>
 }
 
 // The part of its resource that a section is: it begins at 0 where it states no offset.
-fn section_range(list: &AttrList) -> Result<Option<ByteRange>, FaultKind>
+fn section_range(list: &AttrList<'_>) -> Result<Option<ByteRange>, FaultKind>
     ensures { result ≡ said.optional section_range (attribute (pairs_of list.now) (codes "BYTERANGE")) }
 {
     let Some(value) = optional(list, "BYTERANGE", true)? else {

@@ -26,7 +26,7 @@ pub fn attributes_line(alloc: Global, text: &str) -> Result<String, AllocError>
     }
 }
 
-fn line_of(alloc: Global, attrs: &[Attr]) -> Result<String, AllocError>
+fn line_of(alloc: Global, attrs: &[Attr<'_>]) -> Result<String, AllocError>
     ensures { IfOk result (λ line. string_bytes line
         ≡ join_with_byte 32 (map (λ attr. attribute_text (attr_span attr, attr_pair attr)) attrs.now)) }
 {
@@ -40,7 +40,7 @@ fn line_of(alloc: Global, attrs: &[Attr]) -> Result<String, AllocError>
 }
 
 // A space and an attribute, for each.
-fn push_others(alloc: Global, line: &mut String, attrs: &[Attr]) -> Result<(), AllocError>
+fn push_others(alloc: Global, line: &mut String, attrs: &[Attr<'_>]) -> Result<(), AllocError>
     ensures { Appends result line.old line.new
         (flat_map (λ attr. 32 ∷ attribute_text (attr_span attr, attr_pair attr)) attrs.now) }
 {
@@ -51,11 +51,11 @@ fn push_others(alloc: Global, line: &mut String, attrs: &[Attr]) -> Result<(), A
     Ok(())
 }
 
-fn push_attribute(alloc: Global, line: &mut String, attr: &Attr) -> Result<(), AllocError>
+fn push_attribute(alloc: Global, line: &mut String, attr: &Attr<'_>) -> Result<(), AllocError>
     ensures { Appends result line.old line.new (attribute_text (attr_span attr.now, attr_pair attr.now)) }
 {
     write!(line, "{}..{} ", attr.span.start, attr.span.end)?;
-    line.push_str(attr.name.as_str())?;
+    line.push_str(attr.name)?;
     push_value(alloc, line, attr)
 }
 
@@ -71,7 +71,7 @@ pub fn attribute_line(alloc: Global, text: &str) -> Result<String, AllocError>
     }
 }
 
-fn value_line(alloc: Global, found: Option<&Attr>) -> Result<String, AllocError>
+fn value_line(alloc: Global, found: Option<&Attr<'_>>) -> Result<String, AllocError>
     ensures { IfOk result (λ line. string_bytes line
         ≡ printed_or_none value_text (option_map attr_pair (option_copied found.entry))) }
 {
@@ -83,15 +83,15 @@ fn value_line(alloc: Global, found: Option<&Attr>) -> Result<String, AllocError>
     Ok(line)
 }
 
-fn push_value(alloc: Global, line: &mut String, attr: &Attr) -> Result<(), AllocError>
+fn push_value(alloc: Global, line: &mut String, attr: &Attr<'_>) -> Result<(), AllocError>
     ensures { Appends result line.old line.new (value_text (attr_pair attr.now)) }
 {
     line.push('=')?;
     if !attr.quoted {
-        return push_shown(alloc, line, attr.value.as_str());
+        return push_shown(alloc, line, attr.value);
     }
     line.push('"')?;
-    push_shown(alloc, line, attr.value.as_str())?;
+    push_shown(alloc, line, attr.value)?;
     line.push('"')
 }
 

@@ -13,11 +13,6 @@ returns-in_err-pair-clause-fault c =
     let first = rw c.deref.ensures.value at c.in_err-pair.ensures in
     rw (p.1, p.2) (inr (sym c.loop-attrs.invariant.pairs ∙ read_fault (Some 64) (map attr_pair c.loop-attrs.attrs.items) c.loop-attrs.rest.now _ first))
 
-pub returns-in_err-to_attr-clause-told : goal.returns-in_err-to_attr-clause-told
-returns-in_err-to_attr-clause-told c =
-    let pair : Pair = record { name = c.in_ok-pair.pair.name.now; value = c.in_ok-pair.pair.value.now; quoted = c.in_ok-pair.pair.quoted } in
-    λ e is. absurd (first_is_read c.args.text.now c.loop-attrs.rest.now c.in_ok-pair.pair.after.now pair c.loop-attrs.attrs.items e c.in_ok-pair.ensures.0 (rw c.deref.ensures.value at c.in_ok-pair.ensures.1) c.loop-attrs.invariant.first is)
-
 pub returns-in_err-push-clause-told : goal.returns-in_err-push-clause-told
 returns-in_err-push-clause-told c =
     let pair : Pair = record { name = c.in_ok-pair.pair.name.now; value = c.in_ok-pair.pair.value.now; quoted = c.in_ok-pair.pair.quoted } in
@@ -26,11 +21,11 @@ returns-in_err-push-clause-told c =
 pub loop-attrs-preserved : goal.loop-attrs-preserved
 loop-attrs-preserved c =
     let pair : Pair = record { name = c.in_ok-pair.pair.name.now; value = c.in_ok-pair.pair.value.now; quoted = c.in_ok-pair.pair.quoted } in
-    let turn : IsTurn c.args.text.now c.loop-attrs.rest.now c.in_ok-pair.pair.after.now pair c.loop-attrs.attrs.items c.push.new.self.items c.in_ok-to_attr.field-0 = record {
+    let turn : IsTurn c.args.text.now c.loop-attrs.rest.now c.in_ok-pair.pair.after.now pair c.loop-attrs.attrs.items c.push.new.self.items c.to_attr.result = record {
       starts = c.in_ok-pair.ensures.0;
       is_read = rw c.deref.ensures.value at c.in_ok-pair.ensures.1;
-      said = c.in_ok-to_attr.ensures.1;
-      stands = ap (λ s. (s.start, s.end)) c.in_ok-to_attr.ensures.0;
+      said = c.to_attr.ensures.parts;
+      stands = ap (λ s. (s.start, s.end)) c.to_attr.ensures.place;
       kept = c.in_ok-push.ensures.items;
       within = c.loop-attrs.invariant.within;
     } in
@@ -40,11 +35,11 @@ loop-attrs-preserved c =
 pub returns-in-None : goal.returns-in-None
 returns-in-None c =
     let pair : Pair = record { name = c.in_ok-pair.pair.name.now; value = c.in_ok-pair.pair.value.now; quoted = c.in_ok-pair.pair.quoted } in
-    let turn : IsTurn c.args.text.now c.loop-attrs.rest.now c.in_ok-pair.pair.after.now pair c.loop-attrs.attrs.items c.push.new.self.items c.in_ok-to_attr.field-0 = record {
+    let turn : IsTurn c.args.text.now c.loop-attrs.rest.now c.in_ok-pair.pair.after.now pair c.loop-attrs.attrs.items c.push.new.self.items c.to_attr.result = record {
       starts = c.in_ok-pair.ensures.0;
       is_read = rw c.deref.ensures.value at c.in_ok-pair.ensures.1;
-      said = c.in_ok-to_attr.ensures.1;
-      stands = ap (λ s. (s.start, s.end)) c.in_ok-to_attr.ensures.0;
+      said = c.to_attr.ensures.parts;
+      stands = ap (λ s. (s.start, s.end)) c.to_attr.ensures.place;
       kept = c.in_ok-push.ensures.items;
       within = c.loop-attrs.invariant.within;
     } in
