@@ -27,15 +27,16 @@ fn fault_at(kind: FaultKind, line: u64) -> PlaylistFault
 // Reads the lines after the header, those of a plain text or of any.
 fn read_lines<'a>(
     alloc: Global,
-    lines: &mut Lines<'a>,
+    lines: Lines<'a>,
     is_plain: bool,
     base: &'a Base,
 ) -> Result<Playlist, PlaylistFault>
-    requires few { length lines.old < 2 ^ 63 }
-    requires plain { is_plain ≡ true → list_all is_free (map line_text lines.old) ≡ true }
-    ensures { Answers result (and_whole (said_from (said_by limited base.now) (nothing ∷ []) (map line_text lines.old))) }
+    requires few { length lines < 2 ^ 63 }
+    requires plain { is_plain ≡ true → list_all is_free (map line_text lines) ≡ true }
+    ensures { Answers result (and_whole (said_from (said_by limited base.now) (nothing ∷ []) (map line_text lines.entry))) }
 {
     let mut progress = Progress::new(alloc, base);
+    let mut lines = lines;
     let mut number: u64 = 2;
     while let Some(line) = lines.next() {
         match progress.line(line.text, is_plain) {
@@ -51,7 +52,7 @@ fn read_lines<'a>(
 
 /// The playlist that bytes denote under a base, of at most 4,194,304 bytes, 10,000 segments, 64
 /// attributes in a tag and 16 key formats in force; or its first fault and the line of that.
-pub fn read<'a>(alloc: Global, bytes: &'a [u8], base: &'a Base) -> Result<Playlist, PlaylistFault>
+pub fn read(alloc: Global, bytes: &[u8], base: &Base) -> Result<Playlist, PlaylistFault>
     ensures { Answers result (reading limited base.now bytes.now) }
 {
     let text = match text_of(bytes) {
@@ -68,5 +69,5 @@ pub fn read<'a>(alloc: Global, bytes: &'a [u8], base: &'a Base) -> Result<Playli
     if first.text != "#EXTM3U" {
         return Err(fault_at(FaultKind::NoHeader, 1));
     }
-    read_lines(alloc, &mut lines, are_plain(bytes), base)
+    read_lines(alloc, lines, are_plain(bytes), base)
 }
