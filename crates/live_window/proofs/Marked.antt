@@ -1,5 +1,5 @@
 -- The new segments, marked in the order of the playlist, are those that are shown.
-use Rattle.std.proofs.Common.{◌≡◌, ℕ, ℤ, Bool, true, false, cond, List, [], ◌∷◌, map, refl, ap, sym, ◌∙◌}
+use Rattle.std.proofs.Common.{◌≡◌, ℕ, ℤ, Bool, true, false, cond, List, [], ◌∷◌, map, length, refl, ap, sym, ◌∙◌}
 use Rattle.std.specs.Prelude.{Option, Some, None, IsSome, option_map, find}
 use mathlib.Core.List.{reverse_aux}
 use Rattle.playlist_meaning.specs.declared.Segment.{Segment}
@@ -40,6 +40,17 @@ stay_step m id found instant (Some pod) e = inside_step m id pod found (is_insid
 marks_agree : (m : Moment) (newest last : Option (List ℕ)) (instant : Option ℤ) → mark_in m.store (next_id m newest last instant) ≡ next_mark m (mark_in m.store newest) last instant
 marks_agree m None last instant = same_mark m.store (entering.entered (limits m last) m.store m.breaks instant)
 marks_agree m (Some id) last instant = stay_step m id (entering.entered (limits m last) m.store m.breaks instant) instant (pod_for m.store id) refl
+
+-- ---- where no break is decided, none is entered
+
+none_enters : (limits : entering.Moment) (instant : ℤ) (breaks : List Break) → find (enters_break limits [] instant) breaks ≡ None
+none_enters limits instant [] = refl
+none_enters limits instant (b ∷ later) = none_enters limits instant later
+
+pub none_entered : (limits : entering.Moment) (store : List Entry) (breaks : List Break) (instant : Option ℤ) → length store ≡ 0 → entering.entered limits store breaks instant ≡ None
+none_entered limits [] breaks None h = refl
+none_entered limits [] breaks (Some instant) h = ap (option_map id_of) (none_enters limits instant breaks)
+none_entered limits (e ∷ later) breaks instant h = absurd (cc)
 
 -- ---- each mark is decided
 

@@ -105,6 +105,7 @@ impl<'a> Marker<'a> {
         }
     }
 
+    #[tactic(auto, using(crate::proofs::Marked::none_entered))]
     // The first break that is entered at an instant, after this last one.
     fn entered(
         &self,
@@ -114,6 +115,10 @@ impl<'a> Marker<'a> {
     ) -> Result<Option<Shared<Text>>, AllocError>
         ensures { IfOk result (λ id. id ≡ entered (limits self.now (option_copied last.entry)) self.now.store self.now.breaks instant) }
     {
+        // Most playlists have no decided break, and then each segment comes here.
+        if self.store.is_empty() {
+            return Ok(None);
+        }
         match self.entrances.entered(instant, self.limits.tolerance, last) {
             Some(id) => Ok(Some(Shared::copy_of(alloc, id)?)),
             None => Ok(None),
