@@ -5,3 +5,4 @@ pub mod KeyParts
 pub mod WellFormed
 pub mod Denoted
 pub mod Laws
+pub mod Taken

@@ -111,7 +111,8 @@ pub fn push_header(out: &mut String, playlist: &OutPlaylist<'_>) -> Result<(), A
 }
 
 #[tactic(auto, unfolding(crate::specs::Owed::ended_date_range_line))]
-fn push_date_range(out: &mut String, text: &str) -> Result<(), AllocError>
+/// Appends a date range as it stands.
+pub fn push_date_range(out: &mut String, text: &str) -> Result<(), AllocError>
     ensures { Appends result out.old out.new (ended_date_range_line text.now) }
 {
     push_line_of(out, "#EXT-X-DATERANGE:", text)

@@ -1,18 +1,19 @@
 //! Writes media playlists (RFC 8216, section 4.3).
 #![tactic(auto)]
 
-ghost use Rattle.std.specs.Prelude.{◌≡◌, true, OnOk, OnErr, IfOk, IsErrOf, string_bytes};
+ghost use Rattle.std.specs.Prelude.{◌≡◌, ◌++◌, true, codes, OnOk, OnErr, IfOk, IsErrOf, string_bytes};
 ghost use Rattle.std.specs.Io.KnownBytes.{Appends};
 ghost use Rattle.url.specs.Parts.{Parts};
 ghost use Rattle.devices.specs.Devices.{FailedAtLast, NoneFailed};
 ghost use Rattle.playlist_meaning.specs.Reading.{Denotes};
-ghost use Rattle.playlist_write.specs.Owed.{text_of};
+ghost use Rattle.playlist_write.specs.Owed.{text_of, said_text, header_owed, with_feed};
 ghost use Rattle.playlist_write.specs.WellFormed.{well_formed};
 ghost use Rattle.playlist_write.specs.Denoted.{denoted};
 ghost use Rattle.devices.specs.Handed.{TookFront};
 
 use crate::header::{push_date_ranges, push_end, push_header};
 use crate::lines::push_line;
+use crate::pieces::{PIECE_ROOM, write_date_ranges, write_segments};
 use crate::segments::push_segments;
 use devices::{Sink, SinkFailed, hand_out};
 use playlist_meaning::{Items, PlaylistKind, Text};
@@ -25,6 +26,7 @@ mod header;
 mod keys;
 pub mod laws;
 mod lines;
+mod pieces;
 mod segments;
 mod well_formed;
 
@@ -99,13 +101,21 @@ fn room_for(playlist: &OutPlaylist<'_>) -> usize {
     room
 }
 
+// The lines before the date ranges, in a text with so much room.
+fn front_of(alloc: Global, room: usize, playlist: &OutPlaylist<'_>) -> Result<String, AllocError>
+    ensures { IfOk result (λ text. string_bytes text ≡ with_feed (codes "#EXTM3U") ++ said_text (header_owed playlist.now)) }
+{
+    let mut text = String::with_capacity(alloc, room)?;
+    push_line(&mut text, "#EXTM3U")?;
+    push_header(&mut text, playlist)?;
+    Ok(text)
+}
+
 // The text of a playlist.
 fn make_text(alloc: Global, playlist: &OutPlaylist<'_>) -> Result<String, AllocError>
     ensures { IfOk result (λ text. string_bytes text ≡ text_of playlist.now) }
 {
-    let mut text = String::with_capacity(alloc, room_for(playlist))?;
-    push_line(&mut text, "#EXTM3U")?;
-    push_header(&mut text, playlist)?;
+    let mut text = front_of(alloc, room_for(playlist), playlist)?;
     push_date_ranges(&mut text, playlist.date_ranges.as_slice())?;
     push_segments(&mut text, playlist.segments.as_slice())?;
     push_end(&mut text, playlist.ended)?;
@@ -120,7 +130,8 @@ pub fn written(alloc: Global, playlist: &OutPlaylist<'_>) -> Result<Text, AllocE
 }
 
 #[tactic(auto, using(crate::proofs::Whole::text_denotes))]
-/// Writes a playlist: its whole text, or a front of it where the sink fails.
+/// Writes a playlist: its whole text, or a front of it where the sink fails or memory is refused. It holds no more of
+/// the text than 64 KiB and the lines of one segment or date range.
 pub fn write<S: Sink>(
     alloc: Global,
     playlist: &OutPlaylist<'_>,
@@ -133,13 +144,14 @@ pub fn write<S: Sink>(
     ensures denotes { well_formed playlist.now ≡ true
         → (base : Parts) → Denotes base (text_of playlist.now) (denoted playlist.now) }
 
-    // The sink is blamed exactly where a write failed or took nothing, and that write is the last.
+    // The sink is blamed exactly where a write failed or took nothing, and that write is the last: never for want of memory.
     ensures unfailed { OnOk result (NoneFailed (S.failed sink.old) (S.failed sink.new)) }
     ensures io { IsErrOf result WriteFault.Io → FailedAtLast (S.failed sink.old) (S.failed sink.new) }
-
-    // Nothing was written where memory was refused.
-    ensures memory { IsErrOf result WriteFault.OutOfMemory → sink.new ≡ sink.old }
+    ensures memory { IsErrOf result WriteFault.OutOfMemory → NoneFailed (S.failed sink.old) (S.failed sink.new) }
 {
-    let text = make_text(alloc, playlist)?;
-    Ok(hand_out(text.as_bytes(), sink)?)
+    let mut held = front_of(alloc, PIECE_ROOM, playlist)?;
+    write_date_ranges(&mut held, playlist.date_ranges.as_slice(), sink)?;
+    write_segments(&mut held, playlist.segments.as_slice(), sink)?;
+    push_end(&mut held, playlist.ended)?;
+    Ok(hand_out(held.as_bytes(), sink)?)
 }

@@ -196,8 +196,8 @@ fn push_media(out: &mut String, segment: &Segment) -> Result<(), AllocError>
     Ok(())
 }
 
-// Appends the lines of a segment after those with these keys and this section in force.
-fn push_segment(
+/// Appends the lines of a segment after those with these keys and this section in force.
+pub fn push_segment(
     out: &mut String,
     keys: &[Key],
     section: Option<&InitSection>,
@@ -216,7 +216,8 @@ fn push_segment(
     Ok(())
 }
 
-fn section_of<'a>(next: &'a OutSegment<'_>) -> Option<&'a InitSection>
+/// The initialisation section of a segment.
+pub fn section_of<'a>(next: &'a OutSegment<'_>) -> Option<&'a InitSection>
     ensures { option_copied result ≡ next.now.segment.section }
 {
     match &next.segment.section {

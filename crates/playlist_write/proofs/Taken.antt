@@ -1,0 +1,135 @@
+-- What a sink took of a text, piece by piece, and what is left of it.
+use Rattle.std.proofs.Common.{subst, ◌≡◌, ℕ, ◌+◌, ◌-◌, List, [], ◌++◌, take, drop, length, refl, ap, sym, ◌∙◌, arith, append_assoc, append-nil, length-append}
+use Rattle.std.proofs.lemmas.List.{take_at, take-append-drop}
+use Rattle.std.proofs.Math.Seq.{take-append-add}
+use Rattle.std.specs.Prelude.{Option, Some, None, Result, Ok, Err, OnErr}
+use Rattle.std.specs.Io.KnownBytes.{Appends}
+use Rattle.devices.specs.Handed.{TookFront}
+use Rattle.playlist_write.specs.Taken.{TookAllBut}
+
+-- nothing was taken
+pub none_taken : (a : Option (List ℕ)) (text : List ℕ) → TookAllBut a a text text
+none_taken None text = tt
+none_taken (Some old) text = (refl, omega arith)
+
+-- all was taken
+pub all_taken : (a b : Option (List ℕ)) (text : List ℕ) → Appends a b text → TookAllBut a b [] text
+all_taken None b text h = tt
+all_taken (Some old) None text h = absurd h
+all_taken (Some old) (Some new) text h = (append-nil new ∙ h, omega (arith, ap length h, length-append old text))
+
+pub took_all : (a b : Option (List ℕ)) (text : List ℕ) → TookAllBut a b [] text → Appends a b text
+took_all None b text h = tt
+took_all (Some old) None text h = absurd h
+took_all (Some old) (Some new) text h = sym (append-nil new) ∙ h.0
+
+-- and then all but a rest of the rest
+pub then_taken : (a b c : Option (List ℕ)) (text rest last : List ℕ) → TookAllBut a b rest text → TookAllBut b c last rest → TookAllBut a c last text
+then_taken None b c text rest last h g = tt
+then_taken (Some old) None c text rest last h g = absurd h
+then_taken (Some old) (Some mid) None text rest last h g = absurd g
+then_taken (Some old) (Some mid) (Some new) text rest last h g = let l = h.1 in let m = g.1 in (g.0 ∙ h.0, omega arith)
+
+-- what comes later is left too
+pub with_later : (a b : Option (List ℕ)) (text rest later : List ℕ) → TookAllBut a b rest text → TookAllBut a b (rest ++ later) (text ++ later)
+with_later None b text rest later h = tt
+with_later (Some old) None text rest later h = absurd h
+with_later (Some old) (Some new) text rest later h =
+    (sym (append_assoc new rest later) ∙ ap (λ t. t ++ later) h.0 ∙ append_assoc old text later, h.1)
+
+front_of : (old new rest text : List ℕ) (n : ℕ) → new ++ rest ≡ old ++ text → length new ≡ length old + n → new ≡ old ++ take n text
+front_of old new rest text n h l =
+    sym (take_at new rest (length new) refl) ∙ ap (take (length new)) h ∙ ap (λ k. take k (old ++ text)) l ∙ take-append-add old text n
+
+-- what was taken is a front
+pub front_taken : (a b : Option (List ℕ)) (text rest : List ℕ) → TookAllBut a b rest text → TookFront a b text
+front_taken None b text rest h = tt
+front_taken (Some old) None text rest h = absurd h
+front_taken (Some old) (Some new) text rest h =
+    let l = h.1 in front_of old new rest text (length new - length old) h.0 (omega arith)
+
+-- and what isn't taken of a text is left of it
+rest_left : (a b : Option (List ℕ)) (text : List ℕ) → TookFront a b text → (rest : List ℕ) × TookAllBut a b rest text
+rest_left None b text h = ([], tt)
+rest_left (Some old) None text h = absurd h
+rest_left (Some old) (Some new) text h =
+    let n = length new - length old in (
+      drop n text,
+      (
+        ap (λ t. t ++ drop n text) h ∙ append_assoc old (take n text) (drop n text) ∙ ap (λ t. old ++ t) (take-append-drop n text),
+        omega (arith, ap length h, length-append old (take n text)),
+      ),
+    )
+
+-- a front of the rest ends a front of the text
+pub then_front : (a b c : Option (List ℕ)) (text rest : List ℕ) → TookAllBut a b rest text → TookFront b c rest → TookFront a c text
+then_front a b c text rest h g =
+    let left = rest_left b c rest g in front_taken a c text left.0 (then_taken a b c text rest left.0 h left.1)
+
+-- a front of a text is one of a longer text
+pub front_of_longer : (a b : Option (List ℕ)) (text later : List ℕ) → TookFront a b text → TookFront a b (text ++ later)
+front_of_longer a b text later h =
+    let left = rest_left a b text h in front_taken a b (text ++ later) (left.0 ++ later) (with_later a b text left.0 later left.1)
+
+-- the rest in two parts, of which the first is held: of that all but an end is taken, or a front
+pub taken_of_held : (a b c : Option (List ℕ)) (text rest held later last : List ℕ) → TookAllBut a b rest text → rest ≡ held ++ later → TookAllBut b c last held
+    → TookAllBut a c (last ++ later) text
+taken_of_held a b c text rest held later last h e g =
+    then_taken a b c text (held ++ later) (last ++ later) (subst (λ r. TookAllBut a b r text) e h) (with_later b c held last later g)
+
+pub front_of_held : (a b c : Option (List ℕ)) (text rest held later : List ℕ) → TookAllBut a b rest text → rest ≡ held ++ later → TookFront b c held → TookFront a c text
+front_of_held a b c text rest held later h e g =
+    then_front a b c text (held ++ later) (subst (λ r. TookAllBut a b r text) e h) (front_of_longer b c held later g)
+
+-- what holds anyway holds of an error, and of success
+pub on_err : {A E : Type 0} (r : Result A E) (P : Type 0) → P → OnErr r P
+on_err (Ok x) P p = tt
+on_err (Err e) P p = p
+
+-- a text in three parts: the first is held with its front, and what is held after each part is less by what was taken
+two_parts : (a b c : Option (List ℕ)) (front ranges held segments last : List ℕ) → TookAllBut a b held (front ++ ranges) → TookAllBut b c last (held ++ segments)
+    → TookAllBut a c last ((front ++ ranges) ++ segments)
+two_parts a b c front ranges held segments last h g =
+    then_taken a b c ((front ++ ranges) ++ segments) (held ++ segments) last (with_later a b (front ++ ranges) held segments h) g
+
+in_parts : (front ranges segments end : List ℕ) → ((front ++ ranges) ++ segments) ++ end ≡ front ++ (ranges ++ (segments ++ end))
+in_parts front ranges segments end = append_assoc (front ++ ranges) segments end ∙ append_assoc front ranges (segments ++ end)
+
+pub front_in_ranges : (a b : Option (List ℕ)) (front ranges later text : List ℕ) → front ++ (ranges ++ later) ≡ text → TookFront a b (front ++ ranges) → TookFront a b text
+front_in_ranges a b front ranges later text e h =
+    subst (λ t. TookFront a b t) (append_assoc front ranges later ∙ e) (front_of_longer a b (front ++ ranges) later h)
+
+pub front_in_segments : (a b c : Option (List ℕ)) (front ranges held segments end text : List ℕ) → front ++ (ranges ++ (segments ++ end)) ≡ text
+    → TookAllBut a b held (front ++ ranges) → TookFront b c (held ++ segments) → TookFront a c text
+front_in_segments a b c front ranges held segments end text e h g =
+    let took = then_front a b c ((front ++ ranges) ++ segments) (held ++ segments) (with_later a b (front ++ ranges) held segments h) g in
+    subst (λ t. TookFront a c t) (in_parts front ranges segments end ∙ e) (front_of_longer a c ((front ++ ranges) ++ segments) end took)
+
+pub front_before_end : (a b c : Option (List ℕ)) (front ranges held segments last end text : List ℕ) → front ++ (ranges ++ (segments ++ end)) ≡ text
+    → TookAllBut a b held (front ++ ranges) → TookAllBut b c last (held ++ segments) → TookFront a c text
+front_before_end a b c front ranges held segments last end text e h g =
+    let took = front_taken a c ((front ++ ranges) ++ segments) last (two_parts a b c front ranges held segments last h g) in
+    subst (λ t. TookFront a c t) (in_parts front ranges segments end ∙ e) (front_of_longer a c ((front ++ ranges) ++ segments) end took)
+
+before_last : (a b c : Option (List ℕ)) (front ranges held segments last end text rest : List ℕ) → front ++ (ranges ++ (segments ++ end)) ≡ text
+    → TookAllBut a b held (front ++ ranges) → TookAllBut b c last (held ++ segments) → rest ≡ last ++ end → TookAllBut a c rest text
+before_last a b c front ranges held segments last end text rest e h g r =
+    let took = with_later a c ((front ++ ranges) ++ segments) last end (two_parts a b c front ranges held segments last h g) in
+    subst (λ l. TookAllBut a c l text) (sym r) (subst (λ t. TookAllBut a c (last ++ end) t) (in_parts front ranges segments end ∙ e) took)
+
+pub front_in_last : (a b c d : Option (List ℕ)) (front ranges held segments last end text rest : List ℕ) → front ++ (ranges ++ (segments ++ end)) ≡ text
+    → TookAllBut a b held (front ++ ranges) → TookAllBut b c last (held ++ segments) → rest ≡ last ++ end → TookFront c d rest → TookFront a d text
+front_in_last a b c d front ranges held segments last end text rest e h g r f =
+    then_front a c d text rest (before_last a b c front ranges held segments last end text rest e h g r) f
+
+pub whole_text : (a b c d : Option (List ℕ)) (front ranges held segments last end text rest : List ℕ) → front ++ (ranges ++ (segments ++ end)) ≡ text
+    → TookAllBut a b held (front ++ ranges) → TookAllBut b c last (held ++ segments) → rest ≡ last ++ end → Appends c d rest → Appends a d text
+whole_text a b c d front ranges held segments last end text rest e h g r f =
+    took_all a d text (then_taken a c d text rest [] (before_last a b c front ranges held segments last end text rest e h g r) (all_taken c d rest f))
+
+-- a text in its four parts, each of which is told in other words
+pub as_parts : (front first header r ranges s segments end : List ℕ) → front ≡ first ++ header → r ≡ ranges → s ≡ segments
+    → front ++ (r ++ (s ++ end)) ≡ first ++ (header ++ (ranges ++ (segments ++ end)))
+as_parts front first header r ranges s segments end h e f =
+    ap (λ t. t ++ (r ++ (s ++ end))) h ∙ append_assoc first header (r ++ (s ++ end))
+    ∙ ap (λ t. first ++ (header ++ (t ++ (s ++ end)))) e ∙ ap (λ t. first ++ (header ++ (ranges ++ (t ++ end)))) f

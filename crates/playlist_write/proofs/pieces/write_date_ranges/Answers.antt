@@ -1,0 +1,22 @@
+use Rattle.std.proofs.Common.{◌≡◌, ◌+◌, ◌++◌, drop, arith, string_bytes}
+use Rattle.std.proofs.lemmas.Grind.{common_steps}
+use Rattle.playlist_write.specs.Owed.{date_ranges_text}
+use Rattle.playlist_write.proofs.Taken.{taken_of_held, front_of_held, on_err}
+use Rattle.playlist_write.proofs.pieces.write_date_ranges.Goals as goal
+
+pub returns-in_err-hand_out_piece-clause-err : goal.returns-in_err-hand_out_piece-clause-err
+returns-in_err-hand_out_piece-clause-err g c =
+    let later = date_ranges_text (drop (c.loop-range.range-index + 1) c.args.date_ranges.now) in
+    let held : string_bytes c.loop-range.held ++ date_ranges_text (drop c.loop-range.range-index c.args.date_ranges.now) ≡ string_bytes c.push_date_range.new.out ++ later =
+    grind (arith, common_steps) in
+    on_err c.from_residual-in_err-hand_out_piece.result _ (front_of_held _ _ _ _ _ (string_bytes c.push_date_range.new.out) later c.loop-range.invariant.taken held c.in_err-hand_out_piece.ensures.err)
+
+pub loop-range-preserved : goal.loop-range-preserved
+loop-range-preserved g c =
+    let later = date_ranges_text (drop (c.loop-range.range-index + 1) c.args.date_ranges.now) in
+    let held : string_bytes c.loop-range.held ++ date_ranges_text (drop c.loop-range.range-index c.args.date_ranges.now) ≡ string_bytes c.push_date_range.new.out ++ later =
+    grind (arith, common_steps) in
+    record {
+      taken = taken_of_held _ _ _ _ _ (string_bytes c.push_date_range.new.out) later _ c.loop-range.invariant.taken held c.in_ok-hand_out_piece.ensures.ok;
+      failed = grind arith;
+    }

@@ -1,0 +1,12 @@
+use Rattle.std.proofs.Common.{◌++◌, drop, string_bytes}
+use Rattle.devices.specs.Devices.{NoneFailed}
+use Rattle.playlist_write.specs.Owed.{date_ranges_text}
+use Rattle.playlist_write.specs.Taken.{TookAllBut}
+use Rattle.playlist_write.proofs.pieces.write_date_ranges.Given as goal
+
+abbrev pub invariant-loop-range : goal.invariant-loop-range
+invariant-loop-range g l = record {
+  taken : TookAllBut (g.S.Sink.contents l.fn.sink) (g.S.Sink.contents l.sink)
+      (string_bytes l.held ++ date_ranges_text (drop l.range-index l.date_ranges)) (string_bytes l.fn.held ++ date_ranges_text l.date_ranges);
+  failed : NoneFailed (g.S.Sink.failed l.fn.sink) (g.S.Sink.failed l.sink);
+}

@@ -1,0 +1,79 @@
+//! The lines of date ranges and of segments, handed out in pieces while they are made.
+ghost use Rattle.std.specs.Prelude.{◌≡◌, ◌++◌, ◌<◌, length, OnOk, OnErr, IsErrOf, string_bytes};
+ghost use Rattle.devices.specs.Devices.{FailedAtLast, NoneFailed};
+ghost use Rattle.devices.specs.Handed.{TookFront};
+ghost use Rattle.playlist_write.specs.Owed.{none_yet, said_text, segments_owed, date_ranges_text};
+ghost use Rattle.playlist_write.specs.Taken.{TookAllBut};
+
+use crate::WriteFault;
+use crate::header::push_date_range;
+use crate::segments::{push_segment, section_of};
+use devices::{Sink, SinkFailed, hand_out};
+use playlist_meaning::{InitSection, Key, Text};
+use stitcher::OutSegment;
+
+// What is held of a text is handed out once it is so many bytes, or more.
+const PIECE_BYTES: usize = 65_536;
+
+/// Room for a piece and most lines that fill it, so that what is held is seldom moved.
+pub const PIECE_ROOM: usize = PIECE_BYTES + 4_096;
+
+// Hands out what is held, once it is a piece, and then holds nothing.
+fn hand_out_piece<S: Sink>(held: &mut String, sink: &mut S) -> Result<(), SinkFailed>
+    ensures ok { OnOk result (TookAllBut (S.contents sink.old) (S.contents sink.new) (string_bytes held.new) (string_bytes held.old)) }
+    ensures err { OnErr result (TookFront (S.contents sink.old) (S.contents sink.new) (string_bytes held.old)) }
+    ensures unfailed { OnOk result (NoneFailed (S.failed sink.old) (S.failed sink.new)) }
+    ensures failed { OnErr result (FailedAtLast (S.failed sink.old) (S.failed sink.new)) }
+
+    // Less than a piece is held then.
+    ensures short { OnOk result (length (string_bytes held.new) < PIECE_BYTES) }
+{
+    if held.len() < PIECE_BYTES {
+        return Ok(());
+    }
+    hand_out(held.as_bytes(), sink)?;
+    held.clear();
+    Ok(())
+}
+
+/// Adds the date ranges as they stand to what is held, and hands out each piece.
+pub fn write_date_ranges<S: Sink>(
+    held: &mut String,
+    date_ranges: &[Text],
+    sink: &mut S,
+) -> Result<(), WriteFault>
+    ensures ok { OnOk result (TookAllBut (S.contents sink.old) (S.contents sink.new) (string_bytes held.new) (string_bytes held.old ++ date_ranges_text date_ranges.now)) }
+    ensures err { OnErr result (TookFront (S.contents sink.old) (S.contents sink.new) (string_bytes held.old ++ date_ranges_text date_ranges.now)) }
+    ensures unfailed { OnOk result (NoneFailed (S.failed sink.old) (S.failed sink.new)) }
+    ensures io { IsErrOf result WriteFault.Io → FailedAtLast (S.failed sink.old) (S.failed sink.new) }
+    ensures memory { IsErrOf result WriteFault.OutOfMemory → NoneFailed (S.failed sink.old) (S.failed sink.new) }
+{
+    for range in date_ranges {
+        push_date_range(held, range.as_str())?;
+        hand_out_piece(held, sink)?;
+    }
+    Ok(())
+}
+
+/// Adds the lines of all segments to what is held, and hands out each piece.
+pub fn write_segments<S: Sink>(
+    held: &mut String,
+    segments: &[OutSegment<'_>],
+    sink: &mut S,
+) -> Result<(), WriteFault>
+    ensures ok { OnOk result (TookAllBut (S.contents sink.old) (S.contents sink.new) (string_bytes held.new) (string_bytes held.old ++ said_text (segments_owed none_yet segments.now))) }
+    ensures err { OnErr result (TookFront (S.contents sink.old) (S.contents sink.new) (string_bytes held.old ++ said_text (segments_owed none_yet segments.now))) }
+    ensures unfailed { OnOk result (NoneFailed (S.failed sink.old) (S.failed sink.new)) }
+    ensures io { IsErrOf result WriteFault.Io → FailedAtLast (S.failed sink.old) (S.failed sink.new) }
+    ensures memory { IsErrOf result WriteFault.OutOfMemory → NoneFailed (S.failed sink.old) (S.failed sink.new) }
+{
+    let mut keys: &[Key] = &[];
+    let mut section: Option<&InitSection> = None;
+    for next in segments {
+        push_segment(held, keys, section, next)?;
+        hand_out_piece(held, sink)?;
+        keys = next.segment.keys.as_slice();
+        section = section_of(next).or(section);
+    }
+    Ok(())
+}
