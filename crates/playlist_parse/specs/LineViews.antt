@@ -35,6 +35,7 @@ is_feed b = b == 10
 abbrev pub is_plain_byte : ℕ → Bool
 is_plain_byte b = is_feed b || is_printable b
 
+-- a line without control characters
 abbrev pub is_free : List ℕ → Bool
 is_free line = not (has_control line)
 

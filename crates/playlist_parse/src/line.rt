@@ -82,7 +82,7 @@ fn without_carriage_return(piece: &str) -> &str
 
 /// Whether bytes are printable ASCII characters and line feeds alone, so that no line of them has a control character. It
 /// looks at all of them, many at a time.
-pub fn are_plain(bytes: &[u8]) -> bool
+pub fn has_plain_bytes(bytes: &[u8]) -> bool
     ensures { result ≡ list_all is_plain_byte bytes.now }
 {
     let mut plain = true;

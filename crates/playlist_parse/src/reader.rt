@@ -7,7 +7,7 @@ ghost use Rattle.playlist_meaning.specs.Reading.{limited};
 ghost use Rattle.playlist_parse.specs.LineViews.{is_free, line_text};
 ghost use Rattle.playlist_parse.specs.Answers.{Answers, fault_at};
 
-use crate::line::{Lines, are_plain};
+use crate::line::{Lines, has_plain_bytes};
 use crate::progress::Progress;
 use playlist_meaning::{Base, FaultKind, MOST_BYTES, Playlist, PlaylistFault, text_of};
 use std::alloc::Global;
@@ -69,5 +69,5 @@ pub fn read(alloc: Global, bytes: &[u8], base: &Base) -> Result<Playlist, Playli
     if first.text != "#EXTM3U" {
         return Err(fault_at(FaultKind::NoHeader, 1));
     }
-    read_lines(alloc, lines, are_plain(bytes), base)
+    read_lines(alloc, lines, has_plain_bytes(bytes), base)
 }

@@ -35,7 +35,7 @@ use Rattle.playlist_meaning.specs.LookBack.{discontinuity_at, own_duration, numb
 use Rattle.playlist_meaning.proofs.SameParts.{key_ext}
 use Rattle.instants.specs.Digits.{fixed_digits}
 use Rattle.instants.specs.Times.{time_text}
-use Rattle.playlist_write.specs.Spelling.{spelled, key_pairs, section_pairs, iv_pairs, format_pairs, attr_pair, in_quotes, part_pairs}
+use Rattle.playlist_write.specs.Spelling.{spelled, key_pairs, section_pairs, iv_pairs, format_pairs, key_attr_pair, in_quotes, part_pairs}
 use Rattle.fitting.specs.Fitting.{is_clean, value_fits, uri_fits, quoted_uri_fits, other_fits, if_some, iv_fits, key_fits, range_fits}
 use Rattle.playlist_write.proofs.CleanTexts.{Clean, clean-append, clean_printable}
 use Rattle.playlist_write.proofs.WrittenNumbers.{is_number_byte, decimal_bytes, duration_bytes, hex_bytes, hex_read}
@@ -208,23 +208,23 @@ module _ (base : Parts) (before : List Said) where
   format_back true format e = sym ((bytes_eq-Decides format (codes "identity")).0 e)
   format_back false format e = refl
 
-  others_past : (name : List ℕ) (others : List KeyAttr) → list_all other_fits others ≡ true → ((attr : KeyAttr) → other_fits attr ≡ true → is_named name (attr_pair attr) ≡ false) → find (is_named name) (map attr_pair others) ≡ None
+  others_past : (name : List ℕ) (others : List KeyAttr) → list_all other_fits others ≡ true → ((attr : KeyAttr) → other_fits attr ≡ true → is_named name (key_attr_pair attr) ≡ false) → find (is_named name) (map key_attr_pair others) ≡ None
   others_past name [] h f = refl
   others_past name (attr ∷ others) h f = let a = and_parts _ _ h in let e = f attr a.0 in rw e (others_past name others a.1 f)
 
-  no_iv : (attr : KeyAttr) → other_fits attr ≡ true → is_named (codes "IV") (attr_pair attr) ≡ false
+  no_iv : (attr : KeyAttr) → other_fits attr ≡ true → is_named (codes "IV") (key_attr_pair attr) ≡ false
   no_iv attr h = (is_other attr.name (other_parts attr h).other).iv
 
-  no_format : (attr : KeyAttr) → other_fits attr ≡ true → is_named (codes "KEYFORMAT") (attr_pair attr) ≡ false
+  no_format : (attr : KeyAttr) → other_fits attr ≡ true → is_named (codes "KEYFORMAT") (key_attr_pair attr) ≡ false
   no_format attr h = (is_other attr.name (other_parts attr h).other).format
 
   abbrev carried : List Pair → List KeyAttr
   carried pairs = map key_attr (filter (λ pair. not (is_key_attribute pair)) pairs)
 
-  carried_others : (others : List KeyAttr) → list_all other_fits others ≡ true → carried (map attr_pair others) ≡ others
+  carried_others : (others : List KeyAttr) → list_all other_fits others ≡ true → carried (map key_attr_pair others) ≡ others
   carried_others [] h = refl
   carried_others (attr ∷ others) h =
-      let a = and_parts _ _ h in let e : is_key_attribute (attr_pair attr) ≡ false = (other_parts attr a.0).other in
+      let a = and_parts _ _ h in let e : is_key_attribute (key_attr_pair attr) ≡ false = (other_parts attr a.0).other in
       rw e (ap (λ xs. attr ∷ xs) (carried_others others a.1))
 
   carried_format : (b : Bool) (format : List ℕ) (later : List Pair) → carried (cond b [] (in_quotes (codes "KEYFORMAT") format ∷ []) ++ later) ≡ carried later
@@ -240,7 +240,7 @@ module _ (base : Parts) (before : List Said) where
       → set_key base pairs method ≡ Ok (key (record { format = unwrap_or format (codes "identity"); method = method; uri = resource; iv = iv; other = others }))
   set_key_by pairs reference method resource iv format others a b c d e = rw (a, b, c, d, e) refl
 
-  all_clean_others : (others : List KeyAttr) → list_all other_fits others ≡ true → AllValuesClean (map attr_pair others)
+  all_clean_others : (others : List KeyAttr) → list_all other_fits others ≡ true → AllValuesClean (map key_attr_pair others)
   unfolding AllValuesClean
   all_clean_others [] h = tt
   all_clean_others (attr ∷ others) h =
@@ -275,7 +275,7 @@ module _ (base : Parts) (before : List Said) where
 
   set_key_is : (k : Key) → KeyParts k → set_key base (key_pairs k) k.method ≡ Ok (key k)
   set_key_is k h =
-      let later = map attr_pair k.other in
+      let later = map key_attr_pair k.other in
       let no_format_later = others_past (codes "KEYFORMAT") k.other h.others no_format in
       let no_iv_later = others_past (codes "IV") k.other h.others no_iv in
       let b = bytes_eq k.format (codes "identity") in

@@ -14,7 +14,7 @@ use Rattle.playlist_meaning.specs.declared.KeyAttr.{KeyAttr}
 use Rattle.playlist_meaning.specs.declared.ByteRange.{ByteRange}
 use Rattle.playlist_meaning.proofs.ListTests.{all_with}
 use Rattle.instants.specs.Digits.{fixed_digits}
-use Rattle.playlist_write.specs.Spelling.{plain, in_quotes, iv_text, iv_pairs, format_pairs, attr_pair, key_pairs, part_pairs, section_pairs, range_text}
+use Rattle.playlist_write.specs.Spelling.{plain, in_quotes, iv_text, iv_pairs, format_pairs, key_attr_pair, key_pairs, part_pairs, section_pairs, range_text}
 use Rattle.fitting.specs.Fitting.{if_some, is_clean, value_fits, quoted_uri_fits, range_fits, is_own_name, other_fits, have_distinct_names, iv_fits, method_fits, key_fits}
 use Rattle.playlist_write.proofs.WrittenNumbers.{is_number_byte, decimal_bytes, hex_bytes}
 
@@ -108,20 +108,20 @@ none_named : (name : List ℕ) (others : List KeyAttr) → list_any (is_named_as
 none_named name [] h = refl
 none_named name (attr ∷ others) h = let a = or_parts _ _ h in and_from _ _ (ap not a.0) (none_named name others a.1)
 
-free_step : (before : List Pair) (one attr : KeyAttr) → is_free before attr ≡ true → not (is_named_as one.name attr) ≡ true → is_free (before ++ attr_pair one ∷ []) attr ≡ true
+free_step : (before : List Pair) (one attr : KeyAttr) → is_free before attr ≡ true → not (is_named_as one.name attr) ≡ true → is_free (before ++ key_attr_pair one ∷ []) attr ≡ true
 free_step before one attr h g =
     let d = turned one.name attr.name (not-true _ g) in
-    ap not (list_any-append (is_named attr.name) before (attr_pair one ∷ []) ∙ or_from _ _ (not-true _ h) (or_from _ _ d refl))
+    ap not (list_any-append (is_named attr.name) before (key_attr_pair one ∷ []) ∙ or_from _ _ (not-true _ h) (or_from _ _ d refl))
 
-others_apart : (others : List KeyAttr) (before : List Pair) → list_all other_fits others ≡ true → have_distinct_names others ≡ true → list_all (is_free before) others ≡ true → are_apart before (map attr_pair others) ≡ true
+others_apart : (others : List KeyAttr) (before : List Pair) → list_all other_fits others ≡ true → have_distinct_names others ≡ true → list_all (is_free before) others ≡ true → are_apart before (map key_attr_pair others) ≡ true
 others_apart [] before h d f = refl
 others_apart (attr ∷ others) before h d f =
     let a = and_parts _ _ h in
     let b : (not (list_any (is_named_as attr.name) others) ≡ true) × (have_distinct_names others ≡ true) = and_parts _ _ d in
     let c : (is_free before attr ≡ true) × (list_all (is_free before) others ≡ true) = and_parts _ _ f in
     let one = other_parts attr a.0 in
-    let free = all_with (is_free before) (λ x. not (is_named_as attr.name x)) (is_free (before ++ attr_pair attr ∷ [])) others c.1 (none_named attr.name others (not-true _ b.0)) (λ x g e. free_step before attr x g e) in
-    more_apart before (map attr_pair others) (attr_pair attr) (pair_is attr.name attr.value attr.quoted one.name (value_is attr.quoted attr.value one.value)) (not-true _ c.0) (others_apart others (before ++ attr_pair attr ∷ []) a.1 b.1 free)
+    let free = all_with (is_free before) (λ x. not (is_named_as attr.name x)) (is_free (before ++ key_attr_pair attr ∷ [])) others c.1 (none_named attr.name others (not-true _ b.0)) (λ x g e. free_step before attr x g e) in
+    more_apart before (map key_attr_pair others) (key_attr_pair attr) (pair_is attr.name attr.value attr.quoted one.name (value_is attr.quoted attr.value one.value)) (not-true _ c.0) (others_apart others (before ++ key_attr_pair attr ∷ []) a.1 b.1 free)
 
 all_free : (before : List Pair) (others : List KeyAttr) → list_all other_fits others ≡ true → ((name : List ℕ) → IsOther name → list_any (is_named name) before ≡ false) → list_all (is_free before) others ≡ true
 all_free before others h f = all_from other_fits (is_free before) others h (λ attr g. ap not (f attr.name (is_other attr.name (other_parts attr g).other)))
@@ -143,20 +143,20 @@ format_pair format = in_quotes (codes "KEYFORMAT") format
 -- the format's attribute where it is written, and the others after these
 after_iv : (b : Bool) (before : List Pair) (format : List ℕ) (others : List KeyAttr) → is_value true format ≡ true → list_all other_fits others ≡ true → have_distinct_names others ≡ true
     → list_any (is_named (codes "KEYFORMAT")) before ≡ false → ((name : List ℕ) → IsOther name → list_any (is_named name) before ≡ false)
-    → are_apart before (cond b [] (format_pair format ∷ []) ++ map attr_pair others) ≡ true
+    → are_apart before (cond b [] (format_pair format ∷ []) ++ map key_attr_pair others) ≡ true
 after_iv true before format others v h d n f = others_apart others before h d (all_free before others h f)
 after_iv false before format others v h d n f =
-    more_apart before (map attr_pair others) (format_pair format) (pair_is (codes "KEYFORMAT") format true refl v) n
+    more_apart before (map key_attr_pair others) (format_pair format) (pair_is (codes "KEYFORMAT") format true refl v) n
     (others_apart others (before ++ format_pair format ∷ []) h d
     (all_free (before ++ format_pair format ∷ []) others h (λ name o. list_any-append (is_named name) before (format_pair format ∷ []) ∙ or_from _ _ (f name o) (or_from _ _ (turned (codes "KEYFORMAT") name o.format) refl))))
 
 after_uri : (iv : Option ℕ) (b : Bool) (method uri format : List ℕ) (others : List KeyAttr) → if_some iv_fits iv ≡ true → is_value true format ≡ true → list_all other_fits others ≡ true → have_distinct_names others ≡ true
-    → are_apart (method_pair method ∷ uri_pair uri ∷ []) (iv_pairs iv ++ (cond b [] (format_pair format ∷ []) ++ map attr_pair others)) ≡ true
+    → are_apart (method_pair method ∷ uri_pair uri ∷ []) (iv_pairs iv ++ (cond b [] (format_pair format ∷ []) ++ map key_attr_pair others)) ≡ true
 after_uri None b method uri format others i v h d =
     after_iv b (method_pair method ∷ uri_pair uri ∷ []) format others v h d refl
     (λ name o. or_from _ _ (turned (codes "METHOD") name o.method) (or_from _ _ (turned (codes "URI") name o.uri) refl))
 after_uri (Some iv) b method uri format others i v h d =
-    more_apart (method_pair method ∷ uri_pair uri ∷ []) (cond b [] (format_pair format ∷ []) ++ map attr_pair others) (iv_pair iv) (pair_is (codes "IV") (iv_text iv) false refl (iv_is_value iv i)) refl
+    more_apart (method_pair method ∷ uri_pair uri ∷ []) (cond b [] (format_pair format ∷ []) ++ map key_attr_pair others) (iv_pair iv) (pair_is (codes "IV") (iv_text iv) false refl (iv_is_value iv i)) refl
     (after_iv b (method_pair method ∷ uri_pair uri ∷ iv_pair iv ∷ []) format others v h d refl
     (λ name o. or_from _ _ (turned (codes "METHOD") name o.method) (or_from _ _ (turned (codes "URI") name o.uri) (or_from _ _ (turned (codes "IV") name o.iv) refl))))
 
@@ -165,8 +165,8 @@ quoted_uri_is uri h = value_is true uri (and_parts _ _ h).0
 
 pub key_attributes : (k : Key) → KeyParts k → are_attributes (key_pairs k) ≡ true
 key_attributes k h =
-    more_apart [] (uri_pair k.uri ∷ (iv_pairs k.iv ++ (format_pairs k.format ++ map attr_pair k.other))) (method_pair k.method) (pair_is (codes "METHOD") k.method false refl (value_is false k.method h.method)) refl
-    (more_apart (method_pair k.method ∷ []) (iv_pairs k.iv ++ (format_pairs k.format ++ map attr_pair k.other)) (uri_pair k.uri) (pair_is (codes "URI") k.uri true refl (quoted_uri_is k.uri h.uri)) refl
+    more_apart [] (uri_pair k.uri ∷ (iv_pairs k.iv ++ (format_pairs k.format ++ map key_attr_pair k.other))) (method_pair k.method) (pair_is (codes "METHOD") k.method false refl (value_is false k.method h.method)) refl
+    (more_apart (method_pair k.method ∷ []) (iv_pairs k.iv ++ (format_pairs k.format ++ map key_attr_pair k.other)) (uri_pair k.uri) (pair_is (codes "URI") k.uri true refl (quoted_uri_is k.uri h.uri)) refl
     (after_uri k.iv (bytes_eq k.format (codes "identity")) k.method k.uri k.format k.other h.iv (value_is true k.format h.format) h.others h.distinct))
 
 -- ---- a section's attributes

@@ -7,7 +7,7 @@ use Rattle.playlist_meaning.specs.declared.InitSection.{InitSection}
 use Rattle.playlist_meaning.specs.Said.{duration, range, time}
 use Rattle.fixed_duration.specs.Duration.{duration_text}
 use Rattle.instants.specs.Times.{time_text}
-use Rattle.playlist_write.specs.Spelling.{after_commas, plain, in_quotes, iv_pairs, format_pairs, attr_pair, part_pairs, range_text}
+use Rattle.playlist_write.specs.Spelling.{after_commas, plain, in_quotes, iv_pairs, format_pairs, key_attr_pair, part_pairs, range_text}
 use Rattle.playlist_write.specs.Owed.{line_of, with_feed, key_line, section_line}
 
 -- attributes with commas between them: the first, then each with a comma before it
@@ -23,13 +23,13 @@ assoc6 : (a b c d e f g : List ℕ) → a ++ (b ++ (c ++ (d ++ (e ++ (f ++ g))))
 assoc6 a b c d e f g = simp append_assoc
 
 pub key_parts : (k : Key) → codes "#EXT-X-KEY:" ++ (pair_spelling (plain (codes "METHOD") k.method) ++ (pair_spelling (in_quotes (codes ",URI") k.uri)
-    ++ (after_commas (iv_pairs k.iv) ++ (after_commas (format_pairs k.format) ++ (after_commas (map attr_pair k.other) ++ 10 ∷ []))))) ≡ key_line k
+    ++ (after_commas (iv_pairs k.iv) ++ (after_commas (format_pairs k.format) ++ (after_commas (map key_attr_pair k.other) ++ 10 ∷ []))))) ≡ key_line k
 unfolding line_of
 key_parts k =
-    assoc6 (codes "#EXT-X-KEY:") (pair_spelling (plain (codes "METHOD") k.method)) (pair_spelling (in_quotes (codes ",URI") k.uri)) (after_commas (iv_pairs k.iv)) (after_commas (format_pairs k.format)) (after_commas (map attr_pair k.other)) (10 ∷ [])
+    assoc6 (codes "#EXT-X-KEY:") (pair_spelling (plain (codes "METHOD") k.method)) (pair_spelling (in_quotes (codes ",URI") k.uri)) (after_commas (iv_pairs k.iv)) (after_commas (format_pairs k.format)) (after_commas (map key_attr_pair k.other)) (10 ∷ [])
     ∙ ap (λ t. with_feed (codes "#EXT-X-KEY:" ++ (pair_spelling (plain (codes "METHOD") k.method) ++ (pair_spelling (in_quotes (codes ",URI") k.uri) ++ t))))
-    (ap (λ t. after_commas (iv_pairs k.iv) ++ t) (sym (commas_append (format_pairs k.format) (map attr_pair k.other))) ∙ sym (commas_append (iv_pairs k.iv) (format_pairs k.format ++ map attr_pair k.other)))
-    ∙ ap (λ t. with_feed (codes "#EXT-X-KEY:" ++ t)) (sym (attributes_are (plain (codes "METHOD") k.method) (in_quotes (codes "URI") k.uri ∷ (iv_pairs k.iv ++ (format_pairs k.format ++ map attr_pair k.other)))))
+    (ap (λ t. after_commas (iv_pairs k.iv) ++ t) (sym (commas_append (format_pairs k.format) (map key_attr_pair k.other))) ∙ sym (commas_append (iv_pairs k.iv) (format_pairs k.format ++ map key_attr_pair k.other)))
+    ∙ ap (λ t. with_feed (codes "#EXT-X-KEY:" ++ t)) (sym (attributes_are (plain (codes "METHOD") k.method) (in_quotes (codes "URI") k.uri ∷ (iv_pairs k.iv ++ (format_pairs k.format ++ map key_attr_pair k.other)))))
 
 assoc3 : (a b c d : List ℕ) → a ++ (b ++ (c ++ d)) ≡ (a ++ (b ++ c)) ++ d
 assoc3 a b c d = simp append_assoc

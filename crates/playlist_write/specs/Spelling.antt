@@ -37,13 +37,13 @@ iv_pairs (Some iv) = plain (codes "IV") (iv_text iv) ∷ []
 abbrev pub format_pairs : List ℕ → List Pair
 format_pairs format = if bytes_eq format (codes "identity") then [] else in_quotes (codes "KEYFORMAT") format ∷ []
 
-abbrev pub attr_pair : KeyAttr → Pair
-attr_pair attr = record { name = attr.name; value = attr.value; quoted = attr.quoted }
+abbrev pub key_attr_pair : KeyAttr → Pair
+key_attr_pair attr = record { name = attr.name; value = attr.value; quoted = attr.quoted }
 
 -- the attributes of a key tag (4.3.2.4)
 abbrev pub key_pairs : Key → List Pair
 key_pairs k =
-    plain (codes "METHOD") k.method ∷ in_quotes (codes "URI") k.uri ∷ (iv_pairs k.iv ++ (format_pairs k.format ++ map attr_pair k.other))
+    plain (codes "METHOD") k.method ∷ in_quotes (codes "URI") k.uri ∷ (iv_pairs k.iv ++ (format_pairs k.format ++ map key_attr_pair k.other))
 
 abbrev pub part_pairs : Option ByteRange → List Pair
 part_pairs None = []

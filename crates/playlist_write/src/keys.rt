@@ -1,7 +1,7 @@
 //! Key tags and map tags (RFC 8216, sections 4.3.2.4 and 4.3.2.5).
 ghost use Rattle.std.specs.Prelude.{◌≡◌, ◌∷◌, ◌++◌, [], codes, OnOk, string_bytes, map, filter, ◌&&◌, not};
 ghost use Rattle.attr_list.specs.Attributes.{pair_spelling};
-ghost use Rattle.playlist_write.specs.Spelling.{plain, in_quotes, iv_pairs, format_pairs, attr_pair, part_pairs, after_commas};
+ghost use Rattle.playlist_write.specs.Spelling.{plain, in_quotes, iv_pairs, format_pairs, key_attr_pair, part_pairs, after_commas};
 ghost use Rattle.playlist_write.specs.KeyParts.{rest_of, is_identity};
 ghost use Rattle.playlist_meaning.specs.Said as Said;
 ghost use Rattle.playlist_write.specs.Owed.{line_of, said_text, keys_owed, set_tags, key_line, section_line};
@@ -65,7 +65,7 @@ fn push_format(out: &mut String, format: &str) -> Result<(), AllocError>
 }
 
 fn push_attr(out: &mut String, attr: &KeyAttr) -> Result<(), AllocError>
-    ensures { Appends result out.old out.new (pair_spelling (attr_pair attr.now)) }
+    ensures { Appends result out.old out.new (pair_spelling (key_attr_pair attr.now)) }
 {
     if attr.quoted {
         push_quoted(out, attr.name.as_str(), attr.value.as_str())
@@ -75,7 +75,7 @@ fn push_attr(out: &mut String, attr: &KeyAttr) -> Result<(), AllocError>
 }
 
 fn push_attrs(out: &mut String, attrs: &[KeyAttr]) -> Result<(), AllocError>
-    ensures { Appends result out.old out.new (after_commas (map attr_pair attrs.now)) }
+    ensures { Appends result out.old out.new (after_commas (map key_attr_pair attrs.now)) }
 {
     for attr in attrs {
         out.push(',')?;

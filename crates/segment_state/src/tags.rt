@@ -83,11 +83,16 @@ fn key_attr(alloc: Global, attr: &Attr<'_>) -> Result<KeyAttr, AllocError>
     })
 }
 
-// The attributes that are carried as they stand.
+// How many of these attributes are carried as they stand.
+fn others_count(list: &[Attr<'_>]) -> usize {
+    list.iter().filter(|attr| !is_key_attribute(*attr)).count()
+}
+
+// The attributes that are carried as they stand, in no more room than they take.
 fn other_attributes(alloc: Global, list: &[Attr<'_>]) -> Result<Vec<KeyAttr>, AllocError>
     ensures { IfOk result (λ v. v.items ≡ others_of list.now) }
 {
-    let mut others = Vec::new(alloc);
+    let mut others = Vec::with_capacity(alloc, others_count(list))?;
     for attr in list {
         if !is_key_attribute(attr) {
             others.push(key_attr(alloc, attr)?)?;

@@ -13,5 +13,5 @@ read_lines-requires-clause-few c =
 pub read_lines-requires-clause-plain : goal.read_lines-requires-clause-plain
 read_lines-requires-clause-plain c = λ plain.
     let same : c.in-Ok.text.now ≡ c.args.bytes.now = search rules in
-    let text : list_all is_plain_byte c.in-Ok.text.now ≡ true = ap (list_all is_plain_byte) same ∙ sym c.are_plain.ensures ∙ plain in
+    let text : list_all is_plain_byte c.in-Ok.text.now ≡ true = ap (list_all is_plain_byte) same ∙ sym c.has_plain_bytes.ensures ∙ plain in
     later_lines c.in-Ok.text.now c.new-lines.result _ c.next.new.self c.new-lines.ensures.lines c.in-Some.ensures text

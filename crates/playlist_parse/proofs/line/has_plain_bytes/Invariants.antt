@@ -1,7 +1,7 @@
 use Rattle.std.proofs.Common.{◌≡◌, take}
 use Rattle.std.specs.List.{list_all}
 use Rattle.playlist_parse.specs.LineViews.{is_plain_byte}
-use Rattle.playlist_parse.proofs.line.are_plain.Given as goal
+use Rattle.playlist_parse.proofs.line.has_plain_bytes.Given as goal
 
 -- so far
 abbrev pub invariant-loop-byte : goal.invariant-loop-byte
