@@ -11,6 +11,8 @@ use stitcher::{OutSegment, Played};
 
 const ROOM: usize = 4096;
 
+const LONG_ROOM: usize = 262_144;
+
 const DATE_RANGE: &str = "ID=\"b1\",START-DATE=\"2024-05-01T12:00:10Z\",DURATION=10";
 
 // The lines as RFC 8216 has them, written by hand.
@@ -177,13 +179,12 @@ fn segments<'a>(alloc: Global, origin: &'a Segment) -> Result<Items<OutSegment<'
     Ok(Items::from_vec(segments))
 }
 
-fn playlist<'a>(
+fn playlist_of<'a>(
     alloc: Global,
-    origin: &'a Segment,
     version: u64,
     range: &str,
+    segments: Items<OutSegment<'a>>,
 ) -> Result<OutPlaylist<'a>, AllocError> {
-    let segments = segments(alloc, origin)?;
     Ok(OutPlaylist {
         version,
         target: 10,
@@ -193,6 +194,15 @@ fn playlist<'a>(
         date_ranges: Items::from_vec(vec![in alloc; Text::copy_of(alloc, range)?]?),
         segments,
     })
+}
+
+fn playlist<'a>(
+    alloc: Global,
+    origin: &'a Segment,
+    version: u64,
+    range: &str,
+) -> Result<OutPlaylist<'a>, AllocError> {
+    playlist_of(alloc, version, range, segments(alloc, origin)?)
 }
 
 fn is_well_formed(alloc: Global, version: u64, range: &str) -> Result<bool, AllocError> {
@@ -207,19 +217,89 @@ fn well_formed(rt: HostRuntime) {
     assert!(rt; matches!(is_well_formed(rt.alloc(), 6, "START-DATE=x"), Ok(false)));
 }
 
-fn taken(alloc: Global, playlist: &OutPlaylist<'_>) -> Result<Taken, WriteFault> {
-    let mut sink = Taken::new(alloc, ROOM, 7, 0)?;
-    write(alloc, playlist, &mut sink)?;
-    Ok(sink)
-}
-
-fn is_written(alloc: Global, want: &str) -> Result<bool, WriteFault> {
+// Whether the whole text is written where a call takes so many bytes.
+fn is_written(alloc: Global, most: usize) -> Result<bool, WriteFault> {
     let origin = origin_segment(alloc)?;
     let playlist = playlist(alloc, &origin, 7, DATE_RANGE)?;
-    Ok(taken(alloc, &playlist)?.bytes() == want.as_bytes())
+    let mut sink = Taken::new(alloc, ROOM, most.max(1), 0)?;
+    write(alloc, &playlist, &mut sink)?;
+    Ok(sink.bytes() == WRITTEN.as_bytes())
 }
 
 #[test]
 fn written(rt: HostRuntime) {
-    assert!(rt; matches!(is_written(rt.alloc(), WRITTEN), Ok(true)));
+    assert!(rt; matches!(is_written(rt.alloc(), 7), Ok(true)));
+    assert!(rt; matches!(is_written(rt.alloc(), 1), Ok(true)));
+    assert!(rt; matches!(is_written(rt.alloc(), ROOM), Ok(true)));
+}
+
+// Whether a sink that takes a byte a call, and fails after so many, has the front of the text.
+fn stops_after(
+    alloc: Global,
+    playlist: &OutPlaylist<'_>,
+    count: usize,
+) -> Result<bool, AllocError> {
+    let fail = (count as u64).saturating_add(1);
+    let mut sink = Taken::new(alloc, ROOM, 1, fail)?;
+    let is_blamed = matches!(write(alloc, playlist, &mut sink), Err(WriteFault::Io));
+    let taken = sink.bytes();
+    Ok(is_blamed && taken.len() == count && WRITTEN.as_bytes().starts_with(taken))
+}
+
+fn stops_after_each_byte(alloc: Global) -> Result<bool, AllocError> {
+    let origin = origin_segment(alloc)?;
+    let playlist = playlist(alloc, &origin, 7, DATE_RANGE)?;
+    for count in 0..WRITTEN.len() {
+        if !stops_after(alloc, &playlist, count)? {
+            return Ok(false);
+        }
+    }
+    Ok(true)
+}
+
+#[test]
+fn written_up_to_each_call_that_fails(rt: HostRuntime) {
+    assert!(rt; matches!(stops_after_each_byte(rt.alloc()), Ok(true)));
+}
+
+// A playlist whose text is longer than two pieces, and shorter than three.
+fn long_playlist<'a>(alloc: Global, origin: &'a Segment) -> Result<OutPlaylist<'a>, AllocError> {
+    let mut segments = Vec::new(alloc);
+    for _ in 0..1_500 {
+        segments.push(origin_item(origin))?;
+    }
+    playlist_of(alloc, 7, DATE_RANGE, Items::from_vec(segments))
+}
+
+// A sink that takes all that is offered, after a playlist was written to it up to the call that fails.
+fn taken_before(alloc: Global, playlist: &OutPlaylist<'_>, fail: u64) -> Result<Taken, AllocError> {
+    let mut sink = Taken::new(alloc, LONG_ROOM, LONG_ROOM, fail)?;
+    let _ = write(alloc, playlist, &mut sink);
+    Ok(sink)
+}
+
+// Whether what was taken between is 64 KiB, and less than a few lines more.
+fn is_piece(before: &[u8], after: &[u8]) -> bool {
+    let count = after.len().saturating_sub(before.len());
+    after.starts_with(before) && (65_536..66_560).contains(&count)
+}
+
+fn comes_in_pieces(alloc: Global) -> Result<bool, AllocError> {
+    let origin = origin_segment(alloc)?;
+    let playlist = long_playlist(alloc, &origin)?;
+    let text = playlist_write::written(alloc, &playlist)?;
+    let one = taken_before(alloc, &playlist, 2)?;
+    let two = taken_before(alloc, &playlist, 3)?;
+    let three = taken_before(alloc, &playlist, 4)?;
+    Ok(
+        is_piece(b"", one.bytes())
+            && is_piece(one.bytes(), two.bytes())
+            && three.bytes().starts_with(two.bytes())
+            && three.bytes() == text.as_str().as_bytes(),
+    )
+}
+
+#[test]
+fn written_in_pieces(rt: HostRuntime) {
+    assert!(rt; matches!(comes_in_pieces(rt.alloc()), Ok(true)));
 }
