@@ -19,7 +19,7 @@ use live_window::{
 use playlist_meaning::{Items, Playlist, Shared, Text};
 use playlist_write::{OutPlaylist, written};
 use std::alloc::{AllocError, Global};
-use stitcher::{Marked, Numbers, OutSegment};
+use stitcher::{Marked, Numbers, OriginText, OutSegment};
 
 /// What a refresh writes, and which breaks it uses.
 #[derive(Drop)]
@@ -37,11 +37,11 @@ pub struct Written {
 }
 
 // The text of a playlist with these date ranges and items in place of its own.
-fn text_with(
+fn text_with<'a>(
     alloc: Global,
     playlist: &Playlist,
-    date_ranges: Vec<Text>,
-    items: Vec<OutSegment<'_>>,
+    date_ranges: Vec<OriginText<'a>>,
+    items: Vec<OutSegment<'a>>,
 ) -> Result<Shared<Text>, AllocError>
     ensures { IfOk result (λ text. text ≡ text_of (out_with playlist.now date_ranges.items items.entry.items)) }
 {

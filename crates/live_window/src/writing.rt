@@ -21,7 +21,7 @@ use live_meaning::RefreshFault;
 use playlist_meaning::{DateRange, Playlist, Segment, Shared, Text};
 use pod_store::PodStore;
 use std::alloc::{AllocError, Global};
-use stitcher::{Marked, Numbers, OutSegment, StitchFault, stitch};
+use stitcher::{Marked, Numbers, OriginText, OutSegment, StitchFault, stitch};
 
 // The stitched list of these segments, whose first item has these numbers.
 fn stitched<'a>(
@@ -179,19 +179,19 @@ fn has_id(set: &IndexSet<&str>, id: &Text) -> bool
     set.contains(id.as_str())
 }
 
-// The texts of the date ranges of other breaks.
-fn texts_left(
+// The texts of the date ranges of other breaks, where they stand.
+fn texts_left<'a>(
     alloc: Global,
     set: &IndexSet<&str>,
-    date_ranges: &[DateRange],
-) -> Result<Vec<Text>, AllocError>
+    date_ranges: &'a [DateRange],
+) -> Result<Vec<OriginText<'a>>, AllocError>
     ensures { IfOk result (λ v. v.items ≡ texts_left set.now.keys date_ranges.now) }
 {
     let mut texts = Vec::new(alloc);
     let mut rest = date_ranges;
     while let Some((range, later)) = rest.split_first() {
         if !has_id(set, &range.id) {
-            texts.push(range.text.clone()?)?;
+            texts.push(OriginText::new(&range.text))?;
         }
         rest = later;
     }
@@ -200,12 +200,12 @@ fn texts_left(
 
 #[tactic(auto, using(crate::proofs::Ranges::left_alike))]
 /// The texts of the date ranges that are written: none of these breaks, and none at all where no item states a time.
-pub fn ranges_left(
+pub fn ranges_left<'a>(
     alloc: Global,
     items: &[OutSegment<'_>],
     ids: &[Text],
-    date_ranges: &[DateRange],
-) -> Result<Vec<Text>, AllocError>
+    date_ranges: &'a [DateRange],
+) -> Result<Vec<OriginText<'a>>, AllocError>
     ensures { IfOk result (λ v. v.items ≡ map date_range_text (kept_ranges (list_any states_time items.now) (is_one_of ids.now) date_ranges.now)) }
 {
     if !is_any_timed(items) {

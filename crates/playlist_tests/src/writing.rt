@@ -7,7 +7,7 @@ use playlist_meaning::{
 };
 use playlist_write::{OutPlaylist, WriteFault, write};
 use std::alloc::{AllocError, Global};
-use stitcher::{OutSegment, Played};
+use stitcher::{OriginText, OutSegment, Played};
 
 const ROOM: usize = 4096;
 
@@ -182,7 +182,7 @@ fn segments<'a>(alloc: Global, origin: &'a Segment) -> Result<Items<OutSegment<'
 fn playlist_of<'a>(
     alloc: Global,
     version: u64,
-    range: &str,
+    range: &'a Text,
     segments: Items<OutSegment<'a>>,
 ) -> Result<OutPlaylist<'a>, AllocError> {
     Ok(OutPlaylist {
@@ -191,7 +191,7 @@ fn playlist_of<'a>(
         kind: Some(PlaylistKind::Event),
         independent: true,
         ended: true,
-        date_ranges: Items::from_vec(vec![in alloc; Text::copy_of(alloc, range)?]?),
+        date_ranges: Items::from_vec(vec![in alloc; OriginText::new(range)]?),
         segments,
     })
 }
@@ -200,14 +200,15 @@ fn playlist<'a>(
     alloc: Global,
     origin: &'a Segment,
     version: u64,
-    range: &str,
+    range: &'a Text,
 ) -> Result<OutPlaylist<'a>, AllocError> {
     playlist_of(alloc, version, range, segments(alloc, origin)?)
 }
 
 fn is_well_formed(alloc: Global, version: u64, range: &str) -> Result<bool, AllocError> {
     let origin = origin_segment(alloc)?;
-    playlist(alloc, &origin, version, range)?.well_formed(alloc)
+    let range = Text::copy_of(alloc, range)?;
+    playlist(alloc, &origin, version, &range)?.well_formed(alloc)
 }
 
 #[test]
@@ -220,7 +221,8 @@ fn well_formed(rt: HostRuntime) {
 // Whether the whole text is written where a call takes so many bytes.
 fn is_written(alloc: Global, most: usize) -> Result<bool, WriteFault> {
     let origin = origin_segment(alloc)?;
-    let playlist = playlist(alloc, &origin, 7, DATE_RANGE)?;
+    let range = Text::copy_of(alloc, DATE_RANGE)?;
+    let playlist = playlist(alloc, &origin, 7, &range)?;
     let mut sink = Taken::new(alloc, ROOM, most.max(1), 0)?;
     write(alloc, &playlist, &mut sink)?;
     Ok(sink.bytes() == WRITTEN.as_bytes())
@@ -248,7 +250,8 @@ fn stops_after(
 
 fn stops_after_each_byte(alloc: Global) -> Result<bool, AllocError> {
     let origin = origin_segment(alloc)?;
-    let playlist = playlist(alloc, &origin, 7, DATE_RANGE)?;
+    let range = Text::copy_of(alloc, DATE_RANGE)?;
+    let playlist = playlist(alloc, &origin, 7, &range)?;
     for count in 0..WRITTEN.len() {
         if !stops_after(alloc, &playlist, count)? {
             return Ok(false);
@@ -263,12 +266,16 @@ fn written_up_to_each_call_that_fails(rt: HostRuntime) {
 }
 
 // A playlist whose text is longer than two pieces, and shorter than three.
-fn long_playlist<'a>(alloc: Global, origin: &'a Segment) -> Result<OutPlaylist<'a>, AllocError> {
+fn long_playlist<'a>(
+    alloc: Global,
+    origin: &'a Segment,
+    range: &'a Text,
+) -> Result<OutPlaylist<'a>, AllocError> {
     let mut segments = Vec::new(alloc);
     for _ in 0..1_500 {
         segments.push(origin_item(origin))?;
     }
-    playlist_of(alloc, 7, DATE_RANGE, Items::from_vec(segments))
+    playlist_of(alloc, 7, range, Items::from_vec(segments))
 }
 
 // A sink that takes all that is offered, after a playlist was written to it up to the call that fails.
@@ -286,7 +293,8 @@ fn is_piece(before: &[u8], after: &[u8]) -> bool {
 
 fn comes_in_pieces(alloc: Global) -> Result<bool, AllocError> {
     let origin = origin_segment(alloc)?;
-    let playlist = long_playlist(alloc, &origin)?;
+    let range = Text::copy_of(alloc, DATE_RANGE)?;
+    let playlist = long_playlist(alloc, &origin, &range)?;
     let text = playlist_write::written(alloc, &playlist)?;
     let one = taken_before(alloc, &playlist, 2)?;
     let two = taken_before(alloc, &playlist, 3)?;

@@ -13,8 +13,9 @@ ghost use Rattle.playlist_write.specs.DateRangeParts.{is_id, says_time, says_dur
 use attr_list::{Attr, AttrFault, AttrList};
 use fitting::is_clean;
 use fixed_duration::Nanos;
-use playlist_meaning::{Text, read_instant};
+use playlist_meaning::read_instant;
 use std::alloc::{AllocError, Global};
+use stitcher::OriginText;
 
 fn is_time(text: &str) -> bool
     ensures { result ≡ is_some (instant_of text.now) }
@@ -88,21 +89,21 @@ fn reads_as_date_range(alloc: Global, text: &str) -> Result<bool, AllocError>
 }
 
 /// Whether a text can be written as that of a date range.
-pub fn date_range_fits(alloc: Global, text: &Text) -> Result<bool, AllocError>
+pub fn date_range_fits(alloc: Global, text: &str) -> Result<bool, AllocError>
     ensures { IfOk result (λ b. b ≡ date_range_fits text.now) }
 {
-    if !is_clean(text.as_str()) {
+    if !is_clean(text) {
         return Ok(false);
     }
-    reads_as_date_range(alloc, text.as_str())
+    reads_as_date_range(alloc, text)
 }
 
 /// Whether all of these can.
-pub fn date_ranges_fit(alloc: Global, texts: &[Text]) -> Result<bool, AllocError>
+pub fn date_ranges_fit(alloc: Global, texts: &[OriginText<'_>]) -> Result<bool, AllocError>
     ensures { IfOk result (λ b. b ≡ list_all date_range_fits texts.now) }
 {
     for text in texts {
-        if !date_range_fits(alloc, text)? {
+        if !date_range_fits(alloc, text.as_str())? {
             return Ok(false);
         }
     }

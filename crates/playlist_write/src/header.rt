@@ -7,9 +7,9 @@ ghost use Rattle.fixed_duration.specs.Appended.{Appends};
 
 use crate::OutPlaylist;
 use crate::lines::{push_line, push_line_of, push_number_line};
-use playlist_meaning::{PlaylistKind, Text};
+use playlist_meaning::PlaylistKind;
 use std::alloc::AllocError;
-use stitcher::OutSegment;
+use stitcher::{OriginText, OutSegment};
 
 fn first_number(segments: &[OutSegment<'_>]) -> u64
     ensures { result ≡ first_number segments.now }
@@ -119,7 +119,7 @@ pub fn push_date_range(out: &mut String, text: &str) -> Result<(), AllocError>
 }
 
 /// Appends the date ranges as they stand.
-pub fn push_date_ranges(out: &mut String, date_ranges: &[Text]) -> Result<(), AllocError>
+pub fn push_date_ranges(out: &mut String, date_ranges: &[OriginText<'_>]) -> Result<(), AllocError>
     ensures { Appends result out.old out.new (date_ranges_text date_ranges.now) }
 {
     for range in date_ranges {

@@ -18,7 +18,7 @@ use crate::segments::push_segments;
 use devices::{Sink, SinkFailed, hand_out};
 use playlist_meaning::{Items, PlaylistKind, Text};
 use std::alloc::{AllocError, Global};
-use stitcher::OutSegment;
+use stitcher::{OriginText, OutSegment};
 
 mod date_ranges;
 mod digits;
@@ -44,7 +44,7 @@ pub struct OutPlaylist<'a> {
     /// Whether no segment will follow: EXT-X-ENDLIST.
     pub ended: bool,
     /// What stands after `#EXT-X-DATERANGE:`, for each date range.
-    pub date_ranges: Items<Text>,
+    pub date_ranges: Items<OriginText<'a>>,
     /// The segments, in their order.
     pub segments: Items<OutSegment<'a>>,
 }

@@ -9,8 +9,8 @@ use crate::WriteFault;
 use crate::header::push_date_range;
 use crate::segments::{push_segment, section_of};
 use devices::{Sink, SinkFailed, hand_out};
-use playlist_meaning::{InitSection, Key, Text};
-use stitcher::OutSegment;
+use playlist_meaning::{InitSection, Key};
+use stitcher::{OriginText, OutSegment};
 
 // What is held of a text is handed out once it is so many bytes, or more.
 const PIECE_BYTES: usize = 65_536;
@@ -39,7 +39,7 @@ fn hand_out_piece<S: Sink>(held: &mut String, sink: &mut S) -> Result<(), SinkFa
 /// Adds the date ranges as they stand to what is held, and hands out each piece.
 pub fn write_date_ranges<S: Sink>(
     held: &mut String,
-    date_ranges: &[Text],
+    date_ranges: &[OriginText<'_>],
     sink: &mut S,
 ) -> Result<(), WriteFault>
     ensures ok { OnOk result (TookAllBut (S.contents sink.old) (S.contents sink.new) (string_bytes held.new) (string_bytes held.old ++ date_ranges_text date_ranges.now)) }

@@ -9,12 +9,14 @@ mod key_tags;
 pub mod laws;
 mod making;
 mod marked;
+mod origin_text;
 mod played;
 
 pub use fault::StitchFault;
 pub use key_tags::{is_new, keeps_formats, transition};
 pub use making::stitch;
 pub use marked::{Marked, Numbers};
+pub use origin_text::OriginText;
 pub use played::Played;
 
 /// A segment as it stands in a written playlist. Its own numbers and time are not those of `segment`.
