@@ -148,7 +148,8 @@ WORDS_BEFORE = r"(?:(?:abbrev|pub|record|data|opaque|mutual) )*"
 def definitions(text):
     """The definitions of a file of specs, which stand apart by empty lines. A type of data is named by its
     constructors too."""
-    for block in re.split(r"\n\s*\n", re.sub(r"^ *--.*\n?", "", text, flags=re.MULTILINE)):
+    text = re.sub(r"^(pub )?mod \w+\n?", "", without_comments(text), flags=re.MULTILINE)  # (a module states nothing)
+    for block in re.split(r"\n\s*\n", text):
         if not (block := block.strip("\n")):
             continue
         heads = [re.match(rf"( *){WORDS_BEFORE}(\w+)?", it) for it in block.split("\n")]

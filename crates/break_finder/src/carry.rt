@@ -118,6 +118,10 @@ pub fn standing(
     ensures standing { IfOk result (λ kept. map break_at kept.entries ≡ filter (break_stands date_ranges.now (option_copied carried.entry)) (map break_at breaks.now.entries)) }
     ensures unique { IfOk result (IsUnique string_eq) }
 {
+    // Before the first refresh nothing is known, and the IDs of what comes needn't be listed.
+    if breaks.is_empty() {
+        return Ok(IndexMap::new(alloc));
+    }
     let ids = ids_of(alloc, date_ranges)?;
     let mut kept = breaks.clone()?;
     keep_standing(&mut kept, &ids, carried);

@@ -5,7 +5,7 @@ use playlist_meaning::Text;
 use std::marker::Model;
 
 /// A text of the origin's playlist, which stays where it is.
-#[derive(Clone, Copy)]
+#[derive(Drop)]
 pub struct OriginText<'a> {
     text: &'a Text,
 }
