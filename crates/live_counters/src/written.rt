@@ -43,7 +43,7 @@ fn text_with<'a>(
     date_ranges: Vec<OriginText<'a>>,
     items: Vec<OutSegment<'a>>,
 ) -> Result<Shared<Text>, AllocError>
-    ensures { IfOk result (λ text. text ≡ text_of (out_with playlist.now date_ranges.items items.entry.items)) }
+    ensures { IfOk result (λ text. text ≡ text_of (out_with playlist.now date_ranges.entry.items items.entry.items)) }
 {
     let out = OutPlaylist {
         version: playlist.version.max(6),
