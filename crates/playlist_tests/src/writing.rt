@@ -196,19 +196,29 @@ fn playlist_of<'a>(
     })
 }
 
-fn playlist<'a>(
-    alloc: Global,
-    origin: &'a Segment,
-    version: u64,
-    range: &'a Text,
-) -> Result<OutPlaylist<'a>, AllocError> {
-    playlist_of(alloc, version, range, segments(alloc, origin)?)
+// What a playlist borrows.
+#[derive(Drop)]
+struct Sources {
+    origin: Segment,
+    range: Text,
+}
+
+fn sources_with(alloc: Global, range: &str) -> Result<Sources, AllocError> {
+    let range = Text::copy_of(alloc, range)?;
+    Ok(Sources {
+        origin: origin_segment(alloc)?,
+        range,
+    })
+}
+
+fn playlist(alloc: Global, sources: &Sources, version: u64) -> Result<OutPlaylist<'_>, AllocError> {
+    let segments = segments(alloc, &sources.origin)?;
+    playlist_of(alloc, version, &sources.range, segments)
 }
 
 fn is_well_formed(alloc: Global, version: u64, range: &str) -> Result<bool, AllocError> {
-    let origin = origin_segment(alloc)?;
-    let range = Text::copy_of(alloc, range)?;
-    playlist(alloc, &origin, version, &range)?.well_formed(alloc)
+    let sources = sources_with(alloc, range)?;
+    playlist(alloc, &sources, version)?.well_formed(alloc)
 }
 
 #[test]
@@ -218,14 +228,17 @@ fn well_formed(rt: HostRuntime) {
     assert!(rt; matches!(is_well_formed(rt.alloc(), 6, "START-DATE=x"), Ok(false)));
 }
 
-// Whether the whole text is written where a call takes so many bytes.
-fn is_written(alloc: Global, most: usize) -> Result<bool, WriteFault> {
-    let origin = origin_segment(alloc)?;
-    let range = Text::copy_of(alloc, DATE_RANGE)?;
-    let playlist = playlist(alloc, &origin, 7, &range)?;
+// Whether a sink that takes at most so many bytes a call has the whole text.
+fn takes_all(alloc: Global, playlist: &OutPlaylist<'_>, most: usize) -> Result<bool, WriteFault> {
     let mut sink = Taken::new(alloc, ROOM, most.max(1), 0)?;
-    write(alloc, &playlist, &mut sink)?;
+    write(alloc, playlist, &mut sink)?;
     Ok(sink.bytes() == WRITTEN.as_bytes())
+}
+
+fn is_written(alloc: Global, most: usize) -> Result<bool, WriteFault> {
+    let sources = sources_with(alloc, DATE_RANGE)?;
+    let playlist = playlist(alloc, &sources, 7)?;
+    takes_all(alloc, &playlist, most)
 }
 
 #[test]
@@ -248,16 +261,19 @@ fn stops_after(
     Ok(is_blamed && taken.len() == count && WRITTEN.as_bytes().starts_with(taken))
 }
 
-fn stops_after_each_byte(alloc: Global) -> Result<bool, AllocError> {
-    let origin = origin_segment(alloc)?;
-    let range = Text::copy_of(alloc, DATE_RANGE)?;
-    let playlist = playlist(alloc, &origin, 7, &range)?;
+fn stops_after_each(alloc: Global, playlist: &OutPlaylist<'_>) -> Result<bool, AllocError> {
     for count in 0..WRITTEN.len() {
-        if !stops_after(alloc, &playlist, count)? {
+        if !stops_after(alloc, playlist, count)? {
             return Ok(false);
         }
     }
     Ok(true)
+}
+
+fn stops_after_each_byte(alloc: Global) -> Result<bool, AllocError> {
+    let sources = sources_with(alloc, DATE_RANGE)?;
+    let playlist = playlist(alloc, &sources, 7)?;
+    stops_after_each(alloc, &playlist)
 }
 
 #[test]
@@ -266,45 +282,56 @@ fn written_up_to_each_call_that_fails(rt: HostRuntime) {
 }
 
 // A playlist whose text is longer than two pieces, and shorter than three.
-fn long_playlist<'a>(
-    alloc: Global,
-    origin: &'a Segment,
-    range: &'a Text,
-) -> Result<OutPlaylist<'a>, AllocError> {
+fn long_playlist(alloc: Global, sources: &Sources) -> Result<OutPlaylist<'_>, AllocError> {
     let mut segments = Vec::new(alloc);
     for _ in 0..1_500 {
-        segments.push(origin_item(origin))?;
+        segments.push(origin_item(&sources.origin))?;
     }
-    playlist_of(alloc, 7, range, Items::from_vec(segments))
+    playlist_of(alloc, 7, &sources.range, Items::from_vec(segments))
 }
 
-// A sink that takes all that is offered, after a playlist was written to it up to the call that fails.
-fn taken_before(alloc: Global, playlist: &OutPlaylist<'_>, fail: u64) -> Result<Taken, AllocError> {
+// How many bytes a sink that takes all that is offered has up to the call that fails, where they are the text's front.
+fn taken_before(
+    alloc: Global,
+    playlist: &OutPlaylist<'_>,
+    text: &[u8],
+    fail: u64,
+) -> Result<Option<usize>, AllocError> {
     let mut sink = Taken::new(alloc, LONG_ROOM, LONG_ROOM, fail)?;
     let _ = write(alloc, playlist, &mut sink);
-    Ok(sink)
+    let taken = sink.bytes();
+    Ok(text.starts_with(taken).then_some(taken.len()))
 }
 
 // Whether what was taken between is 64 KiB, and less than a few lines more.
-fn is_piece(before: &[u8], after: &[u8]) -> bool {
-    let count = after.len().saturating_sub(before.len());
-    after.starts_with(before) && (65_536..66_560).contains(&count)
+fn is_piece(before: Option<usize>, after: Option<usize>) -> bool {
+    match (before, after) {
+        (Some(before), Some(after)) => { (65_536..66_560).contains(&after.saturating_sub(before)) }
+        _ => false,
+    }
+}
+
+// Whether a text is taken in two pieces and a rest.
+fn is_taken_in_pieces(
+    alloc: Global,
+    playlist: &OutPlaylist<'_>,
+    text: &[u8],
+) -> Result<bool, AllocError> {
+    let one = taken_before(alloc, playlist, text, 2)?;
+    let two = taken_before(alloc, playlist, text, 3)?;
+    let three = taken_before(alloc, playlist, text, 4)?;
+    Ok(is_piece(Some(0), one) && is_piece(one, two) && three == Some(text.len()))
+}
+
+fn is_in_pieces(alloc: Global, playlist: &OutPlaylist<'_>) -> Result<bool, AllocError> {
+    let text = playlist_write::written(alloc, playlist)?;
+    is_taken_in_pieces(alloc, playlist, text.as_str().as_bytes())
 }
 
 fn comes_in_pieces(alloc: Global) -> Result<bool, AllocError> {
-    let origin = origin_segment(alloc)?;
-    let range = Text::copy_of(alloc, DATE_RANGE)?;
-    let playlist = long_playlist(alloc, &origin, &range)?;
-    let text = playlist_write::written(alloc, &playlist)?;
-    let one = taken_before(alloc, &playlist, 2)?;
-    let two = taken_before(alloc, &playlist, 3)?;
-    let three = taken_before(alloc, &playlist, 4)?;
-    Ok(
-        is_piece(b"", one.bytes())
-            && is_piece(one.bytes(), two.bytes())
-            && three.bytes().starts_with(two.bytes())
-            && three.bytes() == text.as_str().as_bytes(),
-    )
+    let sources = sources_with(alloc, DATE_RANGE)?;
+    let playlist = long_playlist(alloc, &sources)?;
+    is_in_pieces(alloc, &playlist)
 }
 
 #[test]
