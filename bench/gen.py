@@ -146,10 +146,11 @@ def date_ranges():
 
 
 def as_large_as_may_be(lines):
-    """As many of these lines, each as long as the first, as a playlist of the largest size has room for, and a segment."""
+    """As many of these lines, each as long as the first, as a playlist of the largest size has room for, with a segment and
+    a line more at its end."""
     head = ["#EXTM3U", "#EXT-X-TARGETDURATION:10"]
     tail = ["#EXT-X-PROGRAM-DATE-TIME:2024-05-01T12:00:00Z", "#EXTINF:10,", "s0.ts", "#EXT-X-ENDLIST"]
-    room = MOST_BYTES - len(text(head + tail))
+    room = MOST_BYTES - len(text(head + tail)) - 64
     return head + lines[:room // len(text(lines[:1]))] + tail, None
 
 
