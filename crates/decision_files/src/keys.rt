@@ -10,7 +10,7 @@ ghost use Rattle.decision_files.specs.Views.{part_of};
 use crate::members::{range_said, text_at};
 use crate::texts::{is_format, is_method, is_uri};
 use attr_list::read_hex_u128;
-use playlist_meaning::{ByteRange, InitSection, Items, Key, Keys, Shared, Text};
+use playlist_meaning::{ByteRange, InitSection, Items, Key, Keys, OtherAttributes, Shared, Text};
 use pod_store::{DecisionFault, DecisionKind, Place};
 use serde_json::Value;
 use std::alloc::{AllocError, Global};
@@ -119,7 +119,7 @@ fn key_members(alloc: Global, place: Place, value: &Value) -> Result<Key, Decisi
         method: Shared::copy_of(alloc, method)?,
         uri: Shared::copy_of(alloc, uri)?,
         iv: Some(iv),
-        other: Shared::new(alloc, Items::from_vec(Vec::new(alloc)))?,
+        other: Shared::new(alloc, OtherAttributes::none(alloc))?,
     })
 }
 

@@ -2,14 +2,14 @@
 use Rattle.std.specs.Prelude.{ℕ, ◌^◌, Bool, true, false, not, ◌&&◌, ◌||◌, nat_lt, List, [], ◌∷◌, codes, Option, Some, None, Ok, bytes_eq, is_none}
 use Rattle.std.specs.List.{list_any, list_all}
 use Rattle.std.specs.Str.{is_utf8}
-use Rattle.attr_list.specs.Attributes.{is_name, is_value}
+use Rattle.attr_list.specs.Attributes.{is_value}
 use Rattle.playlist_meaning.specs.Lines.{has_control}
 use Rattle.playlist_meaning.specs.Uri.{has_scheme}
+use Rattle.playlist_meaning.specs.Carried.{are_others}
 use Rattle.playlist_meaning.specs.LookBack.{are_sorted}
 use Rattle.playlist_meaning.specs.Said.{Said, date_range, Outcome, range_end_fits, date_range_said}
 use Rattle.playlist_meaning.specs.Reading.{limited, needs_iv}
 use Rattle.playlist_meaning.specs.declared.Key.{Key}
-use Rattle.playlist_meaning.specs.declared.KeyAttr.{KeyAttr}
 use Rattle.playlist_meaning.specs.declared.ByteRange.{ByteRange}
 use Rattle.playlist_meaning.specs.declared.InitSection.{InitSection}
 
@@ -47,33 +47,20 @@ duration_fits nanos = nat_lt nanos (10 ^ 15)
 
 -- ---- keys (4.3.2.4)
 
--- the names that are written of each key
-abbrev pub is_own_name : List ℕ → Bool
-is_own_name name =
-    bytes_eq (codes "METHOD") name || bytes_eq (codes "URI") name || bytes_eq (codes "IV") name || bytes_eq (codes "KEYFORMAT") name
-
-abbrev pub other_fits : KeyAttr → Bool
-other_fits attr = is_name attr.name && not (is_own_name attr.name) && value_fits attr.quoted attr.value
-
--- none of these has the name of this one
-abbrev pub is_apart : KeyAttr → List KeyAttr → Bool
-is_apart attr later = not (list_any (λ other. bytes_eq attr.name other.name) later)
-
--- no name comes twice
-abbrev pub have_distinct_names : List KeyAttr → Bool
-have_distinct_names [] = true
-have_distinct_names (attr ∷ later) = is_apart attr later && have_distinct_names later
-
 abbrev pub iv_fits : ℕ → Bool
 iv_fits iv = nat_lt iv (2 ^ 128)
 
 abbrev pub method_fits : List ℕ → Bool
 method_fits method = value_fits false method && not (bytes_eq method (codes "NONE"))
 
+-- attributes without a meaning of their own, each behind a comma
+abbrev pub others_fit : List ℕ → Bool
+others_fit text = is_clean text && are_others text
+
 abbrev pub key_fits : Key → Bool
 key_fits k =
     value_fits true k.format && method_fits k.method && quoted_uri_fits k.uri && if_some iv_fits k.iv
-    && list_all other_fits k.other && have_distinct_names k.other
+    && others_fit k.other
 
 -- sorted by format, with one key for each
 abbrev pub keys_fit : List Key → Bool

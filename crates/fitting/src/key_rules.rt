@@ -1,11 +1,11 @@
 //! Which keys and initialisation sections can be written (RFC 8216, sections 4.3.2.4 and 4.3.2.5).
-ghost use Rattle.std.specs.Prelude.{◌≡◌, ◌&&◌, true, false, bytes_eq};
+ghost use Rattle.std.specs.Prelude.{◌≡◌};
 ghost use Rattle.std.specs.List.{list_any, list_all};
 ghost use Rattle.playlist_meaning.specs.LookBack.{is_before, are_sorted};
-ghost use Rattle.fitting.specs.Fitting.{if_some, range_fits, is_own_name, other_fits, is_apart, have_distinct_names, iv_fits, method_fits, key_fits, keys_fit, states_iv, effective_keys_fit, section_fits};
+ghost use Rattle.fitting.specs.Fitting.{if_some, range_fits, iv_fits, others_fit, method_fits, key_fits, keys_fit, states_iv, effective_keys_fit, section_fits};
 
-use crate::texts::{is_name, quoted_uri_fits, value_fits};
-use playlist_meaning::{ByteRange, InitSection, Key, KeyAttr, is_iv_needed};
+use crate::texts::{is_clean, quoted_uri_fits, value_fits};
+use playlist_meaning::{ByteRange, InitSection, Key, OtherAttributes, is_iv_needed};
 
 /// Whether a range ends below 2^64, where there is one.
 pub fn range_fits(range: Option<ByteRange>) -> bool
@@ -17,49 +17,11 @@ pub fn range_fits(range: Option<ByteRange>) -> bool
     }
 }
 
-fn is_own_name(name: &str) -> bool
-    ensures { result ≡ is_own_name name.now }
+// A key's other attributes are a list of such by their type.
+fn others_fit(others: &OtherAttributes) -> bool
+    ensures { result ≡ others_fit others.now }
 {
-    "METHOD" == name || "URI" == name || "IV" == name || "KEYFORMAT" == name
-}
-
-fn other_fits(attr: &KeyAttr) -> bool
-    ensures { result ≡ other_fits attr.now }
-{
-    let name = attr.name.as_str();
-    is_name(name) && !is_own_name(name) && value_fits(attr.value.as_str(), attr.quoted)
-}
-
-fn others_fit(attrs: &[KeyAttr]) -> bool
-    ensures { result ≡ list_all other_fits attrs.now }
-{
-    attrs.iter().all(|attr: &KeyAttr| other_fits(attr))
-}
-
-fn has_name(attrs: &[KeyAttr], name: &str) -> bool
-    ensures { result ≡ list_any (λ other. bytes_eq name.now other.name) attrs.now }
-{
-    attrs
-        .iter()
-        .any(|attr: &KeyAttr| name == attr.name.as_str())
-}
-
-// Whether an attribute's name comes in none of the later ones.
-fn is_apart(attr: &KeyAttr, later: &[KeyAttr]) -> bool
-    ensures { result ≡ is_apart attr.now later.now }
-{
-    !has_name(later, attr.name.as_str())
-}
-
-fn have_distinct_names(attrs: &[KeyAttr]) -> bool
-    ensures { result ≡ have_distinct_names attrs.now }
-{
-    for i in 0..attrs.len() {
-        if !is_apart(&attrs[i], &attrs[i + 1..]) {
-            return false;
-        }
-    }
-    true
+    is_clean(others.as_str())
 }
 
 /// Whether a text can be METHOD of a key that encrypts: a word without quotes other than NONE.
@@ -86,8 +48,7 @@ fn key_fits(key: &Key) -> bool
         && method_fits(key.method.as_str())
         && quoted_uri_fits(key.uri.as_str())
         && iv_fits(key.iv)
-        && others_fit(key.other.as_slice())
-        && have_distinct_names(key.other.as_slice())
+        && others_fit(&key.other)
 }
 
 fn all_fit(keys: &[Key]) -> bool

@@ -1,4 +1,5 @@
 pub mod Printable
+pub mod Carried
 pub mod ListTests
 pub mod SaidCounts
 pub mod KeyOrder

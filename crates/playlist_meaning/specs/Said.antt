@@ -1,19 +1,19 @@
 -- What one line says by itself, after RFC 8216, section 4.3.
 -- Bytes of ASCII: 44 is the comma and 64 `@`.
-use Rattle.std.specs.Prelude.{ℕ, ◌+◌, ◌^◌, Bool, true, false, not, ◌||◌, ◌==◌, nat_lt, List, filter, length, codes, ℤ, Option, Some, None, Result, Ok, Err, bytes_eq, unwrap_or, option_map, if◌then◌else◌, map}
+use Rattle.std.specs.Prelude.{ℕ, ◌+◌, ◌^◌, Bool, true, false, not, ◌||◌, ◌==◌, nat_lt, List, length, codes, ℤ, Option, Some, None, Result, Ok, Err, bytes_eq, unwrap_or, option_map, if◌then◌else◌}
 use Rattle.std.specs.List.{list_any, before_first, after_first}
 use Rattle.url.specs.Parts.{Parts}
 use Rattle.fixed_duration.specs.Duration.{duration_of}
-use Rattle.attr_list.specs.Attributes.{Pair, attributes_of, attribute, is_named}
+use Rattle.attr_list.specs.Attributes.{Pair, attributes_of, attribute}
 use Rattle.attr_list.specs.Numbers.{decimal_of, hex_of}
 use Rattle.playlist_meaning.specs.Uri.{resolved}
+use Rattle.playlist_meaning.specs.Carried.{carried, after_commas}
 use Rattle.instants.specs.Instant.{instant_of}
 use Rattle.playlist_meaning.specs.declared.FaultKind.{FaultKind}
 use Rattle.playlist_meaning.specs.declared.FaultKind.TheVariants as fault
 use Rattle.playlist_meaning.specs.declared.PlaylistKind.{PlaylistKind}
 use Rattle.playlist_meaning.specs.declared.PlaylistKind.TheVariants.{Event, Vod}
 use Rattle.playlist_meaning.specs.declared.Key.{Key}
-use Rattle.playlist_meaning.specs.declared.KeyAttr.{KeyAttr}
 use Rattle.playlist_meaning.specs.declared.KeyTag.{KeyTag}
 use Rattle.playlist_meaning.specs.declared.KeyTag.TheVariants.{End, Set}
 use Rattle.playlist_meaning.specs.declared.ByteRange.{ByteRange}
@@ -170,14 +170,6 @@ quoted_of pair = value_if true pair.quoted pair.value
 abbrev pub uri_of : Parts → List ℕ → Outcome (List ℕ)
 uri_of base reference = or_fault fault.BadUri (resolved base reference)
 
--- whether an attribute of EXT-X-KEY has a meaning of its own here (4.3.2.4); the others are carried
-abbrev pub is_key_attribute : Pair → Bool
-is_key_attribute pair =
-    is_named (codes "METHOD") pair || is_named (codes "URI") pair || is_named (codes "IV") pair || is_named (codes "KEYFORMAT") pair
-
-abbrev pub key_attr : Pair → KeyAttr
-key_attr pair = record { name = pair.name; value = pair.value; quoted = pair.quoted }
-
 -- EXT-X-KEY of a METHOD other than NONE (4.3.2.4)
 abbrev pub set_key : Parts → List Pair → List ℕ → Outcome Said
 set_key base pairs method =
@@ -190,7 +182,7 @@ set_key base pairs method =
       method = method;
       uri = resource;
       iv = iv;
-      other = map key_attr (filter (λ pair. not (is_key_attribute pair)) pairs);
+      other = after_commas (carried pairs);
     }))
 
 -- EXT-X-KEY (4.3.2.4)

@@ -1,8 +1,7 @@
 -- Whether two keys, or two initialisation sections, are the same in all their parts.
-use Rattle.std.specs.Prelude.{ℕ, Bool, true, false, not, [], ◌&&◌, ◌==◌, Option, Some, None, bytes_eq}
+use Rattle.std.specs.Prelude.{ℕ, Bool, true, false, [], ◌&&◌, ◌==◌, Option, Some, None, bytes_eq}
 use Rattle.std.specs.Cmp.Lexicographic.{pointwise}
 use Rattle.playlist_meaning.specs.declared.Key.{Key}
-use Rattle.playlist_meaning.specs.declared.KeyAttr.{KeyAttr}
 use Rattle.playlist_meaning.specs.declared.ByteRange.{ByteRange}
 use Rattle.playlist_meaning.specs.declared.InitSection.{InitSection}
 use Rattle.playlist_meaning.specs.declared.Segment.{Segment}
@@ -13,19 +12,12 @@ same_option same None (Some y) = false
 same_option same (Some x) None = false
 same_option same (Some x) (Some y) = same x y
 
-abbrev pub same_flag : Bool → Bool → Bool
-same_flag true b = b
-same_flag false b = not b
-
 abbrev pub same_number : ℕ → ℕ → Bool
 same_number a b = a == b
 
-abbrev pub same_attr : KeyAttr → KeyAttr → Bool
-same_attr a b = bytes_eq a.name b.name && bytes_eq a.value b.value && same_flag a.quoted b.quoted
-
 abbrev pub same_key : Key → Key → Bool
 same_key j k =
-    bytes_eq j.format k.format && bytes_eq j.method k.method && bytes_eq j.uri k.uri && same_option same_number j.iv k.iv && pointwise same_attr j.other k.other
+    bytes_eq j.format k.format && bytes_eq j.method k.method && bytes_eq j.uri k.uri && same_option same_number j.iv k.iv && bytes_eq j.other k.other
 
 abbrev pub same_range : ByteRange → ByteRange → Bool
 same_range a b = a.length == b.length && a.offset == b.offset

@@ -17,6 +17,7 @@ mod in_force;
 mod items;
 pub mod laws;
 mod limits;
+mod other_attributes;
 mod same;
 
 pub use base::{Base, BaseFault, has_quote, has_scheme, same_resource};
@@ -25,6 +26,7 @@ pub use in_force::is_iv_needed;
 pub use instants::{Instant, TimeFault, read_instant, write_instant};
 pub use items::{Items, Shared, Text};
 pub use limits::{MOST_BYTES, MOST_FORMATS, MOST_SEGMENTS};
+pub use other_attributes::OtherAttributes;
 pub use same::{is_same_key, is_same_section, same_segment};
 
 /// Why a text is no playlist that can be read.
@@ -131,17 +133,6 @@ pub struct ByteRange {
     pub offset: u64,
 }
 
-/// An attribute of a key tag that is carried as it stands.
-#[derive(Clone, PartialEq, Drop)]
-pub struct KeyAttr {
-    /// Its name.
-    pub name: Text,
-    /// Its value, without the quotes.
-    pub value: Text,
-    /// Whether the value stands between quotes.
-    pub quoted: bool,
-}
-
 /// What a key tag says (EXT-X-KEY; RFC 8216, section 4.3.2.4).
 #[derive(Clone, PartialEq, Drop)]
 pub enum KeyTag {
@@ -163,8 +154,8 @@ pub struct Key {
     /// The initialisation vector: as the tag states it, or the segment's media number where an `identity`
     /// key of a segment states none (section 5.2).
     pub iv: Option<u128>,
-    /// All other attributes, in their order.
-    pub other: Shared<Items<KeyAttr>>,
+    /// All other attributes, in their order, as they are spelled.
+    pub other: Shared<OtherAttributes>,
 }
 
 /// The keys in force, one for each format, sorted by format.

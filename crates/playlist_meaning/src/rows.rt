@@ -95,7 +95,7 @@ fn effective_row()
                 uri = codes "http://origin.example/ch/s0.ts";
                 range = None;
                 keys =
-                    record { format = codes "com.example.drm"; method = codes "SAMPLE-AES"; uri = codes "skd://k"; iv = None; other = record { name = codes "X"; value = codes "y"; quoted = true } ∷ [] }
+                    record { format = codes "com.example.drm"; method = codes "SAMPLE-AES"; uri = codes "skd://k"; iv = None; other = codes ",X=\"y\"" }
                     ∷ record { format = codes "identity"; method = codes "AES-128"; uri = codes "http://origin.example/ch/k1"; iv = Some 7; other = [] } ∷ [];
                 section = None;
                 duration = 10000000000;

@@ -1,6 +1,7 @@
 pub mod TagLines
 pub mod WrittenNumbers
 pub mod CleanTexts
+pub mod OtherFields
 pub mod TagFields
 pub mod WrittenTimes
 pub mod DateRangeReads

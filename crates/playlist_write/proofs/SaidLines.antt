@@ -21,7 +21,6 @@ use Rattle.attr_list.proofs.Elements.{all_from, none_from}
 use Rattle.playlist_meaning.specs.declared.FaultKind.{FaultKind}
 use Rattle.playlist_meaning.specs.declared.FaultKind.TheVariants as fault
 use Rattle.playlist_meaning.specs.declared.Key.{Key}
-use Rattle.playlist_meaning.specs.declared.KeyAttr.{KeyAttr}
 use Rattle.playlist_meaning.specs.declared.ByteRange.{ByteRange}
 use Rattle.playlist_meaning.specs.declared.DateRange.{DateRange}
 use Rattle.playlist_meaning.specs.declared.PlaylistKind.{PlaylistKind}
@@ -29,17 +28,19 @@ use Rattle.playlist_meaning.specs.declared.PlaylistKind.TheVariants.{Event, Vod}
 use Rattle.playlist_meaning.specs.Lines.{has_control, is_printable, kind_of, uri}
 use Rattle.playlist_meaning.specs.Uri.{has_scheme, is_scheme_byte}
 use Rattle.instants.specs.Instant.{in_range, instant_of}
-use Rattle.playlist_meaning.specs.Said.{Said, version, target, sequence, discontinuity_sequence, playlist_type, ended, independent, duration, range, discontinuity, no_keys, key, section, time, date_range, media, Outcome, ◌>>=◌, refuse_if, or_fault, duration_said, range_of, range_end_fits, uri_of, some_value, iv_of, optional, required, quoted_of, key_attr, is_key_attribute, set_key, key_said, section_said, section_range, number, version_of, date_range_said}
+use Rattle.playlist_meaning.specs.Said.{Said, version, target, sequence, discontinuity_sequence, playlist_type, ended, independent, duration, range, discontinuity, no_keys, key, section, time, date_range, media, Outcome, ◌>>=◌, refuse_if, or_fault, duration_said, range_of, range_end_fits, uri_of, some_value, iv_of, optional, required, quoted_of, set_key, key_said, section_said, section_range, number, version_of, date_range_said}
+use Rattle.playlist_meaning.specs.Carried.{after_commas, carried}
 use Rattle.playlist_meaning.specs.Reading.{said_by, unlimited, passes, said_by_kind, within_formats, needs_iv, with_ivs, is_set, has}
 use Rattle.playlist_meaning.specs.LookBack.{discontinuity_at, own_duration, number_at, range_at, keys_at, the_version, the_target, the_sequence, the_discontinuity_sequence, the_type, is_media, is_discontinuity, is_ended}
 use Rattle.playlist_meaning.proofs.SameParts.{key_ext}
 use Rattle.instants.specs.Digits.{fixed_digits}
 use Rattle.instants.specs.Times.{time_text}
-use Rattle.playlist_write.specs.Spelling.{spelled, key_pairs, section_pairs, iv_pairs, format_pairs, key_attr_pair, in_quotes, part_pairs}
-use Rattle.fitting.specs.Fitting.{is_clean, value_fits, uri_fits, quoted_uri_fits, other_fits, if_some, iv_fits, key_fits, range_fits}
+use Rattle.playlist_write.specs.Spelling.{spelled, own_pairs, key_text, section_pairs, iv_pairs, format_pairs, in_quotes, part_pairs}
+use Rattle.fitting.specs.Fitting.{is_clean, value_fits, uri_fits, quoted_uri_fits, if_some, iv_fits, key_fits, range_fits}
 use Rattle.playlist_write.proofs.CleanTexts.{Clean, clean-append, clean_printable}
 use Rattle.playlist_write.proofs.WrittenNumbers.{is_number_byte, decimal_bytes, duration_bytes, hex_bytes, hex_read}
-use Rattle.playlist_write.proofs.TagFields.{KeyParts, key_parts, other_parts, is_other, key_attributes, section_attributes}
+use Rattle.playlist_write.proofs.OtherFields.{carried_others, none_found}
+use Rattle.playlist_write.proofs.TagFields.{KeyParts, key_parts, key_pairs, key_attributes, key_text_is, own_attributes, section_attributes}
 use Rattle.instants.proofs.TimeLaws.{time_reads}
 use Rattle.playlist_write.proofs.WrittenTimes.{times_are_clean}
 
@@ -208,25 +209,6 @@ module _ (base : Parts) (before : List Said) where
   format_back true format e = sym ((bytes_eq-Decides format (codes "identity")).0 e)
   format_back false format e = refl
 
-  others_past : (name : List ℕ) (others : List KeyAttr) → list_all other_fits others ≡ true → ((attr : KeyAttr) → other_fits attr ≡ true → is_named name (key_attr_pair attr) ≡ false) → find (is_named name) (map key_attr_pair others) ≡ None
-  others_past name [] h f = refl
-  others_past name (attr ∷ others) h f = let a = and_parts _ _ h in let e = f attr a.0 in rw e (others_past name others a.1 f)
-
-  no_iv : (attr : KeyAttr) → other_fits attr ≡ true → is_named (codes "IV") (key_attr_pair attr) ≡ false
-  no_iv attr h = (is_other attr.name (other_parts attr h).other).iv
-
-  no_format : (attr : KeyAttr) → other_fits attr ≡ true → is_named (codes "KEYFORMAT") (key_attr_pair attr) ≡ false
-  no_format attr h = (is_other attr.name (other_parts attr h).other).format
-
-  abbrev carried : List Pair → List KeyAttr
-  carried pairs = map key_attr (filter (λ pair. not (is_key_attribute pair)) pairs)
-
-  carried_others : (others : List KeyAttr) → list_all other_fits others ≡ true → carried (map key_attr_pair others) ≡ others
-  carried_others [] h = refl
-  carried_others (attr ∷ others) h =
-      let a = and_parts _ _ h in let e : is_key_attribute (key_attr_pair attr) ≡ false = (other_parts attr a.0).other in
-      rw e (ap (λ xs. attr ∷ xs) (carried_others others a.1))
-
   carried_format : (b : Bool) (format : List ℕ) (later : List Pair) → carried (cond b [] (in_quotes (codes "KEYFORMAT") format ∷ []) ++ later) ≡ carried later
   carried_format true format later = refl
   carried_format false format later = refl
@@ -235,16 +217,10 @@ module _ (base : Parts) (before : List Said) where
   carried_iv None later = refl
   carried_iv (Some n) later = refl
 
-  set_key_by : (pairs : List Pair) (reference method resource : List ℕ) (iv : Option ℕ) (format : Option (List ℕ)) (others : List KeyAttr) → required true (attribute pairs (codes "URI")) ≡ Ok reference
-      → optional iv_of (attribute pairs (codes "IV")) ≡ Ok iv → optional quoted_of (attribute pairs (codes "KEYFORMAT")) ≡ Ok format → uri_of base reference ≡ Ok resource → carried pairs ≡ others
+  set_key_by : (pairs : List Pair) (reference method resource : List ℕ) (iv : Option ℕ) (format : Option (List ℕ)) (others : List ℕ) → required true (attribute pairs (codes "URI")) ≡ Ok reference
+      → optional iv_of (attribute pairs (codes "IV")) ≡ Ok iv → optional quoted_of (attribute pairs (codes "KEYFORMAT")) ≡ Ok format → uri_of base reference ≡ Ok resource → after_commas (carried pairs) ≡ others
       → set_key base pairs method ≡ Ok (key (record { format = unwrap_or format (codes "identity"); method = method; uri = resource; iv = iv; other = others }))
   set_key_by pairs reference method resource iv format others a b c d e = rw (a, b, c, d, e) refl
-
-  all_clean_others : (others : List KeyAttr) → list_all other_fits others ≡ true → AllValuesClean (map key_attr_pair others)
-  unfolding AllValuesClean
-  all_clean_others [] h = tt
-  all_clean_others (attr ∷ others) h =
-      let a = and_parts _ _ h in (clean_value attr.quoted attr.value (other_parts attr a.0).value, all_clean_others others a.1)
 
   hex_printable : (b : ℕ) → is_ascii_hexdigit b ≡ true → is_printable b ≡ true
   hex_printable b h = grind (arith, nat_tests)
@@ -259,30 +235,27 @@ module _ (base : Parts) (before : List Said) where
   clean_format true format c = tt
   clean_format false format c = (c, tt)
 
-  key_values_clean : (k : Key) → KeyParts k → AllValuesClean (key_pairs k)
+  own_values_clean : (k : Key) → KeyParts k → AllValuesClean (own_pairs k)
   unfolding AllValuesClean
-  key_values_clean k h = (
+  own_values_clean k h = (
     clean_value false k.method h.method,
-    (
-      clean_uri k.uri h.uri,
-      values_clean-append (iv_pairs k.iv) _ (clean_iv k.iv h.iv) (values_clean-append (format_pairs k.format) _ (clean_format _ k.format (clean_value true k.format h.format)) (all_clean_others k.other h.others)),
-    ),
+    (clean_uri k.uri h.uri, values_clean-append (iv_pairs k.iv) _ (clean_iv k.iv h.iv) (clean_format _ k.format (clean_value true k.format h.format))),
   )
 
   key_by : (rest : List ℕ) (pairs : List Pair) (method : List ℕ) (s : Said) → attributes_of None rest ≡ Ok pairs → required false (attribute pairs (codes "METHOD")) ≡ Ok method
       → bytes_eq method (codes "NONE") ≡ false → set_key base pairs method ≡ Ok s → (key_said unlimited base rest >>= within_formats unlimited before) ≡ Ok s
   key_by rest pairs method s a b c d = rw (a, b, c, d) refl
 
-  set_key_is : (k : Key) → KeyParts k → set_key base (key_pairs k) k.method ≡ Ok (key k)
+  set_key_is : (k : Key) (h : KeyParts k) → set_key base (key_pairs k h.others.pairs) k.method ≡ Ok (key k)
   set_key_is k h =
-      let later = map key_attr_pair k.other in
-      let no_format_later = others_past (codes "KEYFORMAT") k.other h.others no_format in
-      let no_iv_later = others_past (codes "IV") k.other h.others no_iv in
+      let later = h.others.pairs in
+      let no_format_later = none_found (codes "KEYFORMAT") later h.others.none_own (λ pair o. o.format) in
+      let no_iv_later = none_found (codes "IV") later h.others.none_own (λ pair o. o.iv) in
       let b = bytes_eq k.format (codes "identity") in
       let iv = iv_part k.iv (format_pairs k.format ++ later) h.iv (past_format b k.format later ∙ no_iv_later) in
       let format = ap (optional quoted_of) (past_iv k.iv (format_pairs k.format ++ later)) ∙ format_step b k.format later no_format_later in
-      let rest = carried_iv k.iv (format_pairs k.format ++ later) ∙ carried_format b k.format later ∙ carried_others k.other h.others in
-      set_key_by (key_pairs k) k.uri k.method k.uri k.iv (format_read b k.format) k.other refl iv format (resolves k.uri (scheme_is k.uri h.uri)) rest
+      let rest = carried_iv k.iv (format_pairs k.format ++ later) ∙ carried_format b k.format later ∙ carried_others later h.others.none_own in
+      set_key_by (key_pairs k later) k.uri k.method k.uri k.iv (format_read b k.format) k.other refl iv format (resolves k.uri (scheme_is k.uri h.uri)) (ap after_commas rest ∙ sym h.others.spelled)
       ∙ ap (λ x. Ok (key x)) (key_ext _ _ _ _ _ _ _ _ _ _ (format_back b k.format refl) refl refl refl refl)
     where
       past_format : (b : Bool) (format : List ℕ) (later : List Pair) → find (is_named (codes "IV")) (cond b [] (in_quotes (codes "KEYFORMAT") format ∷ []) ++ later) ≡ find (is_named (codes "IV")) later
@@ -292,9 +265,10 @@ module _ (base : Parts) (before : List Said) where
   pub key_line : (k : Key) → key_fits k ≡ true → IsRead (key k)
   key_line k h =
       let p = key_parts k h in let all = key_attributes k p in
-      let line = clean-append (codes "#EXT-X-KEY:") _ (clean_printable _ refl) (clean_attributes (key_pairs k) [] all (key_values_clean k p)) in
-      as_written (codes "#EXT-X-KEY:" ++ attributes_text (key_pairs k)) (key_said unlimited base (attributes_text (key_pairs k)) >>= within_formats unlimited before) _ line
-      (key_by (attributes_text (key_pairs k)) (key_pairs k) k.method (key k) (written_is_read (key_pairs k) (some_pairs _ _) all) refl p.not_none (set_key_is k p))
+      let pairs = key_pairs k p.others.pairs in
+      let text = clean-append (attributes_text (own_pairs k)) k.other (clean_attributes (own_pairs k) [] (own_attributes k p) (own_values_clean k p)) (clean_is k.other p.clean) in
+      as_written (codes "#EXT-X-KEY:" ++ key_text k) (key_said unlimited base (key_text k) >>= within_formats unlimited before) _ (clean-append (codes "#EXT-X-KEY:") _ (clean_printable _ refl) text)
+      (key_by (key_text k) pairs k.method (key k) (ap (attributes_of None) (key_text_is k p) ∙ written_is_read pairs (some_pairs _ _) all) refl p.not_none (set_key_is k p))
 
   -- ---- EXT-X-MAP
 

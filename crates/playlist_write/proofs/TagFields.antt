@@ -1,21 +1,21 @@
 -- The parts of a key and of a section, where they fit, are written as attributes.
-use Rattle.std.proofs.Common.{◌≡◌, ℕ, ◌^◌, ◌<◌, ◌+◌, Bool, true, false, not, cond, List, [], ◌∷◌, ◌++◌, map, length, refl, ap, sym, ◌∙◌, arith, Some, None}
-use Rattle.std.specs.Prelude.{Option, codes, bytes_eq, decimal}
+use Rattle.std.proofs.Common.{◌≡◌, ℕ, ◌^◌, ◌<◌, ◌+◌, Bool, true, false, not, cond, List, [], ◌∷◌, ◌++◌, length, refl, ap, sym, ◌∙◌, subst, append_assoc, append-nil, arith, Some, None}
+use Rattle.std.specs.Prelude.{Option, codes, bytes_eq, decimal, ◌&&◌}
 use Rattle.std.specs.List.{list_any, list_all}
 use Rattle.std.specs.Char.{is_ascii_hexdigit}
 use Rattle.std.proofs.lemmas.Bool.{and_parts, and_from, or_parts, or_from, not-true, ltb-true, lt-ltb, false_from_ne_true, both_ways}
 use Rattle.std.proofs.lemmas.Bool.Decides.{nat_tests}
 use Rattle.std.proofs.lemmas.List.Folds.{list_any-append}
 use Rattle.std.proofs.lemmas.Slice.Eq.{bytes_eq-Decides}
-use Rattle.attr_list.specs.Attributes.{Pair, is_name, is_value, is_quote, ends_plain, is_named, is_pair, are_apart, are_attributes}
-use Rattle.attr_list.proofs.Elements.{all_from, none_from}
+use Rattle.attr_list.specs.Attributes.{Pair, is_name, is_value, is_quote, ends_plain, is_named, is_pair, are_apart, are_attributes, attributes_text}
+use Rattle.attr_list.proofs.Elements.{none_from}
 use Rattle.playlist_meaning.specs.declared.Key.{Key}
-use Rattle.playlist_meaning.specs.declared.KeyAttr.{KeyAttr}
 use Rattle.playlist_meaning.specs.declared.ByteRange.{ByteRange}
-use Rattle.playlist_meaning.proofs.ListTests.{all_with}
+use Rattle.playlist_meaning.specs.Carried.{are_others, is_key_attribute}
 use Rattle.instants.specs.Digits.{fixed_digits}
-use Rattle.playlist_write.specs.Spelling.{plain, in_quotes, iv_text, iv_pairs, format_pairs, key_attr_pair, key_pairs, part_pairs, section_pairs, range_text}
-use Rattle.fitting.specs.Fitting.{if_some, is_clean, value_fits, quoted_uri_fits, range_fits, is_own_name, other_fits, have_distinct_names, iv_fits, method_fits, key_fits}
+use Rattle.playlist_write.specs.Spelling.{plain, in_quotes, iv_text, iv_pairs, format_pairs, own_pairs, key_text, part_pairs, section_pairs, range_text}
+use Rattle.fitting.specs.Fitting.{if_some, is_clean, value_fits, quoted_uri_fits, range_fits, iv_fits, method_fits, key_fits}
+use Rattle.playlist_write.proofs.OtherFields.{IsOther, OtherPairs, other_pairs, is_other, behind}
 use Rattle.playlist_write.proofs.WrittenNumbers.{is_number_byte, decimal_bytes, hex_bytes}
 
 -- ---- the parts of a key that fits
@@ -26,38 +26,16 @@ pub record KeyParts (k : Key) : Type 0 where
   pub not_none : bytes_eq k.method (codes "NONE") ≡ false
   pub uri : quoted_uri_fits k.uri ≡ true
   pub iv : if_some iv_fits k.iv ≡ true
-  pub others : list_all other_fits k.other ≡ true
-  pub distinct : have_distinct_names k.other ≡ true
+  pub clean : is_clean k.other ≡ true
+  pub others : OtherPairs k.other
 
 pub key_parts : (k : Key) → key_fits k ≡ true → KeyParts k
 key_parts k h =
-    let a = and_parts _ _ h in let b = and_parts _ _ a.0 in let c = and_parts _ _ b.0 in let d = and_parts _ _ c.0 in
-    let e : (value_fits true k.format ≡ true) × (method_fits k.method ≡ true) = and_parts _ _ d.0 in
-    let m : (value_fits false k.method ≡ true) × (not (bytes_eq k.method (codes "NONE")) ≡ true) = and_parts _ _ e.1 in
-    record { format = e.0; method = m.0; not_none = not-true _ m.1; uri = d.1; iv = c.1; others = b.1; distinct = a.1 }
-
-pub record OtherParts (attr : KeyAttr) : Type 0 where
-  pub name : is_name attr.name ≡ true
-  pub other : is_own_name attr.name ≡ false
-  pub value : value_fits attr.quoted attr.value ≡ true
-
-pub other_parts : (attr : KeyAttr) → other_fits attr ≡ true → OtherParts attr
-other_parts attr h =
-    let a = and_parts _ _ h in let b : (is_name attr.name ≡ true) × (not (is_own_name attr.name) ≡ true) = and_parts _ _ a.0 in
-    record { name = b.0; other = not-true _ b.1; value = a.1 }
-
--- a name that is none of a key's own
-pub record IsOther (name : List ℕ) : Type 0 where
-  pub method : bytes_eq (codes "METHOD") name ≡ false
-  pub uri : bytes_eq (codes "URI") name ≡ false
-  pub iv : bytes_eq (codes "IV") name ≡ false
-  pub format : bytes_eq (codes "KEYFORMAT") name ≡ false
-
-pub is_other : (name : List ℕ) → is_own_name name ≡ false → IsOther name
-is_other name h =
-    let a = or_parts _ _ h in let b = or_parts _ _ a.0 in
-    let c : (bytes_eq (codes "METHOD") name ≡ false) × (bytes_eq (codes "URI") name ≡ false) = or_parts _ _ b.0 in
-    record { method = c.0; uri = c.1; iv = b.1; format = a.1 }
+    let a = and_parts _ _ h in let b = and_parts _ _ a.0 in let c = and_parts _ _ b.0 in
+    let d : (value_fits true k.format ≡ true) × (method_fits k.method ≡ true) = and_parts _ _ c.0 in
+    let m : (value_fits false k.method ≡ true) × (not (bytes_eq k.method (codes "NONE")) ≡ true) = and_parts _ _ d.1 in
+    let o : (is_clean k.other ≡ true) × (are_others k.other ≡ true) = and_parts _ _ a.1 in
+    record { format = d.0; method = m.0; not_none = not-true _ m.1; uri = c.1; iv = b.1; clean = o.0; others = other_pairs k.other o.1 }
 
 -- ---- values
 
@@ -97,34 +75,19 @@ pair_is name value quoted n v = and_from (is_name name) (is_value quoted value) 
 turned : (a b : List ℕ) → bytes_eq a b ≡ false → bytes_eq b a ≡ false
 turned a b h = false_from_ne_true _ (λ e. both_ways _ h ((bytes_eq-Decides a b).1 (sym ((bytes_eq-Decides b a).0 e))))
 
--- the name is not among those before
-abbrev is_free : List Pair → KeyAttr → Bool
-is_free before attr = not (list_any (is_named attr.name) before)
+-- pairs that are apart are so behind pairs of whose names they have none
+behind_others : (before mid others : List Pair) → list_any is_key_attribute others ≡ false → ((pair : Pair) → IsOther pair → list_any (is_named pair.name) before ≡ false)
+    → are_apart mid others ≡ true → are_apart (before ++ mid) others ≡ true
+behind_others before mid [] n f h = refl
+behind_others before mid (pair ∷ others) n f h =
+    let b = or_parts _ _ n in
+    let a : ((is_pair pair && not (list_any (is_named pair.name) mid)) ≡ true) × (are_apart (mid ++ pair ∷ []) others ≡ true) = and_parts _ _ h in
+    let c : (is_pair pair ≡ true) × (not (list_any (is_named pair.name) mid) ≡ true) = and_parts _ _ a.0 in
+    more_apart (before ++ mid) others pair c.0 (list_any-append (is_named pair.name) before mid ∙ or_from _ _ (f pair (is_other pair b.0)) (not-true _ c.1))
+    (subst (λ ps. are_apart ps others ≡ true) (sym (append_assoc before mid (pair ∷ []))) (behind_others before (mid ++ pair ∷ []) others b.1 f a.1))
 
-abbrev is_named_as : List ℕ → KeyAttr → Bool
-is_named_as name attr = bytes_eq name attr.name
-
-none_named : (name : List ℕ) (others : List KeyAttr) → list_any (is_named_as name) others ≡ false → list_all (λ attr. not (is_named_as name attr)) others ≡ true
-none_named name [] h = refl
-none_named name (attr ∷ others) h = let a = or_parts _ _ h in and_from _ _ (ap not a.0) (none_named name others a.1)
-
-free_step : (before : List Pair) (one attr : KeyAttr) → is_free before attr ≡ true → not (is_named_as one.name attr) ≡ true → is_free (before ++ key_attr_pair one ∷ []) attr ≡ true
-free_step before one attr h g =
-    let d = turned one.name attr.name (not-true _ g) in
-    ap not (list_any-append (is_named attr.name) before (key_attr_pair one ∷ []) ∙ or_from _ _ (not-true _ h) (or_from _ _ d refl))
-
-others_apart : (others : List KeyAttr) (before : List Pair) → list_all other_fits others ≡ true → have_distinct_names others ≡ true → list_all (is_free before) others ≡ true → are_apart before (map key_attr_pair others) ≡ true
-others_apart [] before h d f = refl
-others_apart (attr ∷ others) before h d f =
-    let a = and_parts _ _ h in
-    let b : (not (list_any (is_named_as attr.name) others) ≡ true) × (have_distinct_names others ≡ true) = and_parts _ _ d in
-    let c : (is_free before attr ≡ true) × (list_all (is_free before) others ≡ true) = and_parts _ _ f in
-    let one = other_parts attr a.0 in
-    let free = all_with (is_free before) (λ x. not (is_named_as attr.name x)) (is_free (before ++ key_attr_pair attr ∷ [])) others c.1 (none_named attr.name others (not-true _ b.0)) (λ x g e. free_step before attr x g e) in
-    more_apart before (map key_attr_pair others) (key_attr_pair attr) (pair_is attr.name attr.value attr.quoted one.name (value_is attr.quoted attr.value one.value)) (not-true _ c.0) (others_apart others (before ++ key_attr_pair attr ∷ []) a.1 b.1 free)
-
-all_free : (before : List Pair) (others : List KeyAttr) → list_all other_fits others ≡ true → ((name : List ℕ) → IsOther name → list_any (is_named name) before ≡ false) → list_all (is_free before) others ≡ true
-all_free before others h f = all_from other_fits (is_free before) others h (λ attr g. ap not (f attr.name (is_other attr.name (other_parts attr g).other)))
+others_apart : (before others : List Pair) → list_any is_key_attribute others ≡ false → are_attributes others ≡ true → ((pair : Pair) → IsOther pair → list_any (is_named pair.name) before ≡ false) → are_apart before others ≡ true
+others_apart before others n h f = subst (λ ps. are_apart ps others ≡ true) (append-nil before) (behind_others before [] others n f h)
 
 -- ---- a key's attributes
 
@@ -141,33 +104,51 @@ abbrev format_pair : List ℕ → Pair
 format_pair format = in_quotes (codes "KEYFORMAT") format
 
 -- the format's attribute where it is written, and the others after these
-after_iv : (b : Bool) (before : List Pair) (format : List ℕ) (others : List KeyAttr) → is_value true format ≡ true → list_all other_fits others ≡ true → have_distinct_names others ≡ true
-    → list_any (is_named (codes "KEYFORMAT")) before ≡ false → ((name : List ℕ) → IsOther name → list_any (is_named name) before ≡ false)
-    → are_apart before (cond b [] (format_pair format ∷ []) ++ map key_attr_pair others) ≡ true
-after_iv true before format others v h d n f = others_apart others before h d (all_free before others h f)
+after_iv : (b : Bool) (before : List Pair) (format : List ℕ) (others : List Pair) → is_value true format ≡ true → list_any is_key_attribute others ≡ false → are_attributes others ≡ true
+    → list_any (is_named (codes "KEYFORMAT")) before ≡ false → ((pair : Pair) → IsOther pair → list_any (is_named pair.name) before ≡ false)
+    → are_apart before (cond b [] (format_pair format ∷ []) ++ others) ≡ true
+after_iv true before format others v h d n f = others_apart before others h d f
 after_iv false before format others v h d n f =
-    more_apart before (map key_attr_pair others) (format_pair format) (pair_is (codes "KEYFORMAT") format true refl v) n
-    (others_apart others (before ++ format_pair format ∷ []) h d
-    (all_free (before ++ format_pair format ∷ []) others h (λ name o. list_any-append (is_named name) before (format_pair format ∷ []) ∙ or_from _ _ (f name o) (or_from _ _ (turned (codes "KEYFORMAT") name o.format) refl))))
+    more_apart before others (format_pair format) (pair_is (codes "KEYFORMAT") format true refl v) n
+    (others_apart (before ++ format_pair format ∷ []) others h d
+    (λ pair o. list_any-append (is_named pair.name) before (format_pair format ∷ []) ∙ or_from _ _ (f pair o) (or_from _ _ (turned (codes "KEYFORMAT") pair.name o.format) refl)))
 
-after_uri : (iv : Option ℕ) (b : Bool) (method uri format : List ℕ) (others : List KeyAttr) → if_some iv_fits iv ≡ true → is_value true format ≡ true → list_all other_fits others ≡ true → have_distinct_names others ≡ true
-    → are_apart (method_pair method ∷ uri_pair uri ∷ []) (iv_pairs iv ++ (cond b [] (format_pair format ∷ []) ++ map key_attr_pair others)) ≡ true
+after_uri : (iv : Option ℕ) (b : Bool) (method uri format : List ℕ) (others : List Pair) → if_some iv_fits iv ≡ true → is_value true format ≡ true → list_any is_key_attribute others ≡ false → are_attributes others ≡ true
+    → are_apart (method_pair method ∷ uri_pair uri ∷ []) (iv_pairs iv ++ (cond b [] (format_pair format ∷ []) ++ others)) ≡ true
 after_uri None b method uri format others i v h d =
     after_iv b (method_pair method ∷ uri_pair uri ∷ []) format others v h d refl
-    (λ name o. or_from _ _ (turned (codes "METHOD") name o.method) (or_from _ _ (turned (codes "URI") name o.uri) refl))
+    (λ pair o. or_from _ _ (turned (codes "METHOD") pair.name o.method) (or_from _ _ (turned (codes "URI") pair.name o.uri) refl))
 after_uri (Some iv) b method uri format others i v h d =
-    more_apart (method_pair method ∷ uri_pair uri ∷ []) (cond b [] (format_pair format ∷ []) ++ map key_attr_pair others) (iv_pair iv) (pair_is (codes "IV") (iv_text iv) false refl (iv_is_value iv i)) refl
+    more_apart (method_pair method ∷ uri_pair uri ∷ []) (cond b [] (format_pair format ∷ []) ++ others) (iv_pair iv) (pair_is (codes "IV") (iv_text iv) false refl (iv_is_value iv i)) refl
     (after_iv b (method_pair method ∷ uri_pair uri ∷ iv_pair iv ∷ []) format others v h d refl
-    (λ name o. or_from _ _ (turned (codes "METHOD") name o.method) (or_from _ _ (turned (codes "URI") name o.uri) (or_from _ _ (turned (codes "IV") name o.iv) refl))))
+    (λ pair o. or_from _ _ (turned (codes "METHOD") pair.name o.method) (or_from _ _ (turned (codes "URI") pair.name o.uri) (or_from _ _ (turned (codes "IV") pair.name o.iv) refl))))
 
 quoted_uri_is : (uri : List ℕ) → quoted_uri_fits uri ≡ true → is_value true uri ≡ true
 quoted_uri_is uri h = value_is true uri (and_parts _ _ h).0
 
-pub key_attributes : (k : Key) → KeyParts k → are_attributes (key_pairs k) ≡ true
-key_attributes k h =
-    more_apart [] (uri_pair k.uri ∷ (iv_pairs k.iv ++ (format_pairs k.format ++ map key_attr_pair k.other))) (method_pair k.method) (pair_is (codes "METHOD") k.method false refl (value_is false k.method h.method)) refl
-    (more_apart (method_pair k.method ∷ []) (iv_pairs k.iv ++ (format_pairs k.format ++ map key_attr_pair k.other)) (uri_pair k.uri) (pair_is (codes "URI") k.uri true refl (quoted_uri_is k.uri h.uri)) refl
-    (after_uri k.iv (bytes_eq k.format (codes "identity")) k.method k.uri k.format k.other h.iv (value_is true k.format h.format) h.others h.distinct))
+-- all of a key's attributes: its own, and the others
+abbrev pub key_pairs : Key → List Pair → List Pair
+key_pairs k others = method_pair k.method ∷ uri_pair k.uri ∷ (iv_pairs k.iv ++ (format_pairs k.format ++ others))
+
+pairs_apart : (k : Key) (others : List Pair) → KeyParts k → list_any is_key_attribute others ≡ false → are_attributes others ≡ true → are_attributes (key_pairs k others) ≡ true
+pairs_apart k others h n a =
+    more_apart [] (uri_pair k.uri ∷ (iv_pairs k.iv ++ (format_pairs k.format ++ others))) (method_pair k.method) (pair_is (codes "METHOD") k.method false refl (value_is false k.method h.method)) refl
+    (more_apart (method_pair k.method ∷ []) (iv_pairs k.iv ++ (format_pairs k.format ++ others)) (uri_pair k.uri) (pair_is (codes "URI") k.uri true refl (quoted_uri_is k.uri h.uri)) refl
+    (after_uri k.iv (bytes_eq k.format (codes "identity")) k.method k.uri k.format others h.iv (value_is true k.format h.format) n a))
+
+pub key_attributes : (k : Key) (h : KeyParts k) → are_attributes (key_pairs k h.others.pairs) ≡ true
+key_attributes k h = pairs_apart k h.others.pairs h h.others.none_own h.others.apart
+
+pub own_attributes : (k : Key) → KeyParts k → are_attributes (own_pairs k) ≡ true
+own_attributes k h =
+    subst (λ ps. are_attributes (method_pair k.method ∷ uri_pair k.uri ∷ (iv_pairs k.iv ++ ps)) ≡ true) (append-nil (format_pairs k.format)) (pairs_apart k [] h refl refl)
+
+-- they stand in one list
+pub key_text_is : (k : Key) (h : KeyParts k) → key_text k ≡ attributes_text (key_pairs k h.others.pairs)
+key_text_is k h =
+    let method = method_pair k.method in let rest = iv_pairs k.iv ++ format_pairs k.format in
+    ap (λ t. attributes_text (own_pairs k) ++ t) h.others.spelled ∙ behind method (uri_pair k.uri ∷ rest) h.others.pairs
+    ∙ ap (λ ps. attributes_text (method ∷ uri_pair k.uri ∷ ps)) (append_assoc (iv_pairs k.iv) (format_pairs k.format) h.others.pairs)
 
 -- ---- a section's attributes
 

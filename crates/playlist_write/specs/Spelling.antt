@@ -1,14 +1,12 @@
 -- How what a line says is written (RFC 8216, section 4.3).
 -- Bytes of ASCII: 44 is the comma, 48 `0`, 64 `@` and 120 `x`.
-use Rattle.std.specs.Prelude.{ℕ, true, false, List, [], ◌∷◌, ◌++◌, map, codes, Option, Some, None, bytes_eq, if◌then◌else◌}
-use Rattle.std.specs.List.{flat_map}
+use Rattle.std.specs.Prelude.{ℕ, true, false, List, [], ◌∷◌, ◌++◌, codes, Option, Some, None, bytes_eq, if◌then◌else◌}
 use Rattle.std.specs.Fmt.{decimal}
 use Rattle.fixed_duration.specs.Duration.{duration_text}
-use Rattle.attr_list.specs.Attributes.{Pair, pair_spelling, attributes_text}
+use Rattle.attr_list.specs.Attributes.{Pair, attributes_text}
 use Rattle.playlist_meaning.specs.declared.PlaylistKind.{PlaylistKind}
 use Rattle.playlist_meaning.specs.declared.PlaylistKind.TheVariants.{Event, Vod}
 use Rattle.playlist_meaning.specs.declared.Key.{Key}
-use Rattle.playlist_meaning.specs.declared.KeyAttr.{KeyAttr}
 use Rattle.playlist_meaning.specs.declared.ByteRange.{ByteRange}
 use Rattle.playlist_meaning.specs.Said.{Said, nothing, version, target, sequence, discontinuity_sequence, playlist_type, ended, independent, duration, range, discontinuity, no_keys, key, section, time, date_range, media}
 use Rattle.instants.specs.Times.{time_text}
@@ -37,13 +35,9 @@ iv_pairs (Some iv) = plain (codes "IV") (iv_text iv) ∷ []
 abbrev pub format_pairs : List ℕ → List Pair
 format_pairs format = if bytes_eq format (codes "identity") then [] else in_quotes (codes "KEYFORMAT") format ∷ []
 
-abbrev pub key_attr_pair : KeyAttr → Pair
-key_attr_pair attr = record { name = attr.name; value = attr.value; quoted = attr.quoted }
-
--- the attributes of a key tag (4.3.2.4)
-abbrev pub key_pairs : Key → List Pair
-key_pairs k =
-    plain (codes "METHOD") k.method ∷ in_quotes (codes "URI") k.uri ∷ (iv_pairs k.iv ++ (format_pairs k.format ++ map key_attr_pair k.other))
+-- the attributes of a key tag that have a meaning here (4.3.2.4)
+abbrev pub own_pairs : Key → List Pair
+own_pairs k = plain (codes "METHOD") k.method ∷ in_quotes (codes "URI") k.uri ∷ (iv_pairs k.iv ++ format_pairs k.format)
 
 abbrev pub part_pairs : Option ByteRange → List Pair
 part_pairs None = []
@@ -52,10 +46,6 @@ part_pairs (Some part) = in_quotes (codes "BYTERANGE") (range_text part.length p
 -- the attributes of a map tag (4.3.2.5)
 abbrev pub section_pairs : List ℕ → Option ByteRange → List Pair
 section_pairs uri part = in_quotes (codes "URI") uri ∷ part_pairs part
-
--- each attribute with a comma before it
-abbrev pub after_commas : List Pair → List ℕ
-after_commas pairs = flat_map (λ pair. 44 ∷ pair_spelling pair) pairs
 
 -- ---- lines
 
@@ -66,6 +56,10 @@ type_text Vod = codes "VOD"
 abbrev pub offset_text : Option ℕ → List ℕ
 offset_text None = []
 offset_text (Some offset) = 64 ∷ decimal offset
+
+-- a key's other attributes stand as they are behind these
+abbrev pub key_text : Key → List ℕ
+key_text k = attributes_text (own_pairs k) ++ k.other
 
 -- a date range's attributes stand as they are (4.3.2.7)
 abbrev pub date_range_line : List ℕ → List ℕ
@@ -85,7 +79,7 @@ spelled (duration nanos title) = codes "#EXTINF:" ++ (duration_text nanos ++ 44 
 spelled (range length offset) = codes "#EXT-X-BYTERANGE:" ++ (decimal length ++ offset_text offset)
 spelled discontinuity = codes "#EXT-X-DISCONTINUITY"
 spelled no_keys = codes "#EXT-X-KEY:METHOD=NONE"
-spelled (key k) = codes "#EXT-X-KEY:" ++ attributes_text (key_pairs k)
+spelled (key k) = codes "#EXT-X-KEY:" ++ key_text k
 spelled (section uri part) = codes "#EXT-X-MAP:" ++ attributes_text (section_pairs uri part)
 spelled (time t) = codes "#EXT-X-PROGRAM-DATE-TIME:" ++ time_text t
 spelled (date_range r) = date_range_line r.text

@@ -1,7 +1,8 @@
 //! Key tags and map tags (RFC 8216, sections 4.3.2.4 and 4.3.2.5).
-ghost use Rattle.std.specs.Prelude.{◌≡◌, ◌∷◌, ◌++◌, [], codes, OnOk, string_bytes, map, filter, ◌&&◌, not};
+ghost use Rattle.std.specs.Prelude.{◌≡◌, ◌∷◌, ◌++◌, [], codes, filter, ◌&&◌, not};
 ghost use Rattle.attr_list.specs.Attributes.{pair_spelling};
-ghost use Rattle.playlist_write.specs.Spelling.{plain, in_quotes, iv_pairs, format_pairs, key_attr_pair, part_pairs, after_commas};
+ghost use Rattle.playlist_write.specs.Spelling.{plain, in_quotes, iv_pairs, format_pairs, part_pairs};
+ghost use Rattle.playlist_meaning.specs.Carried.{after_commas};
 ghost use Rattle.playlist_write.specs.KeyParts.{rest_of, is_identity};
 ghost use Rattle.playlist_meaning.specs.Said as Said;
 ghost use Rattle.playlist_write.specs.Owed.{line_of, said_text, keys_owed, set_tags, key_line, section_line};
@@ -11,7 +12,7 @@ ghost use Rattle.fixed_duration.specs.Appended.{Appends};
 
 use crate::digits::{push_last_iv, push_quote_and_iv};
 use crate::lines::{push_feed, push_line, push_range};
-use playlist_meaning::{ByteRange, InitSection, Key, KeyAttr};
+use playlist_meaning::{ByteRange, InitSection, Key};
 use std::alloc::AllocError;
 use stitcher::{is_new, keeps_formats};
 
@@ -64,26 +65,6 @@ fn push_format(out: &mut String, format: &str) -> Result<(), AllocError>
     Ok(())
 }
 
-fn push_attr(out: &mut String, attr: &KeyAttr) -> Result<(), AllocError>
-    ensures { Appends result out.old out.new (pair_spelling (key_attr_pair attr.now)) }
-{
-    if attr.quoted {
-        push_quoted(out, attr.name.as_str(), attr.value.as_str())
-    } else {
-        push_plain(out, attr.name.as_str(), attr.value.as_str())
-    }
-}
-
-fn push_attrs(out: &mut String, attrs: &[KeyAttr]) -> Result<(), AllocError>
-    ensures { Appends result out.old out.new (after_commas (map key_attr_pair attrs.now)) }
-{
-    for attr in attrs {
-        out.push(',')?;
-        push_attr(out, attr)?;
-    }
-    Ok(())
-}
-
 // Appends the front of a key tag, up to its URI.
 fn push_method(out: &mut String, method: &str) -> Result<(), AllocError>
     ensures { Appends result out.old out.new (codes "#EXT-X-KEY:METHOD=" ++ (method.now ++ codes ",URI=\"")) }
@@ -105,7 +86,7 @@ fn push_rest(out: &mut String, key: &Key) -> Result<(), AllocError>
 {
     push_iv(out, key.iv)?;
     push_format(out, key.format.as_str())?;
-    push_attrs(out, key.other.as_slice())?;
+    out.push_str(key.other.as_str())?;
     push_feed(out)?;
     Ok(())
 }
@@ -114,7 +95,7 @@ fn push_rest(out: &mut String, key: &Key) -> Result<(), AllocError>
 fn push_short_rest(out: &mut String, key: &Key) -> Result<(), AllocError>
     ensures { Appends result out.old out.new (rest_of key.now) }
 {
-    if key.other.as_slice().is_empty() && key.format.as_str() == "identity" {
+    if key.other.as_str().is_empty() && key.format.as_str() == "identity" {
         push_iv_and_feed(out, key.iv)?;
         return Ok(());
     }

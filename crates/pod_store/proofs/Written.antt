@@ -107,8 +107,8 @@ key_is_fit k h =
     let none = nothing_other k.other p.1 in
     let iv = iv_is_fit k.iv r.1 in
     record {
-      fits = and_from _ _ (and_from _ _ (and_from _ _ (and_from _ _ (and_from _ _ (and_parts _ _ q.1).1 (method_is_fit k.method s.0)) (quoted_uri_is_fit k.uri s.1)) iv.0)
-          (subst (λ o. list_all fit.other_fits o ≡ true) (sym none) refl)) (subst (λ o. fit.have_distinct_names o ≡ true) (sym none) refl);
+      fits = and_from _ _ (and_from _ _ (and_from _ _ (and_from _ _ (and_parts _ _ q.1).1 (method_is_fit k.method s.0)) (quoted_uri_is_fit k.uri s.1)) iv.0)
+          (subst (λ o. fit.others_fit o ≡ true) (sym none) (and_from _ _ (clean [] refl) refl));
       has_iv = iv.1;
     }
 

@@ -3,18 +3,22 @@ use Rattle.std.proofs.Common.{◌≡◌, ℕ, Bool, true, false, not, cond, List
 use Rattle.std.specs.Prelude.{Ok, Err, Option, Some, None, bytes_eq, ◌||◌, ◌&&◌, filter}
 use Rattle.std.specs.List.{list_any, list_all, find, AllByRecursion}
 use Rattle.std.proofs.lemmas.Bool.{and_from, and_parts, or_parts, or_from, not_from_false, not-true, both_ways, false_from_ne_true}
+use Rattle.std.proofs.lemmas.Bool.Decides.{nat_tests}
 use Rattle.std.proofs.lemmas.List.Folds.{list_any-append}
 use Rattle.std.proofs.lemmas.Slice.Eq.{bytes_eq-Decides}
-use Rattle.attr_list.specs.Attributes.{Pair, is_named, is_name, is_value, is_pair, are_apart, attribute, attributes_of, pieces, pair_spelling, value_spelling}
+use Rattle.attr_list.specs.Attributes.{Pair, is_named, is_name, is_name_byte, is_value, is_pair, are_apart, attribute, attributes_of, pieces, pair_spelling, value_spelling}
+use Rattle.attr_list.proofs.Elements.{all_from}
 use Rattle.attr_list.proofs.Grammar.{pairs_are, pieces_joined}
 use Rattle.playlist_meaning.specs.declared.FaultKind.TheVariants as fault
-use Rattle.playlist_meaning.specs.declared.KeyAttr.{KeyAttr}
-use Rattle.playlist_meaning.specs.Said.{Outcome, attributes, required, optional, some_value, value_if, quoted_of, is_key_attribute, key_attr}
+use Rattle.playlist_meaning.specs.Said.{Outcome, attributes, required, optional, some_value, value_if, quoted_of}
+use Rattle.playlist_meaning.specs.Carried.{after_commas, carried, is_key_attribute}
+use Rattle.playlist_meaning.specs.Lines.{is_printable}
+use Rattle.playlist_meaning.proofs.Carried.{others_are}
 use Rattle.playlist_meaning.specs.Reading.{unlimited}
-use Rattle.fitting.specs.Fitting.{if_some, value_fits, is_apart, have_distinct_names, other_fits}
-use Rattle.playlist_write.proofs.CleanTexts.{Clean}
+use Rattle.fitting.specs.Fitting.{if_some, value_fits, others_fit}
+use Rattle.playlist_write.proofs.CleanTexts.{Clean, clean-append, clean_printable}
 use Rattle.reading_laws.proofs.Gives.{Gives, answers, fails, told}
-use Rattle.reading_laws.proofs.CleanCuts.{clean_is, clean_cut, clean_parts}
+use Rattle.reading_laws.proofs.CleanCuts.{clean_is, is_is_clean, clean_cut, clean_parts}
 
 -- a name, and a value that can be written
 abbrev pub pair_fits : Pair → Bool
@@ -90,53 +94,33 @@ optional_fits p read (Some pair) h f = some_fits p (read pair) (f pair h)
 
 -- ---- a key's other attributes (4.3.2.4)
 
-sames : (a b : List ℕ) → bytes_eq a b ≡ false → bytes_eq b a ≡ false
-sames a b h = false_from_ne_true (bytes_eq b a) (λ e. both_ways _ h ((bytes_eq-Decides a b).1 (sym ((bytes_eq-Decides b a).0 e))))
+name_byte_printable : (b : ℕ) → is_name_byte b ≡ true → is_printable b ≡ true
+name_byte_printable b h = grind (arith, nat_tests)
 
--- no name among the pairs is that of a pair before them
-apart_from : (x : Pair) (before later : List Pair) → ((name : List ℕ) → list_any (is_named name) before ≡ false → bytes_eq name x.name ≡ false) → are_apart before later ≡ true
-    → list_any (λ (l : Pair). bytes_eq x.name l.name) later ≡ false
-apart_from x before [] f h = refl
-apart_from x before (l ∷ later) f h =
-    let a : ((is_pair l && not (list_any (is_named l.name) before)) ≡ true) × (are_apart (before ++ l ∷ []) later ≡ true) = and_parts _ _ h in
-    let new : list_any (is_named l.name) before ≡ false = not-true _ (and_parts (is_pair l) _ a.0).1 in
-    or_from _ _ (sames l.name x.name (f l.name new))
-    (apart_from x (before ++ l ∷ []) later (λ name g. f name (or_parts _ _ (sym (list_any-append (is_named name) before (l ∷ [])) ∙ g)).0) a.1)
+name_is_clean : (name : List ℕ) → is_name name ≡ true → Clean name
+name_is_clean name h = clean_printable name (all_from is_name_byte is_printable name (and_parts _ _ h).1 name_byte_printable)
 
-last_apart : (x : Pair) (before : List Pair) (name : List ℕ) → list_any (is_named name) (before ++ x ∷ []) ≡ false → bytes_eq name x.name ≡ false
-last_apart x before name h =
-    let a : (list_any (is_named name) before ≡ false) × ((is_named name x || false) ≡ false) = or_parts _ _ (sym (list_any-append (is_named name) before (x ∷ [])) ∙ h) in (or_parts (is_named name x) false a.1).0
+value_is_clean : (quoted : Bool) (value : List ℕ) → value_fits quoted value ≡ true → Clean (value_spelling quoted value)
+value_is_clean true value h = clean-append (34 ∷ []) (value ++ 34 ∷ []) (clean_printable _ refl) (clean-append value (34 ∷ []) (is_is_clean value (and_parts _ _ h).0) (clean_printable _ refl))
+value_is_clean false value h = is_is_clean value (and_parts _ _ h).0
 
-none_kept : (x : Pair) (q : Pair → Bool) (later : List Pair) → list_any (λ (l : Pair). bytes_eq x.name l.name) later ≡ false
-    → list_any (λ (other : KeyAttr). bytes_eq x.name other.name) (map key_attr (filter q later)) ≡ false
-none_kept x q [] h = refl
-none_kept x q (l ∷ later) h =
-    let a : (bytes_eq x.name l.name ≡ false) × (list_any (λ (m : Pair). bytes_eq x.name m.name) later ≡ false) = or_parts _ _ h in
-    step (q l) l (filter q later) a.0 (none_kept x q later a.1)
-  where
-    step : (b : Bool) (l : Pair) (kept : List Pair) → bytes_eq x.name l.name ≡ false → list_any (λ (other : KeyAttr). bytes_eq x.name other.name) (map key_attr kept) ≡ false
-        → list_any (λ (other : KeyAttr). bytes_eq x.name other.name) (map key_attr (cond b (l ∷ kept) kept)) ≡ false
-    step true l kept h g = or_from _ _ h g
-    step false l kept h g = g
+spelling_is_clean : (pair : Pair) → pair_fits pair ≡ true → Clean (44 ∷ pair_spelling pair)
+spelling_is_clean pair h =
+    let a : (is_name pair.name ≡ true) × (value_fits pair.quoted pair.value ≡ true) = and_parts _ _ h in
+    clean-append (44 ∷ pair.name) (61 ∷ value_spelling pair.quoted pair.value) (clean-append (44 ∷ []) pair.name (clean_printable _ refl) (name_is_clean pair.name a.0))
+    (clean-append (61 ∷ []) (value_spelling pair.quoted pair.value) (clean_printable _ refl) (value_is_clean pair.quoted pair.value a.1))
 
-pub others_distinct : (q : Pair → Bool) (before pairs : List Pair) → are_apart before pairs ≡ true → have_distinct_names (map key_attr (filter q pairs)) ≡ true
-others_distinct q before [] h = refl
-others_distinct q before (x ∷ later) h =
-    let a : ((is_pair x && not (list_any (is_named x.name) before)) ≡ true) × (are_apart (before ++ x ∷ []) later ≡ true) = and_parts _ _ h in
-    step (q x) x (filter q later) (not_from_false _ (none_kept x q later (apart_from x (before ++ x ∷ []) later (last_apart x before) a.1))) (others_distinct q (before ++ x ∷ []) later a.1)
-  where
-    step : (b : Bool) (x : Pair) (kept : List Pair) → is_apart (key_attr x) (map key_attr kept) ≡ true → have_distinct_names (map key_attr kept) ≡ true → have_distinct_names (map key_attr (cond b (x ∷ kept) kept)) ≡ true
-    step true x kept h g = and_from _ _ h g
-    step false x kept h g = g
-
-pub others_fit : (pairs : List Pair) → list_all pair_fits pairs ≡ true → list_all other_fits (map key_attr (filter (λ pair. not (is_key_attribute pair)) pairs)) ≡ true
-others_fit [] h = refl
-others_fit (pair ∷ pairs) h =
+carried_clean : (pairs : List Pair) → list_all pair_fits pairs ≡ true → Clean (after_commas (carried pairs))
+carried_clean [] h = clean_printable [] refl
+carried_clean (pair ∷ pairs) h =
     let a : (pair_fits pair ≡ true) × (list_all pair_fits pairs ≡ true) = and_parts _ _ h in
-    step (not (is_key_attribute pair)) pair (filter (λ p. not (is_key_attribute p)) pairs) refl a.0 (others_fit pairs a.1)
+    step (not (is_key_attribute pair)) (carried pairs) (spelling_is_clean pair a.0) (carried_clean pairs a.1)
   where
-    step : (b : Bool) (pair : Pair) (kept : List Pair) → not (is_key_attribute pair) ≡ b → pair_fits pair ≡ true → list_all other_fits (map key_attr kept) ≡ true
-        → list_all other_fits (map key_attr (cond b (pair ∷ kept) kept)) ≡ true
-    step true pair kept e h g =
-        let a : (is_name pair.name ≡ true) × (value_fits pair.quoted pair.value ≡ true) = and_parts _ _ h in and_from _ _ (and_from _ _ (and_from _ _ a.0 e) a.1) g
-    step false pair kept e h g = g
+    step : (b : Bool) (kept : List Pair) → Clean (44 ∷ pair_spelling pair) → Clean (after_commas kept) → Clean (after_commas (cond b (pair ∷ kept) kept))
+    step true kept c g = clean-append (44 ∷ pair_spelling pair) (after_commas kept) c g
+    step false kept c g = g
+
+pub carried_fit : (pairs : List Pair) → pairs_fit pairs ≡ true → others_fit (after_commas (carried pairs)) ≡ true
+carried_fit pairs h =
+    let a : (list_all pair_fits pairs ≡ true) × (are_apart [] pairs ≡ true) = and_parts _ _ h in
+    and_from _ _ (clean_is (after_commas (carried pairs)) (carried_clean pairs a.0)) (others_are pairs a.1)

@@ -10,7 +10,7 @@ use Rattle.playlist_meaning.specs.Said.{Said, no_keys, key, section}
 use Rattle.playlist_meaning.specs.LookBack.{without_format, is_before, insert_key, keys_at, are_sorted, effective_key, section_at}
 use Rattle.playlist_meaning.proofs.ListTests.{all_filter}
 use Rattle.playlist_meaning.proofs.KeyOrder.{keys_are_sorted}
-use Rattle.fitting.specs.Fitting.{if_some, iv_fits, states_iv, value_fits, method_fits, other_fits, have_distinct_names}
+use Rattle.fitting.specs.Fitting.{if_some, iv_fits, states_iv, value_fits, method_fits, others_fit}
 use Rattle.playlist_write.specs.WellFormed.{is_word}
 use Rattle.reading_laws.specs.Read.{key_reads, keys_read, quoted_uri_reads, section_reads, effective_keys_read}
 use Rattle.reading_laws.proofs.Lines.{is_fit, all_good, all_parts, good_parts, all_fit}
@@ -67,10 +67,9 @@ effective_reads n k i h = by (bytes_eq k.format (codes "identity") && is_none k.
   where
     with_iv : key_reads (record k { iv = Some n }) ≡ true
     with_iv =
-        let a : ((value_fits true k.format && method_fits k.method && quoted_uri_reads k.uri && if_some iv_fits k.iv && list_all other_fits k.other) ≡ true) × (have_distinct_names k.other ≡ true) = and_parts _ _ h in
-        let b : ((value_fits true k.format && method_fits k.method && quoted_uri_reads k.uri && if_some iv_fits k.iv) ≡ true) × (list_all other_fits k.other ≡ true) = and_parts _ _ a.0 in
-        let c : ((value_fits true k.format && method_fits k.method && quoted_uri_reads k.uri) ≡ true) × (if_some iv_fits k.iv ≡ true) = and_parts _ _ b.0 in
-        and_from _ _ (and_from _ _ (and_from _ _ c.0 i) b.1) a.1
+        let a : ((value_fits true k.format && method_fits k.method && quoted_uri_reads k.uri && if_some iv_fits k.iv) ≡ true) × (others_fit k.other ≡ true) = and_parts _ _ h in
+        let b : ((value_fits true k.format && method_fits k.method && quoted_uri_reads k.uri) ≡ true) × (if_some iv_fits k.iv ≡ true) = and_parts _ _ a.0 in
+        and_from _ _ (and_from _ _ b.0 i) a.1
 
     by : (b : Bool) → key_reads (cond b (record k { iv = Some n }) k) ≡ true
     by true = with_iv

@@ -14,7 +14,7 @@ use Rattle.playlist_meaning.specs.LookBack.{are_sorted}
 use Rattle.playlist_meaning.specs.Reading.{needs_iv}
 use Rattle.playlist_meaning.specs.Uri.{has_scheme}
 use Rattle.playlist_meaning.proofs.ListTests.{all_with}
-use Rattle.fitting.specs.Fitting.{if_some, is_clean, value_fits, method_fits, iv_fits, other_fits, have_distinct_names, range_fits, states_iv, uri_fits, quoted_uri_fits, key_fits, keys_fit, section_fits}
+use Rattle.fitting.specs.Fitting.{if_some, is_clean, value_fits, method_fits, iv_fits, others_fit, range_fits, states_iv, uri_fits, quoted_uri_fits, key_fits, keys_fit, section_fits}
 use Rattle.playlist_write.specs.WellFormed.{duration_fits}
 use Rattle.reading_laws.specs.Read.{uri_reads, quoted_uri_reads, key_reads, keys_read, section_reads, numbers_are_words, resource_reads, effective_keys_read, segment_reads, key_is_text, section_is_text, uris_are_text, segment_can_be_written}
 
@@ -29,11 +29,10 @@ quoted_is_fit uri h t =
 
 key_is_fit : (k : Key) → key_reads k ≡ true → key_is_text k ≡ true → key_fits k ≡ true
 key_is_fit k h t =
-    let a = and_parts (value_fits true k.format && method_fits k.method && quoted_uri_reads k.uri && if_some iv_fits k.iv && list_all other_fits k.other) (have_distinct_names k.other) h in
-    let b = and_parts (value_fits true k.format && method_fits k.method && quoted_uri_reads k.uri && if_some iv_fits k.iv) (list_all other_fits k.other) a.0 in
-    let c = and_parts (value_fits true k.format && method_fits k.method && quoted_uri_reads k.uri) (if_some iv_fits k.iv) b.0 in
-    let d = and_parts (value_fits true k.format && method_fits k.method) (quoted_uri_reads k.uri) c.0 in
-    and_from _ _ (and_from _ _ (and_from _ _ (and_from _ _ d.0 (quoted_is_fit k.uri d.1 t)) c.1) b.1) a.1
+    let a = and_parts (value_fits true k.format && method_fits k.method && quoted_uri_reads k.uri && if_some iv_fits k.iv) (others_fit k.other) h in
+    let b = and_parts (value_fits true k.format && method_fits k.method && quoted_uri_reads k.uri) (if_some iv_fits k.iv) a.0 in
+    let c = and_parts (value_fits true k.format && method_fits k.method) (quoted_uri_reads k.uri) b.0 in
+    and_from _ _ (and_from _ _ (and_from _ _ c.0 (quoted_is_fit k.uri c.1 t)) b.1) a.1
 
 keys_are_fit : (keys : List Key) → keys_read keys ≡ true → list_all key_is_text keys ≡ true → keys_fit keys ≡ true
 keys_are_fit keys h t = let a = and_parts (list_all key_reads keys) (are_sorted keys) h in and_from _ _ (all_with key_reads key_is_text key_fits keys a.0 t key_is_fit) a.1

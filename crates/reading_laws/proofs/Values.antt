@@ -9,7 +9,8 @@ use Rattle.attr_list.specs.Attributes.{Pair, is_value}
 use Rattle.attr_list.specs.Numbers.{decimal_of, hex_of}
 use Rattle.playlist_meaning.specs.declared.FaultKind.TheVariants as fault
 use Rattle.playlist_meaning.specs.Uri.{has_scheme, can_be_written, joined, resolved}
-use Rattle.playlist_meaning.specs.Said.{or_fault, value_if, iv_of, quoted_of, uri_of, range_of, section_range, range_end_fits, key_attr, is_key_attribute}
+use Rattle.playlist_meaning.specs.Said.{or_fault, value_if, iv_of, quoted_of, uri_of, range_of, section_range, range_end_fits}
+use Rattle.playlist_meaning.specs.Carried.{after_commas, carried}
 use Rattle.fitting.specs.Fitting.{if_some, is_clean, value_fits, method_fits, iv_fits, range_fits}
 use Rattle.fitting.proofs.Hexadecimal.{hex_is_iv}
 use Rattle.playlist_write.proofs.CleanTexts.{Clean, clean_printable}
@@ -17,7 +18,7 @@ use Rattle.reading_laws.specs.Read.{uri_reads, quoted_uri_reads, key_reads}
 use Rattle.reading_laws.proofs.Gives.{Gives, answers, guarded, chosen, found, after}
 use Rattle.reading_laws.proofs.Bounds.{where_some}
 use Rattle.reading_laws.proofs.CleanCuts.{clean_is, is_is_clean}
-use Rattle.reading_laws.proofs.AttributeValues.{pair_fits, pairs_fit, others_fit, others_distinct}
+use Rattle.reading_laws.proofs.AttributeValues.{pair_fits, pairs_fit, carried_fit}
 
 -- ---- hexadecimal sequences
 
@@ -76,7 +77,6 @@ or_identity (Some f) h = h
 
 pub key_from : (format method resource : List ℕ) (iv : Option ℕ) (pairs : List Pair) → value_fits true format ≡ true → method_fits method ≡ true → quoted_uri_reads resource ≡ true
     → if_some iv_fits iv ≡ true → pairs_fit pairs ≡ true
-    → key_reads (record { format = format; method = method; uri = resource; iv = iv; other = map key_attr (filter (λ pair. not (is_key_attribute pair)) pairs) }) ≡ true
+    → key_reads (record { format = format; method = method; uri = resource; iv = iv; other = after_commas (carried pairs) }) ≡ true
 key_from format method resource iv pairs f m u i h =
-    let a = and_parts _ _ h in
-    and_from _ _ (and_from _ _ (and_from _ _ (and_from _ _ (and_from _ _ f m) u) i) (others_fit pairs a.0)) (others_distinct (λ pair. not (is_key_attribute pair)) [] pairs a.1)
+    and_from _ _ (and_from _ _ (and_from _ _ (and_from _ _ f m) u) i) (carried_fit pairs h)

@@ -15,7 +15,7 @@ use Rattle.playlist_meaning.specs.Lines.{has_control}
 use Rattle.playlist_meaning.specs.Uri.{has_scheme}
 use Rattle.playlist_meaning.specs.declared.Key.{Key}
 use Rattle.playlist_meaning.specs.declared.InitSection.{InitSection}
-use Rattle.fitting.specs.Fitting.{if_some, is_clean, value_fits, method_fits, iv_fits, other_fits, have_distinct_names, range_fits, states_iv, effective_keys_fit, section_fits}
+use Rattle.fitting.specs.Fitting.{if_some, is_clean, value_fits, method_fits, iv_fits, others_fit, range_fits, states_iv, effective_keys_fit, section_fits}
 use Rattle.playlist_write.specs.WellFormed.{is_word, duration_fits, resource_fits}
 
 -- a version that is supported
@@ -36,8 +36,7 @@ quoted_uri_reads uri = uri_reads uri && is_value true uri
 
 abbrev pub key_reads : Key → Bool
 key_reads k =
-    value_fits true k.format && method_fits k.method && quoted_uri_reads k.uri && if_some iv_fits k.iv && list_all other_fits k.other
-    && have_distinct_names k.other
+    value_fits true k.format && method_fits k.method && quoted_uri_reads k.uri && if_some iv_fits k.iv && others_fit k.other
 
 -- sorted by format, with one key for each
 abbrev pub keys_read : List Key → Bool

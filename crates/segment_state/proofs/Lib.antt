@@ -1,3 +1,4 @@
 pub mod KeyLemmas
+pub mod Names
 pub mod Ranges
 pub mod Timed

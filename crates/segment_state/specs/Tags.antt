@@ -1,21 +1,14 @@
 -- What a key tag or a map tag says, as the reader of one tag answers it.
-use Rattle.std.specs.Prelude.{not, List, map, filter, length, Ok}
-use Rattle.attr_list.specs.declared.attr.Attr.{Attr}
+use Rattle.std.specs.Prelude.{List, length, Ok}
 use Rattle.playlist_meaning.specs.declared.FaultKind.TheVariants as fault
 use Rattle.playlist_meaning.specs.declared.Key.{Key}
-use Rattle.playlist_meaning.specs.declared.KeyAttr.{KeyAttr}
-use Rattle.playlist_meaning.specs.Said.{Said, section, Outcome, refuse_if, over, is_key_attribute, key_attr}
+use Rattle.playlist_meaning.specs.Said.{Said, section, Outcome, refuse_if, over}
 use Rattle.playlist_meaning.specs.LookBack.{put_key}
 use Rattle.playlist_meaning.specs.Reading.{limited}
-use Rattle.segment_state.specs.Attributes.{pairs_of}
 use Rattle.segment_state.specs.declared.tags.SectionTag.{SectionTag}
 
 abbrev pub section_tag_said : SectionTag → Said
 section_tag_said tag = section tag.uri tag.range
-
--- the attributes of a key tag that are carried as they stand
-abbrev pub others_of : List Attr → List KeyAttr
-others_of attrs = map key_attr (filter (λ pair. not (is_key_attribute pair)) (pairs_of attrs))
 
 -- the keys in force after one more, where no more formats than the limit are in force then
 abbrev pub with_key : Key → List Key → Outcome (List Key)

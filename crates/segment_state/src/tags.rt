@@ -1,21 +1,20 @@
 //! What a key, map or byte range tag says by itself (RFC 8216, 4.3.2.2, 4.3.2.4, 4.3.2.5).
-ghost use Rattle.std.specs.Prelude.{◌≡◌, IfOk, codes};
-ghost use Rattle.attr_list.specs.Attributes.{attribute};
-ghost use Rattle.attr_list.specs.Attrs.{attr_pair};
+ghost use Rattle.std.specs.Prelude.{◌≡◌, codes, true};
+ghost use Rattle.attr_list.specs.Attributes.{are_attributes, attribute};
 ghost use Rattle.playlist_meaning.specs.Said as said;
-ghost use Rattle.playlist_meaning.specs.Said.{iv_of, key_tag_said, uri_of, set_key, key_said, section_said, section_range, range_of, is_key_attribute, key_attr, or_fault};
+ghost use Rattle.playlist_meaning.specs.Said.{iv_of, key_tag_said, uri_of, set_key, key_said, section_said, section_range, range_of, or_fault};
 ghost use Rattle.attr_list.specs.Numbers.{decimal_of};
 ghost use Rattle.playlist_meaning.specs.Reading.{limited};
 ghost use Rattle.playlist_meaning.specs.Refusals.{Gives};
 ghost use Rattle.segment_state.specs.Attributes.{pairs_of};
-ghost use Rattle.segment_state.specs.Tags.{others_of, section_tag_said};
+ghost use Rattle.segment_state.specs.Tags.{section_tag_said};
 
 use crate::attributes::{attributes_of, optional, required};
-use attr_list::{Attr, AttrList, read_decimal, read_hex_u128};
+use attr_list::{AttrList, read_decimal, read_hex_u128};
 use playlist_meaning::{
-    Base, BaseFault, ByteRange, FaultKind, Items, Key, KeyAttr, KeyTag, Shared, Text,
+    Base, BaseFault, ByteRange, FaultKind, Key, KeyTag, OtherAttributes, Shared, Text,
 };
-use std::alloc::{AllocError, Global};
+use std::alloc::Global;
 
 /// The format of a key that states none.
 const IDENTITY: &str = "identity";
@@ -60,64 +59,25 @@ fn iv_of(list: &AttrList<'_>) -> Result<Option<u128>, FaultKind>
     }
 }
 
-// Whether an attribute of a key tag has a meaning of its own here.
-fn is_key_attribute(attr: &Attr<'_>) -> bool
-    ensures { result ≡ is_key_attribute (attr_pair attr.now) }
-{
-    match attr.name {
-        "METHOD" => true,
-        "URI" => true,
-        "IV" => true,
-        "KEYFORMAT" => true,
-        _ => false,
-    }
-}
-
-fn key_attr(alloc: Global, attr: &Attr<'_>) -> Result<KeyAttr, AllocError>
-    ensures { IfOk result (λ a. a ≡ key_attr (attr_pair attr.now)) }
-{
-    Ok(KeyAttr {
-        name: Text::copy_of(alloc, attr.name)?,
-        value: Text::copy_of(alloc, attr.value)?,
-        quoted: attr.quoted,
-    })
-}
-
-// How many of these attributes are carried as they stand.
-fn others_count(list: &[Attr<'_>]) -> usize {
-    list.iter().filter(|attr| !is_key_attribute(*attr)).count()
-}
-
-// The attributes that are carried as they stand, in no more room than they take.
-fn other_attributes(alloc: Global, list: &[Attr<'_>]) -> Result<Vec<KeyAttr>, AllocError>
-    ensures { IfOk result (λ v. v.items ≡ others_of list.now) }
-{
-    let mut others = Vec::with_capacity(alloc, others_count(list))?;
-    for attr in list {
-        if !is_key_attribute(attr) {
-            others.push(key_attr(alloc, attr)?)?;
-        }
-    }
-    Ok(others)
-}
-
 fn set_key(alloc: Global, base: &Base, list: &AttrList<'_>, method: &str) -> Result<Key, FaultKind>
+    requires { are_attributes (pairs_of list.now) ≡ true }
     ensures { Gives said.key result (set_key base.now (pairs_of list.now) method.now) }
 {
     let reference = required(list, "URI", true)?;
     let iv = iv_of(list)?;
     let format = optional(list, "KEYFORMAT", true)?;
     let uri = shared_uri(alloc, base, reference)?;
-    let other = other_attributes(alloc, list.as_slice())?;
+    let other = OtherAttributes::of(alloc, list.as_slice())?;
     Ok(Key {
         format: Shared::copy_of(alloc, format.unwrap_or(IDENTITY))?,
         method: Shared::copy_of(alloc, method)?,
         uri,
         iv,
-        other: Shared::new(alloc, Items::from_vec(other))?,
+        other: Shared::new(alloc, other)?,
     })
 }
 
+#[tactic(auto, using(crate::proofs::Names::names_are_apart))]
 /// What EXT-X-KEY says (4.3.2.4). The faults, in this order: `BadAttributes` for the list,
 /// `MissingAttribute` or `BadAttributes` for METHOD, URI, IV and KEYFORMAT, `BadUri`.
 pub fn key_said(alloc: Global, base: &Base, rest: &str) -> Result<KeyTag, FaultKind>
