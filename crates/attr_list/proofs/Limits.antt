@@ -1,12 +1,12 @@
 -- The limit of a list's length only refuses.
-use Rattle.std.proofs.Common.{◌≡◌, ℕ, ◌+◌, ◌<◌, ◌≤◌, false, List, [], ◌∷◌, ◌++◌, map, length, refl, ap, sym, ◌∙◌, subst, arith, inl, inr, ◌⊎◌, length-append, Ok, Err, Some, None, Result}
+use Rattle.std.proofs.Common.{◌≡◌, ℕ, ◌+◌, ◌<◌, ◌≤◌, true, false, List, [], ◌∷◌, ◌++◌, map, length, refl, ap, sym, ◌∙◌, subst, arith, inl, inr, ◌⊎◌, length-append, Ok, Err, Some, None, Result}
 use Rattle.std.specs.Prelude.{IsErr}
 use Rattle.std.proofs.lemmas.Bool.{lt-leb, le-leb, cases_lt, both_ways}
 use Rattle.std.proofs.lemmas.List.{length-map}
 use Rattle.attr_list.specs.declared.AttrFault.{AttrFault}
 use Rattle.attr_list.specs.declared.AttrFault.TheVariants.{TooMany}
-use Rattle.attr_list.specs.Attributes.{Pair, is_full, pair_spelling, pieces, pair_of, add_pair, pairs_from, attributes_of, IsAttributeList}
-use Rattle.attr_list.proofs.Grammar.{pieces_are_spellings, read_is_list, list_is_read, ok_same}
+use Rattle.attr_list.specs.Attributes.{Pair, is_full, pair_spelling, pieces, pair_of, add_pair, pairs_from, attributes_of, are_attributes, IsAttributeList}
+use Rattle.attr_list.proofs.Grammar.{pairs_are, pieces_are_spellings, read_is_list, list_is_read, ok_same}
 
 room : (most : ℕ) (before : List Pair) → length before < most → is_full (Some most) (length before) ≡ false
 room most before h = lt-leb most (length before) h
@@ -70,6 +70,10 @@ read_is_limited most text pairs h few = within_is_same most text few ∙ h
 
 pub limited_is_list : (most : ℕ) (text : List ℕ) (pairs : List Pair) → attributes_of (Some most) text ≡ Ok pairs → IsAttributeList text pairs
 limited_is_list most text pairs h = read_is_list text pairs (limited_is_read most text pairs h).0
+
+pub limited_are_apart : (most : ℕ) (text : List ℕ) (pairs : List Pair) → attributes_of (Some most) text ≡ Ok pairs → are_attributes pairs ≡ true
+limited_are_apart most text pairs h =
+    let r = pairs_are (pieces text) [] pairs (limited_is_read most text pairs h).0 in subst (λ ps. are_attributes ps ≡ true) (sym r.whole) r.apart
 
 pub list_is_limited : (most : ℕ) (text : List ℕ) (pairs : List Pair) → IsAttributeList text pairs → length pairs ≤ most → attributes_of (Some most) text ≡ Ok pairs
 list_is_limited most text pairs list few =

@@ -1,5 +1,5 @@
 -- One turn of the loop that reads a list, with the attributes that it keeps.
-use Rattle.std.proofs.Common.{◌≡◌, ◌≢◌, ℕ, ◌+◌, ◌-◌, ◌<◌, ◌≤◌, List, [], ◌∷◌, ◌++◌, map, length, ap, sym, ◌∙◌, arith, refl, Ok, Err, Some, Result}
+use Rattle.std.proofs.Common.{◌≡◌, ◌≢◌, ℕ, ◌+◌, ◌-◌, ◌<◌, ◌≤◌, List, [], ◌∷◌, ◌++◌, map, length, ap, sym, ◌∙◌, arith, Ok, Err, Some, Result}
 use Rattle.std.proofs.lemmas.List.{map-append}
 use Rattle.std.proofs.Common.{length-append}
 use Rattle.attr_list.specs.declared.AttrFault.{AttrFault}

@@ -1,12 +1,12 @@
 //! Attribute lists.
-ghost use Rattle.std.specs.Prelude.{◌≡◌, ◌≤◌, ◌⊎◌, List, [], map, length, Ok, Err, Some, IfOk, IfErr, MatchResult, find, option_map};
+ghost use Rattle.std.specs.Prelude.{◌≡◌, ◌≤◌, ◌⊎◌, List, [], map, length, Ok, Err, Some, true, IfOk, IfErr, MatchResult, find, option_map};
 ghost use Rattle.std.specs.Option.{option_copied};
 ghost use Rattle.std.specs.List.{list_any};
 ghost use Rattle.std.specs.Slice.Iter.{iter_rest};
 ghost use Rattle.std.specs.Iterator.Adapters.{IterYieldsInOrder};
 ghost use Rattle.attr_list.specs.declared.AttrFault.{AttrFault};
 ghost use Rattle.attr_list.specs.declared.attr.Attr.{Attr};
-ghost use Rattle.attr_list.specs.Attributes.{Pair, IsAttributeList, attributes_of, attribute, pair_of, pair_spelling, pieces, spans_from, slices_at, is_named};
+ghost use Rattle.attr_list.specs.Attributes.{Pair, IsAttributeList, are_attributes, attributes_of, attribute, pair_of, pair_spelling, pieces, spans_from, slices_at, is_named};
 ghost use Rattle.attr_list.specs.Attrs.{attr_pair, attr_span};
 ghost use Rattle.attr_list.specs.Scanning.{first_piece, StartsWithPair};
 
@@ -19,19 +19,23 @@ use std::slice::Iter;
 /// The most attributes that a list may have.
 pub const MOST_ATTRIBUTES: usize = 64;
 
-/// The attributes of a tag, in order (RFC 8216, section 4.2), as slices of its text.
+/// The attributes of a tag, in order (RFC 8216, section 4.2), as slices of its text. No two have one name.
 #[derive(Debug, Drop)]
 pub struct AttrList<'a> {
     attrs: Vec<Attr<'a>>,
 }
 
 impl<'a> Model for AttrList<'a> {
-    ghost use Rattle.std.specs.Prelude.{List};
+    ghost use Rattle.std.specs.Prelude.{◌≡◌, List, map, true};
     ghost use Rattle.attr_list.specs.declared.attr.Attr.{Attr};
+    ghost use Rattle.attr_list.specs.Attributes.{are_attributes};
+    ghost use Rattle.attr_list.specs.Attrs.{attr_pair};
 
     ghost Value = { List Attr };
 
     ghost view = { λ list. list.attrs.items };
+
+    ghost invariant = { λ list. are_attributes (map attr_pair list.attrs.items) ≡ true };
 }
 
 impl<'a> AttrList<'a> {
@@ -83,7 +87,9 @@ impl<'a> AttrList<'a> {
 
     /// The same as a slice.
     pub fn as_slice(&self) -> &[Attr<'a>]
-        ensures { result.now ≡ self.now }
+        ensures slice { result.now ≡ self.now }
+        // They are pairs of the grammar with names apart.
+        ensures attributes { are_attributes (map attr_pair self.now) ≡ true }
     {
         self.attrs.as_slice()
     }

@@ -1,5 +1,5 @@
 -- What can be written: texts, durations, keys, sections and date ranges (RFC 8216, sections 4.2 and 4.3).
-use Rattle.std.specs.Prelude.{ℕ, ◌^◌, Bool, true, false, not, ◌&&◌, ◌||◌, nat_lt, List, [], ◌∷◌, codes, Option, Some, None, Ok, bytes_eq, is_none}
+use Rattle.std.specs.Prelude.{ℕ, ◌^◌, Bool, true, false, not, ◌&&◌, nat_lt, List, codes, Option, Some, None, Ok, bytes_eq, is_none}
 use Rattle.std.specs.List.{list_any, list_all}
 use Rattle.std.specs.Str.{is_utf8}
 use Rattle.attr_list.specs.Attributes.{is_value}

@@ -110,7 +110,7 @@ denotes text whole fraction p q some first a b small =
     let fits : nat_le (10 ^ 6) (digits_value 10 whole) ≡ false = grind (arith, nat_tests) in
     rw (there, p, q, a, b, begun, fits) refl
 
-text_whole : (n : ℕ) → n % 10 ^ 9 ≡ 0 → duration_text n ≡ decimal (n / 10 ^ 9)
+pub text_whole : (n : ℕ) → n % 10 ^ 9 ≡ 0 → duration_text n ≡ decimal (n / 10 ^ 9)
 text_whole n e = let none : (n % 10 ^ 9 == 0) ≡ true = grind (arith, nat_tests) in rw none (append-nil (decimal (n / 10 ^ 9)))
 
 text_parts : (n : ℕ) → 0 < n % 10 ^ 9 → duration_text n ≡ decimal (n / 10 ^ 9) ++ 46 ∷ fraction_digits 9 (n % 10 ^ 9)

@@ -2,7 +2,7 @@
 //! (RFC 8216, section 4.3.2.1, EXTINF): digits with at most one point.
 #![tactic(auto)]
 
-ghost use Rattle.std.specs.Prelude.{◌≡◌, ℕ, ◌+◌, ◌*◌, ◌/◌, ◌^◌, ◌<◌, ◌≤◌, ◌++◌, Ok, OnOk, OnErr, IsTrue, string_bytes, string_len, string_capacity};
+ghost use Rattle.std.specs.Prelude.{◌≡◌, ℕ, ◌+◌, ◌*◌, ◌/◌, ◌^◌, ◌<◌, ◌≤◌, ◌++◌, Ok, OnOk, OnErr, IsTrue, decimal, string_bytes, string_len, string_capacity};
 ghost use Rattle.std.specs.Option.{SomeIff};
 ghost use Rattle.fixed_duration.specs.Text.{whole_part, fraction_part, are_digits, number_of, nine_digits, fraction_digits};
 ghost use Rattle.fixed_duration.specs.Duration.{duration_of, duration_text, rounded_seconds_of};
@@ -83,7 +83,7 @@ impl Nanos {
         Ok(Nanos(seconds * NANOS_PER_SECOND + u64::from(nanos)))
     }
 
-    #[tactic(auto, using(crate::proofs::Again::read_again))]
+    #[tactic(auto, using(crate::proofs::Again::read_again, crate::proofs::Again::text_whole))]
     /// Appends the duration in seconds, without a point where they are whole, else without zeros at the end.
     /// Where memory was refused the text is as it was.
     pub fn write_to(&self, out: &mut String) -> Result<(), AllocError>
@@ -93,11 +93,18 @@ impl Nanos {
         // What is written of less than 1,000,000 s is read as the same duration.
         ensures again { self.now < 10 ^ 15 → duration_of (duration_text self.now) ≡ Ok self.now }
     {
+        let seconds = self.0 / NANOS_PER_SECOND;
+        let rest = self.0 % NANOS_PER_SECOND;
+        // Most segments last a few whole seconds.
+        if seconds < 100 && rest == 0 {
+            out.reserve(2)?;
+            push_short(out, seconds as u8);
+            return Ok(());
+        }
         let mut buffer = Buffer::new();
-        let whole = buffer.format(self.0 / NANOS_PER_SECOND);
+        let whole = buffer.format(seconds);
         out.reserve(whole.len() + 10)?;
         out.push_str(whole).unwrap();
-        let rest = self.0 % NANOS_PER_SECOND;
         if rest != 0 {
             out.push('.').unwrap();
             push_fraction(out, rest);
@@ -174,6 +181,31 @@ pub fn nanos_of_fraction(digits: &[u8]) -> u32
         value = value * 10 + u32::from(digit);
     }
     value
+}
+
+// Appends a digit.
+fn push_digit(out: &mut String, digit: u8)
+    requires digit { digit < 10 }
+    requires room { string_len out.old < string_capacity out.old }
+    ensures text { string_bytes out.new ≡ string_bytes out.old ++ decimal digit }
+    ensures len { string_len out.new ≡ string_len out.old + 1 }
+    ensures capacity { string_capacity out.old ≤ string_capacity out.new }
+{
+    out.push((b'0' + digit) as char).unwrap();
+}
+
+// Appends a number of at most two digits.
+fn push_short(out: &mut String, number: u8)
+    requires short { number < 100 }
+    requires room { string_len out.old + 2 ≤ string_capacity out.old }
+    ensures { string_bytes out.new ≡ string_bytes out.old ++ decimal number }
+{
+    if number < 10 {
+        push_digit(out, number);
+        return;
+    }
+    push_digit(out, number / 10);
+    push_digit(out, number % 10);
 }
 
 // Appends the digits of a fraction of a second, up to the last that is not 0.

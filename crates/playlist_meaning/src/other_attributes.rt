@@ -1,11 +1,11 @@
 //! The attributes of a key tag that are carried as they stand (RFC 8216, section 4.3.2.4).
 ghost use Rattle.std.specs.Prelude.{◌≡◌, ◌∷◌, [], map, IfOk, true};
-ghost use Rattle.attr_list.specs.Attributes.{are_attributes, pair_spelling};
+ghost use Rattle.attr_list.specs.Attributes.{pair_spelling};
 ghost use Rattle.attr_list.specs.Attrs.{attr_pair};
 ghost use Rattle.fixed_duration.specs.Appended.{Appends};
 ghost use Rattle.playlist_meaning.specs.Carried.{after_commas, are_others, carried, is_key_attribute};
 
-use attr_list::Attr;
+use attr_list::{Attr, AttrList};
 use std::alloc::{AllocError, Global};
 use std::marker::Model;
 
@@ -37,12 +37,11 @@ impl OtherAttributes {
     }
 
     #[tactic(auto, using(crate::proofs::Carried::others_are))]
-    /// Those of a key tag's attributes that are carried. Their names differ, as in each list that is read. Fails only
-    /// where memory is refused.
-    pub fn of(alloc: Global, attrs: &[Attr<'_>]) -> Result<OtherAttributes, AllocError>
-        requires { are_attributes (map attr_pair attrs.now) ≡ true }
-        ensures { IfOk result (λ others. others ≡ after_commas (carried (map attr_pair attrs.now))) }
+    /// Those of a key tag's attributes that are carried. Fails only where memory is refused.
+    pub fn of(alloc: Global, list: &AttrList<'_>) -> Result<OtherAttributes, AllocError>
+        ensures { IfOk result (λ others. others ≡ after_commas (carried (map attr_pair list.now))) }
     {
+        let attrs = list.as_slice();
         let mut string = String::with_capacity(alloc, length_of_others(attrs))?;
         push_others(&mut string, attrs)?;
         Ok(OtherAttributes { string })

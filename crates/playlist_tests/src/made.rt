@@ -1,7 +1,7 @@
 //! Values that several tests are about.
 ghost use Rattle.std.specs.Prelude.{◌≡◌, IfOk, codes, []};
 
-use playlist_meaning::{Items, Key, Shared};
+use playlist_meaning::{Key, OtherAttributes, Shared};
 use std::alloc::{AllocError, Global};
 
 /// A key of method AES-128, of this format, resource and IV, with no other attribute.
@@ -13,6 +13,6 @@ pub fn key(alloc: Global, format: &str, uri: &str, iv: Option<u128>) -> Result<K
         method: Shared::copy_of(alloc, "AES-128")?,
         uri: Shared::copy_of(alloc, uri)?,
         iv,
-        other: Shared::new(alloc, Items::from_vec(Vec::new(alloc)))?,
+        other: Shared::new(alloc, OtherAttributes::none(alloc))?,
     })
 }

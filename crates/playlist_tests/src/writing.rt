@@ -1,9 +1,11 @@
 //! Each public call once, and the written text of a playlist with each kind of line.
 use crate::made::key;
+use attr_list::AttrList;
 use devices::Taken;
 use fixed_duration::Nanos;
 use playlist_meaning::{
-    ByteRange, InitSection, Instant, Items, Key, KeyAttr, PlaylistKind, Segment, Shared, Text,
+    ByteRange, InitSection, Instant, Items, Key, OtherAttributes, PlaylistKind, Segment, Shared,
+    Text,
 };
 use playlist_write::{OutPlaylist, WriteFault, write};
 use std::alloc::{AllocError, Global};
@@ -43,18 +45,11 @@ http://ads.example/a1.m4s
 #EXT-X-ENDLIST
 ";
 
-fn other(alloc: Global, name: &str, value: &str, quoted: bool) -> Result<KeyAttr, AllocError> {
-    Ok(KeyAttr {
-        name: Text::copy_of(alloc, name)?,
-        value: Text::copy_of(alloc, value)?,
-        quoted,
-    })
-}
-
-fn others(alloc: Global) -> Result<Shared<Items<KeyAttr>>, AllocError> {
-    let versions = other(alloc, "KEYFORMATVERSIONS", "1", true)?;
-    let others = vec![in alloc; versions, other(alloc, "X", "2", false)?]?;
-    Ok(Shared::new(alloc, Items::from_vec(others))?)
+fn others(alloc: Global) -> Result<Shared<OtherAttributes>, AllocError> {
+    match AttrList::read(alloc, "METHOD=SAMPLE-AES,KEYFORMATVERSIONS=\"1\",X=2") {
+        Ok(list) => Ok(Shared::new(alloc, OtherAttributes::of(alloc, &list)?)?),
+        Err(_) => Err(AllocError),
+    }
 }
 
 fn drm_key(alloc: Global) -> Result<Key, AllocError> {

@@ -1,6 +1,6 @@
 -- What is written to say something is read as saying that.
-use Rattle.std.proofs.Common.{◌≡◌, ◌≢◌, ℕ, ◌+◌, ◌^◌, ◌<◌, Bool, true, false, not, cond, List, [], ◌∷◌, ◌++◌, map, refl, ap, sym, ◌∙◌, arith, Ok, Some, None}
-use Rattle.std.specs.Prelude.{◌||◌, ◌==◌, nat_lt, codes, bytes_eq, Option, ℤ, filter, find, unwrap_or, is_none, slice_index, nat_eq}
+use Rattle.std.proofs.Common.{◌≡◌, ◌≢◌, ℕ, ◌+◌, ◌^◌, ◌<◌, Bool, true, false, not, cond, List, [], ◌∷◌, ◌++◌, refl, ap, sym, ◌∙◌, arith, Ok, Some, None}
+use Rattle.std.specs.Prelude.{◌||◌, ◌==◌, nat_lt, codes, bytes_eq, Option, ℤ, find, unwrap_or, is_none, slice_index, nat_eq}
 use Rattle.std.specs.List.{list_any, list_all, before_first, after_first, prefix_len}
 use Rattle.std.specs.Char.{is_ascii_hexdigit, is_ascii_alphabetic}
 use Rattle.std.specs.Str.{chars}

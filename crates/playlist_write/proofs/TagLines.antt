@@ -1,5 +1,5 @@
 -- Lines in the parts in which they are written.
-use Rattle.std.proofs.Common.{◌≡◌, ℕ, List, [], ◌∷◌, ◌++◌, refl, ap, ◌∙◌, sym, append_assoc, append-nil, Some, false}
+use Rattle.std.proofs.Common.{◌≡◌, ℕ, List, [], ◌∷◌, ◌++◌, ap, ◌∙◌, sym, append_assoc, append-nil, Some, false}
 use Rattle.std.specs.Prelude.{codes, bytes_eq, ℤ}
 use Rattle.attr_list.specs.Attributes.{pair_spelling}
 use Rattle.playlist_meaning.specs.declared.Key.{Key}

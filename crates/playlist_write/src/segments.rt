@@ -1,5 +1,5 @@
 //! The lines of segments (RFC 8216, section 4.3.2).
-ghost use Rattle.std.specs.Prelude.{◌≡◌, ◌++◌, ◌∷◌, ◌<◌, [], OnOk, string_bytes, replicate, Some, decimal};
+ghost use Rattle.std.specs.Prelude.{◌≡◌, ◌++◌, ◌∷◌, [], OnOk, string_bytes, replicate, Some};
 ghost use Rattle.std.specs.Option.{option_copied};
 ghost use Rattle.playlist_meaning.specs.Said as Said;
 ghost use Rattle.playlist_meaning.specs.Same.{same_option, same_section};
@@ -15,8 +15,6 @@ use playlist_meaning::{
 };
 use std::alloc::AllocError;
 use stitcher::OutSegment;
-
-const NANOS_PER_SECOND: u64 = 1_000_000_000;
 
 #[tactic(auto, unfolding(crate::specs::Owed::line_of))]
 fn push_discontinuity(out: &mut String) -> Result<(), AllocError>
@@ -105,42 +103,6 @@ fn push_time_tag(out: &mut String, time: Option<Instant>) -> Result<(), AllocErr
     Ok(())
 }
 
-// Appends a digit.
-fn push_digit(out: &mut String, digit: u8) -> Result<(), AllocError>
-    requires { digit < 10 }
-    ensures { Appends result out.old out.new (decimal digit) }
-{
-    out.push((b'0' + digit) as char)?;
-    Ok(())
-}
-
-// Appends a number of at most two digits.
-fn push_short(out: &mut String, number: u8) -> Result<(), AllocError>
-    requires { number < 100 }
-    ensures { Appends result out.old out.new (decimal number) }
-{
-    if number < 10 {
-        push_digit(out, number)?;
-        return Ok(());
-    }
-    push_digit(out, number / 10)?;
-    push_digit(out, number % 10)?;
-    Ok(())
-}
-
-// Appends a duration, which most often is of few whole seconds.
-fn push_seconds(out: &mut String, duration: Nanos) -> Result<(), AllocError>
-    ensures { Appends result out.old out.new (duration_text duration) }
-{
-    let seconds = duration.0 / NANOS_PER_SECOND;
-    if seconds < 100 && seconds * NANOS_PER_SECOND == duration.0 {
-        push_short(out, seconds as u8)?;
-        return Ok(());
-    }
-    duration.write_to(out)?;
-    Ok(())
-}
-
 // Ends the line of a duration with the title.
 fn push_title(out: &mut String, title: &str) -> Result<(), AllocError>
     ensures { Appends result out.old out.new (44 ∷ with_feed title.now) }
@@ -157,7 +119,7 @@ fn push_duration(out: &mut String, duration: Nanos, title: &str) -> Result<(), A
     ensures { Appends result out.old out.new (line_of (Said.duration duration title.now)) }
 {
     out.push_str("#EXTINF:")?;
-    push_seconds(out, duration)?;
+    duration.write_to(out)?;
     push_title(out, title)?;
     Ok(())
 }

@@ -1,11 +1,9 @@
 -- The attributes of a tag whose line has no control character (RFC 8216, section 4.2).
-use Rattle.std.proofs.Common.{◌≡◌, ℕ, Bool, true, false, not, cond, List, [], ◌∷◌, ◌++◌, map, refl, sym, ◌∙◌, subst, arith}
-use Rattle.std.specs.Prelude.{Ok, Err, Option, Some, None, bytes_eq, ◌||◌, ◌&&◌, filter}
+use Rattle.std.proofs.Common.{◌≡◌, ℕ, Bool, true, false, not, cond, List, [], ◌∷◌, ◌++◌, map, refl, sym, subst, arith}
+use Rattle.std.specs.Prelude.{Ok, Err, Option, Some, None, ◌&&◌}
 use Rattle.std.specs.List.{list_any, list_all, find, AllByRecursion}
-use Rattle.std.proofs.lemmas.Bool.{and_from, and_parts, or_parts, or_from, not_from_false, not-true, both_ways, false_from_ne_true}
+use Rattle.std.proofs.lemmas.Bool.{and_from, and_parts}
 use Rattle.std.proofs.lemmas.Bool.Decides.{nat_tests}
-use Rattle.std.proofs.lemmas.List.Folds.{list_any-append}
-use Rattle.std.proofs.lemmas.Slice.Eq.{bytes_eq-Decides}
 use Rattle.attr_list.specs.Attributes.{Pair, is_named, is_name, is_name_byte, is_value, is_pair, are_apart, attribute, attributes_of, pieces, pair_spelling, value_spelling}
 use Rattle.attr_list.proofs.Elements.{all_from}
 use Rattle.attr_list.proofs.Grammar.{pairs_are, pieces_joined}

@@ -1,6 +1,6 @@
 -- What the values of keys, sections, ranges and URIs are that are read.
-use Rattle.std.proofs.Common.{◌≡◌, ℕ, Bool, true, false, not, cond, List, [], map, refl, ap, sym, ◌∙◌}
-use Rattle.std.specs.Prelude.{Ok, Err, Option, Some, None, unwrap_or, codes, ◌==◌, filter}
+use Rattle.std.proofs.Common.{◌≡◌, ℕ, Bool, true, false, not, cond, List, refl, ap, sym, ◌∙◌}
+use Rattle.std.specs.Prelude.{Ok, Err, Option, Some, None, unwrap_or, codes, ◌==◌}
 use Rattle.std.specs.List.{list_any, before_first, after_first}
 use Rattle.std.proofs.lemmas.Bool.{and_from, and_parts, not_from_false, not-false}
 use Rattle.url.specs.Parts.{Parts, serialize}

@@ -1,4 +1,3 @@
 pub mod KeyLemmas
-pub mod Names
 pub mod Ranges
 pub mod Timed

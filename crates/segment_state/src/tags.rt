@@ -1,6 +1,6 @@
 //! What a key, map or byte range tag says by itself (RFC 8216, 4.3.2.2, 4.3.2.4, 4.3.2.5).
-ghost use Rattle.std.specs.Prelude.{◌≡◌, codes, true};
-ghost use Rattle.attr_list.specs.Attributes.{are_attributes, attribute};
+ghost use Rattle.std.specs.Prelude.{◌≡◌, codes};
+ghost use Rattle.attr_list.specs.Attributes.{attribute};
 ghost use Rattle.playlist_meaning.specs.Said as said;
 ghost use Rattle.playlist_meaning.specs.Said.{iv_of, key_tag_said, uri_of, set_key, key_said, section_said, section_range, range_of, or_fault};
 ghost use Rattle.attr_list.specs.Numbers.{decimal_of};
@@ -60,14 +60,13 @@ fn iv_of(list: &AttrList<'_>) -> Result<Option<u128>, FaultKind>
 }
 
 fn set_key(alloc: Global, base: &Base, list: &AttrList<'_>, method: &str) -> Result<Key, FaultKind>
-    requires { are_attributes (pairs_of list.now) ≡ true }
     ensures { Gives said.key result (set_key base.now (pairs_of list.now) method.now) }
 {
     let reference = required(list, "URI", true)?;
     let iv = iv_of(list)?;
     let format = optional(list, "KEYFORMAT", true)?;
     let uri = shared_uri(alloc, base, reference)?;
-    let other = OtherAttributes::of(alloc, list.as_slice())?;
+    let other = OtherAttributes::of(alloc, list)?;
     Ok(Key {
         format: Shared::copy_of(alloc, format.unwrap_or(IDENTITY))?,
         method: Shared::copy_of(alloc, method)?,
@@ -77,7 +76,6 @@ fn set_key(alloc: Global, base: &Base, list: &AttrList<'_>, method: &str) -> Res
     })
 }
 
-#[tactic(auto, using(crate::proofs::Names::names_are_apart))]
 /// What EXT-X-KEY says (4.3.2.4). The faults, in this order: `BadAttributes` for the list,
 /// `MissingAttribute` or `BadAttributes` for METHOD, URI, IV and KEYFORMAT, `BadUri`.
 pub fn key_said(alloc: Global, base: &Base, rest: &str) -> Result<KeyTag, FaultKind>

@@ -10,4 +10,4 @@ pub returns : goal.returns
 returns c =
     let s = string_bytes c.args.out.now in
     as_text s (grown3 s (codes "#EXTINF:") (duration_text c.args.duration) (44 ∷ with_feed c.args.title.now)
-    c.in_ok-push_str.ensures.bytes c.in_ok-push_seconds.ensures c.in_ok-push_title.ensures) (duration_parts c.args.duration c.args.title.now)
+    c.in_ok-push_str.ensures.bytes c.in_ok-write_to.ensures.ok c.in_ok-push_title.ensures) (duration_parts c.args.duration c.args.title.now)
