@@ -117,8 +117,8 @@ impl Channel {
         Ok(done)
     }
 
-    /// The same of bytes that the caller gives up: their memory is given back once they are read, so that a large input and
-    /// the text that is written of it needn't be held at once.
+    /// Takes a refresh, with the answers and the faults of `refresh`, of bytes that the caller gives up: their memory is given
+    /// back once they are read, so that a large input and the text that is written of it needn't be held at once.
     pub fn refresh_owned(
         &mut self,
         alloc: Global,

@@ -5,5 +5,5 @@ use Rattle.text_lines.proofs.attributes.attributes_line.Goals as goal
 
 pub returns-in-Ok : goal.returns-in-Ok
 returns-in-Ok c =
-    let owed = rw c.as_slice.ensures at c.line_of.ensures in
+    let owed = rw c.as_slice.ensures.slice at c.line_of.ensures in
     IfOk-weaker c.line_of.result _ _ (λ line is. listed c.args.text.now (string_bytes line) c.in-Ok.list c.in-Ok.ensures.ok c.in-Ok.ensures.spans is) owed
