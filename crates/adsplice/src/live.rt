@@ -10,7 +10,7 @@ use std::time::{Clock, Duration, Instant};
 // How long a request and its reply may take, so that no client holds up the next one for longer.
 const CONNECTION_MILLIS: u64 = 10_000;
 
-// How long a client may take to close behind its reply.
+// How long a client may take to close after its reply.
 const DRAIN_MILLIS: u64 = 250;
 
 // How many reads of what a client still sends.
@@ -61,7 +61,7 @@ fn is_read_out(stream: &TcpStream) -> bool {
     }
 }
 
-// Ends a connection. A request that was granted was read whole, so that nothing has to be read behind its reply, unless
+// Ends a connection. A request that was granted was read whole, so that nothing has to be read after its reply, unless
 // the client has sent more than it; of what was refused more may be on its way.
 fn end(rt: &HostRuntime, stream: &TcpStream, granted: bool) {
     if granted && is_read_out(stream) {

@@ -20,7 +20,7 @@ use Rattle.pod_store.specs.Outcome.{Outcome, ◌>>=◌, fault_at, in_ad, in_segm
 use Rattle.decision_files.specs.Json.{text_at, list_at, u64_of}
 use Rattle.pod_store.specs.Pods.{is_uri, is_method, is_format, segment_count}
 use Rattle.decision_files.specs.Decided as said
-use Rattle.pod_store.specs.Rules.{range_fits, segment_keeps, key_keeps, ad_keeps, ads_keep}
+use Rattle.pod_store.specs.Rules.{byte_range_fits, segment_keeps, key_keeps, ad_keeps, ads_keep}
 use Rattle.attr_list.specs.Numbers.{hex_of}
 use Rattle.fitting.specs.Fitting.{iv_fits}
 use Rattle.fitting.proofs.Hexadecimal.{hex_is_iv}
@@ -62,30 +62,30 @@ not_is false e = absurd (cc)
 -- ---- ranges and parts
 
 abbrev Fit : Option ByteRange → Type 0
-Fit range = range_fits range ≡ true
+Fit byte_range = byte_range_fits byte_range ≡ true
 
-stated_fits : (place : Place) (o l : Option ℕ) (r : ByteRange) → said.stated_range place o l ≡ Ok r → Fit (Some r)
+stated_fits : (place : Place) (o l : Option ℕ) (r : ByteRange) → said.stated_byte_range place o l ≡ Ok r → Fit (Some r)
 stated_fits place (Some offset) (Some len) =
     passed (λ r. Fit (Some r)) (not (nat_lt (len + offset) (2 ^ 64))) (fault_at place Shape) (Ok (record { length = len; offset = offset }))
     (λ t. answers (λ (r : ByteRange). Fit (Some r)) (record { length = len; offset = offset }) (not_is _ t))
 stated_fits place (Some offset) None = λ r h. absurd (cc)
 stated_fits place None l = λ r h. absurd (cc)
 
-range_is : (place : Place) (o l : Option Data) (range : Option ByteRange) → said.range_from place o l ≡ Ok range → Fit range
-range_is place None None = answers Fit None refl
-range_is place (Some o) (Some l) =
-    after Fit (said.stated_range place (u64_of o) (u64_of l)) (λ r. Ok (Some r)) (λ r was. answers Fit (Some r) (stated_fits place (u64_of o) (u64_of l) r was))
-range_is place (Some o) None = λ range h. absurd (cc)
-range_is place None (Some l) = λ range h. absurd (cc)
+byte_range_is : (place : Place) (o l : Option Data) (byte_range : Option ByteRange) → said.byte_range_from place o l ≡ Ok byte_range → Fit byte_range
+byte_range_is place None None = answers Fit None refl
+byte_range_is place (Some o) (Some l) =
+    after Fit (said.stated_byte_range place (u64_of o) (u64_of l)) (λ r. Ok (Some r)) (λ r was. answers Fit (Some r) (stated_fits place (u64_of o) (u64_of l) r was))
+byte_range_is place (Some o) None = λ byte_range h. absurd (cc)
+byte_range_is place None (Some l) = λ byte_range h. absurd (cc)
 
 abbrev PartKeeps : said.Part → Type 0
 PartKeeps part = (is_uri part.0 ≡ true) × Fit part.1
 
 part_keeps : (place : Place) (uri : List ℕ) (d : Data) (part : said.Part) → said.part_said place uri d ≡ Ok part → PartKeeps part
 part_keeps place uri d =
-    passed PartKeeps (not (is_uri uri)) (fault_at place BadUri) (said.range_said place d >>= λ range. Ok (uri, range))
-    (λ t. after PartKeeps (said.range_said place d) (λ range. Ok (uri, range))
-    (λ range was. answers PartKeeps (uri, range) (not_is _ t, range_is place (get (codes "offset") d) (get (codes "length") d) range was)))
+    passed PartKeeps (not (is_uri uri)) (fault_at place BadUri) (said.byte_range_said place d >>= λ byte_range. Ok (uri, byte_range))
+    (λ t. after PartKeeps (said.byte_range_said place d) (λ byte_range. Ok (uri, byte_range))
+    (λ byte_range was. answers PartKeeps (uri, byte_range) (not_is _ t, byte_range_is place (get (codes "offset") d) (get (codes "length") d) byte_range was)))
 
 -- ---- segments
 
@@ -101,10 +101,10 @@ small e text n h = by (duration_of text) refl h
 
 texts_keep : (place : Place) (uri duration : List ℕ) (d : Data) (s : PodSegment) → said.segment_texts place uri duration d ≡ Ok s → Keeps s
 texts_keep place uri duration d =
-    after Keeps (said.part_said place uri d) (λ part. mended (fault_at place BadDuration) (duration_of duration) >>= λ nanos. Ok (record { uri = part.0; range = part.1; duration = nanos }))
-    (λ part was. after Keeps (mended (fault_at place BadDuration) (duration_of duration)) (λ nanos. Ok (record { uri = part.0; range = part.1; duration = nanos }))
+    after Keeps (said.part_said place uri d) (λ part. mended (fault_at place BadDuration) (duration_of duration) >>= λ nanos. Ok (record { uri = part.0; byte_range = part.1; duration = nanos }))
+    (λ part was. after Keeps (mended (fault_at place BadDuration) (duration_of duration)) (λ nanos. Ok (record { uri = part.0; byte_range = part.1; duration = nanos }))
     (λ nanos is. let k = part_keeps place uri d part was in
-    answers Keeps (record { uri = part.0; range = part.1; duration = nanos }) (and_from _ _ (and_from _ _ k.0 k.1) (small (fault_at place BadDuration) duration nanos is))))
+    answers Keeps (record { uri = part.0; byte_range = part.1; duration = nanos }) (and_from _ _ (and_from _ _ k.0 k.1) (small (fault_at place BadDuration) duration nanos is))))
 
 said_keeps : (place : Place) (d : Data) (s : PodSegment) → said.segment_said place d ≡ Ok s → Keeps s
 said_keeps place d =

@@ -21,21 +21,21 @@ use Rattle.pod_store.specs.Pods.{Decision, is_id, is_uri, is_method, is_format, 
 
 -- ---- ranges
 
-abbrev pub stated_range : Place → Option ℕ → Option ℕ → Outcome ByteRange
-stated_range place (Some offset) (Some length) =
+abbrev pub stated_byte_range : Place → Option ℕ → Option ℕ → Outcome ByteRange
+stated_byte_range place (Some offset) (Some length) =
     refuse_if (not (nat_lt (length + offset) (2 ^ 64))) (fault_at place Shape) (Ok (record { length = length; offset = offset }))
-stated_range place (Some offset) None = Err (fault_at place Shape)
-stated_range place None length = Err (fault_at place Shape)
+stated_byte_range place (Some offset) None = Err (fault_at place Shape)
+stated_byte_range place None length = Err (fault_at place Shape)
 
 -- both or neither of `offset` and `length`
-abbrev pub range_from : Place → Option Data → Option Data → Outcome (Option ByteRange)
-range_from place None None = Ok None
-range_from place (Some offset) (Some length) = stated_range place (u64_of offset) (u64_of length) >>= λ range. Ok (Some range)
-range_from place (Some offset) None = Err (fault_at place Shape)
-range_from place None (Some length) = Err (fault_at place Shape)
+abbrev pub byte_range_from : Place → Option Data → Option Data → Outcome (Option ByteRange)
+byte_range_from place None None = Ok None
+byte_range_from place (Some offset) (Some length) = stated_byte_range place (u64_of offset) (u64_of length) >>= λ byte_range. Ok (Some byte_range)
+byte_range_from place (Some offset) None = Err (fault_at place Shape)
+byte_range_from place None (Some length) = Err (fault_at place Shape)
 
-abbrev pub range_said : Place → Data → Outcome (Option ByteRange)
-range_said place d = range_from place (get (codes "offset") d) (get (codes "length") d)
+abbrev pub byte_range_said : Place → Data → Outcome (Option ByteRange)
+byte_range_said place d = byte_range_from place (get (codes "offset") d) (get (codes "length") d)
 
 -- ---- an ad's map and key
 
@@ -44,7 +44,7 @@ abbrev pub Part : Type 0
 Part = List ℕ × Option ByteRange
 
 abbrev pub part_said : Place → List ℕ → Data → Outcome Part
-part_said place uri d = refuse_if (not (is_uri uri)) (fault_at place BadUri) (range_said place d >>= λ range. Ok (uri, range))
+part_said place uri d = refuse_if (not (is_uri uri)) (fault_at place BadUri) (byte_range_said place d >>= λ byte_range. Ok (uri, byte_range))
 
 abbrev pub map_said : Place → Data → Outcome Part
 map_said place d = or_fault (fault_at place Shape) (text_at (codes "uri") d) >>= λ uri. part_said place uri d
@@ -87,7 +87,7 @@ keys_of (Some key) = key ∷ []
 
 -- the section has the ad's keys
 abbrev pub section_with : List Key → Part → InitSection
-section_with keys part = record { uri = part.0; range = part.1; keys = keys }
+section_with keys part = record { uri = part.0; byte_range = part.1; keys = keys }
 
 -- ---- segments
 
@@ -95,7 +95,7 @@ abbrev pub segment_texts : Place → List ℕ → List ℕ → Data → Outcome 
 segment_texts place uri duration d =
     part_said place uri d >>= λ part.
     mended (fault_at place BadDuration) (duration_of duration) >>= λ nanos.
-    Ok (record { uri = part.0; range = part.1; duration = nanos })
+    Ok (record { uri = part.0; byte_range = part.1; duration = nanos })
 
 abbrev pub segment_said : Place → Data → Outcome PodSegment
 segment_said place d =

@@ -5,7 +5,7 @@ use Rattle.decision_files.specs.declared.keys.Part.{Part}
 use Rattle.decision_files.specs.Decided as said
 
 abbrev pub part_of : Part → said.Part
-part_of part = (part.uri, part.range)
+part_of part = (part.uri, part.byte_range)
 
 abbrev pub text_of : Bor (List ℕ) → List ℕ
 text_of text = text.now

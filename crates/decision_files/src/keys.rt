@@ -7,7 +7,7 @@ ghost use Rattle.pod_store.specs.Outcome.{Gives, GivesExactly, optional, or_faul
 ghost use Rattle.decision_files.specs.Decided.{part_said, map_said, format_said, text_of, method_said, key_uri_said, iv_said, key_said, key_members, keys_of, section_with};
 ghost use Rattle.decision_files.specs.Views.{part_of};
 
-use crate::members::{range_said, text_at};
+use crate::members::{byte_range_said, text_at};
 use crate::texts::{is_format, is_method, is_uri};
 use attr_list::read_hex_u128;
 use playlist_meaning::{ByteRange, InitSection, Items, Key, Keys, OtherAttributes, Shared, Text};
@@ -24,10 +24,10 @@ pub struct Part {
     /// Its URI.
     pub uri: Shared<Text>,
     /// The part, where it isn't the whole.
-    pub range: Option<ByteRange>,
+    pub byte_range: Option<ByteRange>,
 }
 
-/// A resource and the part that the object's range states.
+/// A resource and the part that the object's byte range states.
 pub fn part_said(
     alloc: Global,
     place: Place,
@@ -39,9 +39,9 @@ pub fn part_said(
     if !is_uri(uri) {
         return Err(place.fault(DecisionKind::BadUri));
     }
-    let range = range_said(place, value)?;
+    let byte_range = byte_range_said(place, value)?;
     let uri = Shared::copy_of(alloc, uri)?;
-    Ok(Part { uri, range })
+    Ok(Part { uri, byte_range })
 }
 
 /// What an ad's map says.
@@ -150,7 +150,7 @@ pub fn section_with(keys: &Keys, part: Part) -> Result<InitSection, AllocError>
 {
     Ok(InitSection {
         uri: part.uri,
-        range: part.range,
+        byte_range: part.byte_range,
         keys: keys.clone()?,
     })
 }

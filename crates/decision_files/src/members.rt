@@ -2,7 +2,7 @@
 ghost use Rattle.std.specs.Prelude.{◌≡◌, codes, map, option_map, length, ◌≤◌};
 ghost use Rattle.serde_json.specs.View.{view};
 ghost use Rattle.decision_files.specs.Json.{text_at, values_of, list_at, u64_of};
-ghost use Rattle.decision_files.specs.Decided.{stated_range, range_said};
+ghost use Rattle.decision_files.specs.Decided.{stated_byte_range, byte_range_said};
 
 use playlist_meaning::ByteRange;
 use pod_store::{DecisionFault, DecisionKind, Place};
@@ -45,12 +45,12 @@ fn u64_of(value: &Value) -> Option<u64>
     value.as_u64()
 }
 
-fn stated_range(
+fn stated_byte_range(
     place: Place,
     offset: Option<u64>,
     length: Option<u64>,
 ) -> Result<ByteRange, DecisionFault>
-    ensures { result ≡ stated_range place offset length }
+    ensures { result ≡ stated_byte_range place offset length }
 {
     let Some(offset) = offset else {
         return Err(place.fault(DecisionKind::Shape));
@@ -65,14 +65,14 @@ fn stated_range(
 }
 
 /// The byte range that `offset` and `length` state: both or neither is there.
-pub fn range_said(place: Place, value: &Value) -> Result<Option<ByteRange>, DecisionFault>
-    ensures { result ≡ range_said place (view value.now) }
+pub fn byte_range_said(place: Place, value: &Value) -> Result<Option<ByteRange>, DecisionFault>
+    ensures { result ≡ byte_range_said place (view value.now) }
 {
     match (value.get("offset"), value.get("length")) {
         (None, None) => Ok(None),
         (Some(offset), Some(length)) => {
-            let range = stated_range(place, u64_of(offset), u64_of(length))?;
-            Ok(Some(range))
+            let byte_range = stated_byte_range(place, u64_of(offset), u64_of(length))?;
+            Ok(Some(byte_range))
         }
         _ => Err(place.fault(DecisionKind::Shape)),
     }

@@ -27,7 +27,7 @@ fn segment_texts(
     match Nanos::read(duration) {
         Ok(duration) => Ok(PodSegment {
             uri: part.uri,
-            range: part.range,
+            byte_range: part.byte_range,
             duration,
         }),
         Err(_) => Err(place.fault(DecisionKind::BadDuration)),

@@ -7,7 +7,7 @@ use Rattle.edge_messages.specs.declared.named.Naming.TheVariants as naming
 abbrev pub is_at : {A : Type 0} → List ℕ → String A → Bool
 is_at name key = bytes_eq name (string_bytes key)
 
--- it stands behind the others, or else they are as they were: the name is taken, there are as many as there may be, or
+-- it stands after the others, or else they are as they were: the name is taken, there are as many as there may be, or
 -- memory was refused, which is told only where it could have been put there
 abbrev pub PutsNamed : {A V E : Type 0} → ℕ → List ℕ → V → List (String A × V) → Result Naming E → List (String A × V) → Type 0
 PutsNamed most name value old (Ok naming.Done) new =

@@ -1,11 +1,13 @@
 -- What a target names.
-use Rattle.std.specs.Prelude.{ℕ, Bool, ◌&&◌, ◌||◌, ◌==◌, nat_le, List, [], ◌∷◌, ◌++◌, codes, length, drop, Option, Some, None, option_and_then, if◌then◌else◌}
+use Rattle.std.specs.Prelude.{ℕ, Bool, ◌≡◌, ◌&&◌, ◌||◌, ◌==◌, nat_le, List, [], ◌∷◌, ◌++◌, codes, length, drop, Option, Some, None, option_and_then, if◌then◌else◌}
 use Rattle.std.specs.Borrow.{Bor}
 use Rattle.std.specs.List.{list_all, before_first}
 use Rattle.std.specs.Char.{is_ascii_digit, is_ascii_lowercase}
 use Rattle.matchit.specs.Rows.{RowsOf}
 use Rattle.matchit.specs.Router.{RouteOf}
 use Rattle.matchit.specs.Seek.{first}
+use Rattle.matchit.specs.declared.error.InsertError.{InsertError}
+use Rattle.matchit.specs.declared.error.InsertError.TheVariants.{OutOfMemory}
 use Rattle.edge_messages.specs.declared.routes.Resource.{Resource}
 use Rattle.edge_messages.specs.declared.routes.Resource.TheVariants.{Channel, Origin, Decisions, Live, Why}
 
@@ -34,6 +36,10 @@ row tail resource = (
 abbrev pub route_rows : RowsOf (RouteOf Resource)
 route_rows =
     row (codes "/decisions") Decisions ∷ row (codes "/live.m3u8") Live ∷ row (codes "/origin") Origin ∷ row (codes "/why") Why ∷ row [] Channel ∷ []
+
+-- memory was refused, and no route was in another one's way
+abbrev pub IsWantOfMemory : InsertError → Type 0
+IsWantOfMemory e = e ≡ OutOfMemory
 
 -- what the router finds for a path
 abbrev pub found_at : List ℕ → Option (RouteOf Resource)

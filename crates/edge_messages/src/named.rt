@@ -17,7 +17,7 @@ pub enum Naming {
     Full,
 }
 
-/// Puts a value under a name that none has, behind the others, where there are fewer than the most. Fails only where it
+/// Puts a value under a name that none has, after the others, where there are fewer than the most. Fails only where it
 /// would be put there and memory is refused; the others are as they were then.
 pub fn put_named<V: Drop>(
     alloc: Global,

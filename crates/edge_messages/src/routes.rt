@@ -1,7 +1,7 @@
 //! What a path names.
-ghost use Rattle.std.specs.Prelude.{◌≡◌, [], drop, option_map, false, MatchOption, OnOk};
+ghost use Rattle.std.specs.Prelude.{◌≡◌, [], drop, option_map, false, MatchOption, OnOk, IfErr};
 ghost use Rattle.std.specs.List.{list_all};
-ghost use Rattle.edge_messages.specs.Routes.{is_name_byte, is_name, path_of, route_rows, name_in, found_at, route_of, pair};
+ghost use Rattle.edge_messages.specs.Routes.{is_name_byte, is_name, path_of, route_rows, name_in, found_at, route_of, pair, IsWantOfMemory};
 
 use matchit::{InsertError, Router};
 use std::alloc::Global;
@@ -46,8 +46,8 @@ fn path_of(target: &str) -> &str
     }
 }
 
-// What stands behind the front of a path, where it may be cut there; elsewhere there is no name.
-fn behind_front(path: &str) -> Option<&str>
+// What stands after the front of a path, where it may be cut there; elsewhere there is no name.
+fn after_front(path: &str) -> Option<&str>
     ensures { MatchOption result (is_name (name_in path.now) ≡ false) (λ rest. rest.now ≡ drop 10 path.now) }
 {
     path.get(FRONT..)
@@ -57,7 +57,7 @@ fn behind_front(path: &str) -> Option<&str>
 fn name_in(path: &str) -> Option<&str>
     ensures { MatchOption result (is_name (name_in path.now) ≡ false) (λ name. name.now ≡ name_in path.now) }
 {
-    let rest = behind_front(path)?;
+    let rest = after_front(path)?;
     match rest.split_once('/') {
         Some((front, _)) => Some(front),
         None => Some(rest),
@@ -89,7 +89,8 @@ pub fn is_name(name: &str) -> bool
 // The routes go into a router that has none.
 fn insert_routes(router: &mut Router<Resource>) -> Result<(), InsertError>
     requires { router.old ≡ [] }
-    ensures { OnOk result (router.new ≡ route_rows) }
+    ensures rows { OnOk result (router.new ≡ route_rows) }
+    ensures memory { IfErr result IsWantOfMemory }
 {
     router.insert("/channels/{name}", Resource::Channel)?;
     router.insert("/channels/{name}/origin", Resource::Origin)?;
@@ -100,7 +101,10 @@ fn insert_routes(router: &mut Router<Resource>) -> Result<(), InsertError>
 }
 
 impl Routes {
-    pub fn new(alloc: Global) -> Result<Routes, InsertError> {
+    /// The routes of the edge. Fails for want of memory alone: none of them is in another one's way.
+    pub fn new(alloc: Global) -> Result<Routes, InsertError>
+        ensures { IfErr result IsWantOfMemory }
+    {
         let mut router = Router::new(alloc);
         insert_routes(&mut router)?;
         Ok(Routes { router })

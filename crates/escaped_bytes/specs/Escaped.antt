@@ -12,7 +12,7 @@ is_digit b = (nat_le 48 b && nat_le b 57) || (nat_le 97 b && nat_le b 102)
 abbrev pub digit_of : ℕ → ℕ
 digit_of b = if nat_le b 57 then b - 48 else b - 87
 
--- what a byte behind a backslash stands for: `n` for a line feed, `r` for a carriage return, any other for itself
+-- what a byte after a backslash stands for: `n` for a line feed, `r` for a carriage return, any other for itself
 abbrev pub named : ℕ → ℕ
 named b = if b == 110 then 10 else (if b == 114 then 13 else b)
 

@@ -8,7 +8,7 @@ use std::alloc::{AllocError, Global};
 
 /// The bytes that a text stands for: a backslash and `n` a line feed, a backslash and `r` a carriage return, a backslash, `x`
 /// and two hexadecimal digits (`0` to `9`, `a` to `f`) the byte of this number, a backslash and any other byte that byte.
-/// Each byte that is not behind a backslash stands for itself, and so does a backslash at the end.
+/// Each byte that is not after a backslash stands for itself, and so does a backslash at the end.
 pub fn bytes_of(alloc: Global, text: &str) -> Result<Vec<u8>, AllocError>
     ensures { IfOk result (λ bytes. bytes.items ≡ bytes_of text.now) }
 {
@@ -36,7 +36,7 @@ fn first_of(text: &[u8]) -> Option<(u8, &[u8])>
     }
 }
 
-// What a byte behind a backslash stands for.
+// What a byte after a backslash stands for.
 fn named(byte: u8) -> u8
     ensures { result ≡ named byte }
 {

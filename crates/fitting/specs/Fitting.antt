@@ -7,7 +7,7 @@ use Rattle.playlist_meaning.specs.Lines.{has_control}
 use Rattle.playlist_meaning.specs.Uri.{has_scheme}
 use Rattle.playlist_meaning.specs.Carried.{are_others}
 use Rattle.playlist_meaning.specs.LookBack.{are_sorted}
-use Rattle.playlist_meaning.specs.Said.{Said, date_range, Outcome, range_end_fits, date_range_said}
+use Rattle.playlist_meaning.specs.Said.{Said, date_range, Outcome, byte_range_end_fits, date_range_said}
 use Rattle.playlist_meaning.specs.Reading.{limited, needs_iv}
 use Rattle.playlist_meaning.specs.declared.Key.{Key}
 use Rattle.playlist_meaning.specs.declared.ByteRange.{ByteRange}
@@ -37,9 +37,9 @@ uri_fits uri = is_clean uri && has_scheme uri
 abbrev pub quoted_uri_fits : List ℕ → Bool
 quoted_uri_fits uri = value_fits true uri && has_scheme uri
 
--- a range ends below 2^64
-abbrev pub range_fits : ByteRange → Bool
-range_fits range = range_end_fits range.length range.offset
+-- a byte range ends below 2^64
+abbrev pub byte_range_fits : ByteRange → Bool
+byte_range_fits byte_range = byte_range_end_fits byte_range.length byte_range.offset
 
 -- below 1,000,000 s
 abbrev pub duration_fits : ℕ → Bool
@@ -53,7 +53,7 @@ iv_fits iv = nat_lt iv (2 ^ 128)
 abbrev pub method_fits : List ℕ → Bool
 method_fits method = value_fits false method && not (bytes_eq method (codes "NONE"))
 
--- attributes without a meaning of their own, each behind a comma
+-- attributes without a meaning of their own, each after a comma
 abbrev pub others_fit : List ℕ → Bool
 others_fit text = is_clean text && are_others text
 
@@ -77,7 +77,7 @@ effective_keys_fit keys = keys_fit keys && list_all states_iv keys
 
 abbrev pub section_fits : InitSection → Bool
 section_fits s =
-    quoted_uri_fits s.uri && if_some range_fits s.range && keys_fit s.keys && not (list_any needs_iv s.keys)
+    quoted_uri_fits s.uri && if_some byte_range_fits s.byte_range && keys_fit s.keys && not (list_any needs_iv s.keys)
 
 -- ---- date ranges (4.3.2.7)
 

@@ -2,17 +2,17 @@
 ghost use Rattle.std.specs.Prelude.{◌≡◌};
 ghost use Rattle.std.specs.List.{list_any, list_all};
 ghost use Rattle.playlist_meaning.specs.LookBack.{is_before, are_sorted};
-ghost use Rattle.fitting.specs.Fitting.{if_some, range_fits, iv_fits, others_fit, method_fits, key_fits, keys_fit, states_iv, effective_keys_fit, section_fits};
+ghost use Rattle.fitting.specs.Fitting.{if_some, byte_range_fits, iv_fits, others_fit, method_fits, key_fits, keys_fit, states_iv, effective_keys_fit, section_fits};
 
 use crate::texts::{is_clean, quoted_uri_fits, value_fits};
 use playlist_meaning::{ByteRange, InitSection, Key, OtherAttributes, is_iv_needed};
 
-/// Whether a range ends below 2^64, where there is one.
-pub fn range_fits(range: Option<ByteRange>) -> bool
-    ensures { result ≡ if_some range_fits range }
+/// Whether a byte range ends below 2^64, where there is one.
+pub fn byte_range_fits(byte_range: Option<ByteRange>) -> bool
+    ensures { result ≡ if_some byte_range_fits byte_range }
 {
-    match range {
-        Some(range) => range.length.checked_add(range.offset).is_some(),
+    match byte_range {
+        Some(byte_range) => byte_range.length.checked_add(byte_range.offset).is_some(),
         None => true,
     }
 }
@@ -105,7 +105,7 @@ pub fn section_fits(section: &InitSection) -> bool
 {
     let keys = section.keys.as_slice();
     quoted_uri_fits(section.uri.as_str())
-        && range_fits(section.range)
+        && byte_range_fits(section.byte_range)
         && keys_fit(keys)
         && !is_iv_needed(keys)
 }

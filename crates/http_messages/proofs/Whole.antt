@@ -1,4 +1,4 @@
--- What bytes ask, and what they ask with more behind them.
+-- What bytes ask, and what they ask with more after them.
 use Rattle.std.proofs.Common.{◌≡◌, ℕ, List, [], ◌++◌, length-drop, take, drop, sym, ap, subst, ◌∙◌, inl, inr, arith, length-append, true≢false, append_assoc}
 use Rattle.std.specs.Prelude.{Option, Some, None}
 use Rattle.std.specs.Io.KnownBytes.{Consumes}

@@ -2,7 +2,7 @@
 #![tactic(auto)]
 
 mod head;
-mod laws;
+pub mod laws;
 mod message;
 mod receiving;
 mod refusal;
@@ -10,7 +10,6 @@ mod reply_head;
 mod sending;
 
 pub use head::{BODY_LIMIT, FIELD_LIMIT, HEAD_LIMIT};
-pub use laws::bytes_ask_one_thing;
 pub use message::{Allow, Body, Content, ContentType, Reply, Request};
 pub use receiving::{Asked, MOST_READS, ReceiveFault, receive};
 pub use refusal::{Refusal, plain_reply, refusal_reply};

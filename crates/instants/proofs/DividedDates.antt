@@ -129,6 +129,6 @@ found y d even h e =
 pub early_month : (y d : ℕ) → d < days_in_year y → d + 306 < days_in_year y → (month_at d, day_at d) ≡ month_after 12 y 1 d
 early_month y d h l = found y d d h (cond-true _ _ _ (lt-ltb _ _ l))
 
--- and of one that lies behind it
+-- and of one that lies after it
 pub late_month : (y d : ℕ) → d < days_in_year y → days_in_year y ≤ d + 306 → (month_at (d + 367 - days_in_year y), day_at (d + 367 - days_in_year y)) ≡ month_after 12 y 1 d
 late_month y d h l = found y d (d + 367 - days_in_year y) h (cond-false _ _ _ (le-ltb _ _ l))

@@ -28,7 +28,7 @@ const DAYS_OF_FOUR_YEARS: u64 = 1461;
 static PAIRS: [u8; 200] =
     *b"00010203040506070809101112131415161718192021222324252627282930313233343536373839404142434445464748495051525354555657585960616263646566676869707172737475767778798081828384858687888990919293949596979899";
 
-// Writes one character behind the first `at` ones.
+// Writes one character after the first `at` ones.
 fn put_mark(text: &mut [u8; LONGEST], at: usize, mark: u8)
     requires { at < 30 }
     ensures { take (at + 1) text.new ≡ take at text.old ++ mark ∷ [] }
@@ -165,7 +165,7 @@ fn month_of(year: u64, days: u64) -> (u64, u64)
     if days >= year_days {
         return month_after(12, year, 1, days);
     }
-    // 306 days of each year lie behind its February.
+    // 306 days of each year lie after its February.
     if days + 306 < year_days {
         return even_month(days);
     }

@@ -21,7 +21,7 @@ use Rattle.live_meaning.specs.Successor.{first_number}
 use Rattle.live_meaning.specs.Marking.{is_new, last_entered}
 use Rattle.live_meaning.specs.Live.{is_marked, states_instant}
 use Rattle.live_meaning.specs.LiveLaws.{window_on}
-use Rattle.live_meaning.specs.Kept.{head_numbers, numbers_on, kept_ranges}
+use Rattle.live_meaning.specs.Kept.{head_numbers, numbers_on, kept_date_ranges}
 use Rattle.live_meaning.specs.Live.{date_range_text}
 use Rattle.live_window.specs.Marking.{so_far}
 use Rattle.live_window.specs.Showing.{kept_in}
@@ -93,13 +93,13 @@ module _ (state : State) (p : Playlist) (held : List Held) where
 
   pub text_seen : (items : List OutSegment) (ids : List (List ℕ)) (text : List ℕ)
       → items ≡ map written_item window → ((id : List ℕ) → is_one_of ids id ≡ is_used_after (kept_in state) p seen id)
-      → text ≡ text_of (out_with p (map date_range_text (kept_ranges (list_any states_time items) (is_one_of ids) p.date_ranges)) items)
+      → text ≡ text_of (out_with p (map date_range_text (kept_date_ranges (list_any states_time items) (is_one_of ids) p.date_ranges)) items)
       → text ≡ text_with_window p (is_used_after (kept_in state) p seen) window
   text_seen items ids text w u t =
       let stated : list_any states_time items ≡ list_any states_instant window = ap (list_any states_time) w ∙ timed window in
       t
-      ∙ (ap (λ os. text_of (out_with p (map date_range_text (kept_ranges (list_any states_time items) (is_one_of ids) p.date_ranges)) os)) w
-      ∙ (ap (λ b. text_of (out_with p (map date_range_text (kept_ranges b (is_one_of ids) p.date_ranges)) (map written_item window))) stated
+      ∙ (ap (λ os. text_of (out_with p (map date_range_text (kept_date_ranges (list_any states_time items) (is_one_of ids) p.date_ranges)) os)) w
+      ∙ (ap (λ b. text_of (out_with p (map date_range_text (kept_date_ranges b (is_one_of ids) p.date_ranges)) (map written_item window))) stated
       ∙ ap (λ (rs : List DateRange). text_of (out_with p (map date_range_text (cond (list_any states_instant window) rs [])) (map written_item window))) (others (is_one_of ids) (is_used_after (kept_in state) p seen) p.date_ranges u)))
 
   pub numbers_seen : (items : List OutSegment) (n : Numbers) → items ≡ map written_item window → n ≡ head_of items → n ≡ head_numbers window

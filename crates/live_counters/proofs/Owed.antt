@@ -23,7 +23,7 @@ use Rattle.live_meaning.specs.declared.fault.RefreshFault.{RefreshFault}
 use Rattle.live_meaning.specs.declared.fault.RefreshFault.TheVariants.{NumberRange}
 use Rattle.live_meaning.specs.Sound.{IsSoundPlaylist, IsSoundEvent}
 use Rattle.live_meaning.specs.Successor.{Succeeds, first_number, is_mapped, fault_if}
-use Rattle.live_meaning.specs.Live.{Event, Told, told, refusal, range_fault, succession_fault, last_playlist, in_use, after_refresh, window_after, owed, owed_for}
+use Rattle.live_meaning.specs.Live.{Event, Told, told, refusal, number_range_fault, succession_fault, last_playlist, in_use, after_refresh, window_after, owed, owed_for}
 use Rattle.live_meaning.specs.Live as live
 use Rattle.live_meaning.specs.LiveLaws.{GoesOn, first_shown}
 use Rattle.live_meaning.specs.Kept.{Kept, kept_of}
@@ -127,7 +127,7 @@ module _ (c : Channel) (given : List Given) (bytes : List ℕ) (s : StandsFor c 
   accepted_step : (r : Reading) → reading limited c.base bytes ≡ r → IsOk (answer_read c.tolerance t r) → IsAcceptable c given bytes
   accepted_step (Err fault) e h = absurd (cc)
   accepted_step (Ok p) e h =
-      let a = none_parts (succession_fault (last_playlist t.accepted) p) (range_fault (after_refresh c.tolerance t p)) (judged_ok (refusal c.tolerance t p) _ h) in
+      let a = none_parts (succession_fault (last_playlist t.accepted) p) (number_range_fault (after_refresh c.tolerance t p)) (judged_ok (refusal c.tolerance t p) _ h) in
       record {
         playlist = p;
         read = e;
@@ -139,7 +139,7 @@ module _ (c : Channel) (given : List Given) (bytes : List ℕ) (s : StandsFor c 
   answered a =
       let p = a.playlist in
       let none : refusal c.tolerance t p ≡ None =
-      parts_none (succession_fault (last_playlist t.accepted) p) (range_fault (after_refresh c.tolerance t p)) ((follows p a.read).1 a.succeeds) (ap (λ b. fault_if (not b) NumberRange) a.fits) in
+      parts_none (succession_fault (last_playlist t.accepted) p) (number_range_fault (after_refresh c.tolerance t p)) ((follows p a.read).1 a.succeeds) (ap (λ b. fault_if (not b) NumberRange) a.fits) in
       let done = refreshed_with (window_after (after_refresh c.tolerance t p) p) (fresh_after t.history p) in
       subst (λ r. IsOk (answer_read c.tolerance t r)) (sym a.read) (subst (λ o. IsOk (judged o done)) (sym none) refl)
 

@@ -95,9 +95,9 @@ kept_ext a b store breaks last shown entered numbers =
     ∙ (ap (λ (x : Option (List ℕ)). record b { entered = x; numbers = a.numbers }) entered
     ∙ ap (λ (x : Numbers). record b { numbers = x }) numbers))))
 
-no_fault : (succession range : Option RefreshFault) → succession ≡ None → range ≡ None → or_earlier succession range ≡ None
-no_fault None range e f = f
-no_fault (Some fault) range e f = absurd (cc)
+no_fault : (succession number_range : Option RefreshFault) → succession ≡ None → number_range ≡ None → or_earlier succession number_range ≡ None
+no_fault None number_range e f = f
+no_fault (Some fault) number_range e f = absurd (cc)
 
 abbrev Says : Reading → Reading → Type 0
 Says a b = a ≡ b

@@ -18,7 +18,7 @@ use Rattle.playlist_meaning.proofs.LimitLaws.{reads_what_is_denoted}
 use Rattle.live_laws.specs.Laws.{CanBeGiven}
 use Rattle.live_laws.proofs.Always.{always_denotes}
 use Rattle.live_counters.specs.declared.channel.Refreshed.{Refreshed}
-use Rattle.live_meaning.specs.Live.{Event, Told, told, refusal, last_playlist, after_refresh, window_after, written_ranges}
+use Rattle.live_meaning.specs.Live.{Event, Told, told, refusal, last_playlist, after_refresh, window_after, written_date_ranges}
 use Rattle.live_meaning.specs.Live as live
 use Rattle.live_meaning.specs.Kept.{Kept, kept_of, kept_refusal, kept_window}
 use Rattle.live_meaning.specs.KeptLaws.{Follows}
@@ -103,7 +103,7 @@ module _ (base : Parts) (tolerance : ℕ) (text : Option (List ℕ)) (given : Li
   same_channel p f text_is (Some fault) e = (refl, text_is)
   same_channel p f text_is None e =
       let now : happened p ≡ after_refresh tolerance t p = ap (λ o. cond (is_none o) (after_refresh tolerance t p) t) e in
-      let date_ranges = f.date_ranges e ∙ ap (λ u. written_ranges u p) now in
+      let date_ranges = f.date_ranges e ∙ ap (λ u. written_date_ranges u p) now in
       let window = f.window e ∙ ap (λ u. window_after u p) now in (
         f.kept e ∙ ap kept_of now,
         ap (λ (rs : List DateRange). Some (text_of (record (playlist_after tolerance (kept_of t) p) { date_ranges = map date_range_text rs }))) date_ranges

@@ -23,7 +23,7 @@ use Rattle.live_meaning.specs.Live.{succession_fault, states_instant}
 use Rattle.live_meaning.specs.LiveLaws.{window_on}
 use Rattle.live_meaning.specs.Successor.{first_number}
 use Rattle.live_meaning.specs.Marking.{is_new, last_entered}
-use Rattle.live_meaning.specs.Kept.{Kept, shown_from, head_numbers, numbers_on, is_in_use, kept_acceptance, kept_list, kept_ranges}
+use Rattle.live_meaning.specs.Kept.{Kept, shown_from, head_numbers, numbers_on, is_in_use, kept_acceptance, kept_list, kept_date_ranges}
 use Rattle.live_counters.specs.declared.refresh.NextKept.{NextKept}
 use Rattle.live_counters.specs.declared.written.Written.{Written}
 use Rattle.live_window.specs.Marking.{so_far}
@@ -54,7 +54,7 @@ is_used_after kept p list id = is_in_use (first_number p.segments) list (or_earl
 
 -- the playlist's text with this window in place of its segments, without the date ranges of these breaks
 abbrev pub text_with_window : Playlist → (List ℕ → Bool) → List Item → List ℕ
-text_with_window p uses window = text_of (out_with p (map date_range_text (kept_ranges (list_any states_instant window) uses p.date_ranges)) (map written_item window))
+text_with_window p uses window = text_of (out_with p (map date_range_text (kept_date_ranges (list_any states_instant window) uses p.date_ranges)) (map written_item window))
 
 -- what is written, and which breaks are used, where these segments are shown: each number of the stitched list fits
 pub record IsWritten (kept : Kept) (p : Playlist) (list : List Marked) (w : Written) : Type 0 where

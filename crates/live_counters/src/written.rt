@@ -5,7 +5,7 @@ ghost use Rattle.playlist_meaning.specs.Stitched.{fits, numbered, stitched};
 ghost use Rattle.playlist_write.specs.Owed.{text_of};
 ghost use Rattle.pod_store.specs.Store.{is_one_of};
 ghost use Rattle.stitcher.specs.StitchedSegments.{AreDecided};
-ghost use Rattle.live_meaning.specs.Kept.{numbers_on, kept_ranges};
+ghost use Rattle.live_meaning.specs.Kept.{numbers_on, kept_date_ranges};
 ghost use Rattle.live_meaning.specs.Live.{date_range_text};
 ghost use Rattle.live_window.specs.Marking.{so_far};
 ghost use Rattle.live_window.specs.Showing.{kept_in};
@@ -14,7 +14,7 @@ ghost use Rattle.live_counters.specs.Accepting.{IsWritten, out_with};
 
 use live_meaning::RefreshFault;
 use live_window::{
-    State, first_number, head_of, last_entered, numbers_on, ranges_left, used_ids, window_of,
+    State, date_ranges_left, first_number, head_of, last_entered, numbers_on, used_ids, window_of,
 };
 use playlist_meaning::{Items, Playlist, Shared, Text};
 use playlist_write::{OutPlaylist, written};
@@ -64,9 +64,9 @@ fn text_without(
     ids: &[Text],
     items: Vec<OutSegment<'_>>,
 ) -> Result<Shared<Text>, AllocError>
-    ensures { IfOk result (λ text. text ≡ text_of (out_with playlist.now (map date_range_text (kept_ranges (list_any states_time items.entry.items) (is_one_of ids.now) playlist.now.date_ranges)) items.entry.items)) }
+    ensures { IfOk result (λ text. text ≡ text_of (out_with playlist.now (map date_range_text (kept_date_ranges (list_any states_time items.entry.items) (is_one_of ids.now) playlist.now.date_ranges)) items.entry.items)) }
 {
-    let date_ranges = ranges_left(
+    let date_ranges = date_ranges_left(
         alloc,
         items.as_slice(),
         ids,

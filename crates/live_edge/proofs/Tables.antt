@@ -76,12 +76,12 @@ module _ {A : Type 0} (name : List ℕ) where
   taken_out (e ∷ es) (t ∷ ts) s =
       remove_step (is_at name e.0) (bytes_eq name t.name) e t es (remove_entry (is_at name) es) ts (without name ts) (same_test e.0 t.name s.0) s.0 s.1 s.2 (taken_out es ts s.2)
 
-  pub added_behind : (es : Entries A) (table : Table) (key : String A) (k : channel.Channel) (g : Given) → Stands (map kept_of es) table
+  pub added_after : (es : Entries A) (table : Table) (key : String A) (k : channel.Channel) (g : Given) → Stands (map kept_of es) table
       → string_bytes key ≡ name → IsGiven k g → Stands (map kept_of (es ++ (key, k) ∷ [])) (table ++ record { name = name; given = g } ∷ [])
-  added_behind [] [] key k g s n h = (n, h, tt)
-  added_behind [] (t ∷ ts) key k g s n h = absurd s
-  added_behind (e ∷ es) [] key k g s n h = absurd s
-  added_behind (e ∷ es) (t ∷ ts) key k g s n h = (s.0, s.1, added_behind es ts key k g s.2 n h)
+  added_after [] [] key k g s n h = (n, h, tt)
+  added_after [] (t ∷ ts) key k g s n h = absurd s
+  added_after (e ∷ es) [] key k g s n h = absurd s
+  added_after (e ∷ es) (t ∷ ts) key k g s n h = (s.0, s.1, added_after es ts key k g s.2 n h)
 
 pub as_many : {A : Type 0} (es : Entries A) (table : Table) → Stands (map kept_of es) table → length es ≡ length table
 as_many [] [] s = refl

@@ -23,7 +23,7 @@ use Rattle.live_edge.specs.Table.{Table, Entry, Turn, unmoved, event_turn, given
 use Rattle.live_edge.specs.Events.{TakesOne, Takes}
 use Rattle.live_edge.specs.Edges.{Kept, kept_of, Stands, TakenTurn}
 use Rattle.live_edge.proofs.Given.{text_is, why_is}
-use Rattle.live_edge.proofs.Tables.{Entries, Agree, none_agrees, some_agrees, found, put, taken_out, added_behind, as_many}
+use Rattle.live_edge.proofs.Tables.{Entries, Agree, none_agrees, some_agrees, found, put, taken_out, added_after, as_many}
 
 -- nothing moved
 pub unmoved_turn : {E : Type 0} (table : Table) (x : Reply) (t : Turn) (r : Result Reply E) (kept : List Kept) → t ≡ unmoved table x
@@ -202,4 +202,4 @@ module _ (table : Table) (name : List ℕ) (parts : Parts) (tolerance : ℕ) whe
     is_added E y p h q =
         let t = is_free p.0 ∙ ap (λ c. cond c (unmoved table (bare 503)) grown) (as_room _ _ p.1 (as_many es table s)) in
         subst (λ x. TakenTurn {E = E} x table (Ok y) (map kept_of fs)) (sym t)
-        (q, subst (λ l. Stands (map kept_of l) grown.table) (sym p.4) (added_behind name es table p.2 k (record { base = parts; tolerance = tolerance; events = [] }) s p.3 h))
+        (q, subst (λ l. Stands (map kept_of l) grown.table) (sym p.4) (added_after name es table p.2 k (record { base = parts; tolerance = tolerance; events = [] }) s p.3 h))

@@ -50,7 +50,7 @@ pub record HasServed (source_old source_new sink_old sink_new : Option (List ℕ
   pub served : IsServed bytes old new text status
   pub written : Appends sink_old sink_new text
 
--- the same, but the sink failed behind a front of the text
+-- the same, but the sink failed after a front of the text
 pub record HasServedFront (source_old source_new sink_old sink_new : Option (List ℕ)) (old new : List Kept) : Type 0 where
   pub bytes : List ℕ
   pub text : List ℕ

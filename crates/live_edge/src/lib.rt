@@ -3,7 +3,7 @@
 
 mod edge;
 mod events;
-mod laws;
+pub mod laws;
 mod replies;
 mod serving;
 
@@ -11,5 +11,4 @@ pub use edge::{CHANNEL_LIMIT, Edge};
 pub use edge_messages::{
     FaultText, LiveWords, Timed, read_live_words, refresh_fault_text, why_word,
 };
-pub use laws::{channels_are_isolated, runs_are_isolated};
 pub use serving::{EdgeFault, Served, serve};

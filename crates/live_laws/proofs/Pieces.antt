@@ -15,7 +15,7 @@ use Rattle.playlist_meaning.specs.Marks.{Mark, Marked, continues}
 use Rattle.playlist_meaning.specs.Stitched.{Piece, is_kept, with_keys, ad_piece, ad_pieces, pieces_of_ads, pod_pieces, run_pieces, stitched, Numbers, steps_between, numbers_at, Item, numbered, fits}
 use Rattle.stitcher.specs.declared.OutSegment.{OutSegment}
 use Rattle.stitcher.specs.Written.{written_item}
-use Rattle.fitting.specs.Fitting.{if_some, is_clean, uri_fits, range_fits, effective_keys_fit, section_fits}
+use Rattle.fitting.specs.Fitting.{if_some, is_clean, uri_fits, byte_range_fits, effective_keys_fit, section_fits}
 use Rattle.playlist_meaning.specs.Numbering.{follows, all_follow}
 use Rattle.playlist_write.specs.WellFormed.{resource_fits, duration_fits, segment_fits, out_numbers, numbers_fit, is_mapped, sections_agree}
 use Rattle.pod_store.specs.Laws.{segment_can_be_written, ad_can_be_written}
@@ -44,7 +44,7 @@ empty_is_clean = and_from _ _ (is_utf8-from_IsUtf8 [] IsUtf8-nil) (ap (λ cs. no
 segment_stands : (mark : Mark) (first : Bool) (ad : Ad) (s : PodSegment) → effective_keys_fit ad.keys ≡ true → if_some section_fits (option_map (with_keys ad.keys) ad.section) ≡ true
     → segment_can_be_written s ≡ true → piece_stands (ad_piece mark first ad s) ≡ true
 segment_stands mark first ad s k m h =
-    let a : ((uri_fits s.uri && if_some range_fits s.range) ≡ true) × (duration_fits s.duration ≡ true) = and_parts _ _ h in
+    let a : ((uri_fits s.uri && if_some byte_range_fits s.byte_range) ≡ true) × (duration_fits s.duration ≡ true) = and_parts _ _ h in
     and_from _ _ (and_from _ _ (and_from _ _ (and_from _ _ (and_from _ _ a.0 k) m) a.1) empty_is_clean) refl
 
 later_stand : (mark : Mark) (ad : Ad) (segments : List PodSegment) → effective_keys_fit ad.keys ≡ true → if_some section_fits (option_map (with_keys ad.keys) ad.section) ≡ true

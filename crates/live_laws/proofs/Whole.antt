@@ -22,7 +22,7 @@ use Rattle.reading_laws.specs.Read.{version_reads, IsSaid, text_is_clean}
 use Rattle.live_meaning.specs.declared.fault.RefreshFault.TheVariants.{NumberRange}
 use Rattle.live_meaning.specs.Successor.{first_number, end_number, fault_if}
 use Rattle.live_meaning.specs.Successor as successor
-use Rattle.live_meaning.specs.Live.{refreshed, Told, told, refusal, succession_fault, last_playlist, after_refresh, moment, in_use, item_segment, states_instant, window_after, written_ranges, owed_for}
+use Rattle.live_meaning.specs.Live.{refreshed, Told, told, refusal, succession_fault, last_playlist, after_refresh, moment, in_use, item_segment, states_instant, window_after, written_date_ranges, owed_for}
 use Rattle.live_meaning.proofs.Numbered.{window_place}
 use Rattle.live_meaning.proofs.Windows.{In}
 use Rattle.live_meaning.proofs.Fills.{Mapped, stitched_mapped, IsAlike}
@@ -89,10 +89,10 @@ outs_mapped m (item ∷ items) h = (is_mapped_item item ∙ h.0, outs_mapped m i
 version_owed : (v : ℕ) → version_reads v ≡ true → version_fits (max v 6) ≡ true
 version_owed v h = grind (arith, nat_tests)
 
-ranges_fit : (date_ranges : List DateRange) → AllByRecursion (IsSaid limited) date_ranges → list_all text_is_clean date_ranges ≡ true → list_all date_range_fits (map date_range_text date_ranges) ≡ true
-ranges_fit [] said clean = refl
-ranges_fit (r ∷ later) (here, rest) clean =
-    let c = and_parts _ _ clean in and_from _ _ (and_from _ _ c.0 (ap says_date_range here)) (ranges_fit later rest c.1)
+date_ranges_fit : (date_ranges : List DateRange) → AllByRecursion (IsSaid limited) date_ranges → list_all text_is_clean date_ranges ≡ true → list_all date_range_fits (map date_range_text date_ranges) ≡ true
+date_ranges_fit [] said clean = refl
+date_ranges_fit (r ∷ later) (here, rest) clean =
+    let c = and_parts _ _ clean in and_from _ _ (and_from _ _ c.0 (ap says_date_range here)) (date_ranges_fit later rest c.1)
 
 some_said : (P : DateRange → Type 0) (b : Bool) (date_ranges : List DateRange) → AllByRecursion P date_ranges → AllByRecursion P (cond b date_ranges [])
 some_said P true date_ranges h = h
@@ -113,10 +113,10 @@ module _ (t : Told) (p : Playlist) where
   abbrev others : DateRange → Bool
   others r = not (in_use (first_number p.segments) t.history r.id)
 
-  written_said : (reader : Reader) → AllByRecursion (IsSaid reader) p.date_ranges → AllByRecursion (IsSaid reader) (written_ranges t p)
+  written_said : (reader : Reader) → AllByRecursion (IsSaid reader) p.date_ranges → AllByRecursion (IsSaid reader) (written_date_ranges t p)
   written_said reader h = some_said (IsSaid reader) stated (filter others p.date_ranges) (all_filter (IsSaid reader) others p.date_ranges h)
 
-  written_clean : list_all text_is_clean p.date_ranges ≡ true → list_all text_is_clean (written_ranges t p) ≡ true
+  written_clean : list_all text_is_clean p.date_ranges ≡ true → list_all text_is_clean (written_date_ranges t p) ≡ true
   written_clean h = some_clean stated (filter others p.date_ranges) (list_filter text_is_clean others p.date_ranges h)
 
 -- ---- well formed
@@ -139,7 +139,7 @@ well t p g s r f =
     (all_first (λ (item : Item). is_some item.piece.segment.section ≡ m) n (stitched_list t.history) (items_mapped m first pieces (stitched_mapped m t.history s.alike))) tt) in
     and_from _ _
     (and_from _ _ (and_from _ _ (and_from _ _ (and_from _ _ (version_owed p.version r.limits.version) r.limits.target) numbers) segments) (agree m (map written_item (window_after t p)) mapped))
-    (ranges_fit (written_ranges t p) (written_said t p limited r.limits.date_ranges) (written_clean t p r.limits.date_range_texts))
+    (date_ranges_fit (written_date_ranges t p) (written_said t p limited r.limits.date_ranges) (written_clean t p r.limits.date_range_texts))
 
 or_none : {A : Type 0} (a b : Option A) → or_earlier a b ≡ None → (a ≡ None) × (b ≡ None)
 or_none None b e = (refl, e)
@@ -178,7 +178,7 @@ segments_denoted (item ∷ items) = ap (λ s. s ∷ map denoted_segment (map wri
 
 pub denotes_owed : (t : Told) (p : Playlist) → CanBeRead p → denoted (owed_playlist t p) ≡ owed_for t p
 denotes_owed t p r =
-    ap (λ date_ranges. record (denoted (owed_playlist t p)) { date_ranges = date_ranges }) (date_ranges_said (written_ranges t p) (written_said t p unlimited r.denotes.date_ranges))
+    ap (λ date_ranges. record (denoted (owed_playlist t p)) { date_ranges = date_ranges }) (date_ranges_said (written_date_ranges t p) (written_said t p unlimited r.denotes.date_ranges))
     ∙ ap (λ segments. record (owed_for t p) { segments = segments }) (segments_denoted (window_after t p))
 
 pub owed_is_denoted : OwedIsDenoted

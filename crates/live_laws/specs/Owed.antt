@@ -4,7 +4,7 @@ use Rattle.playlist_meaning.specs.declared.Playlist.{Playlist}
 use Rattle.stitcher.specs.Written.{written_item}
 use Rattle.playlist_write.specs.declared.OutPlaylist.{OutPlaylist}
 use Rattle.playlist_write.specs.Owed.{text_of}
-use Rattle.live_meaning.specs.Live.{Told, window_after, written_ranges, date_range_text}
+use Rattle.live_meaning.specs.Live.{Told, window_after, written_date_ranges, date_range_text}
 
 -- the playlist that is written after this refresh was accepted
 abbrev pub owed_playlist : Told → Playlist → OutPlaylist
@@ -14,7 +14,7 @@ owed_playlist told playlist = record {
   kind = playlist.kind;
   independent = playlist.independent;
   ended = playlist.ended;
-  date_ranges = map date_range_text (written_ranges told playlist);
+  date_ranges = map date_range_text (written_date_ranges told playlist);
   segments = map written_item (window_after told playlist);
 }
 

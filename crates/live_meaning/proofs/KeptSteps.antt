@@ -164,8 +164,8 @@ store_same f g (e ∷ store) h =
     step true k = ap (λ u. record e { used = u } ∷ store_after f store) (h e.id) ∙ ap (λ es. record e { used = g e.id } ∷ es) k
     step false k = k
 
-pub ranges_same : (f g : List ℕ → Bool) (date_ranges : List DateRange) → ((id : List ℕ) → f id ≡ g id) → filter (λ (r : DateRange). not (f r.id)) date_ranges ≡ filter (λ (r : DateRange). not (g r.id)) date_ranges
-ranges_same f g [] h = refl
-ranges_same f g (r ∷ date_ranges) h =
+pub date_ranges_same : (f g : List ℕ → Bool) (date_ranges : List DateRange) → ((id : List ℕ) → f id ≡ g id) → filter (λ (r : DateRange). not (f r.id)) date_ranges ≡ filter (λ (r : DateRange). not (g r.id)) date_ranges
+date_ranges_same f g [] h = refl
+date_ranges_same f g (r ∷ date_ranges) h =
     ap (λ b. cond (not b) (r ∷ filter (λ (x : DateRange). not (f x.id)) date_ranges) (filter (λ (x : DateRange). not (f x.id)) date_ranges)) (h r.id)
-    ∙ ap (λ rs. cond (not (g r.id)) (r ∷ rs) rs) (ranges_same f g date_ranges h)
+    ∙ ap (λ rs. cond (not (g r.id)) (r ∷ rs) rs) (date_ranges_same f g date_ranges h)

@@ -5,7 +5,7 @@ use Rattle.playlist_meaning.specs.declared.Playlist.{Playlist}
 use Rattle.playlist_meaning.specs.Marks.{Marked}
 use Rattle.live_meaning.specs.LiveLaws.{HasPod}
 use Rattle.live_meaning.specs.Sound.{IsSoundEvent}
-use Rattle.live_meaning.specs.Live.{Event, refreshed, told, refusal, window_after, written_ranges, owed_for}
+use Rattle.live_meaning.specs.Live.{Event, refreshed, told, refusal, window_after, written_date_ranges, owed_for}
 use Rattle.live_meaning.specs.Marking.{is_new}
 use Rattle.live_meaning.specs.Kept.{kept_of, kept_refusal, kept_after, kept_window, date_ranges_after, kept_owed}
 
@@ -19,7 +19,7 @@ pub record Follows (tolerance : ℕ) (playlist : Playlist) (before : List Event)
   pub window : refusal tolerance (told tolerance before) playlist ≡ None →
       kept_window tolerance (kept_of (told tolerance before)) playlist ≡ window_after (told tolerance (refreshed playlist ∷ before)) playlist
   pub date_ranges : refusal tolerance (told tolerance before) playlist ≡ None →
-      date_ranges_after tolerance (kept_of (told tolerance before)) playlist ≡ written_ranges (told tolerance (refreshed playlist ∷ before)) playlist
+      date_ranges_after tolerance (kept_of (told tolerance before)) playlist ≡ written_date_ranges (told tolerance (refreshed playlist ∷ before)) playlist
   pub owed : refusal tolerance (told tolerance before) playlist ≡ None →
       kept_owed tolerance (kept_of (told tolerance before)) playlist ≡ owed_for (told tolerance (refreshed playlist ∷ before)) playlist
 

@@ -82,8 +82,8 @@ after_refresh tolerance told playlist =
       store = store_after (in_use (first_number playlist.segments) history) told.store;
     }
 
-abbrev pub range_fault : Told → Option RefreshFault
-range_fault told = fault_if (not (list_all fits (stitched_list told.history))) NumberRange
+abbrev pub number_range_fault : Told → Option RefreshFault
+number_range_fault told = fault_if (not (list_all fits (stitched_list told.history))) NumberRange
 
 abbrev pub succession_fault : Option Playlist → Playlist → Option RefreshFault
 succession_fault None playlist = None
@@ -92,7 +92,7 @@ succession_fault (Some last) playlist = successor_fault last playlist
 -- why a readable refresh is refused, if it is
 abbrev pub refusal : ℕ → Told → Playlist → Option RefreshFault
 refusal tolerance told playlist =
-    or_earlier (succession_fault (last_playlist told.accepted) playlist) (range_fault (after_refresh tolerance told playlist))
+    or_earlier (succession_fault (last_playlist told.accepted) playlist) (number_range_fault (after_refresh tolerance told playlist))
 
 abbrev pub happens : ℕ → Told → Event → Told
 happens tolerance told (decided decisions) = record told { store = decide decisions told.store }
@@ -129,15 +129,15 @@ window_after told playlist = window (first_number playlist.segments) told.histor
 
 -- the origin's date ranges but those of used breaks; none where no written segment states a time, since a date range
 -- has its place by the segments' times alone (4.3.2.7)
-abbrev pub written_ranges : Told → Playlist → List DateRange
-written_ranges told playlist =
+abbrev pub written_date_ranges : Told → Playlist → List DateRange
+written_date_ranges told playlist =
     if list_any states_instant (window_after told playlist)
     then filter (λ (r : DateRange). not (in_use (first_number playlist.segments) told.history r.id)) playlist.date_ranges
     else []
 
 -- a date range is written as its line was read
 abbrev pub date_range_text : DateRange → List ℕ
-date_range_text range = range.text
+date_range_text one = one.text
 
 -- the playlist owed after this refresh was accepted: the window in place of the segments, of version 6 at least,
 -- which the written tags need (7)
@@ -148,7 +148,7 @@ owed_for told playlist = record {
   kind = playlist.kind;
   independent = playlist.independent;
   ended = playlist.ended;
-  date_ranges = written_ranges told playlist;
+  date_ranges = written_date_ranges told playlist;
   segments = map item_segment (window_after told playlist);
 }
 

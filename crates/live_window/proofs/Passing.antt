@@ -20,7 +20,7 @@ use Rattle.live_meaning.specs.LiveLaws.{window_on}
 use Rattle.live_meaning.specs.Kept.{numbers_on}
 use Rattle.live_meaning.specs.declared.fault.RefreshFault.{RefreshFault}
 use Rattle.playlist_meaning.specs.declared.Playlist.{Playlist}
-use Rattle.live_window.proofs.Rest.{window_is_stitched, range_is_stitched}
+use Rattle.live_window.proofs.Rest.{window_is_stitched, number_range_is_stitched}
 use Rattle.live_window.specs.Marking.{so_far, place_on}
 use Rattle.live_window.proofs.Placed.{place_is_counted}
 use Rattle.live_window.proofs.Listed.{all_after}
@@ -164,4 +164,4 @@ pub refuses_first : (store : List Entry) (held : List Marked) (numbers : Numbers
     → RefusesList e (list_all fits (numbered (numbers_on last numbers (so_far store held)) (stitched (so_far store held))) ≡ false)
 refuses_first store held numbers last e d is h =
     subst (λ (first : Numbers). RefusesList e (list_all fits (numbered first (stitched (so_far store held))) ≡ false)) (first_here store held numbers last d is)
-    (subst (λ b. RefusesList e (b ≡ false)) (range_is_stitched store (first_numbers_of held) held) h)
+    (subst (λ b. RefusesList e (b ≡ false)) (number_range_is_stitched store (first_numbers_of held) held) h)

@@ -12,7 +12,7 @@ use Rattle.break_finder.specs.Kept.{has_text}
 use Rattle.break_finder.specs.Known.{is_this}
 use Rattle.break_finder.proofs.TagIds.{filter_same}
 use Rattle.live_meaning.specs.Live.{date_range_text}
-use Rattle.live_window.proofs.Rest.{range_is_stitched}
+use Rattle.live_window.proofs.Rest.{number_range_is_stitched}
 use Rattle.live_window.specs.Marking.{so_far}
 use Rattle.live_window.specs.Listed.{is_marked_from, is_used_from, texts_left}
 
@@ -22,7 +22,7 @@ or_false false = refl
 
 -- a number that doesn't fit, by the history
 pub none_fit : (store : List Entry) (first : Numbers) (list : List Held) → list_all item_fits (stitched_segments store first list) ≡ false → list_all fits (numbered first (stitched (so_far store list))) ≡ false
-none_fit store first list h = sym (range_is_stitched store first list) ∙ h
+none_fit store first list h = sym (number_range_is_stitched store first list) ∙ h
 
 under : (n m : ℕ) → m < n → nat_le n m ≡ false
 under n m h = grind (arith, nat_tests)

@@ -11,7 +11,7 @@ use Rattle.stitcher.specs.Written.{written_item}
 use Rattle.live_meaning.proofs.Windows.{length-reverse}
 use Rattle.live_meaning.proofs.Places.{place_within, up_to_within, stitched_longer}
 use Rattle.live_meaning.proofs.Reversed.{list_all-reverse}
-use Rattle.live_window.specs.WindowLaws.{WindowIsStitched, RangeIsStitched}
+use Rattle.live_window.specs.WindowLaws.{WindowIsStitched, NumberRangeIsStitched}
 
 length-take : {A : Type 0} (n : ℕ) (xs : List A) → n ≤ length xs → length (drop n xs) + n ≡ length xs
 length-take n xs h = omega (arith, ap length (take-append-drop n xs), length-append (take n xs) (drop n xs), taken n xs h)
@@ -47,7 +47,7 @@ written_fit : (items : List Item) → list_all item_fits (map written_item items
 written_fit [] = refl
 written_fit (item ∷ items) = ap (λ b. fits item && b) (written_fit items)
 
-pub range_is_stitched : RangeIsStitched
-range_is_stitched store first marked =
+pub number_range_is_stitched : NumberRangeIsStitched
+number_range_is_stitched store first marked =
     let items = numbered first (stitched (reverse (map (meant store) marked))) in
     written_fit (reverse items) ∙ list_all-reverse fits items

@@ -15,6 +15,6 @@ WindowIsStitched = (store : List Entry) (first : Numbers) (number : ℕ) (marked
     ≡ drop (newest_place (up_to number (reverse (map (meant store) marked)))) (stitched_segments store first marked)
 
 -- and a number passes its range there exactly where one of the stitched list does
-abbrev pub RangeIsStitched : Type 0
-RangeIsStitched = (store : List Entry) (first : Numbers) (marked : List Held) →
+abbrev pub NumberRangeIsStitched : Type 0
+NumberRangeIsStitched = (store : List Entry) (first : Numbers) (marked : List Held) →
     list_all item_fits (stitched_segments store first marked) ≡ list_all fits (numbered first (stitched (reverse (map (meant store) marked))))

@@ -1,6 +1,6 @@
 //! Laws of marks and of windows. Each function's contract is its law; calling it does nothing.
 ghost use Rattle.live_window.specs.MarkingLaws.{MarksAreShown, PlaceIsCounted};
-ghost use Rattle.live_window.specs.WindowLaws.{WindowIsStitched, RangeIsStitched};
+ghost use Rattle.live_window.specs.WindowLaws.{WindowIsStitched, NumberRangeIsStitched};
 
 /// The segments that are marked after others are those that are shown after them.
 pub fn marks_are_shown()
@@ -15,5 +15,5 @@ pub fn place_is_counted()
 /// The window is the rest of the stitched list from the item of its first segment on.
 pub fn window_is_stitched()
     ensures window { WindowIsStitched }
-    ensures range { RangeIsStitched }
+    ensures number_range { NumberRangeIsStitched }
 {}

@@ -17,4 +17,4 @@ pub use placing::place_of;
 pub use showing::{Showing, shown_with};
 pub use state::State;
 pub use successor::{check_successor, first_number, is_mapped};
-pub use writing::{head_of, numbers_on, ranges_left, used_ids, window_of};
+pub use writing::{date_ranges_left, head_of, numbers_on, used_ids, window_of};

@@ -9,7 +9,7 @@ ghost use Rattle.break_finder.specs.Known.{is_this};
 ghost use Rattle.stitcher.specs.StitchedSegments.{AreDecided, item_fits, stitched_segments};
 ghost use Rattle.stitcher.specs.Written.{written_item};
 ghost use Rattle.live_meaning.specs.LiveLaws.{window_on};
-ghost use Rattle.live_meaning.specs.Kept.{numbers_on, kept_ranges};
+ghost use Rattle.live_meaning.specs.Kept.{numbers_on, kept_date_ranges};
 ghost use Rattle.live_meaning.specs.Live.{date_range_text};
 ghost use Rattle.live_window.specs.Marking.{so_far};
 ghost use Rattle.live_window.specs.Listed.{RefusesList, first_alone, first_numbers_of, pod_keeps, head_of, is_used_from, is_marked_from, states_time, texts_left};
@@ -189,9 +189,9 @@ fn texts_left<'a>(
 {
     let mut texts = Vec::new(alloc);
     let mut rest = date_ranges;
-    while let Some((range, later)) = rest.split_first() {
-        if !has_id(set, &range.id) {
-            texts.push(OriginText::new(&range.text))?;
+    while let Some((date_range, later)) = rest.split_first() {
+        if !has_id(set, &date_range.id) {
+            texts.push(OriginText::new(&date_range.text))?;
         }
         rest = later;
     }
@@ -200,13 +200,13 @@ fn texts_left<'a>(
 
 #[tactic(auto, using(crate::proofs::Ranges::left_alike))]
 /// The texts of the date ranges that are written: none of these breaks, and none at all where no item states a time.
-pub fn ranges_left<'a>(
+pub fn date_ranges_left<'a>(
     alloc: Global,
     items: &[OutSegment<'_>],
     ids: &[Text],
     date_ranges: &'a [DateRange],
 ) -> Result<Vec<OriginText<'a>>, AllocError>
-    ensures { IfOk result (λ v. v.items ≡ map date_range_text (kept_ranges (list_any states_time items.now) (is_one_of ids.now) date_ranges.now)) }
+    ensures { IfOk result (λ v. v.items ≡ map date_range_text (kept_date_ranges (list_any states_time items.now) (is_one_of ids.now) date_ranges.now)) }
 {
     if !is_any_timed(items) {
         return Ok(Vec::new(alloc));

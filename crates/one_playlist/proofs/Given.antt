@@ -20,7 +20,7 @@ use Rattle.live_meaning.specs.declared.fault.RefreshFault.{RefreshFault}
 use Rattle.live_meaning.specs.declared.fault.RefreshFault.TheVariants.{Playlist as Unreadable, NumberRange as PassesRange, OutOfMemory as NoMemory}
 use Rattle.live_meaning.specs.Kept.{Kept}
 use Rattle.live_meaning.specs.Live as live
-use Rattle.live_meaning.specs.Live.{Event, Told, told, refusal, range_fault, succession_fault, last_playlist, after_refresh, window_after}
+use Rattle.live_meaning.specs.Live.{Event, Told, told, refusal, number_range_fault, succession_fault, last_playlist, after_refresh, window_after}
 use Rattle.live_meaning.specs.Successor.{fault_if}
 use Rattle.live_counters.specs.declared.channel.Refreshed.{Refreshed}
 use Rattle.live_counters.specs.Channel.{Channel, Given, Reading, decided, decisions_in, told_by, StandsFor, ChangesStore, after_bytes, with_store, refreshed_with, fresh_after, answer_read, owed_answer, judged, is_memory_kind, AnswersAs, AnswersUnless, Answers}
@@ -105,15 +105,15 @@ module _ (c : Channel) (bytes : List ℕ) (given : List Given) where
     judged_so p done f false is r h = absurd (cc)
 
     -- the first refresh follows no other
-    range_alone : (p : Playlist) → refusal c.tolerance before p ≡ range_fault (after_refresh c.tolerance before p)
-    range_alone p = ap (λ accepted. or_earlier (succession_fault (last_playlist accepted) p) (range_fault (after_refresh c.tolerance before p))) first
+    number_range_alone : (p : Playlist) → refusal c.tolerance before p ≡ number_range_fault (after_refresh c.tolerance before p)
+    number_range_alone p = ap (λ accepted. or_earlier (succession_fault (last_playlist accepted) p) (number_range_fault (after_refresh c.tolerance before p))) first
 
     owed_fault : (f : RefreshFault) → Err f ≡ owed_answer c given bytes → RefusesRefresh (fault_of_refresh f) c bytes given
     owed_fault f h = by (reading limited c.base bytes) refl h
       where
         by : (r : Reading) → reading limited c.base bytes ≡ r → Err f ≡ answer_read c.tolerance before r → RefusesRefresh (fault_of_refresh f) c bytes given
         by (Err fault) is a = let same : Unreadable fault ≡ f = cc in subst (λ x. RefusesRefresh (fault_of_refresh x) c bytes given) same (unread_so fault is (is_memory_kind fault.kind))
-        by (Ok p) is a = judged_so p (answer_to p) f (not (list_all fits (stitched_list (after_refresh c.tolerance before p).history))) is (range_alone p) (a ∙ ap (λ o. judged o (answer_to p)) (range_alone p))
+        by (Ok p) is a = judged_so p (answer_to p) f (not (list_all fits (stitched_list (after_refresh c.tolerance before p).history))) is (number_range_alone p) (a ∙ ap (λ o. judged o (answer_to p)) (number_range_alone p))
 
     pub refuses_refresh : (f : RefreshFault) (new : Channel) → Answers c bytes given (Err f) new → RefusesRefresh (fault_of_refresh f) c bytes given
     refuses_refresh (Unreadable fault) new h = by (is_memory_kind fault.kind) refl

@@ -115,8 +115,8 @@ module _ (base : List ℕ) (file : Option (List ℕ)) (c : Channel) (d : IsDecid
     pub passes : (e : VodFault) → RefusesFrom e old new c → e ≡ NumberRange → HasJudged base file old new (Some PassesRange)
     passes e h is =
         let refused : RefusesInput NumberRange old new c = subst (λ x. RefusesFrom x old new c) is h in
-        let range : PassesItsRange c refused.input (given_by file) = refused.refused file d.stands in
-        judged old new refused.input refused.given range.playlist range.read (Some PassesRange) range.refused
+        let number_range : PassesItsRange c refused.input (given_by file) = refused.refused file d.stands in
+        judged old new refused.input refused.given number_range.playlist number_range.read (Some PassesRange) number_range.refused
 
 -- ---- faults that are handed on
 
@@ -151,9 +151,9 @@ of_input old new c _ h = absurd h
 pub no_write : (old new : Option (List ℕ)) (c : Channel) (e : VodFault) → RefusesFrom e old new c → e ≢ Write
 no_write old new c e h same = subst (λ x. RefusesFrom x old new c) same h
 
-pub range_of : {A P : Type 0} (r : Result A VodFault) (e : VodFault) → IsErrAnd r (λ d. d ≡ e) → (e ≡ NumberRange → P) → IsErrOf r NumberRange → P
-range_of (Ok x) e h f is = absurd h
-range_of (Err d) e h f is = let same : d ≡ NumberRange = cc in f (sym h ∙ same)
+pub number_range_of : {A P : Type 0} (r : Result A VodFault) (e : VodFault) → IsErrAnd r (λ d. d ≡ e) → (e ≡ NumberRange → P) → IsErrOf r NumberRange → P
+number_range_of (Ok x) e h f is = absurd h
+number_range_of (Err d) e h f is = let same : d ≡ NumberRange = cc in f (sym h ∙ same)
 
 pub still_fair : {A B : Type 0} (e : VodFault) (old new : SourceStand) → IsFairToSource {A = A} (Err e) old new → IsFairToSource {A = B} (Err e) old new
 still_fair e old new f = record {

@@ -7,7 +7,7 @@ use Rattle.std.proofs.lemmas.Slice.Eq.{bytes_eq-Decides, slice_eq-Decides}
 use Rattle.playlist_meaning.specs.declared.Key.{Key}
 use Rattle.playlist_meaning.specs.declared.ByteRange.{ByteRange}
 use Rattle.playlist_meaning.specs.declared.InitSection.{InitSection}
-use Rattle.playlist_meaning.specs.Same.{same_key, same_option, same_number, same_range, same_section}
+use Rattle.playlist_meaning.specs.Same.{same_key, same_option, same_number, same_byte_range, same_section}
 
 -- ---- whether two keys are the same is decided
 
@@ -49,23 +49,23 @@ keys_same xs ys = (slice_eq-Decides (λ a b. (key_is a b, key_same a b)) xs ys (
 pub keys_are : (xs ys : List Key) → pointwise same_key xs ys ≡ true → xs ≡ ys
 keys_are xs ys = (slice_eq-Decides (λ a b. (key_is a b, key_same a b)) xs ys (pointwise same_key xs ys) refl).0
 
-pub range_is : (a b : Option ByteRange) → same_option same_range a b ≡ true → a ≡ b
-range_is None None h = refl
-range_is None (Some b) h = cc
-range_is (Some a) None h = cc
-range_is (Some a) (Some b) h = let p : ((a.length == b.length) ≡ true) × ((a.offset == b.offset) ≡ true) = and_parts _ _ h in ext _ _ _ _ (eqb-true _ _ p.0) (eqb-true _ _ p.1)
+pub byte_range_is : (a b : Option ByteRange) → same_option same_byte_range a b ≡ true → a ≡ b
+byte_range_is None None h = refl
+byte_range_is None (Some b) h = cc
+byte_range_is (Some a) None h = cc
+byte_range_is (Some a) (Some b) h = let p : ((a.length == b.length) ≡ true) × ((a.offset == b.offset) ≡ true) = and_parts _ _ h in ext _ _ _ _ (eqb-true _ _ p.0) (eqb-true _ _ p.1)
   where
     ext : (l m o p : ℕ) → l ≡ m → o ≡ p → ◌≡◌ {A = Option ByteRange} (Some (record { length = l; offset = o })) (Some (record { length = m; offset = p }))
     ext l m o p e g = cc
 
-section_ext : (u v : List ℕ) (r s : Option ByteRange) (k l : List Key) → u ≡ v → r ≡ s → k ≡ l → ◌≡◌ {A = InitSection} (record { uri = u; range = r; keys = k }) (record { uri = v; range = s; keys = l })
+section_ext : (u v : List ℕ) (r s : Option ByteRange) (k l : List Key) → u ≡ v → r ≡ s → k ≡ l → ◌≡◌ {A = InitSection} (record { uri = u; byte_range = r; keys = k }) (record { uri = v; byte_range = s; keys = l })
 section_ext u v r s k l a b c = cc
 
 pub section_is : (new : InitSection) (old : Option InitSection) → same_option same_section (Some new) old ≡ true → old ≡ Some new
 section_is new None h = cc
 section_is new (Some old) h =
-    let a = and_parts _ _ h in let b : (bytes_eq new.uri old.uri ≡ true) × (same_option same_range new.range old.range ≡ true) = and_parts _ _ a.0 in
-    ap Some (sym (section_ext _ _ _ _ _ _ ((bytes_eq-Decides new.uri old.uri).0 b.0) (range_is new.range old.range b.1) (keys_are new.keys old.keys a.1)))
+    let a = and_parts _ _ h in let b : (bytes_eq new.uri old.uri ≡ true) × (same_option same_byte_range new.byte_range old.byte_range ≡ true) = and_parts _ _ a.0 in
+    ap Some (sym (section_ext _ _ _ _ _ _ ((bytes_eq-Decides new.uri old.uri).0 b.0) (byte_range_is new.byte_range old.byte_range b.1) (keys_are new.keys old.keys a.1)))
 
 none_of : (format method uri other : Bool) → (format && method && uri && false && other) ≡ false
 none_of false m u o = refl

@@ -8,17 +8,17 @@ use Rattle.playlist_meaning.specs.declared.Key.{Key}
 use Rattle.playlist_meaning.specs.declared.ByteRange.{ByteRange}
 use Rattle.playlist_meaning.specs.declared.InitSection.{InitSection}
 use Rattle.playlist_meaning.specs.declared.Segment.{Segment}
-use Rattle.playlist_meaning.specs.Same.{same_key, same_option, same_range, same_section, same_numbers, same_media, same_segment, kept_parts}
-use Rattle.playlist_meaning.proofs.SameParts.{keys_are, keys_same, range_is, section_is}
+use Rattle.playlist_meaning.specs.Same.{same_key, same_option, same_byte_range, same_section, same_numbers, same_media, same_segment, kept_parts}
+use Rattle.playlist_meaning.proofs.SameParts.{keys_are, keys_same, byte_range_is, section_is}
 
 some_is : {A : Type 0} {a b : A} → ◌≡◌ {A = Option A} (Some a) (Some b) → a ≡ b
 some_is h = cc h
 
-range_same : (a b : Option ByteRange) → a ≡ b → same_option same_range a b ≡ true
-range_same None None h = refl
-range_same None (Some b) h = cc
-range_same (Some a) None h = cc
-range_same (Some a) (Some b) h =
+byte_range_same : (a b : Option ByteRange) → a ≡ b → same_option same_byte_range a b ≡ true
+byte_range_same None None h = refl
+byte_range_same None (Some b) h = cc
+byte_range_same (Some a) None h = cc
+byte_range_same (Some a) (Some b) h =
     let e = some_is h in and_from _ _ (eq-eqb _ _ (ap (λ (r : ByteRange). r.length) e)) (eq-eqb _ _ (ap (λ (r : ByteRange). r.offset) e))
 
 section_same : (a b : Option InitSection) → a ≡ b → same_option same_section a b ≡ true
@@ -27,7 +27,7 @@ section_same None (Some b) h = cc
 section_same (Some a) None h = cc
 section_same (Some a) (Some b) h =
     let e = some_is h in
-    and_from _ _ (and_from _ _ ((bytes_eq-Decides a.uri b.uri).1 (ap (λ (s : InitSection). s.uri) e)) (range_same a.range b.range (ap (λ (s : InitSection). s.range) e)))
+    and_from _ _ (and_from _ _ ((bytes_eq-Decides a.uri b.uri).1 (ap (λ (s : InitSection). s.uri) e)) (byte_range_same a.byte_range b.byte_range (ap (λ (s : InitSection). s.byte_range) e)))
     (keys_same a.keys b.keys (ap (λ (s : InitSection). s.keys) e))
 
 sections_are : (a b : Option InitSection) → same_option same_section a b ≡ true → a ≡ b
@@ -36,24 +36,24 @@ sections_are None (Some b) h = cc
 sections_are (Some a) b h = sym (section_is a b h)
 
 parts_ext : (n m d e : ℕ) (u v : List ℕ) (r s : Option ByteRange) (k l : List Key) (i j : Option InitSection) (t w : ℕ) → n ≡ m → d ≡ e → u ≡ v → r ≡ s → k ≡ l → i ≡ j → t ≡ w
-    → ◌≡◌ {A = Segment} (record { number = n; discontinuity = d; steps = 0; uri = u; range = r; keys = k; section = i; duration = t; title = []; time = None })
-    (record { number = m; discontinuity = e; steps = 0; uri = v; range = s; keys = l; section = j; duration = w; title = []; time = None })
+    → ◌≡◌ {A = Segment} (record { number = n; discontinuity = d; steps = 0; uri = u; byte_range = r; keys = k; section = i; duration = t; title = []; time = None })
+    (record { number = m; discontinuity = e; steps = 0; uri = v; byte_range = s; keys = l; section = j; duration = w; title = []; time = None })
 parts_ext n m d e u v r s k l i j t w a b c f g h x = cc
 
 parts_are : (a b : Segment) → same_segment a b ≡ true → kept_parts a ≡ kept_parts b
 parts_are a b h =
     let p = and_parts _ _ h in let q : (same_numbers a b ≡ true) × (same_media a b ≡ true) = and_parts _ _ p.0 in
     let n : ((a.number == b.number) ≡ true) × ((a.discontinuity == b.discontinuity) ≡ true) = and_parts _ _ q.0 in
-    let m = and_parts _ _ q.1 in let u : (bytes_eq a.uri b.uri ≡ true) × (same_option same_range a.range b.range ≡ true) = and_parts _ _ m.0 in
+    let m = and_parts _ _ q.1 in let u : (bytes_eq a.uri b.uri ≡ true) × (same_option same_byte_range a.byte_range b.byte_range ≡ true) = and_parts _ _ m.0 in
     let k : (pointwise same_key a.keys b.keys ≡ true) × (same_option same_section a.section b.section ≡ true) = and_parts _ _ p.1 in
-    parts_ext _ _ _ _ _ _ _ _ _ _ _ _ _ _ (eqb-true _ _ n.0) (eqb-true _ _ n.1) ((bytes_eq-Decides a.uri b.uri).0 u.0) (range_is a.range b.range u.1)
+    parts_ext _ _ _ _ _ _ _ _ _ _ _ _ _ _ (eqb-true _ _ n.0) (eqb-true _ _ n.1) ((bytes_eq-Decides a.uri b.uri).0 u.0) (byte_range_is a.byte_range b.byte_range u.1)
     (keys_are a.keys b.keys k.0) (sections_are a.section b.section k.1) (eqb-true _ _ m.1)
 
 parts_same : (a b : Segment) → kept_parts a ≡ kept_parts b → same_segment a b ≡ true
 parts_same a b e =
     and_from _ _
     (and_from _ _ (and_from _ _ (eq-eqb _ _ (ap (λ (s : Segment). s.number) e)) (eq-eqb _ _ (ap (λ (s : Segment). s.discontinuity) e)))
-    (and_from _ _ (and_from _ _ ((bytes_eq-Decides a.uri b.uri).1 (ap (λ (s : Segment). s.uri) e)) (range_same a.range b.range (ap (λ (s : Segment). s.range) e)))
+    (and_from _ _ (and_from _ _ ((bytes_eq-Decides a.uri b.uri).1 (ap (λ (s : Segment). s.uri) e)) (byte_range_same a.byte_range b.byte_range (ap (λ (s : Segment). s.byte_range) e)))
     (eq-eqb _ _ (ap (λ (s : Segment). s.duration) e))))
     (and_from _ _ (keys_same a.keys b.keys (ap (λ (s : Segment). s.keys) e)) (section_same a.section b.section (ap (λ (s : Segment). s.section) e)))
 

@@ -1,4 +1,4 @@
--- Bytes of a plain reference behind the front of a segment.
+-- Bytes of a plain reference after the front of a segment.
 use Rattle.std.proofs.Common.{◌≡◌, ℕ, ◌<◌, Bool, true, false, not, ◌&&◌, ◌||◌, ◌==◌, cond, List, [], ◌∷◌, slice_index, refl, arith}
 use Rattle.std.specs.List.{list_all}
 use Rattle.std.proofs.lemmas.Bool.{and_parts}
@@ -24,7 +24,7 @@ passes : (question segment dot slash query : Bool) (later : Bool → Bool) → n
 passes false true _ false query later q p s = refl
 passes _ _ _ _ query later q p s = absurd (cc)
 
--- what is left behind it decides
+-- what is left after it decides
 pub segment_goes_on : (b : ℕ) (bytes : List ℕ) → is_segment_byte b ≡ true → are_plain false (b ∷ bytes) ≡ are_plain false bytes
 segment_goes_on b bytes segment =
     let marks = and_parts _ _ (no_mark b segment) in
@@ -39,7 +39,7 @@ pub front_has_no_dot : (bytes : List ℕ) → are_plain true bytes ≡ (not (sli
 front_has_no_dot [] = refl
 front_has_no_dot (b ∷ bytes) = dotless b (list_all is_query_byte bytes) (are_plain (b == 47) bytes) (is_segment_byte b || b == 47)
 
--- behind a slash no dot may stand
+-- after a slash no dot may stand
 pub slash_goes_on : (b : ℕ) (bytes : List ℕ) → b ≡ 47 → (slice_index bytes 0 == 46) ≡ false → are_plain false (b ∷ bytes) ≡ are_plain false bytes
 slash_goes_on b bytes slash dotless = rw slash (rw dotless at (front_has_no_dot bytes))
 

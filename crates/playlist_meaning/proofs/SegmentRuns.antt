@@ -1,4 +1,4 @@
--- Runs of bytes of a segment, behind which a plain reference goes on.
+-- Runs of bytes of a segment, after which a plain reference goes on.
 use Rattle.std.proofs.Common.{◌≡◌, ℕ, zero, suc, ◌+◌, Bool, true, false, ◌==◌, slice_index, length, List, [], ◌∷◌, take, drop, refl, sym, ◌∙◌, ap, arith}
 use Rattle.std.specs.List.{list_all, prefix_len}
 use Rattle.std.proofs.lemmas.Bool.{and_parts}
@@ -8,13 +8,13 @@ use Rattle.playlist_meaning.proofs.SegmentBytes.{segment_goes_on, slash_goes_on,
 abbrev pub after : (ℕ → Bool) → List ℕ → List ℕ
 after test bytes = drop (prefix_len test bytes) bytes
 
-behind_one : (b : ℕ) (n : ℕ) (bytes : List ℕ) → drop (1 + n) (b ∷ bytes) ≡ drop n bytes
-behind_one b n bytes =
+after_one : (b : ℕ) (n : ℕ) (bytes : List ℕ) → drop (1 + n) (b ∷ bytes) ≡ drop n bytes
+after_one b n bytes =
     let next : 1 + n ≡ suc n = omega arith in
     ap (λ k. drop k (b ∷ bytes)) next
 
 pub one_goes_on : (test : ℕ → Bool) (b : ℕ) (bytes : List ℕ) → test b ≡ true → after test (b ∷ bytes) ≡ after test bytes
-one_goes_on test b bytes here = rw here (behind_one b (prefix_len test bytes) bytes)
+one_goes_on test b bytes here = rw here (after_one b (prefix_len test bytes) bytes)
 
 pub one_stops : (test : ℕ → Bool) (b : ℕ) (bytes : List ℕ) → test b ≡ false → after test (b ∷ bytes) ≡ b ∷ bytes
 one_stops test b bytes here = rw here refl
@@ -49,30 +49,30 @@ pub end_stops : (bytes : List ℕ) (b : ℕ) (later : List ℕ) → after is_seg
 end_stops [] b later e = absurd (cc)
 end_stops (a ∷ bytes) b later e = end_of a bytes b later (is_segment_byte a) refl e (λ f. end_stops bytes b later f)
 
--- ---- what stands behind a run decides
+-- ---- what stands after a run decides
 
-behind_run : (bytes rest : List ℕ) → after is_segment_byte bytes ≡ rest → are_plain false bytes ≡ are_plain false rest
-behind_run bytes rest e = sym (run_goes_on bytes) ∙ ap (λ r. are_plain false r) e
+after_run : (bytes rest : List ℕ) → after is_segment_byte bytes ≡ rest → are_plain false bytes ≡ are_plain false rest
+after_run bytes rest e = sym (run_goes_on bytes) ∙ ap (λ r. are_plain false r) e
 
 none_of : (bytes : List ℕ) → length bytes ≡ 0 → bytes ≡ []
 none_of [] e = refl
 none_of (b ∷ bytes) e = absurd (omega (arith, e))
 
 pub nothing_left : (bytes rest : List ℕ) → after is_segment_byte bytes ≡ rest → length rest ≡ 0 → true ≡ are_plain false bytes
-nothing_left bytes rest e none = sym (behind_run bytes [] (e ∙ none_of rest none))
+nothing_left bytes rest e none = sym (after_run bytes [] (e ∙ none_of rest none))
 
 pub query_leads : (bytes : List ℕ) (b : ℕ) (later : List ℕ) → after is_segment_byte bytes ≡ b ∷ later → b ≡ 63
     → list_all is_query_byte later ≡ are_plain false bytes
-query_leads bytes b later e question = sym (behind_run bytes (b ∷ later) e ∙ ap (λ k. are_plain false (k ∷ later)) question)
+query_leads bytes b later e question = sym (after_run bytes (b ∷ later) e ∙ ap (λ k. are_plain false (k ∷ later)) question)
 
 pub slash_leads : (bytes : List ℕ) (b : ℕ) (later : List ℕ) → after is_segment_byte bytes ≡ b ∷ later → b ≡ 47 → (slice_index later 0 == 46) ≡ false
     → are_plain false later ≡ are_plain false bytes
-slash_leads bytes b later e slash dotless = sym (behind_run bytes (b ∷ later) e ∙ slash_goes_on b later slash dotless)
+slash_leads bytes b later e slash dotless = sym (after_run bytes (b ∷ later) e ∙ slash_goes_on b later slash dotless)
 
 pub dot_ends : (bytes : List ℕ) (b : ℕ) (later : List ℕ) → after is_segment_byte bytes ≡ b ∷ later → b ≡ 47 → (slice_index later 0 == 46) ≡ true
     → false ≡ are_plain false bytes
-dot_ends bytes b later e slash dot = sym (behind_run bytes (b ∷ later) e ∙ dot_stops b later slash dot)
+dot_ends bytes b later e slash dot = sym (after_run bytes (b ∷ later) e ∙ dot_stops b later slash dot)
 
 pub other_ends : (bytes : List ℕ) (b : ℕ) (later : List ℕ) → after is_segment_byte bytes ≡ b ∷ later → ¬ (b ≡ 63) → ¬ (b ≡ 47)
     → false ≡ are_plain false bytes
-other_ends bytes b later e question slash = sym (behind_run bytes (b ∷ later) e ∙ other_stops b later (end_stops bytes b later e) question slash)
+other_ends bytes b later e question slash = sym (after_run bytes (b ∷ later) e ∙ other_stops b later (end_stops bytes b later e) question slash)

@@ -12,7 +12,7 @@ use Rattle.playlist_meaning.specs.declared.ByteRange.{ByteRange}
 use Rattle.playlist_meaning.specs.declared.InitSection.{InitSection}
 use Rattle.playlist_meaning.specs.declared.Segment.{Segment}
 use Rattle.playlist_meaning.specs.declared.DateRange.{DateRange}
-use Rattle.playlist_meaning.specs.Said.{Said, version, target, sequence, discontinuity_sequence, playlist_type, ended, independent, duration, range, discontinuity, no_keys, key, section, time, date_range, media, Outcome, refuse_if, range_end_fits}
+use Rattle.playlist_meaning.specs.Said.{Said, version, target, sequence, discontinuity_sequence, playlist_type, ended, independent, duration, byte_range, discontinuity, no_keys, key, section, time, date_range, media, Outcome, refuse_if, byte_range_end_fits}
 
 -- ---- the last line that says something (RFC 8216, 4.3)
 
@@ -56,9 +56,9 @@ the_duration (duration nanos title) = Some (nanos, title)
 the_duration _ = None
 
 -- EXT-X-BYTERANGE (4.3.2.2): the length, and the offset where it is stated
-abbrev pub the_range : Said → Option (ℕ × Option ℕ)
-the_range (range length offset) = Some (length, offset)
-the_range _ = None
+abbrev pub the_byte_range : Said → Option (ℕ × Option ℕ)
+the_byte_range (byte_range length offset) = Some (length, offset)
+the_byte_range _ = None
 
 -- EXT-X-PROGRAM-DATE-TIME (4.3.2.6)
 abbrev pub the_time : Said → Option ℤ
@@ -102,8 +102,8 @@ abbrev pub own_duration : List Said → Option (ℕ × List ℕ)
 own_duration before = latest the_duration (since_media before)
 
 -- its EXT-X-BYTERANGE (4.3.2.2)
-abbrev pub own_range : List Said → Option (ℕ × Option ℕ)
-own_range before = latest the_range (since_media before)
+abbrev pub own_byte_range : List Said → Option (ℕ × Option ℕ)
+own_byte_range before = latest the_byte_range (since_media before)
 
 -- its EXT-X-PROGRAM-DATE-TIME (4.3.2.6)
 abbrev pub own_time : List Said → Option ℤ
@@ -176,45 +176,45 @@ effective_key number k = if bytes_eq k.format (codes "identity") && is_none k.iv
 -- the last one, with the keys in force at its own line
 abbrev pub section_at : List Said → Option InitSection
 section_at [] = None
-section_at (section uri part ∷ before) = Some (record { uri = uri; range = part; keys = keys_at before })
+section_at (section uri part ∷ before) = Some (record { uri = uri; byte_range = part; keys = keys_at before })
 section_at (_ ∷ before) = section_at before
 
 -- ---- the byte range (4.3.2.2)
 
--- a resource and the range of it that a segment has
+-- a resource and the byte range of it that a segment has
 pub record Extent : Type 0 where
   pub uri : List ℕ
-  pub range : ByteRange
+  pub byte_range : ByteRange
 
--- the range of this length that begins at this place, where its end fits
-abbrev pub range_here : ℕ → ℕ → Outcome (Option ByteRange)
-range_here length offset =
-    refuse_if (not (range_end_fits length offset)) fault.BadRange (Ok (Some (record { length = length; offset = offset })))
+-- the byte range of this length that begins at this place, where its end fits
+abbrev pub byte_range_here : ℕ → ℕ → Outcome (Option ByteRange)
+byte_range_here length offset =
+    refuse_if (not (byte_range_end_fits length offset)) fault.BadRange (Ok (Some (record { length = length; offset = offset })))
 
--- the range that begins where the previous segment's range of the same resource ends
-abbrev pub range_after : ℕ → List ℕ → Option Extent → Outcome (Option ByteRange)
-range_after length uri None = Err fault.RangeNoStart
-range_after length uri (Some previous) =
-    refuse_if (not (bytes_eq uri previous.uri)) fault.RangeNoStart (range_here length (previous.range.offset + previous.range.length))
+-- the byte range that begins where the previous segment's byte range of the same resource ends
+abbrev pub byte_range_after : ℕ → List ℕ → Option Extent → Outcome (Option ByteRange)
+byte_range_after length uri None = Err fault.RangeNoStart
+byte_range_after length uri (Some previous) =
+    refuse_if (not (bytes_eq uri previous.uri)) fault.RangeNoStart (byte_range_here length (previous.byte_range.offset + previous.byte_range.length))
 
-abbrev pub range_from : Option (ℕ × Option ℕ) → List ℕ → Option Extent → Outcome (Option ByteRange)
-range_from None uri previous = Ok None
-range_from (Some (length, Some offset)) uri previous = Ok (Some (record { length = length; offset = offset }))
-range_from (Some (length, None)) uri previous = range_after length uri previous
+abbrev pub byte_range_from : Option (ℕ × Option ℕ) → List ℕ → Option Extent → Outcome (Option ByteRange)
+byte_range_from None uri previous = Ok None
+byte_range_from (Some (length, Some offset)) uri previous = Ok (Some (record { length = length; offset = offset }))
+byte_range_from (Some (length, None)) uri previous = byte_range_after length uri previous
 
 abbrev pub extent_with : List ℕ → Option ByteRange → Option Extent
 extent_with uri None = None
-extent_with uri (Some r) = Some (record { uri = uri; range = r })
+extent_with uri (Some r) = Some (record { uri = uri; byte_range = r })
 
--- the last segment's resource and range, where it has a range; a line that was refused has none, but
+-- the last segment's resource and byte range, where it has a byte range; a line that was refused has none, but
 -- then no line after it is read
 abbrev pub last_extent : List Said → Option Extent
 last_extent [] = None
-last_extent (media uri ∷ before) = extent_with uri (result_unwrap_or (range_from (own_range before) uri (last_extent before)) None)
+last_extent (media uri ∷ before) = extent_with uri (result_unwrap_or (byte_range_from (own_byte_range before) uri (last_extent before)) None)
 last_extent (_ ∷ before) = last_extent before
 
-abbrev pub range_at : List Said → List ℕ → Outcome (Option ByteRange)
-range_at before uri = range_from (own_range before) uri (last_extent before)
+abbrev pub byte_range_at : List Said → List ℕ → Outcome (Option ByteRange)
+byte_range_at before uri = byte_range_from (own_byte_range before) uri (last_extent before)
 
 -- ---- the segment of a URI line (4.3.2)
 
@@ -224,7 +224,7 @@ segment_at before uri = record {
   discontinuity = discontinuity_at before;
   steps = steps_at before;
   uri = uri;
-  range = result_unwrap_or (range_at before uri) None;
+  byte_range = result_unwrap_or (byte_range_at before uri) None;
   keys = map (effective_key (number_at before)) (keys_at before);
   section = section_at before;
   duration = (unwrap_or (own_duration before) (0, [])).0;
@@ -254,7 +254,7 @@ pub record Standing : Type 0 where
   pub discontinuities : ℕ
   pub steps : ℕ
   pub duration : Option (ℕ × List ℕ)
-  pub range : Option (ℕ × Option ℕ)
+  pub byte_range : Option (ℕ × Option ℕ)
   pub time : Option ℤ
   pub keys : List Key
   pub section : Option InitSection
@@ -268,7 +268,7 @@ standing_at before = record {
   discontinuities = count is_discontinuity before;
   steps = steps_at before;
   duration = own_duration before;
-  range = own_range before;
+  byte_range = own_byte_range before;
   time = own_time before;
   keys = keys_at before;
   section = section_at before;

@@ -6,7 +6,7 @@ use Rattle.playlist_meaning.specs.declared.InitSection.{InitSection}
 
 pub record PodSegment : Type 0 where
   pub uri : List ℕ
-  pub range : Option ByteRange
+  pub byte_range : Option ByteRange
   pub duration : ℕ
 
 -- an advertisement: its segments share one initialisation section and one set of keys

@@ -14,8 +14,8 @@ use Rattle.playlist_meaning.specs.declared.Segment.{Segment}
 use Rattle.playlist_meaning.specs.declared.Playlist.{Playlist}
 use Rattle.playlist_meaning.specs.Lines.{Kind, ignored, uri, tag, kind_of, has_control}
 use Rattle.instants.specs.Instant.{instant_of}
-use Rattle.playlist_meaning.specs.Said.{Name, version_tag, target_tag, sequence_tag, discontinuity_sequence_tag, type_tag, ended_tag, independent_tag, frames_tag, master_tag, duration_tag, range_tag, discontinuity_tag, key_tag, map_tag, time_tag, date_range_tag, unknown_tag, Said, nothing, version, target, sequence, discontinuity_sequence, playlist_type, ended, independent, range, discontinuity, time, media, Outcome, ◌>>=◌, or_fault, refuse_if, over, Reader, number, version_of, playlist_type_of, duration_said, range_of, key_said, section_said, date_range_said, uri_of}
-use Rattle.playlist_meaning.specs.LookBack.{latest, the_version, the_target, the_sequence, the_discontinuity_sequence, the_type, is_media, is_discontinuity, is_ended, is_independent, count, own_duration, number_at, discontinuity_at, keys_at, range_at, segments_of, date_ranges_of}
+use Rattle.playlist_meaning.specs.Said.{Name, version_tag, target_tag, sequence_tag, discontinuity_sequence_tag, type_tag, ended_tag, independent_tag, frames_tag, master_tag, duration_tag, byte_range_tag, discontinuity_tag, key_tag, map_tag, time_tag, date_range_tag, unknown_tag, Said, nothing, version, target, sequence, discontinuity_sequence, playlist_type, ended, independent, byte_range, discontinuity, time, media, Outcome, ◌>>=◌, or_fault, refuse_if, over, Reader, number, version_of, playlist_type_of, duration_said, byte_range_of, key_said, section_said, date_range_said, uri_of}
+use Rattle.playlist_meaning.specs.LookBack.{latest, the_version, the_target, the_sequence, the_discontinuity_sequence, the_type, is_media, is_discontinuity, is_ended, is_independent, count, own_duration, number_at, discontinuity_at, keys_at, byte_range_at, segments_of, date_ranges_of}
 
 -- ---- the tags by name (RFC 8216, 4.3)
 
@@ -23,7 +23,7 @@ use Rattle.playlist_meaning.specs.LookBack.{latest, the_version, the_target, the
 abbrev pub names : List (List ℕ × Bool × Name)
 names =
     (codes "EXTINF", false, duration_tag)
-    ∷ (codes "EXT-X-BYTERANGE", false, range_tag)
+    ∷ (codes "EXT-X-BYTERANGE", false, byte_range_tag)
     ∷ (codes "EXT-X-DISCONTINUITY", true, discontinuity_tag)
     ∷ (codes "EXT-X-KEY", false, key_tag)
     ∷ (codes "EXT-X-MAP", false, map_tag)
@@ -93,7 +93,7 @@ said_by_tag reader base before independent_tag rest = Ok independent
 said_by_tag reader base before frames_tag rest = Err fault.IFramesOnly
 said_by_tag reader base before master_tag rest = Err fault.MasterPlaylist
 said_by_tag reader base before duration_tag rest = duration_said rest
-said_by_tag reader base before range_tag rest = range_of rest >>= λ r. Ok (range r.0 r.1)
+said_by_tag reader base before byte_range_tag rest = byte_range_of rest >>= λ r. Ok (byte_range r.0 r.1)
 said_by_tag reader base before discontinuity_tag rest =
     refuse_if (passes (discontinuity_at before + 1)) fault.BadValue (Ok discontinuity)
 said_by_tag reader base before key_tag rest = key_said reader base rest >>= within_formats reader before
@@ -107,7 +107,7 @@ said_by_uri reader base before reference =
     refuse_if (over reader.segments (count is_media before + 1)) fault.TooMany
     (refuse_if (is_none (own_duration before)) fault.NoDuration
     (refuse_if (passes (number_at before)) fault.BadValue
-    (uri_of base reference >>= λ uri. range_at before uri >>= λ r. Ok (media uri))))
+    (uri_of base reference >>= λ uri. byte_range_at before uri >>= λ r. Ok (media uri))))
 
 abbrev pub said_by_kind : Reader → Parts → List Said → Kind → Outcome Said
 said_by_kind reader base before ignored = Ok nothing

@@ -32,7 +32,7 @@ pub data Name : Type 0 where
   frames_tag : Name
   master_tag : Name
   duration_tag : Name
-  range_tag : Name
+  byte_range_tag : Name
   discontinuity_tag : Name
   key_tag : Name
   map_tag : Name
@@ -59,7 +59,7 @@ pub data Said : Type 0 where
   ended : Said
   independent : Said
   duration : ℕ → List ℕ → Said
-  range : ℕ → Option ℕ → Said
+  byte_range : ℕ → Option ℕ → Said
   discontinuity : Said
   no_keys : Said
   key : Key → Said
@@ -118,19 +118,19 @@ duration_said rest =
     mended fault.BadDuration (duration_of (before_first (λ b. b == 44) rest)) >>= λ nanos.
     Ok (duration nanos (after_first (λ b. b == 44) rest))
 
--- whether the end of a range has 64 bits (4.3.2.2)
-abbrev pub range_end_fits : ℕ → ℕ → Bool
-range_end_fits length offset = nat_lt (length + offset) (2 ^ 64)
+-- whether the end of a byte range has 64 bits (4.3.2.2)
+abbrev pub byte_range_end_fits : ℕ → ℕ → Bool
+byte_range_end_fits length offset = nat_lt (length + offset) (2 ^ 64)
 
-abbrev pub stated_range : ℕ → ℕ → Outcome (ℕ × Option ℕ)
-stated_range length offset = refuse_if (not (range_end_fits length offset)) fault.BadRange (Ok (length, Some offset))
+abbrev pub stated_byte_range : ℕ → ℕ → Outcome (ℕ × Option ℕ)
+stated_byte_range length offset = refuse_if (not (byte_range_end_fits length offset)) fault.BadRange (Ok (length, Some offset))
 
 -- EXT-X-BYTERANGE (4.3.2.2), `n[@o]`: the length, and the offset where it is stated
-abbrev pub range_of : List ℕ → Outcome (ℕ × Option ℕ)
-range_of rest =
+abbrev pub byte_range_of : List ℕ → Outcome (ℕ × Option ℕ)
+byte_range_of rest =
     or_fault fault.BadRange (decimal_of (before_first (λ b. b == 64) rest)) >>= λ length.
     if list_any (λ b. b == 64) rest
-    then or_fault fault.BadRange (decimal_of (after_first (λ b. b == 64) rest)) >>= stated_range length
+    then or_fault fault.BadRange (decimal_of (after_first (λ b. b == 64) rest)) >>= stated_byte_range length
     else Ok (length, None)
 
 -- whether so many are over the limit, where there is one
@@ -193,20 +193,20 @@ key_said reader base rest =
     if bytes_eq method (codes "NONE") then Ok no_keys else set_key base pairs method
 
 -- the BYTERANGE of EXT-X-MAP (4.3.2.5), which begins at 0 where it states no offset
-abbrev pub section_range : Pair → Outcome ByteRange
-section_range pair =
-    quoted_of pair >>= λ value. range_of value >>= λ range.
-    refuse_if (not (range_end_fits range.0 (unwrap_or range.1 0))) fault.BadRange
-    (Ok (record { length = range.0; offset = unwrap_or range.1 0 }))
+abbrev pub section_byte_range : Pair → Outcome ByteRange
+section_byte_range pair =
+    quoted_of pair >>= λ value. byte_range_of value >>= λ byte_range.
+    refuse_if (not (byte_range_end_fits byte_range.0 (unwrap_or byte_range.1 0))) fault.BadRange
+    (Ok (record { length = byte_range.0; offset = unwrap_or byte_range.1 0 }))
 
 -- EXT-X-MAP (4.3.2.5)
 abbrev pub section_said : Reader → Parts → List ℕ → Outcome Said
 section_said reader base rest =
     attributes reader rest >>= λ pairs.
     required true (attribute pairs (codes "URI")) >>= λ reference.
-    optional section_range (attribute pairs (codes "BYTERANGE")) >>= λ range.
+    optional section_byte_range (attribute pairs (codes "BYTERANGE")) >>= λ byte_range.
     uri_of base reference >>= λ resource.
-    Ok (section resource range)
+    Ok (section resource byte_range)
 
 abbrev pub time_of : Pair → Outcome ℤ
 time_of pair = or_fault fault.BadTime (instant_of pair.value)

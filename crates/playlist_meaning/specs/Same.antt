@@ -19,11 +19,11 @@ abbrev pub same_key : Key → Key → Bool
 same_key j k =
     bytes_eq j.format k.format && bytes_eq j.method k.method && bytes_eq j.uri k.uri && same_option same_number j.iv k.iv && bytes_eq j.other k.other
 
-abbrev pub same_range : ByteRange → ByteRange → Bool
-same_range a b = a.length == b.length && a.offset == b.offset
+abbrev pub same_byte_range : ByteRange → ByteRange → Bool
+same_byte_range a b = a.length == b.length && a.offset == b.offset
 
 abbrev pub same_section : InitSection → InitSection → Bool
-same_section a b = bytes_eq a.uri b.uri && same_option same_range a.range b.range && pointwise same_key a.keys b.keys
+same_section a b = bytes_eq a.uri b.uri && same_option same_byte_range a.byte_range b.byte_range && pointwise same_key a.keys b.keys
 
 -- a segment without its title, its time and its steps
 abbrev pub kept_parts : Segment → Segment
@@ -33,7 +33,7 @@ abbrev pub same_numbers : Segment → Segment → Bool
 same_numbers a b = a.number == b.number && a.discontinuity == b.discontinuity
 
 abbrev pub same_media : Segment → Segment → Bool
-same_media a b = bytes_eq a.uri b.uri && same_option same_range a.range b.range && a.duration == b.duration
+same_media a b = bytes_eq a.uri b.uri && same_option same_byte_range a.byte_range b.byte_range && a.duration == b.duration
 
 abbrev pub same_protection : Segment → Segment → Bool
 same_protection a b = pointwise same_key a.keys b.keys && same_option same_section a.section b.section

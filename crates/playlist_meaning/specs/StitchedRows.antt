@@ -13,7 +13,7 @@ stepped n discontinuity steps = record {
   discontinuity = discontinuity;
   steps = steps;
   uri = n ∷ [];
-  range = None;
+  byte_range = None;
   keys = [];
   section = None;
   duration = 10000000000;
@@ -32,7 +32,7 @@ unmarked s = record { segment = s; instant = None; mark = None }
 
 -- an ad whose segments have these URIs
 abbrev pub ad : List ℕ → Ad
-ad uris = record { section = None; keys = []; segments = map (λ n. record { uri = n ∷ []; range = None; duration = 8000000000 }) uris }
+ad uris = record { section = None; keys = []; segments = map (λ n. record { uri = n ∷ []; byte_range = None; duration = 8000000000 }) uris }
 
 -- a break of this ID, with a pod of these ads
 abbrev pub break : List ℕ → List (List ℕ) → Mark

@@ -134,7 +134,7 @@ pub struct ByteRange {
 }
 
 /// What a key tag says (EXT-X-KEY; RFC 8216, section 4.3.2.4).
-#[derive(Clone, PartialEq, Drop)]
+#[derive(PartialEq, Drop)]
 pub enum KeyTag {
     /// METHOD=NONE: no key is in force any more, of whatever format.
     End,
@@ -162,19 +162,19 @@ pub struct Key {
 pub type Keys = Items<Key>;
 
 /// A media initialisation section (EXT-X-MAP; RFC 8216, section 4.3.2.5).
-#[derive(Clone, PartialEq, Drop)]
+#[derive(PartialEq, Drop)]
 pub struct InitSection {
     /// Its resource.
     pub uri: Shared<Text>,
     /// The part of the resource, where it isn't the whole.
-    pub range: Option<ByteRange>,
+    pub byte_range: Option<ByteRange>,
     /// The keys in force at its own line, with no IV supplied.
     pub keys: Keys,
 }
 
 /// A media segment (RFC 8216, sections 3 and 4.3.2). It has several owners: the playlist in which it was read, and the list
 /// that is shown.
-#[derive(Clone, PartialEq, Drop)]
+#[derive(PartialEq, Drop)]
 pub struct Segment {
     /// Its Media Sequence Number (section 4.3.3.2).
     pub number: u64,
@@ -185,7 +185,7 @@ pub struct Segment {
     /// Its resource: an absolute URI.
     pub uri: Text,
     /// The part of the resource, where it isn't the whole.
-    pub range: Option<ByteRange>,
+    pub byte_range: Option<ByteRange>,
     /// The keys that it is encrypted under, sorted by format; none where it is clear.
     pub keys: Keys,
     /// What its parser is initialised with, where it needs that.
@@ -199,7 +199,7 @@ pub struct Segment {
 }
 
 /// A date range (EXT-X-DATERANGE; RFC 8216, section 4.3.2.7).
-#[derive(Clone, PartialEq, Drop)]
+#[derive(PartialEq, Drop)]
 pub struct DateRange {
     /// ID.
     pub id: Text,
@@ -220,7 +220,7 @@ pub struct DateRange {
 }
 
 /// A media playlist (RFC 8216, section 4), as a reader has it.
-#[derive(Clone, PartialEq, Drop)]
+#[derive(PartialEq, Drop)]
 pub struct Playlist {
     /// EXT-X-VERSION, which is 1 where none is stated.
     pub version: u64,

@@ -20,9 +20,9 @@ fn plain_row()
           ended = true;
           date_ranges = [];
           segments =
-              record { number = 0; discontinuity = 0; steps = 0; uri = codes "http://origin.example/ch/s0.ts"; range = None; keys = []; section = None; duration = 10000000000; title = []; time = None }
-              ∷ record { number = 1; discontinuity = 0; steps = 0; uri = codes "http://origin.example/ch/s1.ts"; range = None; keys = []; section = None; duration = 10000000000; title = []; time = None }
-              ∷ record { number = 2; discontinuity = 0; steps = 0; uri = codes "http://origin.example/ch/s2.ts"; range = None; keys = []; section = None; duration = 9500000000; title = []; time = None }
+              record { number = 0; discontinuity = 0; steps = 0; uri = codes "http://origin.example/ch/s0.ts"; byte_range = None; keys = []; section = None; duration = 10000000000; title = []; time = None }
+              ∷ record { number = 1; discontinuity = 0; steps = 0; uri = codes "http://origin.example/ch/s1.ts"; byte_range = None; keys = []; section = None; duration = 10000000000; title = []; time = None }
+              ∷ record { number = 2; discontinuity = 0; steps = 0; uri = codes "http://origin.example/ch/s2.ts"; byte_range = None; keys = []; section = None; duration = 9500000000; title = []; time = None }
               ∷ [];
         })) }
 {}
@@ -40,7 +40,7 @@ fn fault_rows()
 {}
 
 /// Byte ranges without an offset.
-fn range_rows()
+fn byte_range_rows()
     ensures no_start { read_lines (codes "#EXTM3U" ∷ codes "#EXT-X-TARGETDURATION:10" ∷ codes "#EXTINF:10," ∷ codes "#EXT-X-BYTERANGE:100" ∷ codes "a.ts" ∷ [])
         ≡ Some (Err (record { kind = FaultKind.RangeNoStart; line = 5 })) }
     ensures other_resource { read_lines (codes "#EXTM3U" ∷ codes "#EXT-X-TARGETDURATION:10" ∷ codes "#EXTINF:10," ∷ codes "#EXT-X-BYTERANGE:100@0" ∷ codes "b.ts"
@@ -56,8 +56,8 @@ fn range_rows()
           ended = false;
           date_ranges = [];
           segments =
-              record { number = 0; discontinuity = 0; steps = 0; uri = codes "http://origin.example/ch/a.ts"; range = Some (record { length = 100; offset = 0 }); keys = []; section = None; duration = 10000000000; title = []; time = None }
-              ∷ record { number = 1; discontinuity = 0; steps = 0; uri = codes "http://origin.example/ch/a.ts"; range = Some (record { length = 100; offset = 100 }); keys = []; section = None; duration = 10000000000; title = []; time = None }
+              record { number = 0; discontinuity = 0; steps = 0; uri = codes "http://origin.example/ch/a.ts"; byte_range = Some (record { length = 100; offset = 0 }); keys = []; section = None; duration = 10000000000; title = []; time = None }
+              ∷ record { number = 1; discontinuity = 0; steps = 0; uri = codes "http://origin.example/ch/a.ts"; byte_range = Some (record { length = 100; offset = 100 }); keys = []; section = None; duration = 10000000000; title = []; time = None }
               ∷ [];
         })) }
 {}
@@ -93,7 +93,7 @@ fn effective_row()
                 discontinuity = 1;
                 steps = 1;
                 uri = codes "http://origin.example/ch/s0.ts";
-                range = None;
+                byte_range = None;
                 keys =
                     record { format = codes "com.example.drm"; method = codes "SAMPLE-AES"; uri = codes "skd://k"; iv = None; other = codes ",X=\"y\"" }
                     ∷ record { format = codes "identity"; method = codes "AES-128"; uri = codes "http://origin.example/ch/k1"; iv = Some 7; other = [] } ∷ [];
@@ -102,7 +102,7 @@ fn effective_row()
                 title = codes "a,b";
                 time = None;
               }
-              ∷ record { number = 8; discontinuity = 1; steps = 0; uri = codes "http://origin.example/ch/s1.ts"; range = None; keys = []; section = None; duration = 10000000000; title = []; time = Some (pos 1714564810250000000) }
+              ∷ record { number = 8; discontinuity = 1; steps = 0; uri = codes "http://origin.example/ch/s1.ts"; byte_range = None; keys = []; section = None; duration = 10000000000; title = []; time = Some (pos 1714564810250000000) }
               ∷ [];
         })) }
 {}
@@ -146,7 +146,7 @@ fn section_row()
         ∷ codes "#EXTINF:10,"
         ∷ codes "s2.m4s"
         ∷ codes "#EXT-X-ENDLIST" ∷ [])))
-        ≡ (record { format = codes "identity"; method = codes "AES-128"; uri = codes "http://origin.example/ch/kb"; iv = Some 2; other = [] } ∷ [], Some (record { uri = codes "http://origin.example/ch/init.mp4"; range = None; keys = record { format = codes "identity"; method = codes "AES-128"; uri = codes "http://origin.example/ch/ka"; iv = Some 1; other = [] } ∷ [] })) ∷ (record { format = codes "identity"; method = codes "AES-128"; uri = codes "http://origin.example/ch/kb"; iv = Some 2; other = [] } ∷ [], Some (record { uri = codes "http://origin.example/ch/init.mp4"; range = None; keys = record { format = codes "identity"; method = codes "AES-128"; uri = codes "http://origin.example/ch/ka"; iv = Some 1; other = [] } ∷ [] })) ∷ (record { format = codes "identity"; method = codes "AES-128"; uri = codes "http://origin.example/ch/kb"; iv = Some 2; other = [] } ∷ [], Some (record { uri = codes "http://origin.example/ch/init.mp4"; range = None; keys = record { format = codes "identity"; method = codes "AES-128"; uri = codes "http://origin.example/ch/ka"; iv = Some 1; other = [] } ∷ [] })) ∷ [] }
+        ≡ (record { format = codes "identity"; method = codes "AES-128"; uri = codes "http://origin.example/ch/kb"; iv = Some 2; other = [] } ∷ [], Some (record { uri = codes "http://origin.example/ch/init.mp4"; byte_range = None; keys = record { format = codes "identity"; method = codes "AES-128"; uri = codes "http://origin.example/ch/ka"; iv = Some 1; other = [] } ∷ [] })) ∷ (record { format = codes "identity"; method = codes "AES-128"; uri = codes "http://origin.example/ch/kb"; iv = Some 2; other = [] } ∷ [], Some (record { uri = codes "http://origin.example/ch/init.mp4"; byte_range = None; keys = record { format = codes "identity"; method = codes "AES-128"; uri = codes "http://origin.example/ch/ka"; iv = Some 1; other = [] } ∷ [] })) ∷ (record { format = codes "identity"; method = codes "AES-128"; uri = codes "http://origin.example/ch/kb"; iv = Some 2; other = [] } ∷ [], Some (record { uri = codes "http://origin.example/ch/init.mp4"; byte_range = None; keys = record { format = codes "identity"; method = codes "AES-128"; uri = codes "http://origin.example/ch/ka"; iv = Some 1; other = [] } ∷ [] })) ∷ [] }
 {}
 
 /// Bases and resolved references.

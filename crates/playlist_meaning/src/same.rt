@@ -33,7 +33,7 @@ fn are_same_keys(one: &Keys, other: &Keys) -> bool
 pub fn is_same_section(a: &InitSection, b: &InitSection) -> bool
     ensures { result ≡ same_section a.now b.now }
 {
-    a.uri == b.uri && a.range == b.range && are_same_keys(&a.keys, &b.keys)
+    a.uri == b.uri && a.byte_range == b.byte_range && are_same_keys(&a.keys, &b.keys)
 }
 
 fn are_same_sections(one: &Option<Shared<InitSection>>, other: &Option<Shared<InitSection>>) -> bool
@@ -55,7 +55,7 @@ fn same_numbers(a: &Segment, b: &Segment) -> bool
 fn same_media(a: &Segment, b: &Segment) -> bool
     ensures { result ≡ same_media a.now b.now }
 {
-    a.uri == b.uri && a.range == b.range && a.duration == b.duration
+    a.uri == b.uri && a.byte_range == b.byte_range && a.duration == b.duration
 }
 
 fn same_protection(a: &Segment, b: &Segment) -> bool
@@ -71,7 +71,7 @@ fn are_same_segments(a: &Segment, b: &Segment) -> bool
 }
 
 #[tactic(auto, using(crate::proofs::SameSegments::same_segment_decides))]
-/// Whether two segments are the same in resource, range, effective keys, initialisation section,
+/// Whether two segments are the same in resource, byte range, effective keys, initialisation section,
 /// duration and both numbers: in all but title, steps and time, which an origin may say otherwise when
 /// it lists a segment again (RFC 8216, 6.2.1). Takes no memory.
 pub fn same_segment(a: &Segment, b: &Segment) -> bool

@@ -46,7 +46,7 @@ fn discontinuity_rows()
 {}
 
 /// The last numbers that a playlist can state.
-fn range_rows()
+fn byte_range_rows()
     ensures media { fitting (marked two (plain 18446744073709551615) ∷ unmarked (plain 18446744073709551614) ∷ []) ≡ false ∷ true ∷ true ∷ [] }
     ensures discontinuity { fitting (unmarked (stepped 1 18446744073709551614 0) ∷ marked two (stepped 0 18446744073709551614 0) ∷ []) ≡ false ∷ true ∷ true ∷ [] }
 {}

@@ -4,7 +4,7 @@ use Rattle.std.specs.Prelude.{Result, Ok, Err, IsOk, MatchResult, codes, bytes_e
 use Rattle.url.specs.Parts.{Parts}
 use Rattle.attr_list.specs.Attributes.{Pair, attribute}
 use Rattle.playlist_meaning.specs.declared.FaultKind.{FaultKind}
-use Rattle.playlist_meaning.specs.Said.{Reader, key_tag, map_tag, time_tag, Said, no_keys, Outcome, ◌>>=◌, refuse_if, attributes, required, optional, set_key, key_said, section_said, section_range, iv_of, quoted_of, uri_of, or_fault}
+use Rattle.playlist_meaning.specs.Said.{Reader, key_tag, map_tag, time_tag, Said, no_keys, Outcome, ◌>>=◌, refuse_if, attributes, required, optional, set_key, key_said, section_said, section_byte_range, iv_of, quoted_of, uri_of, or_fault}
 use Rattle.instants.specs.Instant.{instant_of}
 use Rattle.playlist_meaning.specs.declared.FaultKind.TheVariants as fault
 use Rattle.playlist_meaning.specs.LookBack.{Standing, standing_at, with_said}
@@ -56,7 +56,7 @@ says_section : (reader : Reader) (base : Parts) (rest : List ℕ) → Says (sect
 says_section reader base rest =
     says_then (attributes reader rest) _ (λ pairs.
     says_then (required true (attribute pairs (codes "URI"))) _ (λ reference.
-    says_then (optional section_range (attribute pairs (codes "BYTERANGE"))) _ (λ range.
+    says_then (optional section_byte_range (attribute pairs (codes "BYTERANGE"))) _ (λ byte_range.
     says_then (uri_of base reference) _ (λ resource. λ b before. refl))))
 
 pub key_tag_says : (reader : Reader) (base : Parts) (before : List Said) (rest : List ℕ) → Says (said_by_tag reader base before key_tag rest)

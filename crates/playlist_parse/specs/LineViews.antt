@@ -2,7 +2,7 @@
 use Rattle.std.specs.Prelude.{ℕ, ◌+◌, Bool, not, ◌==◌, ◌||◌, List, map, length}
 use Rattle.std.specs.List.{slice_split}
 use Rattle.playlist_meaning.specs.Lines.{Kind, ignored, uri, tag, placed_from, has_control, is_printable}
-use Rattle.playlist_meaning.specs.Said.{Name, version_tag, target_tag, sequence_tag, discontinuity_sequence_tag, type_tag, ended_tag, independent_tag, frames_tag, master_tag, duration_tag, range_tag, discontinuity_tag, key_tag, map_tag, time_tag, date_range_tag, unknown_tag}
+use Rattle.playlist_meaning.specs.Said.{Name, version_tag, target_tag, sequence_tag, discontinuity_sequence_tag, type_tag, ended_tag, independent_tag, frames_tag, master_tag, duration_tag, byte_range_tag, discontinuity_tag, key_tag, map_tag, time_tag, date_range_tag, unknown_tag}
 use Rattle.playlist_parse.specs.declared.line.Line.{Line}
 use Rattle.playlist_parse.specs.declared.line.LineKind.{LineKind}
 use Rattle.playlist_parse.specs.declared.line.LineKind.TheVariants as line_kind
@@ -54,7 +54,7 @@ tag_view tag_name.IndependentSegments = independent_tag
 tag_view tag_name.IFramesOnly = frames_tag
 tag_view tag_name.Master = master_tag
 tag_view tag_name.Inf = duration_tag
-tag_view tag_name.ByteRange = range_tag
+tag_view tag_name.ByteRange = byte_range_tag
 tag_view tag_name.Discontinuity = discontinuity_tag
 tag_view tag_name.Key = key_tag
 tag_view tag_name.Map = map_tag

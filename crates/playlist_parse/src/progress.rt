@@ -123,7 +123,7 @@ impl<'a> Progress<'a> {
             }
             Tag::IFramesOnly => Err(FaultKind::IFramesOnly),
             Tag::Master => Err(FaultKind::MasterPlaylist),
-            Tag::ByteRange => self.range(rest),
+            Tag::ByteRange => self.byte_range(rest),
             Tag::Key => self.key(rest),
             Tag::Map => self.section(rest),
             Tag::ProgramDateTime => self.time(rest),
@@ -145,10 +145,10 @@ impl<'a> Progress<'a> {
     }
 
     // EXT-X-BYTERANGE (4.3.2.2)
-    fn range(&mut self, rest: &str) -> Result<(), FaultKind>
-        ensures { Takes (λ base before. said_by_tag limited base before said.range_tag rest.now) self.old self.new result }
+    fn byte_range(&mut self, rest: &str) -> Result<(), FaultKind>
+        ensures { Takes (λ base before. said_by_tag limited base before said.byte_range_tag rest.now) self.old self.new result }
     {
-        self.state.range_tag(rest)
+        self.state.byte_range_tag(rest)
     }
 
     // EXT-X-KEY (4.3.2.4)
@@ -176,8 +176,8 @@ impl<'a> Progress<'a> {
     fn date_range(&mut self, rest: &str) -> Result<(), FaultKind>
         ensures { Takes (λ base before. said_by_tag limited base before said.date_range_tag rest.now) self.old self.new result }
     {
-        let range = date_range_of(self.alloc, rest)?;
-        self.date_ranges.push(range)?;
+        let date_range = date_range_of(self.alloc, rest)?;
+        self.date_ranges.push(date_range)?;
         Ok(())
     }
 

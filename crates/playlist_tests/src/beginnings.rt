@@ -20,7 +20,7 @@ fn segment(alloc: Global, listed: Listed<'_>) -> Result<Segment, AllocError> {
         discontinuity: 0,
         steps: listed.steps,
         uri: Text::copy_of(alloc, "http://origin.example/s.ts")?,
-        range: None,
+        byte_range: None,
         keys: Items::from_vec(Vec::new(alloc)),
         section: None,
         duration: listed.duration,

@@ -65,12 +65,12 @@ fn drm_key(alloc: Global) -> Result<Key, AllocError> {
 fn section(
     alloc: Global,
     uri: &str,
-    range: Option<ByteRange>,
+    byte_range: Option<ByteRange>,
     keys: Vec<Key>,
 ) -> Result<Shared<InitSection>, AllocError> {
     let section = InitSection {
         uri: Shared::copy_of(alloc, uri)?,
-        range,
+        byte_range,
         keys: Items::from_vec(keys),
     };
     Ok(Shared::new(alloc, section)?)
@@ -83,7 +83,7 @@ fn bare(alloc: Global, uri: &str, title: &str, tenths: u32) -> Result<Segment, A
         discontinuity: 0,
         steps: 0,
         uri: Text::copy_of(alloc, uri)?,
-        range: None,
+        byte_range: None,
         keys: Items::from_vec(Vec::new(alloc)),
         section: None,
         duration: Nanos(u64::from(tenths) * 100_000_000),
@@ -112,7 +112,7 @@ fn origin_segment(alloc: Global) -> Result<Segment, AllocError> {
 
 // A segment of 9.5 seconds with the section of an advertisement.
 fn ad_segment(alloc: Global, uri: &str) -> Result<Segment, AllocError> {
-    let range = ByteRange {
+    let byte_range = ByteRange {
         length: 100,
         offset: 20,
     };
@@ -120,7 +120,7 @@ fn ad_segment(alloc: Global, uri: &str) -> Result<Segment, AllocError> {
     let section = section(
         alloc,
         "http://ads.example/i.mp4",
-        Some(range),
+        Some(byte_range),
         Vec::new(alloc),
     )?;
     segment.section = Some(section);
@@ -140,7 +140,7 @@ fn origin_item(segment: &Segment) -> OutSegment<'_> {
 // The first segment of the advertisement, a part of its file.
 fn clear_item<'a>(alloc: Global) -> Result<OutSegment<'a>, AllocError> {
     let mut segment = ad_segment(alloc, "http://ads.example/a0.m4s")?;
-    segment.range = Some(ByteRange {
+    segment.byte_range = Some(ByteRange {
         length: 30,
         offset: 120,
     });
@@ -177,7 +177,7 @@ fn segments<'a>(alloc: Global, origin: &'a Segment) -> Result<Items<OutSegment<'
 fn playlist_of<'a>(
     alloc: Global,
     version: u64,
-    range: &'a Text,
+    date_range: &'a Text,
     segments: Items<OutSegment<'a>>,
 ) -> Result<OutPlaylist<'a>, AllocError> {
     Ok(OutPlaylist {
@@ -186,7 +186,7 @@ fn playlist_of<'a>(
         kind: Some(PlaylistKind::Event),
         independent: true,
         ended: true,
-        date_ranges: Items::from_vec(vec![in alloc; OriginText::new(range)]?),
+        date_ranges: Items::from_vec(vec![in alloc; OriginText::new(date_range)]?),
         segments,
     })
 }
@@ -195,24 +195,24 @@ fn playlist_of<'a>(
 #[derive(Drop)]
 struct Sources {
     origin: Segment,
-    range: Text,
+    date_range: Text,
 }
 
-fn sources_with(alloc: Global, range: &str) -> Result<Sources, AllocError> {
-    let range = Text::copy_of(alloc, range)?;
+fn sources_with(alloc: Global, date_range: &str) -> Result<Sources, AllocError> {
+    let date_range = Text::copy_of(alloc, date_range)?;
     Ok(Sources {
         origin: origin_segment(alloc)?,
-        range,
+        date_range,
     })
 }
 
 fn playlist(alloc: Global, sources: &Sources, version: u64) -> Result<OutPlaylist<'_>, AllocError> {
     let segments = segments(alloc, &sources.origin)?;
-    playlist_of(alloc, version, &sources.range, segments)
+    playlist_of(alloc, version, &sources.date_range, segments)
 }
 
-fn is_well_formed(alloc: Global, version: u64, range: &str) -> Result<bool, AllocError> {
-    let sources = sources_with(alloc, range)?;
+fn is_well_formed(alloc: Global, version: u64, date_range: &str) -> Result<bool, AllocError> {
+    let sources = sources_with(alloc, date_range)?;
     playlist(alloc, &sources, version)?.well_formed(alloc)
 }
 
@@ -282,7 +282,7 @@ fn long_playlist(alloc: Global, sources: &Sources) -> Result<OutPlaylist<'_>, Al
     for _ in 0..1_500 {
         segments.push(origin_item(&sources.origin))?;
     }
-    playlist_of(alloc, 7, &sources.range, Items::from_vec(segments))
+    playlist_of(alloc, 7, &sources.date_range, Items::from_vec(segments))
 }
 
 // How many bytes a sink that takes all that is offered has up to the call that fails, where they are the text's front.

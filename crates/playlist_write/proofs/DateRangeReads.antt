@@ -58,11 +58,11 @@ unlimited_read text s h = unlimited_step text s (attributes_of (Some 64) text) r
 
 -- a text that says one date range
 pub record OneDateRange (text : List ℕ) : Type 0 where
-  pub range : DateRange
-  pub says : date_range_said unlimited text ≡ Ok (date_range range)
+  pub read : DateRange
+  pub says : date_range_said unlimited text ≡ Ok (date_range read)
 
 date_range_in : (text : List ℕ) (o : Outcome Said) → date_range_said few text ≡ o → says_date_range o ≡ true → OneDateRange text
-date_range_in text (Ok (date_range r)) e h = record { range = r; says = unlimited_read text (date_range r) e }
+date_range_in text (Ok (date_range r)) e h = record { read = r; says = unlimited_read text (date_range r) e }
 date_range_in text (Ok _) e h = cc
 date_range_in text (Err d) e h = cc
 

@@ -20,8 +20,8 @@ use Rattle.playlist_meaning.specs.Same.{same_section, same_option}
 use Rattle.stitcher.specs.KeyTags.{transition, is_new, keeps_formats, after_tags}
 use Rattle.playlist_meaning.proofs.SameParts.{section_is}
 use Rattle.stitcher.proofs.TagLaws.{transition_leads}
-use Rattle.playlist_write.specs.Owed.{Current, keys_owed, changed_section, section_owed, keys_then, time_owed, range_owed, segment_owed, after_segment, segments_owed}
-use Rattle.fitting.specs.Fitting.{is_clean, uri_fits, quoted_uri_fits, range_fits, if_some, key_fits, keys_fit, states_iv, section_fits}
+use Rattle.playlist_write.specs.Owed.{Current, keys_owed, changed_section, section_owed, keys_then, time_owed, byte_range_owed, segment_owed, after_segment, segments_owed}
+use Rattle.fitting.specs.Fitting.{is_clean, uri_fits, quoted_uri_fits, byte_range_fits, if_some, key_fits, keys_fit, states_iv, section_fits}
 use Rattle.playlist_write.specs.WellFormed.{is_word, numbers_are_words, resource_fits, segment_fits}
 use Rattle.playlist_write.specs.Denoted.{denoted_segment}
 use Rattle.playlist_write.proofs.Machine.{Known, step, run, Allowed, number_known, discontinuity_known}
@@ -107,14 +107,14 @@ with_both k ks s e g = ap (with_keys k) e ∙ ap (with_section k ks) g
 
 record SectionParts (s : InitSection) : Type 0 where
   uri : quoted_uri_fits s.uri ≡ true
-  range : if_some range_fits s.range ≡ true
+  byte_range : if_some byte_range_fits s.byte_range ≡ true
   keys : keys_fit s.keys ≡ true
   ivs : list_any needs_iv s.keys ≡ false
 
 section_parts : (s : InitSection) → section_fits s ≡ true → SectionParts s
 section_parts s h =
-    let a = and_parts _ _ h in let b = and_parts _ _ a.0 in let c : (quoted_uri_fits s.uri ≡ true) × (if_some range_fits s.range ≡ true) = and_parts _ _ b.0 in
-    record { uri = c.0; range = c.1; keys = b.1; ivs = not-true _ a.1 }
+    let a = and_parts _ _ h in let b = and_parts _ _ a.0 in let c : (quoted_uri_fits s.uri ≡ true) × (if_some byte_range_fits s.byte_range ≡ true) = and_parts _ _ b.0 in
+    record { uri = c.0; byte_range = c.1; keys = b.1; ivs = not-true _ a.1 }
 
 -- the section that is written: none where it is the same
 abbrev written : Bool → InitSection → Option InitSection
@@ -125,7 +125,7 @@ section_step : (same : Bool) (cur : Current) (new : InitSection) (k : Known) →
 section_step true cur new k e ke se h f = record { allowed = tt; leads = with_both k cur.keys (Some new) ke (se ∙ section_is new cur.section e) }
 section_step false cur new k e ke se h f =
     let p = section_parts new f in
-    goes-append _ _ k (with_keys k new.keys) _ (goes_keys cur.keys new.keys k ke h p.keys) (record { allowed = ((p.uri, p.range), p.ivs, tt); leads = refl })
+    goes-append _ _ k (with_keys k new.keys) _ (goes_keys cur.keys new.keys k ke h p.keys) (record { allowed = ((p.uri, p.byte_range), p.ivs, tt); leads = refl })
 
 goes_section : (cur : Current) (sec : Option InitSection) (k : Known) → k.standing.keys ≡ cur.keys → k.standing.section ≡ cur.section → keys_fit cur.keys ≡ true → if_some section_fits sec ≡ true
     → Goes k (section_owed cur.keys (changed_section cur.section sec)) (with_section k (keys_then cur.keys (changed_section cur.section sec)) (or_earlier sec cur.section))
@@ -148,7 +148,7 @@ segment_with s out = record {
   discontinuity = discontinuity_known s;
   steps = s.steps;
   uri = out.segment.uri;
-  range = out.segment.range;
+  byte_range = out.segment.byte_range;
   keys = map (effective_key (number_known s)) s.keys;
   section = s.section;
   duration = out.segment.duration;
@@ -163,39 +163,39 @@ ended_segment k out = record k {
     media_count = k.standing.media_count + 1;
     steps = 0;
     duration = None;
-    range = None;
+    byte_range = None;
     time = None;
-    extent = extent_with out.segment.uri out.segment.range;
+    extent = extent_with out.segment.uri out.segment.byte_range;
   };
   segments = k.segments ++ segment_with k.standing out ∷ [];
 }
 
 abbrev fresh : Known → Known
-fresh k = record k { standing = record k.standing { duration = None; range = None; time = None } }
+fresh k = record k { standing = record k.standing { duration = None; byte_range = None; time = None } }
 
 -- one segment's own parts, apart from its keys and its section
 record TailFits (out : OutSegment) : Type 0 where
   uri : uri_fits out.segment.uri ≡ true
-  range : if_some range_fits out.segment.range ≡ true
+  byte_range : if_some byte_range_fits out.segment.byte_range ≡ true
   duration : out.segment.duration < 10 ^ 15
   title : is_clean out.segment.title ≡ true
   time : if_some in_range out.time ≡ true
 
 tail : (out : OutSegment) (t : Option ℤ) (r : Option ByteRange) → List Said
-tail out t r = time_owed t ++ (duration out.segment.duration out.segment.title ∷ (range_owed r ++ media out.segment.uri ∷ []))
+tail out t r = time_owed t ++ (duration out.segment.duration out.segment.title ∷ (byte_range_owed r ++ media out.segment.uri ∷ []))
 
-goes_tail : (out : OutSegment) (t : Option ℤ) (r : Option ByteRange) → out.time ≡ t → out.segment.range ≡ r → (k : Known) → TailFits out → passes (number_known k.standing) ≡ false
+goes_tail : (out : OutSegment) (t : Option ℤ) (r : Option ByteRange) → out.time ≡ t → out.segment.byte_range ≡ r → (k : Known) → TailFits out → passes (number_known k.standing) ≡ false
     → Goes (fresh k) (tail out t r) (ended_segment (fresh k) out)
 unfolding tail
 goes_tail out None None te re k f n = rw (te, re) (record { allowed = ((f.duration, f.title), tt, (f.uri, (refl, n, None, refl), tt)); leads = refl })
 goes_tail out None (Some r) te re k f n =
-    let fits : range_fits r ≡ true = subst (λ x. if_some range_fits x ≡ true) re f.range in
+    let fits : byte_range_fits r ≡ true = subst (λ x. if_some byte_range_fits x ≡ true) re f.byte_range in
     rw (te, re) (record { allowed = ((f.duration, f.title), tt, (ltb-true _ _ fits, tt, (f.uri, (refl, n, Some r, refl), tt))); leads = refl })
 goes_tail out (Some t) None te re k f n =
     let fits : in_range t ≡ true = subst (λ x. if_some in_range x ≡ true) te f.time in
     rw (te, re) (record { allowed = (fits, tt, ((f.duration, f.title), tt, (f.uri, (refl, n, None, refl), tt))); leads = refl })
 goes_tail out (Some t) (Some r) te re k f n =
-    let fits : range_fits r ≡ true = subst (λ x. if_some range_fits x ≡ true) re f.range in
+    let fits : byte_range_fits r ≡ true = subst (λ x. if_some byte_range_fits x ≡ true) re f.byte_range in
     let stands : in_range t ≡ true = subst (λ x. if_some in_range x ≡ true) te f.time in
     rw (te, re) (record { allowed = (stands, tt, ((f.duration, f.title), tt, (ltb-true _ _ fits, tt, (f.uri, (refl, n, Some r, refl), tt)))); leads = refl })
 
@@ -210,7 +210,7 @@ ready h cur n d extent segments = record h {
     discontinuities = d;
     steps = 0;
     duration = None;
-    range = None;
+    byte_range = None;
     time = None;
     keys = cur.keys;
     section = cur.section;
@@ -227,7 +227,7 @@ effective n [] h = refl
 effective n (k ∷ keys) h = let a = and_parts _ _ h in let e = effective_step n k a.0 in let t = effective n keys a.1 in cc
 
 segment_ext : (out : OutSegment) (n d s : ℕ) (ks : List Key) (sec : Option InitSection) → n ≡ out.media → d ≡ out.discontinuity → s ≡ out.steps → ks ≡ out.segment.keys → sec ≡ out.segment.section
-    → ◌≡◌ {A = Segment} (record { number = n; discontinuity = d; steps = s; uri = out.segment.uri; range = out.segment.range; keys = ks; section = sec; duration = out.segment.duration; title = out.segment.title; time = out.time }) (denoted_segment out)
+    → ◌≡◌ {A = Segment} (record { number = n; discontinuity = d; steps = s; uri = out.segment.uri; byte_range = out.segment.byte_range; keys = ks; section = sec; duration = out.segment.duration; title = out.segment.title; time = out.time }) (denoted_segment out)
 segment_ext out n d s ks sec a b c e f = rw (a, b, c, e, f) refl
 
 pub record SegmentFits (out : OutSegment) : Type 0 where
@@ -243,19 +243,19 @@ segment_parts out h =
     let a = and_parts _ _ h in let b = and_parts _ _ a.0 in let c = and_parts _ _ b.0 in let d = and_parts _ _ c.0 in let e = and_parts _ _ d.0 in
     let f : (numbers_are_words out ≡ true) × (resource_fits out.segment ≡ true) = and_parts _ _ e.0 in
     let n : (is_word out.media ≡ true) × (is_word out.discontinuity ≡ true) = and_parts _ _ f.0 in
-    let r : (uri_fits out.segment.uri ≡ true) × (if_some range_fits out.segment.range ≡ true) = and_parts _ _ f.1 in
+    let r : (uri_fits out.segment.uri ≡ true) × (if_some byte_range_fits out.segment.byte_range ≡ true) = and_parts _ _ f.1 in
     let k : (keys_fit out.segment.keys ≡ true) × (list_all states_iv out.segment.keys ≡ true) = and_parts _ _ e.1 in
     record {
       media = ltb-true _ _ n.0;
       discontinuity = ltb-true _ _ n.1;
-      tail = record { uri = r.0; range = r.1; duration = ltb-true _ _ c.1; title = b.1; time = a.1 };
+      tail = record { uri = r.0; byte_range = r.1; duration = ltb-true _ _ c.1; title = b.1; time = a.1 };
       keys = k.0;
       ivs = k.1;
       section = d.1;
     }
 
 extent_of : OutSegment → Option Extent
-extent_of out = extent_with out.segment.uri out.segment.range
+extent_of out = extent_with out.segment.uri out.segment.byte_range
 
 module _ (h : Known) where
   goes_segment : (cur : Current) (n d : ℕ) (extent : Option Extent) (segments : List Segment) (out : OutSegment) → SegmentFits out → keys_fit cur.keys ≡ true
@@ -272,7 +272,7 @@ module _ (h : Known) where
       let one = goes_steps out.steps k0 (omega arith) in
       let two = goes_section cur out.segment.section k1 refl refl kf f.section in
       let three = goes_keys (keys_then cur.keys changed) out.segment.keys k2 refl (then_fit cur out.segment.section kf f.section) f.keys in
-      let four = goes_tail out out.time out.segment.range refl refl k3 f.tail (lt-leb _ _ (omega arith)) in
+      let four = goes_tail out out.time out.segment.byte_range refl refl k3 f.tail (lt-leb _ _ (omega arith)) in
       let same = segment_ext out (h.standing.sequence + n) (h.standing.discontinuity_sequence + (d + out.steps)) (0 + out.steps) (map (effective_key (h.standing.sequence + n)) out.segment.keys) (or_earlier out.segment.section cur.section)
       media_is (omega arith) (omega arith) (effective (h.standing.sequence + n) out.segment.keys f.ivs) se in
       let all = goes-append _ _ k0 k1 _ one (goes-append _ _ k1 k2 _ two (goes-append _ _ k2 k3 _ three four)) in

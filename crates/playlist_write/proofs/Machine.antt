@@ -8,13 +8,13 @@ use Rattle.playlist_meaning.specs.declared.ByteRange.{ByteRange}
 use Rattle.playlist_meaning.specs.declared.Segment.{Segment}
 use Rattle.playlist_meaning.specs.declared.DateRange.{DateRange}
 use Rattle.instants.specs.Instant.{in_range}
-use Rattle.playlist_meaning.specs.Said.{Said, nothing, version, target, sequence, discontinuity_sequence, playlist_type, ended, independent, duration, range, discontinuity, no_keys, key, section, time, date_range, media, Outcome, date_range_said}
-use Rattle.playlist_meaning.specs.LookBack.{is_media, is_discontinuity, put_key, effective_key, extent_with, range_from, Standing, standing_at, segments_of, date_ranges_of}
+use Rattle.playlist_meaning.specs.Said.{Said, nothing, version, target, sequence, discontinuity_sequence, playlist_type, ended, independent, duration, byte_range, discontinuity, no_keys, key, section, time, date_range, media, Outcome, date_range_said}
+use Rattle.playlist_meaning.specs.LookBack.{is_media, is_discontinuity, put_key, effective_key, extent_with, byte_range_from, Standing, standing_at, segments_of, date_ranges_of}
 use Rattle.playlist_meaning.specs.Heading.{Heading, heading_at}
 use Rattle.playlist_meaning.specs.Reading.{said_by, said_from, at_line, unlimited, passes, needs_iv}
 use Rattle.playlist_meaning.proofs.SaidCounts.{counted_none}
 use Rattle.playlist_write.specs.Spelling.{spelled}
-use Rattle.fitting.specs.Fitting.{is_clean, uri_fits, quoted_uri_fits, if_some, range_fits, key_fits}
+use Rattle.fitting.specs.Fitting.{is_clean, uri_fits, quoted_uri_fits, if_some, byte_range_fits, key_fits}
 use Rattle.playlist_write.proofs.CleanTexts.{Clean, AllClean}
 use Rattle.playlist_write.proofs.SaidLines as lines
 
@@ -39,8 +39,8 @@ number_known s = s.sequence + s.media_count
 abbrev pub discontinuity_known : Standing → ℕ
 discontinuity_known s = s.discontinuity_sequence + s.discontinuities
 
-abbrev pub range_known : Standing → List ℕ → Outcome (Option ByteRange)
-range_known s uri = range_from s.range uri s.extent
+abbrev pub byte_range_known : Standing → List ℕ → Outcome (Option ByteRange)
+byte_range_known s uri = byte_range_from s.byte_range uri s.extent
 
 abbrev pub segment_known : Standing → List ℕ → Segment
 segment_known s uri = record {
@@ -48,7 +48,7 @@ segment_known s uri = record {
   discontinuity = discontinuity_known s;
   steps = s.steps;
   uri = uri;
-  range = result_unwrap_or (range_known s uri) None;
+  byte_range = result_unwrap_or (byte_range_known s uri) None;
   keys = map (effective_key (number_known s)) s.keys;
   section = s.section;
   duration = (unwrap_or s.duration (0, [])).0;
@@ -72,19 +72,19 @@ abbrev pub standing_after : Standing → Said → Standing
 standing_after s (sequence n) = record s { sequence = n }
 standing_after s (discontinuity_sequence n) = record s { discontinuity_sequence = n }
 standing_after s (duration n title) = record s { duration = Some (n, title) }
-standing_after s (range n o) = record s { range = Some (n, o) }
+standing_after s (byte_range n o) = record s { byte_range = Some (n, o) }
 standing_after s discontinuity = record s { discontinuities = s.discontinuities + 1; steps = s.steps + 1 }
 standing_after s no_keys = record s { keys = [] }
 standing_after s (key j) = record s { keys = put_key j s.keys }
-standing_after s (section uri part) = record s { section = Some (record { uri = uri; range = part; keys = s.keys }) }
+standing_after s (section uri part) = record s { section = Some (record { uri = uri; byte_range = part; keys = s.keys }) }
 standing_after s (time t) = record s { time = Some t }
 standing_after s (media uri) = record s {
   media_count = s.media_count + 1;
   steps = 0;
   duration = None;
-  range = None;
+  byte_range = None;
   time = None;
-  extent = extent_with uri (result_unwrap_or (range_known s uri) None);
+  extent = extent_with uri (result_unwrap_or (byte_range_known s uri) None);
 }
 standing_after s _ = s
 
@@ -115,7 +115,7 @@ known-step (playlist_type kind) before = refl
 known-step ended before = refl
 known-step independent before = refl
 known-step (duration n title) before = refl
-known-step (range n o) before = refl
+known-step (byte_range n o) before = refl
 known-step discontinuity before = refl
 known-step no_keys before = refl
 known-step (key j) before = refl
@@ -151,7 +151,7 @@ Allows k ended = k.heading.ended ≡ false
 Allows k discontinuity = passes (discontinuity_known k.standing + 1) ≡ false
 Allows k (section uri part) = list_any needs_iv k.standing.keys ≡ false
 Allows k (media uri) =
-    (is_none k.standing.duration ≡ false) × (passes (number_known k.standing) ≡ false) × (r : Option ByteRange) × (range_known k.standing uri ≡ Ok r)
+    (is_none k.standing.duration ≡ false) × (passes (number_known k.standing) ≡ false) × (r : Option ByteRange) × (byte_range_known k.standing uri ≡ Ok r)
 Allows k _ = Unit {0}
 
 abbrev pub Fits : Said → Type 0
@@ -161,10 +161,10 @@ Fits (target n) = n < 2 ^ 64
 Fits (sequence n) = n < 2 ^ 64
 Fits (discontinuity_sequence n) = n < 2 ^ 64
 Fits (duration n title) = (n < 10 ^ 15) × (is_clean title ≡ true)
-Fits (range n None) = ⊥
-Fits (range n (Some o)) = n + o < 2 ^ 64
+Fits (byte_range n None) = ⊥
+Fits (byte_range n (Some o)) = n + o < 2 ^ 64
 Fits (key k) = key_fits k ≡ true
-Fits (section uri part) = (quoted_uri_fits uri ≡ true) × (if_some range_fits part ≡ true)
+Fits (section uri part) = (quoted_uri_fits uri ≡ true) × (if_some byte_range_fits part ≡ true)
 Fits (time t) = in_range t ≡ true
 Fits (date_range r) = (is_clean r.text ≡ true) × (date_range_said unlimited r.text ≡ Ok (date_range r))
 Fits (media uri) = uri_fits uri ≡ true
@@ -186,8 +186,8 @@ module _ (base : Parts) where
   line_reads ended before f a = lines.ended_line base before a
   line_reads independent before f a = lines.independent_line base before
   line_reads (duration n title) before f a = lines.duration_line base before n title f.0 (lines.clean_is title f.1)
-  line_reads (range n None) before f a = absurd f
-  line_reads (range n (Some o)) before f a = lines.ended_date_range_line base before n o f
+  line_reads (byte_range n None) before f a = absurd f
+  line_reads (byte_range n (Some o)) before f a = lines.ended_date_range_line base before n o f
   line_reads discontinuity before f a = lines.discontinuity_line base before a
   line_reads no_keys before f a = lines.no_keys_line base before
   line_reads (key k) before f a = lines.key_line base before k f

@@ -15,7 +15,7 @@ pub record OtherPairs (text : List ℕ) : Type 0 where
   pub apart : are_attributes pairs ≡ true
   pub none_own : list_any is_key_attribute pairs ≡ false
 
--- a list of attributes is that of the first and, each behind a comma, the others
+-- a list of attributes is that of the first and, each after a comma, the others
 after_first : (list : List ℕ) (pairs : List Pair) → attributes_of None list ≡ Ok pairs → 44 ∷ list ≡ after_commas pairs
 after_first list pairs h = let r = read_is_list list pairs h in by pairs r.some r.spelled
   where
@@ -40,9 +40,9 @@ other_pairs (b ∷ list) h =
         }
     step (Err e) g n comma = cc
 
--- behind other attributes they stand in one list
-pub behind : (pair : Pair) (pairs others : List Pair) → attributes_text (pair ∷ pairs) ++ after_commas others ≡ attributes_text (pair ∷ pairs ++ others)
-behind pair pairs others =
+-- after other attributes they stand in one list
+pub others_after : (pair : Pair) (pairs others : List Pair) → attributes_text (pair ∷ pairs) ++ after_commas others ≡ attributes_text (pair ∷ pairs ++ others)
+others_after pair pairs others =
     ap (λ t. t ++ after_commas others) (attributes_are pair pairs) ∙ append_assoc (pair_spelling pair) (after_commas pairs) (after_commas others)
     ∙ ap (λ t. pair_spelling pair ++ t) (sym (commas_append pairs others)) ∙ sym (attributes_are pair (pairs ++ others))
 

@@ -28,15 +28,15 @@ use Rattle.playlist_meaning.specs.declared.PlaylistKind.TheVariants.{Event, Vod}
 use Rattle.playlist_meaning.specs.Lines.{has_control, is_printable, kind_of, uri}
 use Rattle.playlist_meaning.specs.Uri.{has_scheme, is_scheme_byte}
 use Rattle.instants.specs.Instant.{in_range, instant_of}
-use Rattle.playlist_meaning.specs.Said.{Said, version, target, sequence, discontinuity_sequence, playlist_type, ended, independent, duration, range, discontinuity, no_keys, key, section, time, date_range, media, Outcome, ◌>>=◌, refuse_if, or_fault, duration_said, range_of, range_end_fits, uri_of, some_value, iv_of, optional, required, quoted_of, set_key, key_said, section_said, section_range, number, version_of, date_range_said}
+use Rattle.playlist_meaning.specs.Said.{Said, version, target, sequence, discontinuity_sequence, playlist_type, ended, independent, duration, byte_range, discontinuity, no_keys, key, section, time, date_range, media, Outcome, ◌>>=◌, refuse_if, or_fault, duration_said, byte_range_of, byte_range_end_fits, uri_of, some_value, iv_of, optional, required, quoted_of, set_key, key_said, section_said, section_byte_range, number, version_of, date_range_said}
 use Rattle.playlist_meaning.specs.Carried.{after_commas, carried}
 use Rattle.playlist_meaning.specs.Reading.{said_by, unlimited, passes, said_by_kind, within_formats, needs_iv, with_ivs, is_set, has}
-use Rattle.playlist_meaning.specs.LookBack.{discontinuity_at, own_duration, number_at, range_at, keys_at, the_version, the_target, the_sequence, the_discontinuity_sequence, the_type, is_media, is_discontinuity, is_ended}
+use Rattle.playlist_meaning.specs.LookBack.{discontinuity_at, own_duration, number_at, byte_range_at, keys_at, the_version, the_target, the_sequence, the_discontinuity_sequence, the_type, is_media, is_discontinuity, is_ended}
 use Rattle.playlist_meaning.proofs.SameParts.{key_ext}
 use Rattle.instants.specs.Digits.{fixed_digits}
 use Rattle.instants.specs.Times.{time_text}
 use Rattle.playlist_write.specs.Spelling.{spelled, own_pairs, key_text, section_pairs, iv_pairs, format_pairs, in_quotes, part_pairs}
-use Rattle.fitting.specs.Fitting.{is_clean, value_fits, uri_fits, quoted_uri_fits, if_some, iv_fits, key_fits, range_fits}
+use Rattle.fitting.specs.Fitting.{is_clean, value_fits, uri_fits, quoted_uri_fits, if_some, iv_fits, key_fits, byte_range_fits}
 use Rattle.playlist_write.proofs.CleanTexts.{Clean, clean-append, clean_printable}
 use Rattle.playlist_write.proofs.WrittenNumbers.{is_number_byte, decimal_bytes, duration_bytes, hex_bytes, hex_read}
 use Rattle.playlist_write.proofs.OtherFields.{carried_others, none_found}
@@ -104,24 +104,24 @@ module _ (base : Parts) (before : List Said) where
   number_no_at : (b : ℕ) → is_number_byte b ≡ true → (b == 64) ≡ false
   number_no_at b h = grind (arith, nat_tests)
 
-  pub range_reads : (n o : ℕ) → n + o < 2 ^ 64 → range_of (decimal n ++ 64 ∷ decimal o) ≡ Ok (n, Some o)
-  range_reads n o h =
+  pub byte_range_reads : (n o : ℕ) → n + o < 2 ^ 64 → byte_range_of (decimal n ++ 64 ∷ decimal o) ≡ Ok (n, Some o)
+  byte_range_reads n o h =
       let free = none_from is_number_byte (λ b. b == 64) (decimal n) (decimal_bytes n (omega arith)) number_no_at in
       by (decimal n ++ 64 ∷ decimal o) n o (ap decimal_of (before_at (λ b. b == 64) (decimal n) 64 (decimal o) free refl) ∙ written_decimal n (omega arith))
       (ap decimal_of (after_at (λ b. b == 64) (decimal n) 64 (decimal o) free refl) ∙ written_decimal o (omega arith)) (any_at (λ b. b == 64) (decimal n) 64 (decimal o) refl) (lt-ltb _ _ h)
     where
       by : (rest : List ℕ) (n o : ℕ) → decimal_of (before_first (λ b. b == 64) rest) ≡ Some n → decimal_of (after_first (λ b. b == 64) rest) ≡ Some o → list_any (λ b. b == 64) rest ≡ true
-          → range_end_fits n o ≡ true → range_of rest ≡ Ok (n, Some o)
+          → byte_range_end_fits n o ≡ true → byte_range_of rest ≡ Ok (n, Some o)
       by rest n o e g a f = rw (e, a, g, f) refl
 
-  pub clean_range : (n o : ℕ) → n + o < 2 ^ 64 → Clean (decimal n ++ 64 ∷ decimal o)
-  clean_range n o h = clean-append (decimal n) (64 ∷ decimal o) (clean_number _ (decimal_bytes n (omega arith))) (clean-append (64 ∷ []) (decimal o) (clean_printable _ refl) (clean_number _ (decimal_bytes o (omega arith))))
+  pub clean_byte_range : (n o : ℕ) → n + o < 2 ^ 64 → Clean (decimal n ++ 64 ∷ decimal o)
+  clean_byte_range n o h = clean-append (decimal n) (64 ∷ decimal o) (clean_number _ (decimal_bytes n (omega arith))) (clean-append (64 ∷ []) (decimal o) (clean_printable _ refl) (clean_number _ (decimal_bytes o (omega arith))))
 
-  pub ended_date_range_line : (n o : ℕ) → n + o < 2 ^ 64 → IsRead (range n (Some o))
+  pub ended_date_range_line : (n o : ℕ) → n + o < 2 ^ 64 → IsRead (byte_range n (Some o))
   ended_date_range_line n o h =
-      let line = clean-append (codes "#EXT-X-BYTERANGE:") _ (clean_printable _ refl) (clean_range n o h) in
-      as_written (codes "#EXT-X-BYTERANGE:" ++ (decimal n ++ 64 ∷ decimal o)) (range_of (decimal n ++ 64 ∷ decimal o) >>= λ r. Ok (range r.0 r.1)) _ line
-      (ap (λ x. x >>= λ r. Ok (range r.0 r.1)) (range_reads n o h))
+      let line = clean-append (codes "#EXT-X-BYTERANGE:") _ (clean_printable _ refl) (clean_byte_range n o h) in
+      as_written (codes "#EXT-X-BYTERANGE:" ++ (decimal n ++ 64 ∷ decimal o)) (byte_range_of (decimal n ++ 64 ∷ decimal o) >>= λ r. Ok (byte_range r.0 r.1)) _ line
+      (ap (λ x. x >>= λ r. Ok (byte_range r.0 r.1)) (byte_range_reads n o h))
 
   -- ---- EXT-X-DISCONTINUITY, METHOD=NONE
 
@@ -147,14 +147,14 @@ module _ (base : Parts) (before : List Said) where
       let a : (is_ascii_alphabetic b ≡ true) × (slice_index (b ∷ rest) (prefix_len is_scheme_byte (b ∷ rest)) == 58 ≡ true) = and_parts _ _ h in
       let l = letter_is b a.0 in rw (l.0, l.1) refl
 
-  pub media_line : (text : List ℕ) (r : Option ByteRange) → uri_fits text ≡ true → is_none (own_duration before) ≡ false → passes (number_at before) ≡ false → range_at before text ≡ Ok r → IsRead (media text)
+  pub media_line : (text : List ℕ) (r : Option ByteRange) → uri_fits text ≡ true → is_none (own_duration before) ≡ false → passes (number_at before) ≡ false → byte_range_at before text ≡ Ok r → IsRead (media text)
   media_line text r h d n e =
       let a : (is_clean text ≡ true) × (has_scheme text ≡ true) = and_parts _ _ h in
       as_written text (said_by_kind unlimited base before (kind_of text)) _ (clean_is text a.0)
       (ap (said_by_kind unlimited base before) (uri_kind text a.1) ∙ unrefused _ _ _ _ d (unrefused _ _ _ _ n (by text r (resolves text a.1) e)))
     where
-      by : (text : List ℕ) (r : Option ByteRange) → uri_of base text ≡ Ok text → range_at before text ≡ Ok r → (uri_of base text >>= λ u. range_at before u >>= λ x. Ok (media u)) ≡ Ok (media text)
-      by text r e g = ap (λ x. x >>= λ u. range_at before u >>= λ y. Ok (media u)) e ∙ ap (λ x. x >>= λ y. Ok (media text)) g
+      by : (text : List ℕ) (r : Option ByteRange) → uri_of base text ≡ Ok text → byte_range_at before text ≡ Ok r → (uri_of base text >>= λ u. byte_range_at before u >>= λ x. Ok (media u)) ≡ Ok (media text)
+      by text r e g = ap (λ x. x >>= λ u. byte_range_at before u >>= λ y. Ok (media u)) e ∙ ap (λ x. x >>= λ y. Ok (media text)) g
 
   -- ---- attributes
 
@@ -272,30 +272,30 @@ module _ (base : Parts) (before : List Said) where
 
   -- ---- EXT-X-MAP
 
-  part_reads : (part : Option ByteRange) → if_some range_fits part ≡ true → optional section_range (find (is_named (codes "BYTERANGE")) (part_pairs part)) ≡ Ok part
+  part_reads : (part : Option ByteRange) → if_some byte_range_fits part ≡ true → optional section_byte_range (find (is_named (codes "BYTERANGE")) (part_pairs part)) ≡ Ok part
   part_reads None h = refl
   part_reads (Some r) h =
-      let e = range_reads r.length r.offset (ltb-true _ _ h) in
+      let e = byte_range_reads r.length r.offset (ltb-true _ _ h) in
       ap (λ x. some_value (x >>= part_then)) e ∙ ap (λ t. some_value (refuse_if (not t) fault.BadRange (Ok (record { length = r.length; offset = r.offset })))) h
     where
       part_then : ℕ × Option ℕ → Outcome ByteRange
-      part_then r = refuse_if (not (range_end_fits r.0 (unwrap_or r.1 0))) fault.BadRange (Ok (record { length = r.0; offset = unwrap_or r.1 0 }))
+      part_then r = refuse_if (not (byte_range_end_fits r.0 (unwrap_or r.1 0))) fault.BadRange (Ok (record { length = r.0; offset = unwrap_or r.1 0 }))
 
   section_by : (rest : List ℕ) (pairs : List Pair) (reference resource : List ℕ) (part : Option ByteRange) → attributes_of None rest ≡ Ok pairs → required true (attribute pairs (codes "URI")) ≡ Ok reference
-      → optional section_range (attribute pairs (codes "BYTERANGE")) ≡ Ok part → uri_of base reference ≡ Ok resource → list_any needs_iv (keys_at before) ≡ false
+      → optional section_byte_range (attribute pairs (codes "BYTERANGE")) ≡ Ok part → uri_of base reference ≡ Ok resource → list_any needs_iv (keys_at before) ≡ false
       → (section_said unlimited base rest >>= with_ivs before) ≡ Ok (section resource part)
   section_by rest pairs reference resource part a b c d e = rw (a, b, c, d, e) refl
 
-  clean_part : (part : Option ByteRange) → if_some range_fits part ≡ true → AllValuesClean (part_pairs part)
+  clean_part : (part : Option ByteRange) → if_some byte_range_fits part ≡ true → AllValuesClean (part_pairs part)
   unfolding AllValuesClean
   clean_part None h = tt
-  clean_part (Some r) h = (clean_range r.length r.offset (ltb-true _ _ h), tt)
+  clean_part (Some r) h = (clean_byte_range r.length r.offset (ltb-true _ _ h), tt)
 
-  section_values : (text : List ℕ) (part : Option ByteRange) → Clean text → if_some range_fits part ≡ true → AllValuesClean (section_pairs text part)
+  section_values : (text : List ℕ) (part : Option ByteRange) → Clean text → if_some byte_range_fits part ≡ true → AllValuesClean (section_pairs text part)
   unfolding AllValuesClean
   section_values text part c h = (c, clean_part part h)
 
-  pub section_line : (text : List ℕ) (part : Option ByteRange) → quoted_uri_fits text ≡ true → if_some range_fits part ≡ true → list_any needs_iv (keys_at before) ≡ false → IsRead (section text part)
+  pub section_line : (text : List ℕ) (part : Option ByteRange) → quoted_uri_fits text ≡ true → if_some byte_range_fits part ≡ true → list_any needs_iv (keys_at before) ≡ false → IsRead (section text part)
   section_line text part h g n =
       let all = section_attributes text part h g in
       let line = clean-append (codes "#EXT-X-MAP:") _ (clean_printable _ refl) (clean_attributes (section_pairs text part) [] all (section_values text part (clean_uri text h) g)) in

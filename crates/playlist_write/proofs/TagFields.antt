@@ -13,9 +13,9 @@ use Rattle.playlist_meaning.specs.declared.Key.{Key}
 use Rattle.playlist_meaning.specs.declared.ByteRange.{ByteRange}
 use Rattle.playlist_meaning.specs.Carried.{are_others, is_key_attribute}
 use Rattle.instants.specs.Digits.{fixed_digits}
-use Rattle.playlist_write.specs.Spelling.{plain, in_quotes, iv_text, iv_pairs, format_pairs, own_pairs, key_text, part_pairs, section_pairs, range_text}
-use Rattle.fitting.specs.Fitting.{if_some, is_clean, value_fits, quoted_uri_fits, range_fits, iv_fits, method_fits, key_fits}
-use Rattle.playlist_write.proofs.OtherFields.{IsOther, OtherPairs, other_pairs, is_other, behind}
+use Rattle.playlist_write.specs.Spelling.{plain, in_quotes, iv_text, iv_pairs, format_pairs, own_pairs, key_text, part_pairs, section_pairs, byte_range_text}
+use Rattle.fitting.specs.Fitting.{if_some, is_clean, value_fits, quoted_uri_fits, byte_range_fits, iv_fits, method_fits, key_fits}
+use Rattle.playlist_write.proofs.OtherFields.{IsOther, OtherPairs, other_pairs, is_other, others_after}
 use Rattle.playlist_write.proofs.WrittenNumbers.{is_number_byte, decimal_bytes, hex_bytes}
 
 -- ---- the parts of a key that fits
@@ -55,10 +55,10 @@ iv_is_value iv h =
 number_is_quoted : (b : ℕ) → is_number_byte b ≡ true → is_quote b ≡ false
 number_is_quoted b h = grind (arith, nat_tests)
 
-range_is_value : (range : ByteRange) → range_fits range ≡ true → is_value true (range_text range.length range.offset) ≡ true
-range_is_value range h = by range.length range.offset (ltb-true _ _ h)
+byte_range_is_value : (byte_range : ByteRange) → byte_range_fits byte_range ≡ true → is_value true (byte_range_text byte_range.length byte_range.offset) ≡ true
+byte_range_is_value byte_range h = by byte_range.length byte_range.offset (ltb-true _ _ h)
   where
-    by : (n o : ℕ) → n + o < 2 ^ 64 → is_value true (range_text n o) ≡ true
+    by : (n o : ℕ) → n + o < 2 ^ 64 → is_value true (byte_range_text n o) ≡ true
     by n o l =
         let a = none_from is_number_byte is_quote (decimal n) (decimal_bytes n (omega arith)) number_is_quoted in
         let b = none_from is_number_byte is_quote (decimal o) (decimal_bytes o (omega arith)) number_is_quoted in
@@ -75,19 +75,19 @@ pair_is name value quoted n v = and_from (is_name name) (is_value quoted value) 
 turned : (a b : List ℕ) → bytes_eq a b ≡ false → bytes_eq b a ≡ false
 turned a b h = false_from_ne_true _ (λ e. both_ways _ h ((bytes_eq-Decides a b).1 (sym ((bytes_eq-Decides b a).0 e))))
 
--- pairs that are apart are so behind pairs of whose names they have none
-behind_others : (before mid others : List Pair) → list_any is_key_attribute others ≡ false → ((pair : Pair) → IsOther pair → list_any (is_named pair.name) before ≡ false)
+-- pairs that are apart are so after pairs of whose names they have none
+after_others : (before mid others : List Pair) → list_any is_key_attribute others ≡ false → ((pair : Pair) → IsOther pair → list_any (is_named pair.name) before ≡ false)
     → are_apart mid others ≡ true → are_apart (before ++ mid) others ≡ true
-behind_others before mid [] n f h = refl
-behind_others before mid (pair ∷ others) n f h =
+after_others before mid [] n f h = refl
+after_others before mid (pair ∷ others) n f h =
     let b = or_parts _ _ n in
     let a : ((is_pair pair && not (list_any (is_named pair.name) mid)) ≡ true) × (are_apart (mid ++ pair ∷ []) others ≡ true) = and_parts _ _ h in
     let c : (is_pair pair ≡ true) × (not (list_any (is_named pair.name) mid) ≡ true) = and_parts _ _ a.0 in
     more_apart (before ++ mid) others pair c.0 (list_any-append (is_named pair.name) before mid ∙ or_from _ _ (f pair (is_other pair b.0)) (not-true _ c.1))
-    (subst (λ ps. are_apart ps others ≡ true) (sym (append_assoc before mid (pair ∷ []))) (behind_others before (mid ++ pair ∷ []) others b.1 f a.1))
+    (subst (λ ps. are_apart ps others ≡ true) (sym (append_assoc before mid (pair ∷ []))) (after_others before (mid ++ pair ∷ []) others b.1 f a.1))
 
 others_apart : (before others : List Pair) → list_any is_key_attribute others ≡ false → are_attributes others ≡ true → ((pair : Pair) → IsOther pair → list_any (is_named pair.name) before ≡ false) → are_apart before others ≡ true
-others_apart before others n h f = subst (λ ps. are_apart ps others ≡ true) (append-nil before) (behind_others before [] others n f h)
+others_apart before others n h f = subst (λ ps. are_apart ps others ≡ true) (append-nil before) (after_others before [] others n f h)
 
 -- ---- a key's attributes
 
@@ -147,14 +147,14 @@ own_attributes k h =
 pub key_text_is : (k : Key) (h : KeyParts k) → key_text k ≡ attributes_text (key_pairs k h.others.pairs)
 key_text_is k h =
     let method = method_pair k.method in let rest = iv_pairs k.iv ++ format_pairs k.format in
-    ap (λ t. attributes_text (own_pairs k) ++ t) h.others.spelled ∙ behind method (uri_pair k.uri ∷ rest) h.others.pairs
+    ap (λ t. attributes_text (own_pairs k) ++ t) h.others.spelled ∙ others_after method (uri_pair k.uri ∷ rest) h.others.pairs
     ∙ ap (λ ps. attributes_text (method ∷ uri_pair k.uri ∷ ps)) (append_assoc (iv_pairs k.iv) (format_pairs k.format) h.others.pairs)
 
 -- ---- a section's attributes
 
-pub section_attributes : (uri : List ℕ) (part : Option ByteRange) → quoted_uri_fits uri ≡ true → if_some range_fits part ≡ true → are_attributes (section_pairs uri part) ≡ true
+pub section_attributes : (uri : List ℕ) (part : Option ByteRange) → quoted_uri_fits uri ≡ true → if_some byte_range_fits part ≡ true → are_attributes (section_pairs uri part) ≡ true
 section_attributes uri None h g = more_apart [] [] (uri_pair uri) (pair_is (codes "URI") uri true refl (quoted_uri_is uri h)) refl refl
 section_attributes uri (Some part) h g =
-    let value = range_text part.length part.offset in
+    let value = byte_range_text part.length part.offset in
     more_apart [] (part_pairs (Some part)) (uri_pair uri) (pair_is (codes "URI") uri true refl (quoted_uri_is uri h)) refl
-    (more_apart (uri_pair uri ∷ []) [] (in_quotes (codes "BYTERANGE") value) (pair_is (codes "BYTERANGE") value true refl (range_is_value part g)) refl refl)
+    (more_apart (uri_pair uri ∷ []) [] (in_quotes (codes "BYTERANGE") value) (pair_is (codes "BYTERANGE") value true refl (byte_range_is_value part g)) refl refl)

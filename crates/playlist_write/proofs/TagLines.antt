@@ -4,12 +4,12 @@ use Rattle.std.specs.Prelude.{codes, bytes_eq, ℤ}
 use Rattle.attr_list.specs.Attributes.{pair_spelling}
 use Rattle.playlist_meaning.specs.declared.Key.{Key}
 use Rattle.playlist_meaning.specs.declared.InitSection.{InitSection}
-use Rattle.playlist_meaning.specs.Said.{duration, range, time}
+use Rattle.playlist_meaning.specs.Said.{duration, byte_range, time}
 use Rattle.fixed_duration.specs.Duration.{duration_text}
 use Rattle.instants.specs.Times.{time_text}
 use Rattle.playlist_meaning.specs.Carried.{after_commas}
 use Rattle.playlist_meaning.proofs.Carried.{attributes_are, commas_append}
-use Rattle.playlist_write.specs.Spelling.{plain, in_quotes, iv_pairs, format_pairs, part_pairs, range_text}
+use Rattle.playlist_write.specs.Spelling.{plain, in_quotes, iv_pairs, format_pairs, part_pairs, byte_range_text}
 use Rattle.playlist_write.specs.Owed.{line_of, with_feed, key_line, section_line}
 
 assoc6 : (a b c d e f g : List ℕ) → a ++ (b ++ (c ++ (d ++ (e ++ (f ++ g))))) ≡ (a ++ (b ++ (c ++ (d ++ (e ++ f))))) ++ g
@@ -31,11 +31,11 @@ key_parts k =
 assoc3 : (a b c d : List ℕ) → a ++ (b ++ (c ++ d)) ≡ (a ++ (b ++ c)) ++ d
 assoc3 a b c d = simp append_assoc
 
-pub section_parts : (s : InitSection) → codes "#EXT-X-MAP:" ++ (pair_spelling (in_quotes (codes "URI") s.uri) ++ (after_commas (part_pairs s.range) ++ 10 ∷ [])) ≡ section_line s
+pub section_parts : (s : InitSection) → codes "#EXT-X-MAP:" ++ (pair_spelling (in_quotes (codes "URI") s.uri) ++ (after_commas (part_pairs s.byte_range) ++ 10 ∷ [])) ≡ section_line s
 unfolding line_of
 section_parts s =
-    assoc3 (codes "#EXT-X-MAP:") (pair_spelling (in_quotes (codes "URI") s.uri)) (after_commas (part_pairs s.range)) (10 ∷ [])
-    ∙ ap (λ t. with_feed (codes "#EXT-X-MAP:" ++ t)) (sym (attributes_are (in_quotes (codes "URI") s.uri) (part_pairs s.range)))
+    assoc3 (codes "#EXT-X-MAP:") (pair_spelling (in_quotes (codes "URI") s.uri)) (after_commas (part_pairs s.byte_range)) (10 ∷ [])
+    ∙ ap (λ t. with_feed (codes "#EXT-X-MAP:" ++ t)) (sym (attributes_are (in_quotes (codes "URI") s.uri) (part_pairs s.byte_range)))
 
 pub format_part : (format : List ℕ) → bytes_eq format (codes "identity") ≡ false → pair_spelling (in_quotes (codes ",KEYFORMAT") format) ≡ after_commas (format_pairs format)
 format_part format h = rw h (sym (append-nil (pair_spelling (in_quotes (codes ",KEYFORMAT") format))))
@@ -47,9 +47,9 @@ pub duration_parts : (n : ℕ) (title : List ℕ) → codes "#EXTINF:" ++ (durat
 unfolding line_of
 duration_parts n title = assoc3 (codes "#EXTINF:") (duration_text n) (44 ∷ title) (10 ∷ [])
 
-pub range_parts : (n o : ℕ) → codes "#EXT-X-BYTERANGE:" ++ (range_text n o ++ 10 ∷ []) ≡ line_of (range n (Some o))
+pub byte_range_parts : (n o : ℕ) → codes "#EXT-X-BYTERANGE:" ++ (byte_range_text n o ++ 10 ∷ []) ≡ line_of (byte_range n (Some o))
 unfolding line_of
-range_parts n o = assoc2 (codes "#EXT-X-BYTERANGE:") (range_text n o) (10 ∷ [])
+byte_range_parts n o = assoc2 (codes "#EXT-X-BYTERANGE:") (byte_range_text n o) (10 ∷ [])
 
 pub time_parts : (t : ℤ) → codes "#EXT-X-PROGRAM-DATE-TIME:" ++ (time_text t ++ 10 ∷ []) ≡ line_of (time t)
 unfolding line_of

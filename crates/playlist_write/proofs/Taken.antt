@@ -87,49 +87,49 @@ on_err (Ok x) P p = tt
 on_err (Err e) P p = p
 
 -- a text in three parts: the first is held with its front, and what is held after each part is less by what was taken
-two_parts : (a b c : Option (List ℕ)) (front ranges held segments last : List ℕ) → TookAllBut a b held (front ++ ranges) → TookAllBut b c last (held ++ segments)
-    → TookAllBut a c last ((front ++ ranges) ++ segments)
-two_parts a b c front ranges held segments last h g =
-    then_taken a b c ((front ++ ranges) ++ segments) (held ++ segments) last (with_later a b (front ++ ranges) held segments h) g
+two_parts : (a b c : Option (List ℕ)) (front date_ranges held segments last : List ℕ) → TookAllBut a b held (front ++ date_ranges) → TookAllBut b c last (held ++ segments)
+    → TookAllBut a c last ((front ++ date_ranges) ++ segments)
+two_parts a b c front date_ranges held segments last h g =
+    then_taken a b c ((front ++ date_ranges) ++ segments) (held ++ segments) last (with_later a b (front ++ date_ranges) held segments h) g
 
-in_parts : (front ranges segments end : List ℕ) → ((front ++ ranges) ++ segments) ++ end ≡ front ++ (ranges ++ (segments ++ end))
-in_parts front ranges segments end = append_assoc (front ++ ranges) segments end ∙ append_assoc front ranges (segments ++ end)
+in_parts : (front date_ranges segments end : List ℕ) → ((front ++ date_ranges) ++ segments) ++ end ≡ front ++ (date_ranges ++ (segments ++ end))
+in_parts front date_ranges segments end = append_assoc (front ++ date_ranges) segments end ∙ append_assoc front date_ranges (segments ++ end)
 
-pub front_in_ranges : (a b : Option (List ℕ)) (front ranges later text : List ℕ) → front ++ (ranges ++ later) ≡ text → TookFront a b (front ++ ranges) → TookFront a b text
-front_in_ranges a b front ranges later text e h =
-    subst (λ t. TookFront a b t) (append_assoc front ranges later ∙ e) (front_of_longer a b (front ++ ranges) later h)
+pub front_in_date_ranges : (a b : Option (List ℕ)) (front date_ranges later text : List ℕ) → front ++ (date_ranges ++ later) ≡ text → TookFront a b (front ++ date_ranges) → TookFront a b text
+front_in_date_ranges a b front date_ranges later text e h =
+    subst (λ t. TookFront a b t) (append_assoc front date_ranges later ∙ e) (front_of_longer a b (front ++ date_ranges) later h)
 
-pub front_in_segments : (a b c : Option (List ℕ)) (front ranges held segments end text : List ℕ) → front ++ (ranges ++ (segments ++ end)) ≡ text
-    → TookAllBut a b held (front ++ ranges) → TookFront b c (held ++ segments) → TookFront a c text
-front_in_segments a b c front ranges held segments end text e h g =
-    let took = then_front a b c ((front ++ ranges) ++ segments) (held ++ segments) (with_later a b (front ++ ranges) held segments h) g in
-    subst (λ t. TookFront a c t) (in_parts front ranges segments end ∙ e) (front_of_longer a c ((front ++ ranges) ++ segments) end took)
+pub front_in_segments : (a b c : Option (List ℕ)) (front date_ranges held segments end text : List ℕ) → front ++ (date_ranges ++ (segments ++ end)) ≡ text
+    → TookAllBut a b held (front ++ date_ranges) → TookFront b c (held ++ segments) → TookFront a c text
+front_in_segments a b c front date_ranges held segments end text e h g =
+    let took = then_front a b c ((front ++ date_ranges) ++ segments) (held ++ segments) (with_later a b (front ++ date_ranges) held segments h) g in
+    subst (λ t. TookFront a c t) (in_parts front date_ranges segments end ∙ e) (front_of_longer a c ((front ++ date_ranges) ++ segments) end took)
 
-pub front_before_end : (a b c : Option (List ℕ)) (front ranges held segments last end text : List ℕ) → front ++ (ranges ++ (segments ++ end)) ≡ text
-    → TookAllBut a b held (front ++ ranges) → TookAllBut b c last (held ++ segments) → TookFront a c text
-front_before_end a b c front ranges held segments last end text e h g =
-    let took = front_taken a c ((front ++ ranges) ++ segments) last (two_parts a b c front ranges held segments last h g) in
-    subst (λ t. TookFront a c t) (in_parts front ranges segments end ∙ e) (front_of_longer a c ((front ++ ranges) ++ segments) end took)
+pub front_before_end : (a b c : Option (List ℕ)) (front date_ranges held segments last end text : List ℕ) → front ++ (date_ranges ++ (segments ++ end)) ≡ text
+    → TookAllBut a b held (front ++ date_ranges) → TookAllBut b c last (held ++ segments) → TookFront a c text
+front_before_end a b c front date_ranges held segments last end text e h g =
+    let took = front_taken a c ((front ++ date_ranges) ++ segments) last (two_parts a b c front date_ranges held segments last h g) in
+    subst (λ t. TookFront a c t) (in_parts front date_ranges segments end ∙ e) (front_of_longer a c ((front ++ date_ranges) ++ segments) end took)
 
-before_last : (a b c : Option (List ℕ)) (front ranges held segments last end text rest : List ℕ) → front ++ (ranges ++ (segments ++ end)) ≡ text
-    → TookAllBut a b held (front ++ ranges) → TookAllBut b c last (held ++ segments) → rest ≡ last ++ end → TookAllBut a c rest text
-before_last a b c front ranges held segments last end text rest e h g r =
-    let took = with_later a c ((front ++ ranges) ++ segments) last end (two_parts a b c front ranges held segments last h g) in
-    subst (λ l. TookAllBut a c l text) (sym r) (subst (λ t. TookAllBut a c (last ++ end) t) (in_parts front ranges segments end ∙ e) took)
+before_last : (a b c : Option (List ℕ)) (front date_ranges held segments last end text rest : List ℕ) → front ++ (date_ranges ++ (segments ++ end)) ≡ text
+    → TookAllBut a b held (front ++ date_ranges) → TookAllBut b c last (held ++ segments) → rest ≡ last ++ end → TookAllBut a c rest text
+before_last a b c front date_ranges held segments last end text rest e h g r =
+    let took = with_later a c ((front ++ date_ranges) ++ segments) last end (two_parts a b c front date_ranges held segments last h g) in
+    subst (λ l. TookAllBut a c l text) (sym r) (subst (λ t. TookAllBut a c (last ++ end) t) (in_parts front date_ranges segments end ∙ e) took)
 
-pub front_in_last : (a b c d : Option (List ℕ)) (front ranges held segments last end text rest : List ℕ) → front ++ (ranges ++ (segments ++ end)) ≡ text
-    → TookAllBut a b held (front ++ ranges) → TookAllBut b c last (held ++ segments) → rest ≡ last ++ end → TookFront c d rest → TookFront a d text
-front_in_last a b c d front ranges held segments last end text rest e h g r f =
-    then_front a c d text rest (before_last a b c front ranges held segments last end text rest e h g r) f
+pub front_in_last : (a b c d : Option (List ℕ)) (front date_ranges held segments last end text rest : List ℕ) → front ++ (date_ranges ++ (segments ++ end)) ≡ text
+    → TookAllBut a b held (front ++ date_ranges) → TookAllBut b c last (held ++ segments) → rest ≡ last ++ end → TookFront c d rest → TookFront a d text
+front_in_last a b c d front date_ranges held segments last end text rest e h g r f =
+    then_front a c d text rest (before_last a b c front date_ranges held segments last end text rest e h g r) f
 
-pub whole_text : (a b c d : Option (List ℕ)) (front ranges held segments last end text rest : List ℕ) → front ++ (ranges ++ (segments ++ end)) ≡ text
-    → TookAllBut a b held (front ++ ranges) → TookAllBut b c last (held ++ segments) → rest ≡ last ++ end → Appends c d rest → Appends a d text
-whole_text a b c d front ranges held segments last end text rest e h g r f =
-    took_all a d text (then_taken a c d text rest [] (before_last a b c front ranges held segments last end text rest e h g r) (all_taken c d rest f))
+pub whole_text : (a b c d : Option (List ℕ)) (front date_ranges held segments last end text rest : List ℕ) → front ++ (date_ranges ++ (segments ++ end)) ≡ text
+    → TookAllBut a b held (front ++ date_ranges) → TookAllBut b c last (held ++ segments) → rest ≡ last ++ end → Appends c d rest → Appends a d text
+whole_text a b c d front date_ranges held segments last end text rest e h g r f =
+    took_all a d text (then_taken a c d text rest [] (before_last a b c front date_ranges held segments last end text rest e h g r) (all_taken c d rest f))
 
 -- a text in its four parts, each of which is told in other words
-pub as_parts : (front first header r ranges s segments end : List ℕ) → front ≡ first ++ header → r ≡ ranges → s ≡ segments
-    → front ++ (r ++ (s ++ end)) ≡ first ++ (header ++ (ranges ++ (segments ++ end)))
-as_parts front first header r ranges s segments end h e f =
+pub as_parts : (front first header r date_ranges s segments end : List ℕ) → front ≡ first ++ header → r ≡ date_ranges → s ≡ segments
+    → front ++ (r ++ (s ++ end)) ≡ first ++ (header ++ (date_ranges ++ (segments ++ end)))
+as_parts front first header r date_ranges s segments end h e f =
     ap (λ t. t ++ (r ++ (s ++ end))) h ∙ append_assoc first header (r ++ (s ++ end))
-    ∙ ap (λ t. first ++ (header ++ (t ++ (s ++ end)))) e ∙ ap (λ t. first ++ (header ++ (ranges ++ (t ++ end)))) f
+    ∙ ap (λ t. first ++ (header ++ (t ++ (s ++ end)))) e ∙ ap (λ t. first ++ (header ++ (date_ranges ++ (t ++ end)))) f

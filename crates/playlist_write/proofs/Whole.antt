@@ -55,7 +55,7 @@ goes_date_ranges (text ∷ texts) k h =
     let one = one_date_range text a.0 in
     let next = goes_date_ranges texts (record k { date_ranges = k.date_ranges ++ denoted_date_range text }) a.1 in
     subst (λ l. Goes k l (record k { date_ranges = k.date_ranges ++ (denoted_date_range text ++ flat_map denoted_date_range texts) })) (sym (map_joined (denoted_date_range text) (flat_map denoted_date_range texts)))
-    (date_ranges_step text (denoted_date_range text) one.range (ap date_range_told one.says) (is_kept text one.range one.says) b.0 one.says k (date_ranges_owed texts) _
+    (date_ranges_step text (denoted_date_range text) one.read (ap date_range_told one.says) (is_kept text one.read one.says) b.0 one.says k (date_ranges_owed texts) _
     (record { allowed = next.allowed; leads = next.leads ∙ ap (λ rs. record k { date_ranges = rs }) (append_assoc k.date_ranges (denoted_date_range text) (flat_map denoted_date_range texts)) }))
 
 -- ---- the header
@@ -199,7 +199,7 @@ joined_date_ranges (line ∷ texts) rest h =
     let a = and_parts _ _ h in let one = one_date_range line a.0 in
     append_assoc (date_range_line line ++ 10 ∷ []) (date_ranges_text texts) (text rest) ∙ append_assoc (date_range_line line) (10 ∷ []) (date_ranges_text texts ++ text rest)
     ∙ ap (λ t. date_range_line line ++ 10 ∷ t) (joined_date_ranges texts rest a.1)
-    ∙ by (denoted_date_range line) one.range (ap date_range_told one.says) (is_kept line one.range one.says)
+    ∙ by (denoted_date_range line) one.read (ap date_range_told one.says) (is_kept line one.read one.says)
   where
     by : (date_ranges : List DateRange) (r : DateRange) → date_ranges ≡ r ∷ [] → r.text ≡ line → text (date_range_line line ∷ (map spelled (date_ranges_owed texts) ++ rest)) ≡ text (map spelled (map date_range (date_ranges ++ flat_map denoted_date_range texts)) ++ rest)
     by date_ranges r e t = rw e (ap (λ l. text (date_range_line l ∷ (map spelled (date_ranges_owed texts) ++ rest))) (sym t))

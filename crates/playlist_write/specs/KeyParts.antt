@@ -4,7 +4,7 @@ use Rattle.playlist_meaning.specs.declared.Key.{Key}
 use Rattle.playlist_meaning.specs.Carried.{after_commas}
 use Rattle.playlist_write.specs.Spelling.{iv_pairs, format_pairs}
 
--- what stands behind the URI
+-- what stands after the URI
 abbrev pub rest_of : Key → List ℕ
 rest_of k = (34 ∷ after_commas (iv_pairs k.iv)) ++ (after_commas (format_pairs k.format) ++ (k.other ++ 10 ∷ []))
 

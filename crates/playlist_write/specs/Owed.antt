@@ -7,7 +7,7 @@ use Rattle.playlist_meaning.specs.declared.InitSection.{InitSection}
 use Rattle.playlist_meaning.specs.declared.PlaylistKind.{PlaylistKind}
 use Rattle.playlist_meaning.specs.declared.Segment.{Segment}
 use Rattle.playlist_meaning.specs.LookBack.{or_earlier}
-use Rattle.playlist_meaning.specs.Said.{Said, version, target, sequence, discontinuity_sequence, playlist_type, ended, independent, duration, range, discontinuity, key, key_tag_said, section, time, media}
+use Rattle.playlist_meaning.specs.Said.{Said, version, target, sequence, discontinuity_sequence, playlist_type, ended, independent, duration, byte_range, discontinuity, key, key_tag_said, section, time, media}
 use Rattle.playlist_meaning.specs.declared.KeyTag.TheVariants.{Set}
 use Rattle.stitcher.specs.declared.OutSegment.{OutSegment}
 use Rattle.playlist_meaning.specs.Same.{same_option, same_section}
@@ -40,7 +40,7 @@ changed_section current (Some new) = if same_option same_section (Some new) curr
 -- a changed section is written under its own keys, which are then in force
 abbrev pub section_owed : List Key → Option InitSection → List Said
 section_owed keys None = []
-section_owed keys (Some new) = keys_owed keys new.keys ++ section new.uri new.range ∷ []
+section_owed keys (Some new) = keys_owed keys new.keys ++ section new.uri new.byte_range ∷ []
 
 abbrev pub keys_then : List Key → Option InitSection → List Key
 keys_then keys None = keys
@@ -50,12 +50,12 @@ abbrev pub time_owed : Option ℤ → List Said
 time_owed None = []
 time_owed (Some t) = time t ∷ []
 
-abbrev pub range_owed : Option ByteRange → List Said
-range_owed None = []
-range_owed (Some r) = range r.length (Some r.offset) ∷ []
+abbrev pub byte_range_owed : Option ByteRange → List Said
+byte_range_owed None = []
+byte_range_owed (Some r) = byte_range r.length (Some r.offset) ∷ []
 
 abbrev pub media_owed : Segment → List Said
-media_owed segment = duration segment.duration segment.title ∷ (range_owed segment.range ++ media segment.uri ∷ [])
+media_owed segment = duration segment.duration segment.title ∷ (byte_range_owed segment.byte_range ++ media segment.uri ∷ [])
 
 abbrev pub segment_owed : Current → OutSegment → List Said
 segment_owed current out =
@@ -115,7 +115,7 @@ abbrev pub key_line : Key → List ℕ
 key_line k = line_of (key k)
 
 abbrev pub section_line : InitSection → List ℕ
-section_line s = line_of (section s.uri s.range)
+section_line s = line_of (section s.uri s.byte_range)
 
 -- date ranges stand as they are
 unfoldable pub ended_date_range_line : List ℕ → List ℕ

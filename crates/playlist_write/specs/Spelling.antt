@@ -8,12 +8,12 @@ use Rattle.playlist_meaning.specs.declared.PlaylistKind.{PlaylistKind}
 use Rattle.playlist_meaning.specs.declared.PlaylistKind.TheVariants.{Event, Vod}
 use Rattle.playlist_meaning.specs.declared.Key.{Key}
 use Rattle.playlist_meaning.specs.declared.ByteRange.{ByteRange}
-use Rattle.playlist_meaning.specs.Said.{Said, nothing, version, target, sequence, discontinuity_sequence, playlist_type, ended, independent, duration, range, discontinuity, no_keys, key, section, time, date_range, media}
+use Rattle.playlist_meaning.specs.Said.{Said, nothing, version, target, sequence, discontinuity_sequence, playlist_type, ended, independent, duration, byte_range, discontinuity, no_keys, key, section, time, date_range, media}
 use Rattle.instants.specs.Times.{time_text}
 use Rattle.instants.specs.Digits.{fixed_digits}
 
-abbrev pub range_text : ℕ → ℕ → List ℕ
-range_text length offset = decimal length ++ 64 ∷ decimal offset
+abbrev pub byte_range_text : ℕ → ℕ → List ℕ
+byte_range_text length offset = decimal length ++ 64 ∷ decimal offset
 
 -- ---- attributes (4.2)
 
@@ -41,7 +41,7 @@ own_pairs k = plain (codes "METHOD") k.method ∷ in_quotes (codes "URI") k.uri 
 
 abbrev pub part_pairs : Option ByteRange → List Pair
 part_pairs None = []
-part_pairs (Some part) = in_quotes (codes "BYTERANGE") (range_text part.length part.offset) ∷ []
+part_pairs (Some part) = in_quotes (codes "BYTERANGE") (byte_range_text part.length part.offset) ∷ []
 
 -- the attributes of a map tag (4.3.2.5)
 abbrev pub section_pairs : List ℕ → Option ByteRange → List Pair
@@ -57,7 +57,7 @@ abbrev pub offset_text : Option ℕ → List ℕ
 offset_text None = []
 offset_text (Some offset) = 64 ∷ decimal offset
 
--- a key's other attributes stand as they are behind these
+-- a key's other attributes stand as they are after these
 abbrev pub key_text : Key → List ℕ
 key_text k = attributes_text (own_pairs k) ++ k.other
 
@@ -76,7 +76,7 @@ spelled (playlist_type kind) = codes "#EXT-X-PLAYLIST-TYPE:" ++ type_text kind
 spelled ended = codes "#EXT-X-ENDLIST"
 spelled independent = codes "#EXT-X-INDEPENDENT-SEGMENTS"
 spelled (duration nanos title) = codes "#EXTINF:" ++ (duration_text nanos ++ 44 ∷ title)
-spelled (range length offset) = codes "#EXT-X-BYTERANGE:" ++ (decimal length ++ offset_text offset)
+spelled (byte_range length offset) = codes "#EXT-X-BYTERANGE:" ++ (decimal length ++ offset_text offset)
 spelled discontinuity = codes "#EXT-X-DISCONTINUITY"
 spelled no_keys = codes "#EXT-X-KEY:METHOD=NONE"
 spelled (key k) = codes "#EXT-X-KEY:" ++ key_text k

@@ -7,7 +7,7 @@ use Rattle.playlist_meaning.specs.Numbering.{Numbers, numbers_rise}
 use Rattle.stitcher.specs.declared.OutSegment.{OutSegment}
 use Rattle.playlist_write.specs.declared.OutPlaylist.{OutPlaylist}
 pub use Rattle.fitting.specs.Fitting.{duration_fits}
-use Rattle.fitting.specs.Fitting.{if_some, is_clean, uri_fits, range_fits, effective_keys_fit, section_fits, date_range_fits}
+use Rattle.fitting.specs.Fitting.{if_some, is_clean, uri_fits, byte_range_fits, effective_keys_fit, section_fits, date_range_fits}
 
 -- a number of 64 bits
 abbrev pub is_word : ℕ → Bool
@@ -19,7 +19,7 @@ abbrev pub numbers_are_words : OutSegment → Bool
 numbers_are_words out = is_word out.media && is_word out.discontinuity
 
 abbrev pub resource_fits : Segment → Bool
-resource_fits segment = uri_fits segment.uri && if_some range_fits segment.range
+resource_fits segment = uri_fits segment.uri && if_some byte_range_fits segment.byte_range
 
 abbrev pub segment_fits : OutSegment → Bool
 segment_fits out =

@@ -31,7 +31,7 @@ static PAIRS: [u8; 512] = *b"\
     E0E1E2E3E4E5E6E7E8E9EAEBECEDEEEF\
     F0F1F2F3F4F5F6F7F8F9FAFBFCFDFEFF";
 
-// Writes one character behind the first `at` ones.
+// Writes one character after the first `at` ones.
 fn put_mark(text: &mut [u8; LENGTH], at: usize, mark: u8)
     requires { at < 40 }
     ensures { take (at + 1) text.new ≡ take at text.old ++ mark ∷ [] }

@@ -122,8 +122,8 @@ pub fn push_date_range(out: &mut String, text: &str) -> Result<(), AllocError>
 pub fn push_date_ranges(out: &mut String, date_ranges: &[OriginText<'_>]) -> Result<(), AllocError>
     ensures { Appends result out.old out.new (date_ranges_text date_ranges.now) }
 {
-    for range in date_ranges {
-        push_date_range(out, range.as_str())?;
+    for date_range in date_ranges {
+        push_date_range(out, date_range.as_str())?;
     }
     Ok(())
 }

@@ -1,7 +1,7 @@
 //! Key tags and map tags (RFC 8216, sections 4.3.2.4 and 4.3.2.5).
 ghost use Rattle.std.specs.Prelude.{◌≡◌, ◌∷◌, ◌++◌, [], codes, filter, ◌&&◌, not};
 ghost use Rattle.attr_list.specs.Attributes.{pair_spelling};
-ghost use Rattle.playlist_write.specs.Spelling.{plain, in_quotes, iv_pairs, format_pairs, part_pairs};
+ghost use Rattle.playlist_write.specs.Spelling.{in_quotes, iv_pairs, format_pairs, part_pairs};
 ghost use Rattle.playlist_meaning.specs.Carried.{after_commas};
 ghost use Rattle.playlist_write.specs.KeyParts.{rest_of, is_identity};
 ghost use Rattle.playlist_meaning.specs.Said as Said;
@@ -11,19 +11,10 @@ ghost use Rattle.stitcher.specs.KeyTags.{is_new};
 ghost use Rattle.fixed_duration.specs.Appended.{Appends};
 
 use crate::digits::{push_last_iv, push_quote_and_iv};
-use crate::lines::{push_feed, push_line, push_range};
+use crate::lines::{push_byte_range, push_feed, push_line};
 use playlist_meaning::{ByteRange, InitSection, Key};
 use std::alloc::AllocError;
 use stitcher::{is_new, keeps_formats};
-
-// Appends `name=value`.
-fn push_plain(out: &mut String, name: &str, value: &str) -> Result<(), AllocError>
-    ensures { Appends result out.old out.new (pair_spelling (plain name.now value.now)) }
-{
-    out.push_str(name)?;
-    out.push('=')?;
-    out.push_str(value)
-}
 
 // Appends `name="value"`.
 fn push_quoted(out: &mut String, name: &str, value: &str) -> Result<(), AllocError>
@@ -80,7 +71,7 @@ fn push_method(out: &mut String, method: &str) -> Result<(), AllocError>
     Ok(())
 }
 
-// Appends what stands behind the URI of a key.
+// Appends what stands after the URI of a key.
 fn push_rest(out: &mut String, key: &Key) -> Result<(), AllocError>
     ensures { Appends result out.old out.new (rest_of key.now) }
 {
@@ -199,7 +190,7 @@ fn push_part(out: &mut String, part: Option<ByteRange>) -> Result<(), AllocError
 {
     if let Some(part) = part {
         out.push_str(",BYTERANGE=\"")?;
-        push_range(out, part)?;
+        push_byte_range(out, part)?;
         out.push('"')?;
     }
     Ok(())
@@ -211,7 +202,7 @@ pub fn push_section(out: &mut String, section: &InitSection) -> Result<(), Alloc
 {
     out.push_str("#EXT-X-MAP:")?;
     push_quoted(out, "URI", section.uri.as_str())?;
-    push_part(out, section.range)?;
+    push_part(out, section.byte_range)?;
     push_feed(out)?;
     Ok(())
 }

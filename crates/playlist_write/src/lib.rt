@@ -82,8 +82,10 @@ impl From<SinkFailed> for WriteFault {
 // no memory.
 fn room_for(playlist: &OutPlaylist<'_>) -> usize {
     let mut room: usize = 256;
-    for range in playlist.date_ranges.as_slice() {
-        room = room.saturating_add(range.as_str().len()).saturating_add(24);
+    for date_range in playlist.date_ranges.as_slice() {
+        room = room
+            .saturating_add(date_range.as_str().len())
+            .saturating_add(24);
     }
     for next in playlist.segments.as_slice() {
         let segment = &next.segment;

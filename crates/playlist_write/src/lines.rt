@@ -1,6 +1,6 @@
 //! Parts of lines.
 ghost use Rattle.std.specs.Prelude.{◌≡◌, ◌++◌, [], ◌∷◌, OnOk, string_bytes, decimal};
-ghost use Rattle.playlist_write.specs.Spelling.{range_text};
+ghost use Rattle.playlist_write.specs.Spelling.{byte_range_text};
 ghost use Rattle.playlist_write.specs.Owed.{with_feed};
 ghost use Rattle.fixed_duration.specs.Appended.{Appends};
 
@@ -49,11 +49,11 @@ pub fn push_number_line(out: &mut String, tag: &str, number: u64) -> Result<(), 
     push_feed(out)
 }
 
-/// Appends a range as `n@o`.
-pub fn push_range(out: &mut String, range: ByteRange) -> Result<(), AllocError>
-    ensures { Appends result out.old out.new (range_text range.length range.offset) }
+/// Appends a byte range as `n@o`.
+pub fn push_byte_range(out: &mut String, byte_range: ByteRange) -> Result<(), AllocError>
+    ensures { Appends result out.old out.new (byte_range_text byte_range.length byte_range.offset) }
 {
-    push_number(out, range.length)?;
+    push_number(out, byte_range.length)?;
     out.push('@')?;
-    push_number(out, range.offset)
+    push_number(out, byte_range.offset)
 }

@@ -48,8 +48,8 @@ pub fn write_date_ranges<S: Sink>(
     ensures io { IsErrOf result WriteFault.Io → FailedAtLast (S.failed sink.old) (S.failed sink.new) }
     ensures memory { IsErrOf result WriteFault.OutOfMemory → NoneFailed (S.failed sink.old) (S.failed sink.new) }
 {
-    for range in date_ranges {
-        push_date_range(held, range.as_str())?;
+    for date_range in date_ranges {
+        push_date_range(held, date_range.as_str())?;
         hand_out_piece(held, sink)?;
     }
     Ok(())

@@ -3,12 +3,12 @@ ghost use Rattle.std.specs.Prelude.{◌≡◌, ◌++◌, ◌∷◌, [], OnOk, st
 ghost use Rattle.std.specs.Option.{option_copied};
 ghost use Rattle.playlist_meaning.specs.Said as Said;
 ghost use Rattle.playlist_meaning.specs.Same.{same_option, same_section};
-ghost use Rattle.playlist_write.specs.Owed.{none_yet, line_of, with_feed, said_text, changed_section, section_owed, keys_then, time_owed, range_owed, media_owed, segment_owed, segments_owed};
+ghost use Rattle.playlist_write.specs.Owed.{none_yet, line_of, with_feed, said_text, changed_section, section_owed, keys_then, time_owed, byte_range_owed, media_owed, segment_owed, segments_owed};
 ghost use Rattle.fixed_duration.specs.Duration.{duration_text};
 ghost use Rattle.fixed_duration.specs.Appended.{Appends};
 
 use crate::keys::{push_key_tags, push_section};
-use crate::lines::{push_feed, push_line, push_range};
+use crate::lines::{push_byte_range, push_feed, push_line};
 use fixed_duration::Nanos;
 use playlist_meaning::{
     ByteRange, InitSection, Instant, Key, Segment, Shared, is_same_section, write_instant,
@@ -124,20 +124,20 @@ fn push_duration(out: &mut String, duration: Nanos, title: &str) -> Result<(), A
     Ok(())
 }
 
-fn push_range_line(out: &mut String, range: ByteRange) -> Result<(), AllocError>
-    ensures { Appends result out.old out.new (line_of (Said.range range.length (Some range.offset))) }
+fn push_byte_range_line(out: &mut String, byte_range: ByteRange) -> Result<(), AllocError>
+    ensures { Appends result out.old out.new (line_of (Said.byte_range byte_range.length (Some byte_range.offset))) }
 {
     out.push_str("#EXT-X-BYTERANGE:")?;
-    push_range(out, range)?;
+    push_byte_range(out, byte_range)?;
     push_feed(out)?;
     Ok(())
 }
 
-fn push_range_tag(out: &mut String, range: Option<ByteRange>) -> Result<(), AllocError>
-    ensures { Appends result out.old out.new (said_text (range_owed range)) }
+fn push_byte_range_tag(out: &mut String, byte_range: Option<ByteRange>) -> Result<(), AllocError>
+    ensures { Appends result out.old out.new (said_text (byte_range_owed byte_range)) }
 {
-    if let Some(range) = range {
-        push_range_line(out, range)?;
+    if let Some(byte_range) = byte_range {
+        push_byte_range_line(out, byte_range)?;
     }
     Ok(())
 }
@@ -153,7 +153,7 @@ fn push_media(out: &mut String, segment: &Segment) -> Result<(), AllocError>
     ensures { Appends result out.old out.new (said_text (media_owed segment.now)) }
 {
     push_duration(out, segment.duration, segment.title.as_str())?;
-    push_range_tag(out, segment.range)?;
+    push_byte_range_tag(out, segment.byte_range)?;
     push_uri(out, segment.uri.as_str())?;
     Ok(())
 }

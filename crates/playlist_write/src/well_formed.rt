@@ -8,7 +8,9 @@ ghost use Rattle.playlist_write.specs.WellFormed.{well_formed, fits_without_date
 
 use crate::OutPlaylist;
 use crate::date_ranges::date_ranges_fit;
-use fitting::{duration_fits, effective_keys_fit, is_clean, range_fits, section_fits, uri_fits};
+use fitting::{
+    byte_range_fits, duration_fits, effective_keys_fit, is_clean, section_fits, uri_fits,
+};
 use playlist_meaning::{InitSection, Instant, Segment, Shared};
 use std::alloc::{AllocError, Global};
 use stitcher::OutSegment;
@@ -29,7 +31,7 @@ fn numbers_are_words(out: &OutSegment<'_>) -> bool
 fn resource_fits(segment: &Segment) -> bool
     ensures { result ≡ resource_fits segment.now }
 {
-    uri_fits(segment.uri.as_str()) && range_fits(segment.range)
+    uri_fits(segment.uri.as_str()) && byte_range_fits(segment.byte_range)
 }
 
 fn optional_section_fits(section: &Option<Shared<InitSection>>) -> bool

@@ -20,7 +20,7 @@ use Rattle.playlist_meaning.specs.Uri.{has_scheme}
 use Rattle.playlist_meaning.proofs.Printable.{ascii, printable_has_no_control}
 use Rattle.fitting.specs.Fitting as fit
 use Rattle.pod_store.specs.Pods.{is_quote, is_uri_byte, goes_on_from, is_web, is_uri, is_method}
-use Rattle.pod_store.specs.Rules.{range_fits, segment_keeps, iv_keeps, key_keeps, section_keeps, ad_keeps}
+use Rattle.pod_store.specs.Rules.{byte_range_fits, segment_keeps, iv_keeps, key_keeps, section_keeps, ad_keeps}
 use Rattle.pod_store.specs.Laws.{segment_can_be_written, ad_can_be_written, PodsCanBeWritten}
 
 -- ---- texts
@@ -79,9 +79,9 @@ method_is_fit method h =
     (and_from _ _ (clean method (all_from is_name_byte is_printable method name.1 name_byte_printable)) (and_from _ _ name.0 (ap not (none_from is_name_byte ends_plain method name.1 name_byte_plain))))
     p.1
 
-range_is_fit : (range : Option ByteRange) → range_fits range ≡ true → fit.if_some fit.range_fits range ≡ true
-range_is_fit None h = refl
-range_is_fit (Some r) h = h
+byte_range_is_fit : (byte_range : Option ByteRange) → byte_range_fits byte_range ≡ true → fit.if_some fit.byte_range_fits byte_range ≡ true
+byte_range_is_fit None h = refl
+byte_range_is_fit (Some r) h = h
 
 -- ---- keys
 
@@ -152,13 +152,13 @@ section_is_fit (Some s) h =
     let q = and_parts _ _ p.0 in
     let r = and_parts _ _ q.0 in
     let keys = keys_are_fit s.keys q.1 p.1 in
-    and_from _ _ (and_from _ _ (and_from _ _ (quoted_uri_is_fit s.uri r.0) (range_is_fit s.range r.1)) keys.fits) (ap not keys.need_none)
+    and_from _ _ (and_from _ _ (and_from _ _ (quoted_uri_is_fit s.uri r.0) (byte_range_is_fit s.byte_range r.1)) keys.fits) (ap not keys.need_none)
 
 segment_is_fit : (s : PodSegment) → segment_keeps s ≡ true → segment_can_be_written s ≡ true
 segment_is_fit s h =
     let p = and_parts _ _ h in
     let q = and_parts _ _ p.0 in
-    and_from _ _ (and_from _ _ (uri_is_fit s.uri q.0) (range_is_fit s.range q.1)) p.1
+    and_from _ _ (and_from _ _ (uri_is_fit s.uri q.0) (byte_range_is_fit s.byte_range q.1)) p.1
 
 ad_is_fit : (ad : Ad) → ad_keeps ad ≡ true → ad_can_be_written ad ≡ true
 ad_is_fit ad h =

@@ -3,7 +3,7 @@ use Rattle.std.specs.Prelude.{◌≡◌, ℕ, ◌≤◌, Bool, true, not, ◌&&�
 use Rattle.std.specs.List.{list_any, list_all}
 use Rattle.playlist_meaning.specs.LookBack.{or_earlier}
 use Rattle.playlist_meaning.specs.Pods.{PodSegment, Ad, Pod}
-use Rattle.fitting.specs.Fitting.{if_some, uri_fits, range_fits, duration_fits, effective_keys_fit, section_fits}
+use Rattle.fitting.specs.Fitting.{if_some, uri_fits, byte_range_fits, duration_fits, effective_keys_fit, section_fits}
 use Rattle.pod_store.specs.declared.Decisions.{Decisions}
 use Rattle.pod_store.specs.declared.Decisions.TheVariants.{Breaks, Withdraw}
 use Rattle.pod_store.specs.Outcome.{Outcome}
@@ -88,7 +88,7 @@ LastPodStands = (calls : List Call) (id : List ℕ) → pod_for (after_calls cal
 -- ---- writing
 
 abbrev pub segment_can_be_written : PodSegment → Bool
-segment_can_be_written s = uri_fits s.uri && if_some range_fits s.range && duration_fits s.duration
+segment_can_be_written s = uri_fits s.uri && if_some byte_range_fits s.byte_range && duration_fits s.duration
 
 -- its segments, and its keys and section as those of a segment
 abbrev pub ad_can_be_written : Ad → Bool

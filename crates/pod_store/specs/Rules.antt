@@ -8,13 +8,13 @@ use Rattle.playlist_meaning.specs.Pods.{PodSegment, Ad}
 use Rattle.fitting.specs.Fitting.{iv_fits, duration_fits}
 use Rattle.pod_store.specs.Pods.{is_uri, is_method, is_format, segment_count}
 
-abbrev pub range_fits : Option ByteRange → Bool
-range_fits None = true
-range_fits (Some r) = nat_lt (r.length + r.offset) (2 ^ 64)
+abbrev pub byte_range_fits : Option ByteRange → Bool
+byte_range_fits None = true
+byte_range_fits (Some r) = nat_lt (r.length + r.offset) (2 ^ 64)
 
--- a URI, a range that ends below 2^64, less than 1,000,000 s
+-- a URI, a byte range that ends below 2^64, less than 1,000,000 s
 abbrev pub segment_keeps : PodSegment → Bool
-segment_keeps s = is_uri s.uri && range_fits s.range && duration_fits s.duration
+segment_keeps s = is_uri s.uri && byte_range_fits s.byte_range && duration_fits s.duration
 
 -- an IV of 128 bits
 abbrev pub iv_keeps : Option ℕ → Bool
@@ -27,7 +27,7 @@ key_keeps k = is_method k.method && is_uri k.uri && iv_keeps k.iv && is_format k
 -- it has no other keys than an ad can have
 abbrev pub section_keeps : Option InitSection → Bool
 section_keeps None = true
-section_keeps (Some s) = is_uri s.uri && range_fits s.range && nat_le (length s.keys) 1 && list_all key_keeps s.keys
+section_keeps (Some s) = is_uri s.uri && byte_range_fits s.byte_range && nat_le (length s.keys) 1 && list_all key_keeps s.keys
 
 abbrev pub ad_keeps : Ad → Bool
 ad_keeps ad =

@@ -11,16 +11,16 @@ use Rattle.attr_list.specs.Numbers.{decimal_of}
 use Rattle.instants.specs.Instant.{instant_of, in_range}
 use Rattle.playlist_meaning.specs.declared.FaultKind.TheVariants as fault
 use Rattle.playlist_meaning.specs.Lines.{Kind, ignored, uri, tag, kind_of, has_control, is_blank, is_tag, is_comment, is_colon}
-use Rattle.playlist_meaning.specs.Said.{Name, sequence_tag, version_tag, target_tag, discontinuity_sequence_tag, type_tag, ended_tag, independent_tag, frames_tag, master_tag, duration_tag, range_tag, discontinuity_tag, key_tag, map_tag, time_tag, date_range_tag, unknown_tag, Said, nothing, version, target, sequence, discontinuity_sequence, playlist_type, ended, independent, duration, range, discontinuity, no_keys, section, time, media, Outcome, or_fault, mended, number, version_of, playlist_type_of, range_of, duration_said, key_said, section_said, date_range_said, attributes, required, optional, iv_of, quoted_of, uri_of, section_range, time_of, length_of, set_key, range_end_fits, key, date_range}
-use Rattle.playlist_meaning.specs.LookBack.{the_version, the_target, the_sequence, the_discontinuity_sequence, the_type, is_media, is_discontinuity, is_ended, own_duration, range_at, keys_at, discontinuity_at, number_at}
+use Rattle.playlist_meaning.specs.Said.{Name, sequence_tag, version_tag, target_tag, discontinuity_sequence_tag, type_tag, ended_tag, independent_tag, frames_tag, master_tag, duration_tag, byte_range_tag, discontinuity_tag, key_tag, map_tag, time_tag, date_range_tag, unknown_tag, Said, nothing, version, target, sequence, discontinuity_sequence, playlist_type, ended, independent, duration, byte_range, discontinuity, no_keys, section, time, media, Outcome, or_fault, mended, number, version_of, playlist_type_of, byte_range_of, duration_said, key_said, section_said, date_range_said, attributes, required, optional, iv_of, quoted_of, uri_of, section_byte_range, time_of, length_of, set_key, byte_range_end_fits, key, date_range}
+use Rattle.playlist_meaning.specs.LookBack.{the_version, the_target, the_sequence, the_discontinuity_sequence, the_type, is_media, is_discontinuity, is_ended, own_duration, byte_range_at, keys_at, discontinuity_at, number_at}
 use Rattle.playlist_meaning.specs.Reading.{name_of, has, is_set, passes, needs_iv, said_by_tag, said_by_kind, said_by, said_from, at_line, Fault, unlimited}
 use Rattle.playlist_write.specs.WellFormed.{is_word, duration_fits}
-use Rattle.fitting.specs.Fitting.{if_some, is_clean, value_fits, method_fits, iv_fits, range_fits}
+use Rattle.fitting.specs.Fitting.{if_some, is_clean, value_fits, method_fits, iv_fits, byte_range_fits}
 use Rattle.playlist_write.proofs.CleanTexts.{Clean}
 use Rattle.reading_laws.specs.Read.{version_reads, uri_reads, quoted_uri_reads, key_reads}
 use Rattle.reading_laws.proofs.CleanCuts.{clean_is, clean_after, clean_after_first}
 use Rattle.reading_laws.proofs.AttributeValues.{pairs_fit, attributes_fit, attribute_fits, required_fits, optional_fits, quoted_fits}
-use Rattle.reading_laws.proofs.Values.{iv_is_fit, range_is_fit, range_of_fits, section_range_fits, plain_uri, quoted_uri, or_identity, key_from}
+use Rattle.reading_laws.proofs.Values.{iv_is_fit, byte_range_is_fit, byte_range_of_fits, section_byte_range_fits, plain_uri, quoted_uri, or_identity, key_from}
 use Rattle.reading_laws.proofs.Gives.{Gives, answers, fails, guarded, refused, chosen, found, told, bound, after}
 use Rattle.instants.proofs.TimeRange.{said_in_range}
 use Rattle.reading_laws.proofs.Bounds.{decimal_is_word, duration_is_small}
@@ -32,9 +32,9 @@ is_fit (target n) = is_word n
 is_fit (sequence n) = is_word n
 is_fit (discontinuity_sequence n) = is_word n
 is_fit (duration nanos title) = duration_fits nanos && is_clean title
-is_fit (range size offset) = if_some (range_end_fits size) offset
+is_fit (byte_range size offset) = if_some (byte_range_end_fits size) offset
 is_fit (key k) = key_reads k
-is_fit (section resource part) = quoted_uri_reads resource && if_some range_fits part
+is_fit (section resource part) = quoted_uri_reads resource && if_some byte_range_fits part
 is_fit (time t) = in_range t
 is_fit (date_range r) = is_clean r.text
 is_fit (media resource) = uri_reads resource
@@ -123,7 +123,7 @@ module _ (before : List Said) where
   section_fits base rest c =
       bound pairs_fit _ (attributes unlimited rest) _ (attributes_fit rest c) (λ pairs h.
       bound (value_fits true) _ (required true (attribute pairs (codes "URI"))) _ (required_fits true _ (attribute_fits pairs (codes "URI") h)) (λ reference r.
-      bound (if_some range_fits) _ (optional section_range (attribute pairs (codes "BYTERANGE"))) _ (optional_fits range_fits section_range (attribute pairs (codes "BYTERANGE")) (attribute_fits pairs (codes "BYTERANGE") h) (λ pair _. section_range_fits pair)) (λ part p.
+      bound (if_some byte_range_fits) _ (optional section_byte_range (attribute pairs (codes "BYTERANGE"))) _ (optional_fits byte_range_fits section_byte_range (attribute pairs (codes "BYTERANGE")) (attribute_fits pairs (codes "BYTERANGE") h) (λ pair _. section_byte_range_fits pair)) (λ part p.
       bound quoted_uri_reads _ (uri_of base reference) _ (quoted_uri base reference r) (λ resource u. answers is_fit_section (section resource part) (and_from _ _ u p)))))
 
   placed_section : (said : Said) → is_fit_section said ≡ true → list_any needs_iv (keys_at before) ≡ false → is_good before said ≡ true
@@ -157,7 +157,7 @@ module _ (before : List Said) where
   by_tag base frames_tag rest c = fails _ _
   by_tag base master_tag rest c = fails _ _
   by_tag base duration_tag rest c = duration_good rest c
-  by_tag base range_tag rest c = bound range_is_fit _ (range_of rest) _ (range_of_fits rest) (λ r h. good before (range r.0 r.1) h refl)
+  by_tag base byte_range_tag rest c = bound byte_range_is_fit _ (byte_range_of rest) _ (byte_range_of_fits rest) (λ r h. good before (byte_range r.0 r.1) h refl)
   by_tag base discontinuity_tag rest c = guarded _ (passes (discontinuity_at before + 1)) _ _ (λ h. good before discontinuity refl (word_below _ h))
   by_tag base key_tag rest c = bound (is_good before) _ (key_said unlimited base rest) _ (key_good base rest c) (λ x h. answers _ x h)
   by_tag base map_tag rest c = bound is_fit_section _ (section_said unlimited base rest) _ (section_fits base rest c) (λ x s. guarded _ (list_any needs_iv (keys_at before)) _ _ (λ h. answers _ x (placed_section x s h)))
@@ -169,7 +169,7 @@ module _ (before : List Said) where
   by_kind base ignored c = good before nothing refl refl
   by_kind base (uri reference) c =
       refused _ (is_none (own_duration before)) _ _ (guarded _ (passes (number_at before)) _ _ (λ h.
-      bound uri_reads _ (uri_of base reference) _ (plain_uri base reference c) (λ u r. after _ (range_at before u) _ (λ _. good before (media u) r (word_below _ h)))))
+      bound uri_reads _ (uri_of base reference) _ (plain_uri base reference c) (λ u r. after _ (byte_range_at before u) _ (λ _. good before (media u) r (word_below _ h)))))
   by_kind base (tag name rest colon) c = by_tag base (name_of name colon) rest c
 
   pub by_line : (base : Parts) (line : List ℕ) → IsUtf8 line → Gives (is_good before) (said_by unlimited base before line)

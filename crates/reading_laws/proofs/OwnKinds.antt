@@ -7,8 +7,8 @@ use Rattle.fixed_duration.specs.Duration.{duration_of}
 use Rattle.attr_list.specs.Attributes.{attribute}
 use Rattle.instants.specs.Instant.{instant_of}
 use Rattle.playlist_meaning.specs.declared.FaultKind.TheVariants as fault
-use Rattle.playlist_meaning.specs.Said.{Name, sequence_tag, version_tag, target_tag, discontinuity_sequence_tag, type_tag, ended_tag, independent_tag, frames_tag, master_tag, duration_tag, range_tag, discontinuity_tag, key_tag, map_tag, time_tag, date_range_tag, unknown_tag, Said, nothing, version, target, sequence, discontinuity_sequence, playlist_type, ended, independent, duration, range, discontinuity, no_keys, key, section, time, date_range, media, or_fault, mended, Reader, over, number, version_of, playlist_type_of, range_of, attributes, required, optional, iv_of, quoted_of, uri_of, section_range, time_of, length_of, key_said, section_said, date_range_said}
-use Rattle.playlist_meaning.specs.LookBack.{the_version, the_target, the_sequence, the_discontinuity_sequence, the_type, is_media, is_discontinuity, is_ended, count, own_duration, range_at, keys_at, discontinuity_at, number_at}
+use Rattle.playlist_meaning.specs.Said.{Name, sequence_tag, version_tag, target_tag, discontinuity_sequence_tag, type_tag, ended_tag, independent_tag, frames_tag, master_tag, duration_tag, byte_range_tag, discontinuity_tag, key_tag, map_tag, time_tag, date_range_tag, unknown_tag, Said, nothing, version, target, sequence, discontinuity_sequence, playlist_type, ended, independent, duration, byte_range, discontinuity, no_keys, key, section, time, date_range, media, or_fault, mended, Reader, over, number, version_of, playlist_type_of, byte_range_of, attributes, required, optional, iv_of, quoted_of, uri_of, section_byte_range, time_of, length_of, key_said, section_said, date_range_said}
+use Rattle.playlist_meaning.specs.LookBack.{the_version, the_target, the_sequence, the_discontinuity_sequence, the_type, is_media, is_discontinuity, is_ended, count, own_duration, byte_range_at, keys_at, discontinuity_at, number_at}
 use Rattle.playlist_meaning.specs.Reading.{has, is_set, passes, needs_iv, said_by_tag, said_by_uri}
 use Rattle.reading_laws.proofs.Gives.{Gives, answers, fails, refused, chosen, bound, after}
 
@@ -22,7 +22,7 @@ is_of type_tag (playlist_type kind) = true
 is_of ended_tag ended = true
 is_of independent_tag independent = true
 is_of duration_tag (duration nanos title) = true
-is_of range_tag (range size offset) = true
+is_of byte_range_tag (byte_range size offset) = true
 is_of discontinuity_tag discontinuity = true
 is_of key_tag no_keys = true
 is_of key_tag (key k) = true
@@ -43,7 +43,7 @@ module _ (reader : Reader) (base : Parts) where
   section_kind : (rest : List ℕ) → Gives (is_of map_tag) (section_said reader base rest)
   section_kind rest =
       after _ (attributes reader rest) _ (λ pairs. after _ (required true (attribute pairs (codes "URI"))) _ (λ reference.
-      after _ (optional section_range (attribute pairs (codes "BYTERANGE"))) _ (λ part. after _ (uri_of base reference) _ (λ resource. answers (is_of map_tag) (section resource part) refl))))
+      after _ (optional section_byte_range (attribute pairs (codes "BYTERANGE"))) _ (λ part. after _ (uri_of base reference) _ (λ resource. answers (is_of map_tag) (section resource part) refl))))
 
   date_range_kind : (rest : List ℕ) → Gives (is_of date_range_tag) (date_range_said reader rest)
   date_range_kind rest =
@@ -64,7 +64,7 @@ module _ (reader : Reader) (base : Parts) where
   tag_kind before frames_tag rest = fails _ _
   tag_kind before master_tag rest = fails _ _
   tag_kind before duration_tag rest = after _ (mended fault.BadDuration (duration_of (before_first (λ b. b == 44) rest))) _ (λ n. answers (is_of duration_tag) _ refl)
-  tag_kind before range_tag rest = after _ (range_of rest) _ (λ r. answers (is_of range_tag) (range r.0 r.1) refl)
+  tag_kind before byte_range_tag rest = after _ (byte_range_of rest) _ (λ r. answers (is_of byte_range_tag) (byte_range r.0 r.1) refl)
   tag_kind before discontinuity_tag rest = refused _ (passes (discontinuity_at before + 1)) _ _ (answers (is_of discontinuity_tag) discontinuity refl)
   tag_kind before key_tag rest =
       bound (is_of key_tag) _ (key_said reader base rest) _ (key_kind rest) (λ x h. refused _ (over reader.formats (length (keys_at (x ∷ before)))) _ _ (answers (is_of key_tag) x h))
@@ -77,4 +77,4 @@ module _ (reader : Reader) (base : Parts) where
   pub uri_kind : (before : List Said) (reference : List ℕ) → Gives is_media (said_by_uri reader base before reference)
   uri_kind before reference =
       refused _ (over reader.segments (count is_media before + 1)) _ _ (refused _ (is_none (own_duration before)) _ _ (refused _ (passes (number_at before)) _ _
-      (after _ (uri_of base reference) _ (λ u. after _ (range_at before u) _ (λ _. answers is_media (media u) refl)))))
+      (after _ (uri_of base reference) _ (λ u. after _ (byte_range_at before u) _ (λ _. answers is_media (media u) refl)))))

@@ -6,14 +6,14 @@ use Rattle.std.proofs.lemmas.Bool.{and_parts, and_from}
 use Rattle.std.proofs.lemmas.List.Folds.{list_all-append}
 use Rattle.std.specs.Result.{result_unwrap_or}
 use Rattle.instants.specs.Instant.{in_range}
-use Rattle.playlist_meaning.specs.Said.{Said, duration, time, media, range, date_range, refuse_if, range_end_fits}
-use Rattle.playlist_meaning.specs.LookBack.{or_earlier, latest, the_duration, the_time, is_media, since_media, own_duration, segments_of, segment_at, the_range, own_range, Extent, range_here, range_from, last_extent, number_at, date_ranges_of}
+use Rattle.playlist_meaning.specs.Said.{Said, duration, time, media, byte_range, date_range, refuse_if, byte_range_end_fits}
+use Rattle.playlist_meaning.specs.LookBack.{or_earlier, latest, the_duration, the_time, is_media, since_media, own_duration, segments_of, segment_at, the_byte_range, own_byte_range, Extent, byte_range_here, byte_range_from, last_extent, number_at, date_ranges_of}
 use Rattle.playlist_meaning.specs.declared.FaultKind.TheVariants as fault
-use Rattle.fitting.specs.Fitting.{if_some, is_clean, range_fits}
+use Rattle.fitting.specs.Fitting.{if_some, is_clean, byte_range_fits}
 use Rattle.playlist_write.specs.WellFormed.{duration_fits}
 use Rattle.reading_laws.specs.Read.{segment_reads, text_is_clean}
 use Rattle.reading_laws.proofs.CleanCuts.{clean_is, clean_nil}
-use Rattle.reading_laws.proofs.Values.{range_is_fit}
+use Rattle.reading_laws.proofs.Values.{byte_range_is_fit}
 use Rattle.reading_laws.proofs.Keys.{effective_fit, section_fits}
 use Rattle.reading_laws.proofs.Lines.{is_fit, all_good, good_parts, all_parts, all_fit}
 use Rattle.reading_laws.proofs.Numbers.{discontinuity_word}
@@ -51,26 +51,26 @@ says_time : (x : Said) → is_fit x ≡ true → if_some in_range (the_time x) �
 says_time (time t) h = h
 says_time _ h = refl
 
-says_range : (x : Said) → is_fit x ≡ true → if_some range_is_fit (the_range x) ≡ true
-says_range (range size offset) h = h
-says_range _ h = refl
+says_byte_range : (x : Said) → is_fit x ≡ true → if_some byte_range_is_fit (the_byte_range x) ≡ true
+says_byte_range (byte_range size offset) h = h
+says_byte_range _ h = refl
 
 -- ---- the byte range (4.3.2.2)
 
-here_fits : (b : Bool) (size offset : ℕ) → range_end_fits size offset ≡ b
-    → if_some range_fits (result_unwrap_or (refuse_if (not b) fault.BadRange (Ok (Some (record { length = size; offset = offset })))) None) ≡ true
+here_fits : (b : Bool) (size offset : ℕ) → byte_range_end_fits size offset ≡ b
+    → if_some byte_range_fits (result_unwrap_or (refuse_if (not b) fault.BadRange (Ok (Some (record { length = size; offset = offset })))) None) ≡ true
 here_fits true size offset e = e
 here_fits false size offset e = refl
 
-after_fits : (b : Bool) (size offset : ℕ) → if_some range_fits (result_unwrap_or (refuse_if (not b) fault.RangeNoStart (range_here size offset)) None) ≡ true
-after_fits true size offset = here_fits (range_end_fits size offset) size offset refl
+after_fits : (b : Bool) (size offset : ℕ) → if_some byte_range_fits (result_unwrap_or (refuse_if (not b) fault.RangeNoStart (byte_range_here size offset)) None) ≡ true
+after_fits true size offset = here_fits (byte_range_end_fits size offset) size offset refl
 after_fits false size offset = refl
 
-range_is : (own : Option (ℕ × Option ℕ)) (uri : List ℕ) (previous : Option Extent) → if_some range_is_fit own ≡ true → if_some range_fits (result_unwrap_or (range_from own uri previous) None) ≡ true
-range_is None uri previous h = refl
-range_is (Some (size, Some offset)) uri previous h = h
-range_is (Some (size, None)) uri None h = refl
-range_is (Some (size, None)) uri (Some previous) h = after_fits (bytes_eq uri previous.uri) size (previous.range.offset + previous.range.length)
+byte_range_is : (own : Option (ℕ × Option ℕ)) (uri : List ℕ) (previous : Option Extent) → if_some byte_range_is_fit own ≡ true → if_some byte_range_fits (result_unwrap_or (byte_range_from own uri previous) None) ≡ true
+byte_range_is None uri previous h = refl
+byte_range_is (Some (size, Some offset)) uri previous h = h
+byte_range_is (Some (size, None)) uri None h = refl
+byte_range_is (Some (size, None)) uri (Some previous) h = after_fits (bytes_eq uri previous.uri) size (previous.byte_range.offset + previous.byte_range.length)
 
 -- ---- one segment
 
@@ -83,7 +83,7 @@ segment_fits before u h =
     let own : fits_duration (unwrap_or (own_duration before) (0, [])) ≡ true =
     or_default fits_duration (own_duration before) (0, []) (latest_fits fits_duration the_duration (since_media before) says_duration since) (clean_is [] clean_nil) in
     let parts = and_parts (duration_fits (unwrap_or (own_duration before) (0, [])).0) (is_clean (unwrap_or (own_duration before) (0, [])).1) own in
-    let part = range_is (own_range before) u (last_extent before) (latest_fits range_is_fit the_range (since_media before) says_range since) in
+    let part = byte_range_is (own_byte_range before) u (last_extent before) (latest_fits byte_range_is_fit the_byte_range (since_media before) says_byte_range since) in
     let number = here.1 in
     and_from _ _ (and_from _ _ (and_from _ _ (and_from _ _ (and_from _ _ (and_from _ _
     (and_from _ _ number (discontinuity_word before a.1))

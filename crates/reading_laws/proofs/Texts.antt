@@ -14,7 +14,7 @@ use Rattle.playlist_meaning.specs.LookBack.{are_sorted}
 use Rattle.playlist_meaning.specs.Reading.{needs_iv}
 use Rattle.playlist_meaning.specs.Uri.{has_scheme}
 use Rattle.playlist_meaning.proofs.ListTests.{all_with}
-use Rattle.fitting.specs.Fitting.{if_some, is_clean, value_fits, method_fits, iv_fits, others_fit, range_fits, states_iv, uri_fits, quoted_uri_fits, key_fits, keys_fit, section_fits}
+use Rattle.fitting.specs.Fitting.{if_some, is_clean, value_fits, method_fits, iv_fits, others_fit, byte_range_fits, states_iv, uri_fits, quoted_uri_fits, key_fits, keys_fit, section_fits}
 use Rattle.playlist_write.specs.WellFormed.{duration_fits}
 use Rattle.reading_laws.specs.Read.{uri_reads, quoted_uri_reads, key_reads, keys_read, section_reads, numbers_are_words, resource_reads, effective_keys_read, segment_reads, key_is_text, section_is_text, uris_are_text, segment_can_be_written}
 
@@ -40,9 +40,9 @@ keys_are_fit keys h t = let a = and_parts (list_all key_reads keys) (are_sorted 
 section_is_fit : (s : InitSection) → section_reads s ≡ true → section_is_text s ≡ true → section_fits s ≡ true
 section_is_fit s h t =
     let u = and_parts (is_utf8 s.uri) (list_all key_is_text s.keys) t in
-    let a = and_parts (quoted_uri_reads s.uri && if_some range_fits s.range && keys_read s.keys) (not (list_any needs_iv s.keys)) h in
-    let b = and_parts (quoted_uri_reads s.uri && if_some range_fits s.range) (keys_read s.keys) a.0 in
-    let c = and_parts (quoted_uri_reads s.uri) (if_some range_fits s.range) b.0 in
+    let a = and_parts (quoted_uri_reads s.uri && if_some byte_range_fits s.byte_range && keys_read s.keys) (not (list_any needs_iv s.keys)) h in
+    let b = and_parts (quoted_uri_reads s.uri && if_some byte_range_fits s.byte_range) (keys_read s.keys) a.0 in
+    let c = and_parts (quoted_uri_reads s.uri) (if_some byte_range_fits s.byte_range) b.0 in
     and_from _ _ (and_from _ _ (and_from _ _ (quoted_is_fit s.uri c.0 u.0) c.1) (keys_are_fit s.keys b.1 u.1)) a.1
 
 if_section_is_fit : (o : Option InitSection) → if_some section_reads o ≡ true → if_some section_is_text o ≡ true → if_some section_fits o ≡ true
@@ -59,7 +59,7 @@ segment_is_written s h t =
     let d = and_parts (numbers_are_words s && resource_reads s && effective_keys_read s.keys) (if_some section_reads s.section) c.0 in
     let e = and_parts (numbers_are_words s && resource_reads s) (effective_keys_read s.keys) d.0 in
     let f = and_parts (numbers_are_words s) (resource_reads s) e.0 in
-    let g = and_parts (uri_reads s.uri) (if_some range_fits s.range) f.1 in
+    let g = and_parts (uri_reads s.uri) (if_some byte_range_fits s.byte_range) f.1 in
     let k = and_parts (keys_read s.keys) (list_all states_iv s.keys) e.1 in
     and_from _ _ (and_from _ _ (and_from _ _ (and_from _ _ (and_from _ _ (and_from _ _ f.0
     (and_from _ _ (uri_is_fit s.uri g.0 t2.0) g.1))

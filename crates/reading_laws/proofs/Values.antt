@@ -9,9 +9,9 @@ use Rattle.attr_list.specs.Attributes.{Pair, is_value}
 use Rattle.attr_list.specs.Numbers.{decimal_of, hex_of}
 use Rattle.playlist_meaning.specs.declared.FaultKind.TheVariants as fault
 use Rattle.playlist_meaning.specs.Uri.{has_scheme, can_be_written, joined, resolved}
-use Rattle.playlist_meaning.specs.Said.{or_fault, value_if, iv_of, quoted_of, uri_of, range_of, section_range, range_end_fits}
+use Rattle.playlist_meaning.specs.Said.{or_fault, value_if, iv_of, quoted_of, uri_of, byte_range_of, section_byte_range, byte_range_end_fits}
 use Rattle.playlist_meaning.specs.Carried.{after_commas, carried}
-use Rattle.fitting.specs.Fitting.{if_some, is_clean, value_fits, method_fits, iv_fits, range_fits}
+use Rattle.fitting.specs.Fitting.{if_some, is_clean, value_fits, method_fits, iv_fits, byte_range_fits}
 use Rattle.fitting.proofs.Hexadecimal.{hex_is_iv}
 use Rattle.playlist_write.proofs.CleanTexts.{Clean, clean_printable}
 use Rattle.reading_laws.specs.Read.{uri_reads, quoted_uri_reads, key_reads}
@@ -27,21 +27,21 @@ iv_is_fit pair h = after iv_fits (value_if false pair.quoted pair.value) _ (λ v
 
 -- ---- ranges (4.3.2.2)
 
-abbrev pub range_is_fit : ℕ × Option ℕ → Bool
-range_is_fit r = if_some (range_end_fits r.0) r.1
+abbrev pub byte_range_is_fit : ℕ × Option ℕ → Bool
+byte_range_is_fit r = if_some (byte_range_end_fits r.0) r.1
 
-pub range_of_fits : (rest : List ℕ) → Gives range_is_fit (range_of rest)
-range_of_fits rest =
-    after range_is_fit (or_fault fault.BadRange (decimal_of (before_first (λ b. b == 64) rest))) _ (λ length.
-    chosen range_is_fit (list_any (λ b. b == 64) rest) _ _
-    (λ _. after range_is_fit (or_fault fault.BadRange (decimal_of (after_first (λ b. b == 64) rest))) _ (λ offset.
-    guarded range_is_fit (not (range_end_fits length offset)) _ _ (λ h. answers range_is_fit (length, Some offset) (not-false _ h))))
-    (λ _. answers range_is_fit (length, None) refl))
+pub byte_range_of_fits : (rest : List ℕ) → Gives byte_range_is_fit (byte_range_of rest)
+byte_range_of_fits rest =
+    after byte_range_is_fit (or_fault fault.BadRange (decimal_of (before_first (λ b. b == 64) rest))) _ (λ length.
+    chosen byte_range_is_fit (list_any (λ b. b == 64) rest) _ _
+    (λ _. after byte_range_is_fit (or_fault fault.BadRange (decimal_of (after_first (λ b. b == 64) rest))) _ (λ offset.
+    guarded byte_range_is_fit (not (byte_range_end_fits length offset)) _ _ (λ h. answers byte_range_is_fit (length, Some offset) (not-false _ h))))
+    (λ _. answers byte_range_is_fit (length, None) refl))
 
-pub section_range_fits : (pair : Pair) → Gives range_fits (section_range pair)
-section_range_fits pair =
-    after range_fits (quoted_of pair) _ (λ value. after range_fits (range_of value) _ (λ r.
-    guarded range_fits (not (range_end_fits r.0 (unwrap_or r.1 0))) _ _ (λ h. answers range_fits (record { length = r.0; offset = unwrap_or r.1 0 }) (not-false _ h))))
+pub section_byte_range_fits : (pair : Pair) → Gives byte_range_fits (section_byte_range pair)
+section_byte_range_fits pair =
+    after byte_range_fits (quoted_of pair) _ (λ value. after byte_range_fits (byte_range_of value) _ (λ r.
+    guarded byte_range_fits (not (byte_range_end_fits r.0 (unwrap_or r.1 0))) _ _ (λ h. answers byte_range_fits (record { length = r.0; offset = unwrap_or r.1 0 }) (not-false _ h))))
 
 -- ---- URIs
 

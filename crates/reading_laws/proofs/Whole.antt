@@ -81,8 +81,8 @@ text_was reader base bytes p h =
     by false long e f o h = cc
 
 -- what holds of the date ranges of a playlist
-ranges_are : (reader : Reader) (base : Parts) (texts : List (List ℕ)) (p : Playlist) → Lines reader base texts p → AllByRecursion (IsSaid reader) p.date_ranges
-ranges_are reader base texts p l =
+date_ranges_are : (reader : Reader) (base : Parts) (texts : List (List ℕ)) (p : Playlist) → Lines reader base texts p → AllByRecursion (IsSaid reader) p.date_ranges
+date_ranges_are reader base texts p l =
     subst (λ (q : Playlist). AllByRecursion (IsSaid reader) q.date_ranges) l.whole
     (date_ranges_said reader l.said (says_from reader base (nothing ∷ []) l.later l.said (first_says reader) l.from))
 
@@ -100,5 +100,5 @@ can_be_written reader base bytes p h =
       segments = subst (λ (q : Playlist). list_all segment_reads q.segments ≡ true) l.whole (segments_fit l.said good);
       sections = subst (λ (q : Playlist). sections_agree q.segments ≡ true) l.whole (agreed (list_any has_section (segments_of l.said)) (list_all has_section (segments_of l.said)) t.1);
       date_range_texts = subst (λ (q : Playlist). list_all text_is_clean q.date_ranges ≡ true) l.whole (texts_clean l.said fit);
-      date_ranges = ranges_are reader base (lines bytes) p (text_was reader base bytes p h).1;
+      date_ranges = date_ranges_are reader base (lines bytes) p (text_was reader base bytes p h).1;
     }

@@ -15,7 +15,7 @@ use Rattle.playlist_meaning.specs.Lines.{has_control}
 use Rattle.playlist_meaning.specs.Uri.{has_scheme}
 use Rattle.playlist_meaning.specs.declared.Key.{Key}
 use Rattle.playlist_meaning.specs.declared.InitSection.{InitSection}
-use Rattle.fitting.specs.Fitting.{if_some, is_clean, value_fits, method_fits, iv_fits, others_fit, range_fits, states_iv, effective_keys_fit, section_fits}
+use Rattle.fitting.specs.Fitting.{if_some, is_clean, value_fits, method_fits, iv_fits, others_fit, byte_range_fits, states_iv, effective_keys_fit, section_fits}
 use Rattle.playlist_write.specs.WellFormed.{is_word, duration_fits, resource_fits}
 
 -- a version that is supported
@@ -46,7 +46,7 @@ keys_read keys = list_all key_reads keys && are_sorted keys
 
 -- a key of the section that asks for an IV states it
 abbrev pub section_reads : InitSection → Bool
-section_reads s = quoted_uri_reads s.uri && if_some range_fits s.range && keys_read s.keys && not (list_any needs_iv s.keys)
+section_reads s = quoted_uri_reads s.uri && if_some byte_range_fits s.byte_range && keys_read s.keys && not (list_any needs_iv s.keys)
 
 -- ---- a segment by itself
 
@@ -54,7 +54,7 @@ abbrev pub numbers_are_words : Segment → Bool
 numbers_are_words s = is_word s.number && is_word s.discontinuity
 
 abbrev pub resource_reads : Segment → Bool
-resource_reads s = uri_reads s.uri && if_some range_fits s.range
+resource_reads s = uri_reads s.uri && if_some byte_range_fits s.byte_range
 
 -- the keys are those that take effect, so that of the format `identity` has an IV (5.2)
 abbrev pub effective_keys_read : List Key → Bool

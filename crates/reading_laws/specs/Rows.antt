@@ -3,7 +3,7 @@ use Rattle.std.specs.Prelude.{ℕ, List, [], ◌∷◌, codes}
 use Rattle.playlist_meaning.specs.declared.Segment.{Segment}
 use Rattle.playlist_meaning.specs.Rows.{read_after_target, segments_read}
 
--- two segments, with a discontinuity, a key and a range before the second
+-- two segments, with a discontinuity, a key and a byte range before the second
 abbrev pub small_lines : List (List ℕ)
 small_lines =
     codes "#EXTINF:10,first" ∷ codes "s0.ts" ∷ codes "#EXT-X-DISCONTINUITY" ∷ codes "#EXT-X-KEY:METHOD=AES-128,URI=\"k\"" ∷ codes "#EXT-X-BYTERANGE:5@3"

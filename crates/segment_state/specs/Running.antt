@@ -17,14 +17,14 @@ pub record Running : Type 0 where
 abbrev pub running_at : Parts → List Said → Running
 running_at base before = record { base = base; standing = standing_at before }
 
--- the segment of what stands, of this resource, range, and duration with its title
+-- the segment of what stands, of this resource, byte range, and duration with its title
 abbrev pub segment_from : Standing → List ℕ → Option ByteRange → ℕ × List ℕ → Segment
-segment_from s uri range own = record {
+segment_from s uri byte_range own = record {
   number = s.sequence + s.media_count;
   discontinuity = s.discontinuity_sequence + s.discontinuities;
   steps = s.steps;
   uri = uri;
-  range = range;
+  byte_range = byte_range;
   keys = map (effective_key (s.sequence + s.media_count)) s.keys;
   section = s.section;
   duration = own.0;
@@ -39,7 +39,7 @@ after_segment old last = record old {
     media_count = old.standing.media_count + 1;
     steps = 0;
     duration = None;
-    range = None;
+    byte_range = None;
     time = None;
     extent = last;
   };

@@ -8,7 +8,7 @@ use Rattle.playlist_meaning.specs.Reading.{limited}
 use Rattle.segment_state.specs.declared.tags.SectionTag.{SectionTag}
 
 abbrev pub section_tag_said : SectionTag → Said
-section_tag_said tag = section tag.uri tag.range
+section_tag_said tag = section tag.uri tag.byte_range
 
 -- the keys in force after one more, where no more formats than the limit are in force then
 abbrev pub with_key : Key → List Key → Outcome (List Key)

@@ -5,10 +5,10 @@ use Rattle.playlist_meaning.specs.LookBack.{Extent, extent_with}
 use Rattle.segment_state.specs.declared.State.TheInside.{Inside}
 use Rattle.segment_state.specs.Running.{Running}
 
--- the last segment's resource, and its range of it, where it has one
+-- the last segment's resource, and its byte range of it, where it has one
 abbrev pub extent_after : Option Segment → Option Extent
 extent_after None = None
-extent_after (Some s) = extent_with s.uri s.range
+extent_after (Some s) = extent_with s.uri s.byte_range
 
 abbrev pub running_of : Inside → Running
 running_of a = record {
@@ -20,7 +20,7 @@ running_of a = record {
     discontinuities = a.discontinuities;
     steps = a.steps;
     duration = a.durations;
-    range = a.range;
+    byte_range = a.byte_range;
     time = a.time;
     keys = a.keys.items;
     section = a.section;

@@ -4,7 +4,7 @@
 
 ghost use Rattle.std.specs.Prelude.{◌≡◌, ◌+◌, ◌^◌, ◌<◌, ◌≤◌, [], map, Some, None, Ok, Err, IfOk, nat_lt, length};
 ghost use Rattle.std.specs.Option.{SomeIff};
-ghost use Rattle.playlist_meaning.specs.LookBack.{range_from, range_after, effective_key, extent_with};
+ghost use Rattle.playlist_meaning.specs.LookBack.{byte_range_from, byte_range_after, effective_key, extent_with};
 ghost use Rattle.playlist_meaning.specs.Reading.{limited, said_by_tag, said_by_uri};
 ghost use Rattle.playlist_meaning.specs.Said as said;
 ghost use Rattle.playlist_meaning.specs.Said.{uri_of};
@@ -15,7 +15,7 @@ ghost use Rattle.segment_state.specs.Views.{extent_after};
 use crate::durations::Durations;
 use crate::keys::{copied_keys, effective_keys, put_key};
 use crate::references::References;
-use crate::tags::{key_said, range_of, section_said};
+use crate::tags::{byte_range_of, key_said, section_said};
 use fixed_duration::Nanos;
 use playlist_meaning::{
     Base, ByteRange, FaultKind, InitSection, Instant, Items, Key, KeyTag, Keys, MOST_SEGMENTS,
@@ -42,7 +42,7 @@ pub struct State<'a> {
     media: u64,
     discontinuities: u64,
     steps: u64,
-    range: Option<(u64, Option<u64>)>,
+    byte_range: Option<(u64, Option<u64>)>,
     time: Option<Instant>,
     keys: Vec<Key>,
     section: Option<Shared<InitSection>>,
@@ -76,7 +76,7 @@ impl<'a> State<'a> {
             media: 0,
             discontinuities: 0,
             steps: 0,
-            range: None,
+            byte_range: None,
             time: None,
             keys: Vec::new(alloc),
             section: None,
@@ -155,7 +155,7 @@ impl<'a> State<'a> {
         let keys = copied_keys(self.alloc, self.keys.as_slice())?;
         let section = InitSection {
             uri: tag.uri,
-            range: tag.range,
+            byte_range: tag.byte_range,
             keys: Items::from_vec(keys),
         };
         self.section = Some(Shared::new(self.alloc, section)?);
@@ -164,10 +164,10 @@ impl<'a> State<'a> {
 
     /// The byte range of the next segment (4.3.2.2). `BadRange` where it states none, or its end
     /// passes 2^64 - 1. Takes no memory.
-    pub fn range_tag(&mut self, rest: &str) -> Result<(), FaultKind>
-        ensures { TakesExactly (λ base before. said_by_tag limited base before said.range_tag rest.now) self.old self.new result }
+    pub fn byte_range_tag(&mut self, rest: &str) -> Result<(), FaultKind>
+        ensures { TakesExactly (λ base before. said_by_tag limited base before said.byte_range_tag rest.now) self.old self.new result }
     {
-        self.range = Some(range_of(rest)?);
+        self.byte_range = Some(byte_range_of(rest)?);
         Ok(())
     }
 
@@ -184,14 +184,14 @@ impl<'a> State<'a> {
         self.sequence.checked_add(self.media)
     }
 
-    // The range of a segment of this resource here.
-    fn next_range(&self, uri: &str) -> Result<Option<ByteRange>, FaultKind>
-        ensures { result ≡ range_from self.now.standing.range uri.now self.now.standing.extent }
+    // The byte range of a segment of this resource here.
+    fn next_byte_range(&self, uri: &str) -> Result<Option<ByteRange>, FaultKind>
+        ensures { result ≡ byte_range_from self.now.standing.byte_range uri.now self.now.standing.extent }
     {
-        match self.range {
+        match self.byte_range {
             None => Ok(None),
             Some((length, Some(offset))) => Ok(Some(ByteRange { length, offset })),
-            Some((length, None)) => range_after(length, uri, &self.last),
+            Some((length, None)) => byte_range_after(length, uri, &self.last),
         }
     }
 
@@ -221,17 +221,17 @@ impl<'a> State<'a> {
         self.section.clone()
     }
 
-    // The next segment, of this resource, range, and duration with its title.
+    // The next segment, of this resource, byte range, and duration with its title.
     #[inline(always)]
     fn segment_here(
         &self,
         number: u64,
         uri: Text,
-        range: Option<ByteRange>,
+        byte_range: Option<ByteRange>,
         own: (Nanos, Shared<Text>),
     ) -> Result<Shared<Segment>, AllocError>
         requires { number ≡ self.now.standing.sequence + self.now.standing.media_count }
-        ensures { IfOk result (λ segment. segment ≡ segment_from self.now.standing uri range own) }
+        ensures { IfOk result (λ segment. segment ≡ segment_from self.now.standing uri byte_range own) }
     {
         let (duration, title) = own;
         let segment = Segment {
@@ -239,7 +239,7 @@ impl<'a> State<'a> {
             discontinuity: self.discontinuity_number(),
             steps: self.steps,
             uri,
-            range,
+            byte_range,
             keys: self.effective_keys(number)?,
             section: self.section()?,
             duration,
@@ -258,7 +258,7 @@ impl<'a> State<'a> {
         self.media += 1;
         self.steps = 0;
         self.durations.end();
-        self.range = None;
+        self.byte_range = None;
         self.time = None;
         self.last = last;
     }
@@ -278,48 +278,48 @@ impl<'a> State<'a> {
         let Some(number) = self.number() else {
             return Err(FaultKind::BadValue);
         };
-        if self.range.is_none() {
+        if self.byte_range.is_none() {
             let uri = self.references.resolve(reference)?;
             let segment = self.segment_here(number, uri, None, own)?;
             self.segment_stands(None);
             return Ok(segment);
         }
         let uri = self.references.resolve_part(reference)?;
-        let range = self.next_range(uri.as_str())?;
-        let segment = self.segment_here(number, uri, range, own)?;
+        let byte_range = self.next_byte_range(uri.as_str())?;
+        let segment = self.segment_here(number, uri, byte_range, own)?;
         let last = last_part(&segment)?;
         self.segment_stands(last);
         Ok(segment)
     }
 }
 
-// What is kept of a segment for the next one's range: itself, where it is a part of its resource.
+// What is kept of a segment for the next one's byte range: itself, where it is a part of its resource.
 fn last_part(segment: &Shared<Segment>) -> Result<Option<Shared<Segment>>, AllocError>
-    ensures { IfOk result (λ last. extent_after last ≡ extent_with segment.now.uri segment.now.range) }
+    ensures { IfOk result (λ last. extent_after last ≡ extent_with segment.now.uri segment.now.byte_range) }
 {
-    match segment.range {
+    match segment.byte_range {
         None => Ok(None),
         Some(_) => Ok(Some(segment.clone()?)),
     }
 }
 
-fn range_after(
+fn byte_range_after(
     length: u64,
     uri: &str,
     last: &Option<Shared<Segment>>,
 ) -> Result<Option<ByteRange>, FaultKind>
-    ensures { result ≡ range_after length uri.now (extent_after last.now) }
+    ensures { result ≡ byte_range_after length uri.now (extent_after last.now) }
 {
     let Some(last) = last else {
         return Err(FaultKind::RangeNoStart);
     };
-    let Some(range) = last.range else {
+    let Some(byte_range) = last.byte_range else {
         return Err(FaultKind::RangeNoStart);
     };
     if uri != last.uri.as_str() {
         return Err(FaultKind::RangeNoStart);
     }
-    let Some(offset) = range.offset.checked_add(range.length) else {
+    let Some(offset) = byte_range.offset.checked_add(byte_range.length) else {
         return Err(FaultKind::BadRange);
     };
     match length.checked_add(offset) {

@@ -2,7 +2,7 @@
 ghost use Rattle.std.specs.Prelude.{◌≡◌, codes};
 ghost use Rattle.attr_list.specs.Attributes.{attribute};
 ghost use Rattle.playlist_meaning.specs.Said as said;
-ghost use Rattle.playlist_meaning.specs.Said.{iv_of, key_tag_said, uri_of, set_key, key_said, section_said, section_range, range_of, or_fault};
+ghost use Rattle.playlist_meaning.specs.Said.{iv_of, key_tag_said, uri_of, set_key, key_said, section_said, section_byte_range, byte_range_of, or_fault};
 ghost use Rattle.attr_list.specs.Numbers.{decimal_of};
 ghost use Rattle.playlist_meaning.specs.Reading.{limited};
 ghost use Rattle.playlist_meaning.specs.Refusals.{Gives};
@@ -25,7 +25,7 @@ pub struct SectionTag {
     /// The resource.
     pub uri: Shared<Text>,
     /// The part of it, where it is not the whole.
-    pub range: Option<ByteRange>,
+    pub byte_range: Option<ByteRange>,
 }
 
 /// The resource that a reference names.
@@ -96,9 +96,9 @@ fn decimal(text: &str) -> Result<u64, FaultKind>
 }
 
 /// The length that `n[@o]` states, and the offset where it states one (4.3.2.2). `BadRange` where it
-/// is neither, or the range's end passes 2^64 - 1.
-pub fn range_of(text: &str) -> Result<(u64, Option<u64>), FaultKind>
-    ensures { result ≡ range_of text.now }
+/// is neither, or the byte range's end passes 2^64 - 1.
+pub fn byte_range_of(text: &str) -> Result<(u64, Option<u64>), FaultKind>
+    ensures { result ≡ byte_range_of text.now }
 {
     let Some((length, offset)) = text.split_once('@') else {
         return Ok((decimal(text)?, None));
@@ -112,13 +112,13 @@ pub fn range_of(text: &str) -> Result<(u64, Option<u64>), FaultKind>
 }
 
 // The part of its resource that a section is: it begins at 0 where it states no offset.
-fn section_range(list: &AttrList<'_>) -> Result<Option<ByteRange>, FaultKind>
-    ensures { result ≡ said.optional section_range (attribute (pairs_of list.now) (codes "BYTERANGE")) }
+fn section_byte_range(list: &AttrList<'_>) -> Result<Option<ByteRange>, FaultKind>
+    ensures { result ≡ said.optional section_byte_range (attribute (pairs_of list.now) (codes "BYTERANGE")) }
 {
     let Some(value) = optional(list, "BYTERANGE", true)? else {
         return Ok(None);
     };
-    let (length, offset) = range_of(value)?;
+    let (length, offset) = byte_range_of(value)?;
     let offset = offset.unwrap_or(0);
     Ok(Some(ByteRange { length, offset }))
 }
@@ -130,7 +130,7 @@ pub fn section_said(alloc: Global, base: &Base, rest: &str) -> Result<SectionTag
 {
     let list = attributes_of(alloc, rest)?;
     let reference = required(&list, "URI", true)?;
-    let range = section_range(&list)?;
+    let byte_range = section_byte_range(&list)?;
     let uri = shared_uri(alloc, base, reference)?;
-    Ok(SectionTag { uri, range })
+    Ok(SectionTag { uri, byte_range })
 }

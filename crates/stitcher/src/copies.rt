@@ -58,7 +58,7 @@ fn ad_section(alloc: Global, ad: &Ad) -> Result<Option<Shared<InitSection>>, All
     let keys = copied_keys(alloc, ad.keys.as_slice())?;
     let section = InitSection {
         uri: section.uri.clone()?,
-        range: section.range,
+        byte_range: section.byte_range,
         keys,
     };
     Ok(Some(Shared::new(alloc, section)?))
@@ -96,7 +96,7 @@ pub fn ad_segment(
         discontinuity: numbers.discontinuity,
         steps: numbers.steps,
         uri: Text::copy_of(alloc, segment.uri.as_str())?,
-        range: segment.range,
+        byte_range: segment.byte_range,
         keys: copied_keys(alloc, ad.keys.as_slice())?,
         section: shared_section(&parts.section)?,
         duration: segment.duration,

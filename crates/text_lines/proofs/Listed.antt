@@ -12,7 +12,7 @@ use Rattle.text_lines.specs.Memory.{IsOr}
 use Rattle.text_lines.specs.Words.{printed, printed_or_none}
 use Rattle.text_lines.specs.Attributes.{attribute_text, value_text, list_text, attributes_line}
 
--- the first piece, and each other one behind the byte, are the pieces with the byte between two
+-- the first piece, and each other one after the byte, are the pieces with the byte between two
 pub joined : {A : Type 0} (f : A → List ℕ) (c : ℕ) (x : A) (xs : List A) → f x ++ flat_map (λ y. c ∷ f y) xs ≡ join_with_byte c (map f (x ∷ xs))
 joined f c x [] = append-nil (f x)
 joined f c x (y ∷ ys) = ap (λ t. f x ++ (c ∷ t)) (joined f c y ys)

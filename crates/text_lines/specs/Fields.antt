@@ -56,7 +56,7 @@ abbrev pub heading_text : Section → List ℕ
 heading_text s = numbered (codes "pts_adjustment=") s.pts_adjustment ++ numbered (codes " cw=") s.cw_index
     ++ numbered (codes " tier=") s.tier
 
--- what stands behind the command, and the CRC_32 that the section states
+-- what stands after the command, and the CRC_32 that the section states
 abbrev pub rest_text : Section → List ℕ
 rest_text s = named_bytes (codes " descriptors=") s.descriptors ++ named_bytes (codes " stuffing=") s.stuffing
     ++ numbered (codes " stated=") s.crc

@@ -36,7 +36,7 @@ pub fn fraction_line(alloc: Global, digits: &str) -> Result<String, AllocError>
     format!(in alloc; "{}", nanos_of_fraction(digits))
 }
 
-/// A duration in seconds, behind what stands in the text before.
+/// A duration in seconds, after what stands in the text before.
 pub fn seconds_line(alloc: Global, nanos: &str) -> Result<String, AllocError>
     ensures { IfOk result (λ line. string_bytes line ≡ seconds_line nanos.now) }
 {

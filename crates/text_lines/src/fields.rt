@@ -49,7 +49,7 @@ fn push_command(alloc: Global, line: &mut String, command: &SpliceCommand) -> Re
     }
 }
 
-// What stands behind the command.
+// What stands after the command.
 fn push_rest(alloc: Global, line: &mut String, info: &SpliceInfo) -> Result<(), AllocError>
     ensures { Appends result line.old line.new (rest_text (section_of info.now)) }
 {

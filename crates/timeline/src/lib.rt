@@ -14,7 +14,7 @@ use std::marker::Model;
 
 pub mod laws;
 
-// The instant, unless it lies outside the range.
+// The instant, unless it lies outside the range of instants.
 fn bounded(nanos: Option<i128>) -> Option<Instant>
     ensures { result ≡ bounded nanos }
 {

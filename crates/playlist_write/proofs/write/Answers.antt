@@ -3,15 +3,15 @@ use Rattle.std.specs.Prelude.{codes}
 use Rattle.stitcher.specs.declared.OutSegment.{OutSegment}
 use Rattle.playlist_write.specs.declared.OutPlaylist.{OutPlaylist}
 use Rattle.playlist_write.specs.Owed.{text_of, said_text, with_feed, header_owed, date_ranges_text, segments_owed, none_yet, ended_owed}
-use Rattle.playlist_write.proofs.Taken.{front_in_ranges, front_in_segments, front_before_end, front_in_last, whole_text, as_parts, on_err}
+use Rattle.playlist_write.proofs.Taken.{front_in_date_ranges, front_in_segments, front_before_end, front_in_last, whole_text, as_parts, on_err}
 use Rattle.playlist_write.proofs.write.Goals as goal
 
 -- the text, from its front and from what it has after that
-text_from : (p : OutPlaylist) (front : List ℕ) (ranges : List (List ℕ)) (segments : List OutSegment) → front ≡ with_feed (codes "#EXTM3U") ++ said_text (header_owed p)
-    → ranges ≡ p.date_ranges → segments ≡ p.segments
-    → front ++ (date_ranges_text ranges ++ (said_text (segments_owed none_yet segments) ++ said_text (ended_owed p.ended))) ≡ text_of p
-text_from p front ranges segments h e f =
-    as_parts front (with_feed (codes "#EXTM3U")) (said_text (header_owed p)) (date_ranges_text ranges) (date_ranges_text p.date_ranges)
+text_from : (p : OutPlaylist) (front : List ℕ) (date_ranges : List (List ℕ)) (segments : List OutSegment) → front ≡ with_feed (codes "#EXTM3U") ++ said_text (header_owed p)
+    → date_ranges ≡ p.date_ranges → segments ≡ p.segments
+    → front ++ (date_ranges_text date_ranges ++ (said_text (segments_owed none_yet segments) ++ said_text (ended_owed p.ended))) ≡ text_of p
+text_from p front date_ranges segments h e f =
+    as_parts front (with_feed (codes "#EXTM3U")) (said_text (header_owed p)) (date_ranges_text date_ranges) (date_ranges_text p.date_ranges)
     (said_text (segments_owed none_yet segments)) (said_text (segments_owed none_yet p.segments)) (said_text (ended_owed p.ended))
     h (ap date_ranges_text e) (ap (λ s. said_text (segments_owed none_yet s)) f)
 
@@ -22,56 +22,56 @@ returns-in_err-write_date_ranges-clause-err g c =
     let later = said_text (segments_owed none_yet p.segments) ++ said_text (ended_owed p.ended) in
     let e = text_from p front c.as_slice.result.now p.segments c.in_ok-held.ensures c.as_slice.ensures refl in
     on_err c.from_residual-in_err-write_date_ranges.result _
-    (front_in_ranges _ _ front (date_ranges_text c.as_slice.result.now) later (text_of p) e c.in_err-write_date_ranges.ensures.err)
+    (front_in_date_ranges _ _ front (date_ranges_text c.as_slice.result.now) later (text_of p) e c.in_err-write_date_ranges.ensures.err)
 
 pub returns-in_err-write_segments-clause-err : goal.returns-in_err-write_segments-clause-err
 returns-in_err-write_segments-clause-err g c =
     let p = c.args.playlist.now in
     let front = string_bytes c.in_ok-held.held in
-    let ranges = date_ranges_text c.as_slice.result.now in
+    let date_ranges = date_ranges_text c.as_slice.result.now in
     let segments = said_text (segments_owed none_yet c.as_slice-2.result.now) in
     let end = said_text (ended_owed p.ended) in
     let held = string_bytes c.write_date_ranges.new.held in
     let e = text_from p front c.as_slice.result.now c.as_slice-2.result.now c.in_ok-held.ensures c.as_slice.ensures c.as_slice-2.ensures in
     on_err c.from_residual-in_err-write_segments.result _
-    (front_in_segments _ _ _ front ranges held segments end (text_of p) e c.in_ok-write_date_ranges.ensures.ok c.in_err-write_segments.ensures.err)
+    (front_in_segments _ _ _ front date_ranges held segments end (text_of p) e c.in_ok-write_date_ranges.ensures.ok c.in_err-write_segments.ensures.err)
 
 pub returns-in_err-push_end-clause-err : goal.returns-in_err-push_end-clause-err
 returns-in_err-push_end-clause-err g c =
     let p = c.args.playlist.now in
     let front = string_bytes c.in_ok-held.held in
-    let ranges = date_ranges_text c.as_slice.result.now in
+    let date_ranges = date_ranges_text c.as_slice.result.now in
     let segments = said_text (segments_owed none_yet c.as_slice-2.result.now) in
     let end = said_text (ended_owed p.ended) in
     let held = string_bytes c.write_date_ranges.new.held in
     let last = string_bytes c.write_segments.new.held in
     let e = text_from p front c.as_slice.result.now c.as_slice-2.result.now c.in_ok-held.ensures c.as_slice.ensures c.as_slice-2.ensures in
     on_err c.from_residual-in_err-push_end.result _
-    (front_before_end _ _ _ front ranges held segments last end (text_of p) e c.in_ok-write_date_ranges.ensures.ok c.in_ok-write_segments.ensures.ok)
+    (front_before_end _ _ _ front date_ranges held segments last end (text_of p) e c.in_ok-write_date_ranges.ensures.ok c.in_ok-write_segments.ensures.ok)
 
 pub returns-in_err-hand_out-clause-err : goal.returns-in_err-hand_out-clause-err
 returns-in_err-hand_out-clause-err g c =
     let p = c.args.playlist.now in
     let front = string_bytes c.in_ok-held.held in
-    let ranges = date_ranges_text c.as_slice.result.now in
+    let date_ranges = date_ranges_text c.as_slice.result.now in
     let segments = said_text (segments_owed none_yet c.as_slice-2.result.now) in
     let end = said_text (ended_owed p.ended) in
     let held = string_bytes c.write_date_ranges.new.held in
     let last = string_bytes c.write_segments.new.held in
     let e = text_from p front c.as_slice.result.now c.as_slice-2.result.now c.in_ok-held.ensures c.as_slice.ensures c.as_slice-2.ensures in
     on_err c.from_residual-in_err-hand_out.result _
-    (front_in_last _ _ _ _ front ranges held segments last end (text_of p) c.as_bytes.result.now e c.in_ok-write_date_ranges.ensures.ok
+    (front_in_last _ _ _ _ front date_ranges held segments last end (text_of p) c.as_bytes.result.now e c.in_ok-write_date_ranges.ensures.ok
     c.in_ok-write_segments.ensures.ok (c.as_bytes.ensures.value ∙ c.in_ok-push_end.ensures) c.in_err-hand_out.ensures.err)
 
 pub returns-clause-ok : goal.returns-clause-ok
 returns-clause-ok g c =
     let p = c.args.playlist.now in
     let front = string_bytes c.in_ok-held.held in
-    let ranges = date_ranges_text c.as_slice.result.now in
+    let date_ranges = date_ranges_text c.as_slice.result.now in
     let segments = said_text (segments_owed none_yet c.as_slice-2.result.now) in
     let end = said_text (ended_owed p.ended) in
     let held = string_bytes c.write_date_ranges.new.held in
     let last = string_bytes c.write_segments.new.held in
     let e = text_from p front c.as_slice.result.now c.as_slice-2.result.now c.in_ok-held.ensures c.as_slice.ensures c.as_slice-2.ensures in
-    whole_text _ _ _ _ front ranges held segments last end (text_of p) c.as_bytes.result.now e c.in_ok-write_date_ranges.ensures.ok
+    whole_text _ _ _ _ front date_ranges held segments last end (text_of p) c.as_bytes.result.now e c.in_ok-write_date_ranges.ensures.ok
     c.in_ok-write_segments.ensures.ok (c.as_bytes.ensures.value ∙ c.in_ok-push_end.ensures) c.in_ok-hand_out.ensures.ok

@@ -8,6 +8,6 @@ pub returns : goal.returns
 returns c =
     let year = c.year_of-year.result in
     let month = c.month_of-month.result in
-    let behind = grown4 (take 4 c.put_four.new.text) (45 ∷ []) (fixed_digits 10 2 month.0) (45 ∷ []) (fixed_digits 10 2 ((month.1 + 1) % 100))
+    let tail = grown4 (take 4 c.put_four.new.text) (45 ∷ []) (fixed_digits 10 2 month.0) (45 ∷ []) (fixed_digits 10 2 ((month.1 + 1) % 100))
     c.put_mark.ensures c.put_two.ensures c.put_mark-2.ensures c.put_two-2.ensures in
-    as_text [] (grown2 [] (fixed_digits 10 4 year.0) _ c.put_four.ensures behind) (date_parts c.args.days year month c.year_of-year.ensures.value c.month_of-month.ensures.value)
+    as_text [] (grown2 [] (fixed_digits 10 4 year.0) _ c.put_four.ensures tail) (date_parts c.args.days year month c.year_of-year.ensures.value c.month_of-month.ensures.value)

@@ -1,7 +1,7 @@
 use Rattle.std.proofs.Common.{ap, sym, ◌∙◌, arith, length}
 use Rattle.std.specs.List.{list_all}
 use Rattle.stitcher.specs.StitchedSegments.{item_fits}
-use Rattle.live_window.proofs.Rest.{range_is_stitched}
+use Rattle.live_window.proofs.Rest.{number_range_is_stitched}
 use Rattle.live_window.proofs.Passing.{front_bounded, place_within, window_left}
 use Rattle.live_window.proofs.writing.window_of.Goals as goal
 
@@ -26,4 +26,4 @@ returns-clause-ok c =
 
 pub returns-clause-fit : goal.returns-clause-fit
 returns-clause-fit c =
-    sym (range_is_stitched c.args.store.now c.args.first c.args.list.now) ∙ (ap (list_all item_fits) (sym c.in_ok-items.ensures.ok.0) ∙ c.in_ok-items.ensures.ok.1)
+    sym (number_range_is_stitched c.args.store.now c.args.first c.args.list.now) ∙ (ap (list_all item_fits) (sym c.in_ok-items.ensures.ok.0) ∙ c.in_ok-items.ensures.ok.1)

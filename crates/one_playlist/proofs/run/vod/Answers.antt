@@ -3,7 +3,7 @@ use Rattle.std.proofs.Common.{refl, subst, sym, ◌∙◌}
 use Rattle.std.specs.Prelude.{◌≢◌}
 use Rattle.one_playlist.specs.declared.fault.VodFault.TheVariants.{Read, TooManyReads, Write}
 use Rattle.one_playlist.specs.Vod.{IsInOrder}
-use Rattle.one_playlist.proofs.WholeRun.{judged_before, is_one, unread, passes, writes, given_all, writes_front, handed_on, in_order, of_input, no_write, range_of, fair_on, fair_sink_on, write_is_no_read, write_is_no_playlist, fair_source, unused_sink}
+use Rattle.one_playlist.proofs.WholeRun.{judged_before, is_one, unread, passes, writes, given_all, writes_front, handed_on, in_order, of_input, no_write, number_range_of, fair_on, fair_sink_on, write_is_no_read, write_is_no_playlist, fair_source, unused_sink}
 use Rattle.one_playlist.proofs.run.vod.Goals as goal
 
 pub returns-in_err-refresh_from-clause-kind : goal.returns-in_err-refresh_from-clause-kind
@@ -27,7 +27,7 @@ returns-in_err-refresh_from-clause-playlist g c =
 pub returns-in_err-refresh_from-clause-number_range : goal.returns-in_err-refresh_from-clause-number_range
 returns-in_err-refresh_from-clause-number_range g c =
     let e = c.in_err-refresh_from.field-0.0 in
-    range_of c.from_residual-in_err-refresh_from.result e c.from_residual-in_err-refresh_from.ensures.1
+    number_range_of c.from_residual-in_err-refresh_from.result e c.from_residual-in_err-refresh_from.ensures.1
     (passes c.args.base.now (option_copied c.args.decisions) c.in_ok-channel.channel c.in_ok-channel.ensures.ok _ _ e c.in_err-refresh_from.ensures.err)
 
 pub returns-in_err-refresh_from-clause-source : goal.returns-in_err-refresh_from-clause-source

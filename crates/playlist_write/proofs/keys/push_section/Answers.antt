@@ -11,5 +11,5 @@ pub returns : goal.returns
 returns c =
     let s = string_bytes c.args.out.now in
     let section = c.args.section.now in
-    as_text s (grown4 s (codes "#EXT-X-MAP:") (pair_spelling (in_quotes (codes "URI") section.uri)) (after_commas (part_pairs section.range)) (10 ∷ [])
+    as_text s (grown4 s (codes "#EXT-X-MAP:") (pair_spelling (in_quotes (codes "URI") section.uri)) (after_commas (part_pairs section.byte_range)) (10 ∷ [])
     c.in_ok-push_str.ensures.bytes (rw (c.as_str.ensures.text ∙ c.deref.ensures) at c.in_ok-push_quoted.ensures) c.in_ok-push_part.ensures c.in_ok-push_feed.ensures) (section_parts section)

@@ -6,17 +6,17 @@ use Rattle.playlist_write.proofs.pieces.write_date_ranges.Goals as goal
 
 pub returns-in_err-hand_out_piece-clause-err : goal.returns-in_err-hand_out_piece-clause-err
 returns-in_err-hand_out_piece-clause-err g c =
-    let later = date_ranges_text (drop (c.loop-range.range-index + 1) c.args.date_ranges.now) in
-    let held : string_bytes c.loop-range.held ++ date_ranges_text (drop c.loop-range.range-index c.args.date_ranges.now) ≡ string_bytes c.push_date_range.new.out ++ later =
+    let later = date_ranges_text (drop (c.loop-date_range.date_range-index + 1) c.args.date_ranges.now) in
+    let held : string_bytes c.loop-date_range.held ++ date_ranges_text (drop c.loop-date_range.date_range-index c.args.date_ranges.now) ≡ string_bytes c.push_date_range.new.out ++ later =
     grind (arith, common_steps) in
-    on_err c.from_residual-in_err-hand_out_piece.result _ (front_of_held _ _ _ _ _ (string_bytes c.push_date_range.new.out) later c.loop-range.invariant.taken held c.in_err-hand_out_piece.ensures.err)
+    on_err c.from_residual-in_err-hand_out_piece.result _ (front_of_held _ _ _ _ _ (string_bytes c.push_date_range.new.out) later c.loop-date_range.invariant.taken held c.in_err-hand_out_piece.ensures.err)
 
-pub loop-range-preserved : goal.loop-range-preserved
-loop-range-preserved g c =
-    let later = date_ranges_text (drop (c.loop-range.range-index + 1) c.args.date_ranges.now) in
-    let held : string_bytes c.loop-range.held ++ date_ranges_text (drop c.loop-range.range-index c.args.date_ranges.now) ≡ string_bytes c.push_date_range.new.out ++ later =
+pub loop-date_range-preserved : goal.loop-date_range-preserved
+loop-date_range-preserved g c =
+    let later = date_ranges_text (drop (c.loop-date_range.date_range-index + 1) c.args.date_ranges.now) in
+    let held : string_bytes c.loop-date_range.held ++ date_ranges_text (drop c.loop-date_range.date_range-index c.args.date_ranges.now) ≡ string_bytes c.push_date_range.new.out ++ later =
     grind (arith, common_steps) in
     record {
-      taken = taken_of_held _ _ _ _ _ (string_bytes c.push_date_range.new.out) later _ c.loop-range.invariant.taken held c.in_ok-hand_out_piece.ensures.ok;
+      taken = taken_of_held _ _ _ _ _ (string_bytes c.push_date_range.new.out) later _ c.loop-date_range.invariant.taken held c.in_ok-hand_out_piece.ensures.ok;
       failed = grind arith;
     }

@@ -4,9 +4,9 @@ use Rattle.playlist_write.specs.Owed.{date_ranges_text}
 use Rattle.playlist_write.specs.Taken.{TookAllBut}
 use Rattle.playlist_write.proofs.pieces.write_date_ranges.Given as goal
 
-abbrev pub invariant-loop-range : goal.invariant-loop-range
-invariant-loop-range g l = record {
+abbrev pub invariant-loop-date_range : goal.invariant-loop-date_range
+invariant-loop-date_range g l = record {
   taken : TookAllBut (g.S.Sink.contents l.fn.sink) (g.S.Sink.contents l.sink)
-      (string_bytes l.held ++ date_ranges_text (drop l.range-index l.date_ranges)) (string_bytes l.fn.held ++ date_ranges_text l.date_ranges);
+      (string_bytes l.held ++ date_ranges_text (drop l.date_range-index l.date_ranges)) (string_bytes l.fn.held ++ date_ranges_text l.date_ranges);
   failed : NoneFailed (g.S.Sink.failed l.fn.sink) (g.S.Sink.failed l.sink);
 }
