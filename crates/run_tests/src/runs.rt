@@ -3,7 +3,6 @@ use devices::{Counted, Pieces, Source, Taken};
 use one_playlist::{Command, VodFault, command_vod, read_args, vod};
 use playlist_meaning::{FaultKind, PlaylistFault};
 use std::alloc::{AllocError, Global};
-use std::test::Fail;
 
 const BASE: &str = "http://origin.example/ch/index.m3u8";
 
@@ -29,86 +28,129 @@ fn answer_of<S: Source>(
     Ok(())
 }
 
+// Whether a run over this source answers this, and the sink then has these bytes.
+fn ends_with(
+    alloc: Global,
+    source: &mut Pieces<'_>,
+    mut sink: Taken,
+    base: &str,
+    owed: Result<(), VodFault>,
+    bytes: &[u8],
+) -> bool {
+    answer_of(alloc, source, &mut sink, base) == owed && sink.bytes() == bytes
+}
+
+// Whether a run over this input, some bytes a call up to a cut, writes what is owed, as many bytes a call.
+fn is_written(alloc: Global, input: &[u8], most: usize, cut: usize) -> Result<bool, AllocError> {
+    let mut source = Pieces::new(input, most.max(1), cut, 0);
+    let sink = Taken::new(alloc, ROOM, most.max(1), 0)?;
+    Ok(ends_with(alloc, &mut source, sink, BASE, Ok(()), WRITTEN))
+}
+
 #[test]
-fn pieces_of_any_size(rt: HostRuntime) -> Result<(), Fail> {
+fn pieces_of_any_size(rt: HostRuntime) {
     for most in 1..5usize {
         for cut in 0..40usize {
-            let mut source = Pieces::new(PLAIN, most, cut, 0);
-            let mut sink = Taken::new(rt.alloc(), ROOM, most, 0)?;
-            assert_eq!(rt; answer_of(rt.alloc(), &mut source, &mut sink, BASE), Ok(()));
-            assert_eq!(rt; sink.bytes(), WRITTEN);
+            assert!(rt;
+                matches!(is_written(rt.alloc(), PLAIN, most, cut), Ok(true)),
+                "{most} {cut}"
+            );
         }
     }
-    Ok(())
 }
 
 #[test]
-fn carriage_returns_and_no_last_end(rt: HostRuntime) -> Result<(), Fail> {
-    let mut source = Pieces::new(WINDOWS_LINES, ROOM, 0, 0);
-    let mut sink = Taken::new(rt.alloc(), ROOM, ROOM, 0)?;
-    assert_eq!(rt; answer_of(rt.alloc(), &mut source, &mut sink, BASE), Ok(()));
-    assert_eq!(rt; sink.bytes(), WRITTEN);
-    Ok(())
+fn carriage_returns_and_no_last_end(rt: HostRuntime) {
+    assert!(rt; matches!(is_written(rt.alloc(), WINDOWS_LINES, ROOM, 0), Ok(true)));
+}
+
+// Whether a run of a byte a call, whose read of this number fails, is blamed on that and writes nothing.
+fn is_read_failure(alloc: Global, fail: u64) -> Result<bool, AllocError> {
+    let mut source = Pieces::new(PLAIN, 1, 0, fail);
+    let sink = Taken::new(alloc, ROOM, 1, 0)?;
+    Ok(ends_with(alloc, &mut source, sink, BASE, Err(VodFault::Read), b""))
 }
 
 #[test]
-fn each_read_fails_in_turn(rt: HostRuntime) -> Result<(), Fail> {
-    // One byte a call: as many reads as bytes, and one that finds the end.
+fn each_read_fails_in_turn(rt: HostRuntime) {
+    // As many reads as bytes, and one that finds the end.
     for fail in 1..=(PLAIN.len() as u64 + 1) {
-        let mut source = Pieces::new(PLAIN, 1, 0, fail);
-        let mut sink = Taken::new(rt.alloc(), ROOM, 1, 0)?;
-        let answer = answer_of(rt.alloc(), &mut source, &mut sink, BASE);
-        assert_eq!(rt; answer, Err(VodFault::Read));
-        assert_eq!(rt; sink.bytes().len(), 0);
+        assert!(rt;
+            matches!(is_read_failure(rt.alloc(), fail), Ok(true)),
+            "{fail}"
+        );
     }
-    Ok(())
 }
 
-#[test]
-fn each_write_fails_in_turn(rt: HostRuntime) -> Result<(), Fail> {
-    for fail in 1..=WRITTEN.len() + 1 {
-        let mut source = Pieces::new(PLAIN, ROOM, 0, 0);
-        let mut sink = Taken::new(rt.alloc(), ROOM, 1, fail as u64)?;
-        let answer = answer_of(rt.alloc(), &mut source, &mut sink, BASE);
-        if fail <= WRITTEN.len() {
-            assert_eq!(rt; answer, Err(VodFault::Write));
-            assert_eq!(rt; sink.bytes(), &WRITTEN[..fail - 1]);
-        } else {
-            assert_eq!(rt; answer, Ok(()));
-        }
-    }
-    Ok(())
-}
-
-#[test]
-fn a_sink_without_room(rt: HostRuntime) -> Result<(), Fail> {
+// Whether a run whose sink takes some bytes a call, and fails at this one or for want of room, is blamed on that, and the
+// sink then has so many bytes of what is owed.
+fn is_write_failure(
+    alloc: Global,
+    room: usize,
+    most: usize,
+    fail: u64,
+    count: usize,
+) -> Result<bool, AllocError> {
     let mut source = Pieces::new(PLAIN, ROOM, 0, 0);
-    let mut sink = Taken::new(rt.alloc(), 100, ROOM, 0)?;
-    let answer = answer_of(rt.alloc(), &mut source, &mut sink, BASE);
-    assert_eq!(rt; answer, Err(VodFault::Write));
-    assert_eq!(rt; sink.bytes(), &WRITTEN[..100]);
-    Ok(())
+    let sink = Taken::new(alloc, room, most.max(1), fail)?;
+    let bytes = WRITTEN.get(..count).unwrap_or(b"?");
+    Ok(ends_with(alloc, &mut source, sink, BASE, Err(VodFault::Write), bytes))
 }
 
 #[test]
-fn too_many_reads(rt: HostRuntime) -> Result<(), Fail> {
-    let input = Vec::from_elem(rt.alloc(), b'\n', 70_000)?;
-    let mut source = Pieces::new(input.as_slice(), 1, 0, 0);
-    let mut sink = Taken::new(rt.alloc(), ROOM, ROOM, 0)?;
-    let answer = answer_of(rt.alloc(), &mut source, &mut sink, BASE);
-    assert_eq!(rt; answer, Err(VodFault::TooManyReads));
-    assert_eq!(rt; source.calls(), 65_536);
-    Ok(())
+fn each_write_fails_in_turn(rt: HostRuntime) {
+    for count in 0..WRITTEN.len() {
+        let failed = is_write_failure(rt.alloc(), ROOM, 1, count as u64 + 1, count);
+        assert!(rt; matches!(failed, Ok(true)), "{count}");
+    }
+}
+
+// Whether a run of a byte a call, whose sink fails after all that is owed, isn't blamed on it.
+fn is_whole_before_a_failure(alloc: Global) -> Result<bool, AllocError> {
+    let mut source = Pieces::new(PLAIN, ROOM, 0, 0);
+    let sink = Taken::new(alloc, ROOM, 1, WRITTEN.len() as u64 + 1)?;
+    Ok(ends_with(alloc, &mut source, sink, BASE, Ok(()), WRITTEN))
 }
 
 #[test]
-fn a_base_that_is_none_reads_nothing(rt: HostRuntime) -> Result<(), Fail> {
-    let mut source = Pieces::new(PLAIN, ROOM, 0, 1);
-    let mut sink = Taken::new(rt.alloc(), ROOM, ROOM, 0)?;
-    let answer = answer_of(rt.alloc(), &mut source, &mut sink, "ftp://h/");
-    assert_eq!(rt; answer, Err(VodFault::BadBase));
-    assert_eq!(rt; source.calls(), 0);
-    Ok(())
+fn a_write_after_the_last_does_not_fail(rt: HostRuntime) {
+    assert!(rt; matches!(is_whole_before_a_failure(rt.alloc()), Ok(true)));
+}
+
+#[test]
+fn a_sink_without_room(rt: HostRuntime) {
+    assert!(rt; matches!(is_write_failure(rt.alloc(), 100, ROOM, 0, 100), Ok(true)));
+}
+
+// Whether a run over this source is refused for this fault, with nothing written, after so many reads.
+fn is_refused_after(
+    alloc: Global,
+    mut source: Pieces<'_>,
+    base: &str,
+    fault: VodFault,
+    reads: u64,
+) -> Result<bool, AllocError> {
+    let sink = Taken::new(alloc, ROOM, ROOM, 0)?;
+    let is_refused = ends_with(alloc, &mut source, sink, base, Err(fault), b"");
+    Ok(is_refused && source.calls() == reads)
+}
+
+fn is_read_too_often(alloc: Global) -> Result<bool, AllocError> {
+    let input = Vec::from_elem(alloc, b'\n', 70_000)?;
+    let source = Pieces::new(input.as_slice(), 1, 0, 0);
+    is_refused_after(alloc, source, BASE, VodFault::TooManyReads, 65_536)
+}
+
+#[test]
+fn too_many_reads(rt: HostRuntime) {
+    assert!(rt; matches!(is_read_too_often(rt.alloc()), Ok(true)));
+}
+
+#[test]
+fn a_base_that_is_none_reads_nothing(rt: HostRuntime) {
+    let source = Pieces::new(PLAIN, ROOM, 0, 1);
+    let refused = is_refused_after(rt.alloc(), source, "ftp://h/", VodFault::BadBase, 0);
+    assert!(rt; matches!(refused, Ok(true)));
 }
 
 // Whether this input is refused for this fault of the whole of it, and nothing is written.
@@ -139,18 +181,19 @@ fn the_whole_input_is_judged(rt: HostRuntime) {
     assert!(rt; matches!(is_judged(rt.alloc(), b"\xff", FaultKind::NotUtf8), Ok(true)));
 }
 
-#[test]
-fn want_of_memory_is_answered(rt: HostRuntime) -> Result<(), Fail> {
-    let mut written = Taken::new(rt.alloc(), ROOM, ROOM, 0)?;
+// Whether a run is answered, or told that memory was refused with nothing written.
+fn is_answered_or_refused(alloc: Global) -> Result<bool, AllocError> {
     let mut source = Pieces::new(PLAIN, 40, 0, 0);
-    match answer_of(rt.alloc(), &mut source, &mut written, BASE) {
-        Ok(()) => assert_eq!(rt; written.bytes(), WRITTEN),
-        Err(fault) => {
-            assert_eq!(rt; fault, VodFault::OutOfMemory);
-            assert_eq!(rt; written.bytes().len(), 0);
-        }
-    }
-    Ok(())
+    let mut sink = Taken::new(alloc, ROOM, ROOM, 0)?;
+    Ok(match answer_of(alloc, &mut source, &mut sink, BASE) {
+        Ok(()) => sink.bytes() == WRITTEN,
+        Err(fault) => fault == VodFault::OutOfMemory && sink.bytes().is_empty(),
+    })
+}
+
+#[test]
+fn want_of_memory_is_answered(rt: HostRuntime) {
+    assert!(rt; matches!(is_answered_or_refused(rt.alloc()), Ok(true)));
 }
 
 // Whether a run over this source prints these bytes of its fault, and ends with the status 1 where it has one.
@@ -187,19 +230,24 @@ fn printed_faults(rt: HostRuntime) {
     }
 }
 
+// Whether a fault is shown as this text, and is this text.
+fn is_shown(alloc: Global, fault: VodFault, text: &str) -> bool {
+    match format!(in alloc; "{fault}") {
+        Ok(shown) => shown.as_str() == text && fault.text().as_str() == text,
+        Err(_) => false,
+    }
+}
+
 #[test]
-fn shown_faults(rt: HostRuntime) -> Result<(), Fail> {
+fn shown_faults(rt: HostRuntime) {
     let table = [
         (VodFault::TooManyReads, "E3 TooManyReads"),
         (VodFault::OutOfMemory, "E5 OutOfMemory"),
         (VodFault::NumberRange, "N10 NumberRange"),
     ];
     for (fault, text) in table {
-        let shown = format!(in rt.alloc(); "{fault}")?;
-        assert_eq!(rt; shown.as_str(), text);
-        assert_eq!(rt; fault.text().as_str(), text);
+        assert!(rt; is_shown(rt.alloc(), fault, text), "{text}");
     }
-    Ok(())
 }
 
 fn words_of(alloc: Global, words: &[&str]) -> Result<Vec<String>, AllocError> {
