@@ -31,15 +31,20 @@ fn bases(rt: HostRuntime) {
     assert!(rt; Base::new(rt.alloc(), " HTTPS://Origin.Example:443/a/../b ").is_ok());
 }
 
-fn is_resolved(base: &Base, reference: &str, resolved: &str) -> bool {
-    match base.resolve(reference) {
-        Ok(found) => found.as_str() == resolved,
+// What a reference is under the base.
+fn resolved(alloc: Global, reference: &str) -> Result<String, BaseFault> {
+    Base::new(alloc, BASE)?.resolve(reference)
+}
+
+fn is_resolved(alloc: Global, reference: &str, owed: &str) -> bool {
+    match resolved(alloc, reference) {
+        Ok(found) => found.as_str() == owed,
         Err(_) => false,
     }
 }
 
-fn is_refused(base: &Base, reference: &str) -> bool {
-    matches!(base.resolve(reference), Err(BaseFault::BadUri))
+fn is_refused(alloc: Global, reference: &str) -> bool {
+    matches!(resolved(alloc, reference), Err(BaseFault::BadUri))
 }
 
 // References, and what they are under the base.
@@ -54,13 +59,11 @@ static RESOLVED: [(&str, &str); 7] = [
 ];
 
 #[test]
-fn references(rt: HostRuntime) -> Result<(), BaseFault> {
-    let base = Base::new(rt.alloc(), BASE)?;
-    for (reference, resolved) in RESOLVED.iter() {
-        assert!(rt; is_resolved(&base, reference, resolved), "{reference}");
+fn references(rt: HostRuntime) {
+    for (reference, owed) in RESOLVED.iter() {
+        assert!(rt; is_resolved(rt.alloc(), reference, owed), "{reference}");
     }
-    assert!(rt; is_refused(&base, "//[/x"));
-    Ok(())
+    assert!(rt; is_refused(rt.alloc(), "//[/x"));
 }
 
 #[test]
@@ -238,19 +241,23 @@ fn few(alloc: Global) -> Result<Items<u8>, AllocError> {
     Ok(Items::from_vec([1u8, 2, 3].to_vec(alloc)?))
 }
 
-fn is_few(items: &Items<u8>) -> Result<bool, AllocError> {
+fn are_few(items: &Items<u8>) -> Result<bool, AllocError> {
     Ok(items.len() == 3 && items.as_slice() == [1u8, 2, 3].as_slice() && items.clone()? == *items)
 }
 
-fn gives_few(items: Items<u8>) -> bool {
-    items.into_vec().as_slice() == [1u8, 2, 3].as_slice()
+fn is_few(alloc: Global) -> Result<bool, AllocError> {
+    let items = few(alloc)?;
+    are_few(&items)
+}
+
+fn gives_few(alloc: Global) -> Result<bool, AllocError> {
+    Ok(few(alloc)?.into_vec().as_slice() == [1u8, 2, 3].as_slice())
 }
 
 #[test]
-fn lists(rt: HostRuntime) -> Result<(), AllocError> {
-    assert!(rt; matches!(is_few(&few(rt.alloc())?), Ok(true)));
-    assert!(rt; gives_few(few(rt.alloc())?));
-    Ok(())
+fn lists(rt: HostRuntime) {
+    assert!(rt; matches!(is_few(rt.alloc()), Ok(true)));
+    assert!(rt; matches!(gives_few(rt.alloc()), Ok(true)));
 }
 
 // How many bytes the text of these bytes has, where they are UTF-8.
@@ -284,10 +291,14 @@ fn stands_first(first: &Key, second: &Key) -> bool {
     first.is_before(second) && !second.is_before(first) && !first.is_before(first)
 }
 
+// Whether a key stands before one of the format identity.
+fn stands_before_identity(alloc: Global, first: &Key) -> Result<bool, AllocError> {
+    Ok(stands_first(first, &key(alloc, "identity", KEY, None)?))
+}
+
 fn are_ordered(alloc: Global) -> Result<bool, AllocError> {
     let first = key(alloc, "com.example", KEY, Some(1))?;
-    let second = key(alloc, "identity", KEY, None)?;
-    Ok(stands_first(&first, &second))
+    stands_before_identity(alloc, &first)
 }
 
 fn needs_iv(alloc: Global, format: &str, iv: Option<u128>) -> Result<bool, AllocError> {

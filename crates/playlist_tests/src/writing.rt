@@ -211,9 +211,13 @@ fn playlist(alloc: Global, sources: &Sources, version: u64) -> Result<OutPlaylis
     playlist_of(alloc, version, &sources.date_range, segments)
 }
 
+fn is_well_formed_of(alloc: Global, sources: &Sources, version: u64) -> Result<bool, AllocError> {
+    playlist(alloc, sources, version)?.well_formed(alloc)
+}
+
 fn is_well_formed(alloc: Global, version: u64, date_range: &str) -> Result<bool, AllocError> {
     let sources = sources_with(alloc, date_range)?;
-    playlist(alloc, &sources, version)?.well_formed(alloc)
+    is_well_formed_of(alloc, &sources, version)
 }
 
 #[test]
@@ -230,10 +234,14 @@ fn takes_all(alloc: Global, playlist: &OutPlaylist<'_>, most: usize) -> Result<b
     Ok(sink.bytes() == WRITTEN.as_bytes())
 }
 
+fn is_written_of(alloc: Global, sources: &Sources, most: usize) -> Result<bool, WriteFault> {
+    let playlist = playlist(alloc, sources, 7)?;
+    takes_all(alloc, &playlist, most)
+}
+
 fn is_written(alloc: Global, most: usize) -> Result<bool, WriteFault> {
     let sources = sources_with(alloc, DATE_RANGE)?;
-    let playlist = playlist(alloc, &sources, 7)?;
-    takes_all(alloc, &playlist, most)
+    is_written_of(alloc, &sources, most)
 }
 
 #[test]
@@ -265,10 +273,14 @@ fn stops_after_each(alloc: Global, playlist: &OutPlaylist<'_>) -> Result<bool, A
     Ok(true)
 }
 
+fn stops_after_each_of(alloc: Global, sources: &Sources) -> Result<bool, AllocError> {
+    let playlist = playlist(alloc, sources, 7)?;
+    stops_after_each(alloc, &playlist)
+}
+
 fn stops_after_each_byte(alloc: Global) -> Result<bool, AllocError> {
     let sources = sources_with(alloc, DATE_RANGE)?;
-    let playlist = playlist(alloc, &sources, 7)?;
-    stops_after_each(alloc, &playlist)
+    stops_after_each_of(alloc, &sources)
 }
 
 #[test]
@@ -323,10 +335,14 @@ fn is_in_pieces(alloc: Global, playlist: &OutPlaylist<'_>) -> Result<bool, Alloc
     is_taken_in_pieces(alloc, playlist, text.as_str().as_bytes())
 }
 
+fn is_in_pieces_of(alloc: Global, sources: &Sources) -> Result<bool, AllocError> {
+    let playlist = long_playlist(alloc, sources)?;
+    is_in_pieces(alloc, &playlist)
+}
+
 fn comes_in_pieces(alloc: Global) -> Result<bool, AllocError> {
     let sources = sources_with(alloc, DATE_RANGE)?;
-    let playlist = long_playlist(alloc, &sources)?;
-    is_in_pieces(alloc, &playlist)
+    is_in_pieces_of(alloc, &sources)
 }
 
 #[test]
