@@ -70,12 +70,8 @@ fn back_and_on(rt: HostRuntime) {
     );
 }
 
-fn is_listed_as(alloc: Global, first: &Segment, listed: Listed<'_>) -> Result<bool, AllocError> {
-    Ok(same_segment(first, &segment(alloc, listed)?))
-}
-
-// Whether a segment is the same as one with another title, steps and time, and this duration.
-fn is_listed_again(alloc: Global, duration: Nanos) -> Result<bool, AllocError> {
+// Whether a segment is the same as this one with another title, steps and time, and this duration.
+fn is_listed_again_of(alloc: Global, first: &Segment, duration: Nanos) -> Result<bool, AllocError> {
     let listed = Listed {
         number: 7,
         steps: 1,
@@ -83,8 +79,12 @@ fn is_listed_again(alloc: Global, duration: Nanos) -> Result<bool, AllocError> {
         title: "news",
         time: None,
     };
+    Ok(same_segment(first, &segment(alloc, listed)?))
+}
+
+fn is_listed_again(alloc: Global, duration: Nanos) -> Result<bool, AllocError> {
     let first = segment(alloc, plain(7, Some(Instant(100))))?;
-    is_listed_as(alloc, &first, listed)
+    is_listed_again_of(alloc, &first, duration)
 }
 
 #[test]
