@@ -5,7 +5,7 @@ ghost use Rattle.jiff_core.specs.Calendar.{IsEpochDay, IsWithin};
 ghost use Rattle.std.specs.List.{list_all, prefix_len};
 ghost use Rattle.std.specs.Char.{is_ascii_digit};
 ghost use Rattle.std.specs.Str.Parse.{digits_value};
-ghost use Rattle.instants.specs.Instant.{field, are_digits, has_date_form, is_day, is_date, day_number, has_clock_form, is_clock, fraction_len, is_fraction, offset_seconds, zone_offset, if_in_range, instant_of};
+ghost use Rattle.instants.specs.Instant.{field, are_digits, has_date_form, is_day, is_date, day_number, has_clock_form, is_clock, fraction_len, is_fraction, has_offset_form, minutes_of, offset_seconds, zone_offset, if_in_range, instant_of};
 
 use crate::Instant;
 use fixed_duration::nanos_of_fraction;
@@ -208,17 +208,26 @@ fn after_point_of(bytes: &[u8]) -> &[u8]
     }
 }
 
+// The minutes of an offset after its sign, where it has a form that is read.
+fn minutes_of(text: &[u8]) -> Option<&[u8]>
+    ensures value { MatchOption result (has_offset_form text.now ≡ false)
+        (λ minutes. (has_offset_form text.now ≡ true) × (minutes.now ≡ minutes_of text.now)) }
+    ensures few { IfSome result (λ minutes. (length minutes.now ≤ 2) × (2 ≤ length text.now)) }
+{
+    match text {
+        [_, _] => Some(&text[2..]),
+        [_, _, _, _] => Some(&text[2..]),
+        [_, _, b':', _, _] => Some(&text[3..]),
+        _ => None,
+    }
+}
+
 // The seconds of an offset after its sign.
 fn offset_seconds(text: &[u8]) -> Option<u32>
     ensures value { result ≡ offset_seconds text.now }
     ensures bound { IfSome result (λ seconds. seconds < 86400) }
 {
-    let minutes = match text {
-        [_, _] => &text[2..],
-        [_, _, _, _] => &text[2..],
-        [_, _, b':', _, _] => &text[3..],
-        _ => return None,
-    };
+    let minutes = minutes_of(text)?;
     let hours = &text[..2];
     if !are_all_digits(hours) || !are_all_digits(minutes) {
         return None;
@@ -235,12 +244,12 @@ fn zone_offset(text: &[u8]) -> Option<i64>
     ensures value { result ≡ zone_offset text.now }
     ensures bound { IfSome result (IsWithin 86400) }
 {
-    match text {
-        [] => Some(0),
-        [b'Z'] => Some(0),
-        [b'+', east @ ..] => Some(i64::from(offset_seconds(east)?)),
-        [b'-', west @ ..] => Some(-i64::from(offset_seconds(west)?)),
-        _ => None,
+    match text.split_first() {
+        None => Some(0),
+        Some((b'Z', [])) => Some(0),
+        Some((b'+', east)) => Some(i64::from(offset_seconds(east)?)),
+        Some((b'-', west)) => Some(-i64::from(offset_seconds(west)?)),
+        Some(_) => None,
     }
 }
 
