@@ -1,16 +1,14 @@
 """A run over changed inputs: which process each goes to, what is checked of it, and what is told of all."""
 import heapq
-import os
 import re
 import statistics
-import subprocess
 import time
 from array import array
 
 from answers import FILE_FAULTS, PLACE, complaint
 from inputs import CHANNEL_LINE, input_of
 from programs import Died, Lines, built
-from seeds import Seeds, unescaped
+from seeds import Seeds
 
 MOST = 1_000_000  # inputs
 USUAL_SECONDS = 1800
@@ -27,18 +25,17 @@ SLOWEST = 50  # times the median cost of a byte, at most
 SMALL = {"large": "playlist", "large on an edge": "pushed"}
 TRIES = 5  # of an input that was slow; the least counts
 KEPT = 20  # of the slowest inputs of each kind
-SAMPLE = 100  # one decision file of so many goes to decision_lines too, which takes one file in a process
+SAMPLE = 100  # of one decision file of so many it is asked too what it says
 SHOWN = 20  # complaints that are printed
 FILE_FAULT = re.compile(f"({FILE_FAULTS}){PLACE}\n".encode())
-FILE_SAID = re.compile(rb"(break .* ads \d+ segments \d+ total \d+\n)*|withdraw .*\n")
+FILE_SAID = re.compile(rb"decisions\n(break .* ads \d+ segments \d+ total \d+\n)*|withdraw .*\n")
 
 
 class Programs:
     """The processes that inputs are given to, each started when it is wanted."""
 
     def __init__(self, folder):
-        self.paths = {name: built(name, folder) for name in ("live_lines", "text_lines", "decision_lines")}
-        self.has_files = os.path.exists(self.paths["decision_lines"])
+        self.paths = {name: built(name, folder) for name in ("live_lines", "text_lines")}
         self.running, self.started = {}, 0
         self.shown = None  # by the one channel
 
@@ -78,14 +75,11 @@ class Programs:
         return [told for told in map(self.end, list(self.running)) if told]
 
     def file_complaint(self, input, answers):
-        """The same decision file, given to decision_lines: it has the same fault, or what it says is told."""
-        body = unescaped(input.asked[1].partition(b" ")[2].decode())
-        ran = subprocess.run([self.paths["decision_lines"]], input=body, capture_output=True, timeout=60)
-        if ran.returncode or ran.stderr:
-            return f"decision_lines: status {ran.returncode}, stderr {ran.stderr[-200:]!r}"
+        """What the same decision file says: it has the same fault, or its breaks are told."""
+        said, = self.process(input.program).ask([b"decisions" + input.asked[1].removeprefix(b"decide")])
         owed = answers[1]
-        is_right = ran.stdout == owed if FILE_FAULT.fullmatch(owed) else FILE_SAID.fullmatch(ran.stdout)
-        return None if is_right else f"decision_lines says {ran.stdout[:100]!r}, and the channel {owed[:100]!r}"
+        is_right = said == owed if FILE_FAULT.fullmatch(owed) else FILE_SAID.fullmatch(said)
+        return None if is_right else f"the file says {said[:100]!r}, and the channel {owed[:100]!r}"
 
 
 class Seen:
@@ -134,7 +128,7 @@ def give_all(seed, seconds, programs, seen):
         if answers is None:
             continue
         seen.note(number, input, answers, cost)
-        if input.kind == "decisions" and len(seen.costs["decisions"]) % SAMPLE == 0 and programs.has_files:
+        if input.kind == "decisions" and len(seen.costs["decisions"]) % SAMPLE == 0:
             seen.files += 1
             found = programs.file_complaint(input, answers)
             if found:
@@ -181,11 +175,11 @@ def print_names(seen):
 
 def main(folder, seconds=None, seed=USUAL_SEED):
     programs, seen = Programs(folder), Seen()
-    print(f"seed {seed}" + ("" if programs.has_files else "; decision_lines isn't there, and is left out"), flush=True)
+    print(f"seed {seed}", flush=True)
     begun = time.monotonic()
     count = give_all(seed, USUAL_SECONDS if seconds is None else seconds, programs, seen)
     print(f"{count} inputs in {time.monotonic() - begun:.0f} s, {programs.started} processes, "
-          f"{seen.files} files to decision_lines")
+          f"{seen.files} files asked what they say")
     print_names(seen)
     checks = [*memory_checks(seen), *time_checks(seed, programs, seen)]
     for told in programs.end_all():

@@ -77,7 +77,8 @@ class Seeds:
         self.steps = some(vod, 1500) + some(live, 1500)
         self.playlists = [step[2] for step in self.steps]
         decided = {step[0] for step in vod + live if step[0]}
-        decided.add((TOP / "crates/decision_lines/stdin").read_bytes())
+        events = (TOP / "crates/live_lines/stdin").read_text().splitlines()
+        decided.update(unescaped(it.partition(" ")[2]) for it in events if it.startswith("decisions {"))
         decided.add((TOP / "examples/vod/decisions.json").read_bytes())
         self.decisions = some(sorted(decided), 1000)
         self.sections = ["0x" + json.loads(line)["hex"] for line in (TOP / "tests/sections/sections.jsonl").open()]

@@ -1,4 +1,6 @@
 """Cases of live channels that are worked by hand: what the origin says, and what is owed for it."""
+import json
+
 from events import BASE, Case
 from playlists import IN, NOT_OUT, daterange, decisions, instant, origin_text, owed_text, window
 
@@ -236,3 +238,21 @@ full = origin_text(0, 1, sequence=top, ranges=[B1])
 made.refresh(full, "N10 NumberRange").playlist(None).why("b1", "NotKnown").refresh(full, "N10 NumberRange").withdraw("b1")
 made.refresh(origin_text(0, 2, sequence=top), "P9 BadValue line 11")
 shows(made, full, 2, window("s0 s1", top), ranges=[B1])
+
+
+# ---- what a decision file says
+
+# Two pods: of one ad with segments of 8 s and 9.5 s, and of two ads, of which the first has a section and a key, with a
+# segment of 0.25 s and one of 1 s.
+TWO_PODS = json.dumps({"breaks": [
+    {"id": "b1", "ads": [{"segments": [
+        {"uri": "http://ads.example/a0.ts", "duration": "8"}, {"uri": "http://ads.example/a1.ts", "duration": "9.5"}]}]},
+    {"id": "b2", "ads": [
+        {"map": {"uri": "https://ads.example/i.mp4", "offset": 10, "length": 90},
+         "key": {"method": "AES-128", "uri": "https://ads.example/k", "iv": "0x1F"},
+         "segments": [{"uri": "https://ads.example/x.m4s", "duration": ".25"}]},
+        {"segments": [{"uri": "http://ads.example/y.ts", "duration": "1"}]}]}]})
+
+made = bare("a decision file says its breaks")
+made.decisions(TWO_PODS, "decisions", "break b1 ads 1 segments 2 total 17500000000", "break b2 ads 2 segments 2 total 1250000000")
+made.decisions('{"breaks":[]}', "decisions").decisions('{"withdraw":"b1"}', "withdraw b1").decisions("[", "J1 NotJson")

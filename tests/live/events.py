@@ -38,6 +38,9 @@ class Case:
     def decide(self, body, owed="ok"):
         return self.event(f"decide {escaped(body)}", owed)
 
+    def decisions(self, body, *lines):
+        return self.event(f"decisions {escaped(body)}", *lines)
+
     def withdraw(self, break_id, owed="ok"):
         return self.event(f"withdraw {break_id}", owed)
 

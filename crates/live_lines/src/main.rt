@@ -13,6 +13,7 @@
 //! | `why ID` | why a break is filled or not | the word for it |
 //! | `edge` | a new edge with no channel, to which the connections after it go | nothing |
 //! | `serve READ FAILING WRITE FAILING BODY` | a connection that brings these bytes: the most bytes of a read, the read that fails, the most bytes of a write, the write that fails (from 1; 0 for none) | the status, or the fault; and what was written |
+//! | `decisions BODY` | nothing: what a decision file says is asked for | `decisions`, and a line for each break with its ID, how many ads and segments its pod has and how many nanoseconds they last; or the break that is withdrawn; or the fault |
 //! | `length BODY` | nothing | how many bytes it has: the benchmark takes the time of this off |
 //!
 //! In a BODY a backslash and `n` stand for a line feed, `r` for a carriage return, `x` with two hexadecimal digits for that
@@ -20,8 +21,10 @@
 #![tactic(auto)]
 
 mod connections;
+mod decisions;
 
 use connections::print_served;
+use decisions::print_decisions;
 use escaped_bytes::bytes_of;
 use fixed_duration::Nanos;
 use live_counters::{Channel, ChannelFault};
@@ -179,6 +182,7 @@ fn print_line(
         "channel" => print_made(rt, alloc, channels, rest),
         "edge" => make_edge(alloc, channels),
         "serve" => print_served(rt, alloc, &mut channels.edge, rest),
+        "decisions" => print_decisions(rt, alloc, rest),
         "length" => print_length(rt, alloc, rest),
         "to" => {
             channels.back = rest.parse().unwrap_or(0);

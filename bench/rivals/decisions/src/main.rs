@@ -1,5 +1,5 @@
 //! Reads a decision file with derived types and judges it by the same rules; prints what our program
-//! `decision_lines` prints.
+//! tells of it: `live_lines`, to the event `decisions`.
 use serde::Deserialize;
 use std::collections::HashSet;
 use std::io::{self, BufWriter, Read, Write};
