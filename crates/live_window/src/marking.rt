@@ -1,5 +1,5 @@
 //! The new segments of a refresh, with the breaks that they are marked with.
-ghost use Rattle.std.specs.Prelude.{◌≡◌, length, IfOk, Some, None};
+ghost use Rattle.std.specs.Prelude.{◌≡◌, ◌++◌, length, IfOk, OnOk, Some, None};
 ghost use Rattle.std.specs.Option.{option_copied};
 ghost use Rattle.playlist_meaning.specs.LookBack.{or_earlier};
 ghost use Rattle.pod_store.specs.Store.{pod_for};
@@ -170,16 +170,14 @@ impl<'a> Marker<'a> {
     }
 }
 
-fn or_earlier(
-    text: &Option<Shared<Text>>,
-    earlier: Option<Shared<Text>>,
-) -> Result<Option<Shared<Text>>, AllocError>
-    ensures { IfOk result (λ t. t ≡ or_earlier text.now earlier) }
+// Notes the break that marks a segment, where one does, as the last one entered.
+fn enter(entered: &mut Option<Shared<Text>>, mark: &Option<Shared<Text>>) -> Result<(), AllocError>
+    ensures { OnOk result (entered.new ≡ or_earlier mark.now entered.old) }
 {
-    match text {
-        Some(text) => Ok(Some(text.clone()?)),
-        None => Ok(earlier),
+    if mark.is_some() {
+        *entered = copied_text(mark)?;
     }
+    Ok(())
 }
 
 // How far the marks are: the mark of the segment before, and the last break entered.
@@ -213,47 +211,59 @@ fn marked_with(
 }
 
 impl<'a> Marker<'a> {
-    // The mark of the next segment, and how far the marks are with it.
+    // The next segment with its mark; how far the marks are is told after it.
     fn next(
         &self,
         alloc: Global,
-        run: Run,
+        run: &mut Run,
+        segment: &Shared<Segment>,
         instant: &Option<Instant>,
-    ) -> Result<(Option<Shared<Text>>, Run), AllocError>
-        ensures mark { IfOk result (λ a. a.0 ≡ next_id self.now run.before run.entered instant.now) }
-        ensures run { IfOk result (λ a. a.1 ≡ record { before = a.0; entered = or_earlier a.0 run.entered }) }
+    ) -> Result<Marked, AllocError>
+        ensures marked { IfOk result (λ m. m ≡ record { segment = segment.now; instant = instant.now; mark = next_id self.now run.old.before run.old.entered instant.now }) }
+        ensures run { IfOk result (λ m. run.new ≡ record { before = m.mark; entered = or_earlier m.mark run.old.entered }) }
     {
-        let Run { before, entered } = run;
-        let staying = self.stays(&before, *instant);
-        let mark = self.next_id(alloc, staying, &before, &entered, *instant)?;
-        let before = copied_text(&mark)?;
-        let entered = or_earlier(&mark, entered)?;
-        Ok((mark, Run { before, entered }))
+        let staying = self.stays(&run.before, *instant);
+        let mark = self.next_id(alloc, staying, &run.before, &run.entered, *instant)?;
+        enter(&mut run.entered, &mark)?;
+        run.before = copied_text(&mark)?;
+        marked_with(segment, instant, mark)
     }
 
-    // These segments, which begin at these instants, with their marks.
+    // Puts these segments, which begin at these instants, after those that are done, with their marks.
     fn all(
         &self,
         alloc: Global,
-        start: Run,
+        run: &mut Run,
+        segments: &[Shared<Segment>],
+        instants: &mut Beginnings<'_>,
+        done: &mut Vec<Marked>,
+    ) -> Result<(), AllocError>
+        ensures { OnOk result (done.new.items ≡ done.old.items ++ mark_on self.now run.old.before run.old.entered segments.now instants.old) }
+    {
+        let mut rest = segments;
+        while let Some((segment, later)) = rest.split_first() {
+            let Some(instant) = instants.next()? else {
+                return Ok(());
+            };
+            done.push(self.next(alloc, run, segment, &instant)?)?;
+            rest = later;
+        }
+        Ok(())
+    }
+
+    // These segments, which begin at these instants, with their marks.
+    fn marked(
+        &self,
+        alloc: Global,
+        run: &mut Run,
         segments: &[Shared<Segment>],
         instants: Beginnings<'_>,
     ) -> Result<Vec<Marked>, AllocError>
-        ensures { IfOk result (λ v. v.items ≡ mark_on self.now start.before start.entered segments.now instants.entry) }
+        ensures { IfOk result (λ v. v.items ≡ mark_on self.now run.old.before run.old.entered segments.now instants.entry) }
     {
+        let mut instants = instants;
         let mut done = Vec::with_capacity(alloc, segments.len())?;
-        let mut run = start;
-        let mut rest = segments;
-        let mut begun = instants;
-        while let Some((segment, later)) = rest.split_first() {
-            let Some(instant) = begun.next()? else {
-                return Ok(done);
-            };
-            let (mark, next) = self.next(alloc, run, &instant)?;
-            run = next;
-            done.push(marked_with(segment, &instant, mark)?)?;
-            rest = later;
-        }
+        self.all(alloc, run, segments, &mut instants, &mut done)?;
         Ok(done)
     }
 }
@@ -273,6 +283,6 @@ pub fn mark_on(
     ensures { IfOk result (λ v. v.items ≡ mark_on (record { tolerance = limits.now.tolerance; target = limits.now.target; mapped = limits.now.mapped; breaks = knowledge.now; store = store.now }) newest.now last.now segments.now instants.entry) }
 {
     let marker = marker_of(alloc, limits, knowledge, store)?;
-    let run = run_of(newest, last)?;
-    marker.all(alloc, run, segments, instants)
+    let mut run = run_of(newest, last)?;
+    marker.marked(alloc, &mut run, segments, instants)
 }

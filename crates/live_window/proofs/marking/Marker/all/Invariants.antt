@@ -4,8 +4,8 @@ use Rattle.live_window.proofs.marking.Marker.all.Given as goal
 
 abbrev pub invariant-loop-segment : goal.invariant-loop-segment
 invariant-loop-segment l =
-    l.done.items ++ mark_on l.self l.run.before l.run.entered l.rest l.begun
-    ≡ mark_on l.self l.fn.start.before l.fn.start.entered l.segments l.fn.instants
+    l.done.items ++ mark_on l.self l.run.before l.run.entered l.rest l.instants
+    ≡ l.fn.done.items ++ mark_on l.self l.fn.run.before l.fn.run.entered l.segments l.fn.instants
 
 abbrev pub decreases-loop-segment : goal.decreases-loop-segment
 decreases-loop-segment l = length l.rest
