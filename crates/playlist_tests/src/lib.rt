@@ -1,13 +1,9 @@
-//! Tests of playlists' values, of devices, of key tags and of the store of pods, and of reading and writing playlists: what no
-//! clause says, and each public call once.
+//! Tests of playlists' values, of devices, of the store of pods, of reading and writing playlists and of whole runs: what
+//! neither a clause says nor the built program shows.
 #![tactic(auto)]
 
 #[cfg(test)]
 mod beginnings;
-#[cfg(test)]
-mod channels;
-#[cfg(test)]
-mod key_tags;
 pub mod made;
 #[cfg(test)]
 mod meaning;
@@ -15,6 +11,8 @@ mod meaning;
 mod moving_devices;
 #[cfg(test)]
 mod reading;
+#[cfg(test)]
+mod runs;
 #[cfg(test)]
 mod stores;
 #[cfg(test)]

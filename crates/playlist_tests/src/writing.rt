@@ -1,11 +1,11 @@
-//! Each public call once, and the written text of a playlist with each kind of line.
+//! Playlists that are well formed or not, and sinks that take few bytes or fail. Each kind of line that is written is tried on
+//! the built program (`tests/run_playlists`).
+use crate::beginnings::segment;
 use crate::made::key;
-use attr_list::AttrList;
 use devices::Taken;
 use fixed_duration::Nanos;
 use playlist_meaning::{
-    ByteRange, InitSection, Instant, Items, Key, OtherAttributes, PlaylistKind, Segment, Shared,
-    Text,
+    ByteRange, InitSection, Instant, Items, Key, PlaylistKind, Segment, Shared, Text,
 };
 use playlist_write::{OutPlaylist, WriteFault, write};
 use std::alloc::{AllocError, Global};
@@ -31,164 +31,36 @@ const WRITTEN: &str = "#EXTM3U
 #EXT-X-MAP:URI=\"http://origin.example/ch/init.mp4\"
 #EXT-X-KEY:METHOD=AES-128,URI=\"http://origin.example/ch/kb\",IV=0x00000000000000000000000000000002
 #EXT-X-PROGRAM-DATE-TIME:2024-05-01T12:00:00.000Z
-#EXTINF:10,one
-http://origin.example/ch/s0.m4s
-#EXT-X-DISCONTINUITY
-#EXT-X-KEY:METHOD=NONE
-#EXT-X-MAP:URI=\"http://ads.example/i.mp4\",BYTERANGE=\"100@20\"
-#EXTINF:9.5,
+#EXTINF:9.5,one
 #EXT-X-BYTERANGE:30@120
-http://ads.example/a0.m4s
-#EXT-X-KEY:METHOD=SAMPLE-AES,URI=\"skd://1\",KEYFORMAT=\"com.example.drm\",KEYFORMATVERSIONS=\"1\",X=2
-#EXTINF:9.5,
-http://ads.example/a1.m4s
+http://origin.example/s.ts
 #EXT-X-ENDLIST
 ";
 
-fn others(alloc: Global) -> Result<Shared<OtherAttributes>, AllocError> {
-    match AttrList::read(alloc, "METHOD=SAMPLE-AES,KEYFORMATVERSIONS=\"1\",X=2") {
-        Ok(list) => Ok(Shared::new(alloc, OtherAttributes::of(alloc, &list)?)?),
-        Err(_) => Err(AllocError),
-    }
+fn keys(alloc: Global, uri: &str, iv: u128) -> Result<Items<Key>, AllocError> {
+    let key = key(alloc, "identity", uri, Some(iv))?;
+    Ok(Items::from_vec(vec![in alloc; key]?))
 }
 
-fn drm_key(alloc: Global) -> Result<Key, AllocError> {
-    Ok(Key {
-        format: Shared::copy_of(alloc, "com.example.drm")?,
-        method: Shared::copy_of(alloc, "SAMPLE-AES")?,
-        uri: Shared::copy_of(alloc, "skd://1")?,
-        iv: None,
-        other: others(alloc)?,
-    })
-}
-
-fn section(
-    alloc: Global,
-    uri: &str,
-    byte_range: Option<ByteRange>,
-    keys: Vec<Key>,
-) -> Result<Shared<InitSection>, AllocError> {
+fn section(alloc: Global) -> Result<Shared<InitSection>, AllocError> {
     let section = InitSection {
-        uri: Shared::copy_of(alloc, uri)?,
-        byte_range,
-        keys: Items::from_vec(keys),
+        uri: Shared::copy_of(alloc, "http://origin.example/ch/init.mp4")?,
+        byte_range: None,
+        keys: keys(alloc, "http://origin.example/ch/ka", 10)?,
     };
     Ok(Shared::new(alloc, section)?)
 }
 
-// A clear segment that lasts this many tenths of a second and has no section.
-fn bare(alloc: Global, uri: &str, title: &str, tenths: u32) -> Result<Segment, AllocError> {
-    Ok(Segment {
-        number: 0,
-        discontinuity: 0,
-        steps: 0,
-        uri: Text::copy_of(alloc, uri)?,
-        byte_range: None,
-        keys: Items::from_vec(Vec::new(alloc)),
-        section: None,
-        duration: Nanos(u64::from(tenths) * 100_000_000),
-        title: Shared::copy_of(alloc, title)?,
-        time: None,
-    })
-}
-
-fn origin_section(alloc: Global) -> Result<Shared<InitSection>, AllocError> {
-    let key = key(alloc, "identity", "http://origin.example/ch/ka", Some(10))?;
-    let keys = vec![in alloc; key]?;
-    section(alloc, "http://origin.example/ch/init.mp4", None, keys)
-}
-
-fn origin_keys(alloc: Global) -> Result<Items<Key>, AllocError> {
-    let key = key(alloc, "identity", "http://origin.example/ch/kb", Some(2))?;
-    Ok(Items::from_vec(vec![in alloc; key]?))
-}
-
-fn origin_segment(alloc: Global) -> Result<Segment, AllocError> {
-    let mut segment = bare(alloc, "http://origin.example/ch/s0.m4s", "one", 100)?;
-    segment.section = Some(origin_section(alloc)?);
-    segment.keys = origin_keys(alloc)?;
-    Ok(segment)
-}
-
-// A segment of 9.5 seconds with the section of an advertisement.
-fn ad_segment(alloc: Global, uri: &str) -> Result<Segment, AllocError> {
-    let byte_range = ByteRange {
-        length: 100,
-        offset: 20,
-    };
-    let mut segment = bare(alloc, uri, "", 95)?;
-    let section = section(
-        alloc,
-        "http://ads.example/i.mp4",
-        Some(byte_range),
-        Vec::new(alloc),
-    )?;
-    segment.section = Some(section);
-    Ok(segment)
-}
-
-fn origin_item(segment: &Segment) -> OutSegment<'_> {
-    OutSegment {
-        segment: Played::of_origin(segment),
-        media: 7,
-        discontinuity: 3,
-        steps: 1,
-        time: Some(Instant(1_714_564_800_000_000_000)),
-    }
-}
-
-// The first segment of the advertisement, a part of its file.
-fn clear_item<'a>(alloc: Global) -> Result<OutSegment<'a>, AllocError> {
-    let mut segment = ad_segment(alloc, "http://ads.example/a0.m4s")?;
+// A part of a file, encrypted, with a section under another key.
+fn encrypted(alloc: Global) -> Result<Segment, AllocError> {
+    let mut segment = segment(alloc, Nanos(9_500_000_000), "one")?;
+    segment.section = Some(section(alloc)?);
+    segment.keys = keys(alloc, "http://origin.example/ch/kb", 2)?;
     segment.byte_range = Some(ByteRange {
         length: 30,
         offset: 120,
     });
-    Ok(OutSegment {
-        segment: Played::of_ad(Shared::new(alloc, segment)?),
-        media: 8,
-        discontinuity: 4,
-        steps: 1,
-        time: None,
-    })
-}
-
-// Its second segment, which is encrypted.
-fn encrypted_item<'a>(alloc: Global) -> Result<OutSegment<'a>, AllocError> {
-    let mut segment = ad_segment(alloc, "http://ads.example/a1.m4s")?;
-    segment.keys = Items::from_vec(vec![in alloc; drm_key(alloc)?]?);
-    Ok(OutSegment {
-        segment: Played::of_ad(Shared::new(alloc, segment)?),
-        media: 9,
-        discontinuity: 4,
-        steps: 0,
-        time: None,
-    })
-}
-
-fn segments<'a>(alloc: Global, origin: &'a Segment) -> Result<Items<OutSegment<'a>>, AllocError> {
-    let mut segments = Vec::new(alloc);
-    segments.push(origin_item(origin))?;
-    segments.push(clear_item(alloc)?)?;
-    segments.push(encrypted_item(alloc)?)?;
-    Ok(Items::from_vec(segments))
-}
-
-fn playlist_of<'a>(
-    alloc: Global,
-    version: u64,
-    date_range: &'a Text,
-    segments: Items<OutSegment<'a>>,
-) -> Result<OutPlaylist<'a>, AllocError> {
-    Ok(OutPlaylist {
-        version,
-        target: 10,
-        kind: Some(PlaylistKind::Event),
-        independent: true,
-        ended: true,
-        date_ranges: Items::from_vec(vec![in alloc; OriginText::new(date_range)]?),
-        segments,
-    })
+    Ok(segment)
 }
 
 // What a playlist borrows.
@@ -201,30 +73,51 @@ struct Sources {
 fn sources_with(alloc: Global, date_range: &str) -> Result<Sources, AllocError> {
     let date_range = Text::copy_of(alloc, date_range)?;
     Ok(Sources {
-        origin: origin_segment(alloc)?,
+        origin: encrypted(alloc)?,
         date_range,
     })
 }
 
-fn playlist(alloc: Global, sources: &Sources, version: u64) -> Result<OutPlaylist<'_>, AllocError> {
-    let segments = segments(alloc, &sources.origin)?;
-    playlist_of(alloc, version, &sources.date_range, segments)
+fn item(segment: &Segment) -> OutSegment<'_> {
+    OutSegment {
+        segment: Played::of_origin(segment),
+        media: 7,
+        discontinuity: 3,
+        steps: 1,
+        time: Some(Instant(1_714_564_800_000_000_000)),
+    }
 }
 
-fn is_well_formed_of(alloc: Global, sources: &Sources, version: u64) -> Result<bool, AllocError> {
-    playlist(alloc, sources, version)?.well_formed(alloc)
+// So many segments.
+fn items(
+    segment: &Segment,
+    alloc: Global,
+    count: usize,
+) -> Result<Vec<OutSegment<'_>>, AllocError> {
+    let mut items = Vec::new(alloc);
+    for _ in 0..count {
+        items.push(item(segment))?;
+    }
+    Ok(items)
 }
 
-fn is_well_formed(alloc: Global, version: u64, date_range: &str) -> Result<bool, AllocError> {
-    let sources = sources_with(alloc, date_range)?;
-    is_well_formed_of(alloc, &sources, version)
-}
-
-#[test]
-fn well_formed(rt: HostRuntime) {
-    assert!(rt; matches!(is_well_formed(rt.alloc(), 7, DATE_RANGE), Ok(true)));
-    assert!(rt; matches!(is_well_formed(rt.alloc(), 5, DATE_RANGE), Ok(false)));
-    assert!(rt; matches!(is_well_formed(rt.alloc(), 6, "START-DATE=x"), Ok(false)));
+fn playlist(
+    alloc: Global,
+    sources: &Sources,
+    version: u64,
+    count: usize,
+) -> Result<OutPlaylist<'_>, AllocError> {
+    let segments = Items::from_vec(items(&sources.origin, alloc, count)?);
+    let date_ranges = Items::from_vec(vec![in alloc; OriginText::new(&sources.date_range)]?);
+    Ok(OutPlaylist {
+        version,
+        target: 10,
+        kind: Some(PlaylistKind::Event),
+        independent: true,
+        ended: true,
+        date_ranges,
+        segments,
+    })
 }
 
 // Whether a sink that takes at most so many bytes a call has the whole text.
@@ -232,23 +125,6 @@ fn takes_all(alloc: Global, playlist: &OutPlaylist<'_>, most: usize) -> Result<b
     let mut sink = Taken::new(alloc, ROOM, most.max(1), 0)?;
     write(alloc, playlist, &mut sink)?;
     Ok(sink.bytes() == WRITTEN.as_bytes())
-}
-
-fn is_written_of(alloc: Global, sources: &Sources, most: usize) -> Result<bool, WriteFault> {
-    let playlist = playlist(alloc, sources, 7)?;
-    takes_all(alloc, &playlist, most)
-}
-
-fn is_written(alloc: Global, most: usize) -> Result<bool, WriteFault> {
-    let sources = sources_with(alloc, DATE_RANGE)?;
-    is_written_of(alloc, &sources, most)
-}
-
-#[test]
-fn written(rt: HostRuntime) {
-    assert!(rt; matches!(is_written(rt.alloc(), 7), Ok(true)));
-    assert!(rt; matches!(is_written(rt.alloc(), 1), Ok(true)));
-    assert!(rt; matches!(is_written(rt.alloc(), ROOM), Ok(true)));
 }
 
 // Whether a sink that takes a byte a call, and fails after so many, has the front of the text.
@@ -273,49 +149,26 @@ fn stops_after_each(alloc: Global, playlist: &OutPlaylist<'_>) -> Result<bool, A
     Ok(true)
 }
 
-fn stops_after_each_of(alloc: Global, sources: &Sources) -> Result<bool, AllocError> {
-    let playlist = playlist(alloc, sources, 7)?;
-    stops_after_each(alloc, &playlist)
-}
-
-fn stops_after_each_byte(alloc: Global) -> Result<bool, AllocError> {
-    let sources = sources_with(alloc, DATE_RANGE)?;
-    stops_after_each_of(alloc, &sources)
-}
-
-#[test]
-fn written_up_to_each_call_that_fails(rt: HostRuntime) {
-    assert!(rt; matches!(stops_after_each_byte(rt.alloc()), Ok(true)));
-}
-
-// A playlist whose text is longer than two pieces, and shorter than three.
-fn long_playlist(alloc: Global, sources: &Sources) -> Result<OutPlaylist<'_>, AllocError> {
-    let mut segments = Vec::new(alloc);
-    for _ in 0..1_500 {
-        segments.push(origin_item(&sources.origin))?;
-    }
-    playlist_of(alloc, 7, &sources.date_range, Items::from_vec(segments))
-}
-
 // How many bytes a sink that takes all that is offered has up to the call that fails, where they are the text's front.
 fn taken_before(
     alloc: Global,
     playlist: &OutPlaylist<'_>,
     text: &[u8],
     fail: u64,
-) -> Result<Option<usize>, AllocError> {
+) -> Result<usize, AllocError> {
     let mut sink = Taken::new(alloc, LONG_ROOM, LONG_ROOM, fail)?;
     let _ = write(alloc, playlist, &mut sink);
     let taken = sink.bytes();
-    Ok(text.starts_with(taken).then_some(taken.len()))
+    Ok(if text.starts_with(taken) {
+        taken.len()
+    } else {
+        0
+    })
 }
 
 // Whether what was taken between is 64 KiB, and less than a few lines more.
-fn is_piece(before: Option<usize>, after: Option<usize>) -> bool {
-    match (before, after) {
-        (Some(before), Some(after)) => { (65_536..66_560).contains(&after.saturating_sub(before)) }
-        _ => false,
-    }
+fn is_piece(before: usize, after: usize) -> bool {
+    (65_536..66_560).contains(&after.saturating_sub(before))
 }
 
 // Whether a text is taken in two pieces and a rest.
@@ -327,7 +180,7 @@ fn is_taken_in_pieces(
     let one = taken_before(alloc, playlist, text, 2)?;
     let two = taken_before(alloc, playlist, text, 3)?;
     let three = taken_before(alloc, playlist, text, 4)?;
-    Ok(is_piece(Some(0), one) && is_piece(one, two) && three == Some(text.len()))
+    Ok(is_piece(0, one) && is_piece(one, two) && three == text.len())
 }
 
 fn is_in_pieces(alloc: Global, playlist: &OutPlaylist<'_>) -> Result<bool, AllocError> {
@@ -335,17 +188,64 @@ fn is_in_pieces(alloc: Global, playlist: &OutPlaylist<'_>) -> Result<bool, Alloc
     is_taken_in_pieces(alloc, playlist, text.as_str().as_bytes())
 }
 
-fn is_in_pieces_of(alloc: Global, sources: &Sources) -> Result<bool, AllocError> {
-    let playlist = long_playlist(alloc, sources)?;
-    is_in_pieces(alloc, &playlist)
+// What is asked of a playlist.
+#[derive(Clone, Copy)]
+enum Asked {
+    WellFormed,
+    TakenAtMost(usize),
+    StoppedAfterEachByte,
+    InPieces,
 }
 
-fn comes_in_pieces(alloc: Global) -> Result<bool, AllocError> {
-    let sources = sources_with(alloc, DATE_RANGE)?;
-    is_in_pieces_of(alloc, &sources)
+fn answer(alloc: Global, playlist: &OutPlaylist<'_>, asked: Asked) -> Result<bool, WriteFault> {
+    match asked {
+        Asked::WellFormed => Ok(playlist.well_formed(alloc)?),
+        Asked::TakenAtMost(most) => takes_all(alloc, playlist, most),
+        Asked::StoppedAfterEachByte => Ok(stops_after_each(alloc, playlist)?),
+        Asked::InPieces => Ok(is_in_pieces(alloc, playlist)?),
+    }
 }
+
+fn answer_of(
+    alloc: Global,
+    sources: &Sources,
+    version: u64,
+    count: usize,
+    asked: Asked,
+) -> Result<bool, WriteFault> {
+    let playlist = playlist(alloc, sources, version, count)?;
+    answer(alloc, &playlist, asked)
+}
+
+// What the playlist of this version and date range and so many segments answers.
+fn answer_with(
+    alloc: Global,
+    date_range: &str,
+    version: u64,
+    count: usize,
+    asked: Asked,
+) -> Result<bool, WriteFault> {
+    let sources = sources_with(alloc, date_range)?;
+    answer_of(alloc, &sources, version, count, asked)
+}
+
+// The date range and the version of a playlist of so many segments, what is asked of it, and what it answers. The text of
+// 1,200 segments is longer than two pieces, and shorter than three.
+static ASKED: [(&str, u64, usize, Asked, bool); 8] = [
+    (DATE_RANGE, 7, 1, Asked::WellFormed, true),
+    (DATE_RANGE, 5, 1, Asked::WellFormed, false),
+    ("START-DATE=x", 6, 1, Asked::WellFormed, false),
+    (DATE_RANGE, 7, 1, Asked::TakenAtMost(7), true),
+    (DATE_RANGE, 7, 1, Asked::TakenAtMost(1), true),
+    (DATE_RANGE, 7, 1, Asked::TakenAtMost(ROOM), true),
+    (DATE_RANGE, 7, 1, Asked::StoppedAfterEachByte, true),
+    (DATE_RANGE, 7, 1_200, Asked::InPieces, true),
+];
 
 #[test]
-fn written_in_pieces(rt: HostRuntime) {
-    assert!(rt; matches!(comes_in_pieces(rt.alloc()), Ok(true)));
+fn playlists(rt: HostRuntime) {
+    for (date_range, version, count, asked, owed) in ASKED.iter() {
+        let found = answer_with(rt.alloc(), date_range, *version, *count, *asked);
+        assert!(rt; found == Ok(*owed), "{date_range} {version} {count}");
+    }
 }

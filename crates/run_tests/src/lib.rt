@@ -1,5 +1,0 @@
-//! Tests of whole runs: what no clause says, and each public call once.
-#![tactic(auto)]
-
-#[cfg(test)]
-mod runs;
