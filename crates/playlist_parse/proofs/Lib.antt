@@ -5,4 +5,5 @@ pub mod LineLemmas
 pub mod Places
 pub mod PlainLines
 pub mod Reached
+pub mod TagNames
 pub mod DateRangeLemmas

@@ -1,11 +1,11 @@
 //! A playlist as far as it has been read, and what each tag adds to it.
-ghost use Rattle.std.specs.Prelude.{◌≡◌, [], ◌∷◌, true, false, Some, None, Ok, Err};
+ghost use Rattle.std.specs.Prelude.{◌≡◌, [], ◌∷◌, true, false, not, Some, None, Ok, Err, is_none, unwrap_or};
 ghost use Rattle.std.specs.List.{list_any, list_all};
-ghost use Rattle.playlist_meaning.specs.Reading.{said_by, said_by_kind, said_by_tag, said_by_uri, has_section};
+ghost use Rattle.playlist_meaning.specs.Reading.{said_by, said_by_kind, said_by_tag, said_by_uri, has_section, are_mixed};
 ghost use Rattle.playlist_meaning.specs.Lines as kinds;
 ghost use Rattle.playlist_meaning.specs.Lines.{has_control};
 ghost use Rattle.playlist_meaning.specs.Said as said;
-ghost use Rattle.playlist_meaning.specs.Said.{number, version_of, playlist_type_of};
+ghost use Rattle.playlist_meaning.specs.Said.{number, version_of, playlist_type_of, refuse_if};
 ghost use Rattle.playlist_meaning.specs.Reading.{limited};
 ghost use Rattle.playlist_parse.specs.Progress.{progress_at, Takes, Ends};
 
@@ -255,9 +255,9 @@ impl<'a> Progress<'a> {
         Ok(())
     }
 
-    /// The playlist, where the text as a whole has no fault: `NoTarget`, `NoSegments`, `MixedMaps`.
-    pub fn playlist(self) -> Result<Playlist, FaultKind>
-        ensures { Ends self.entry result }
+    // The target duration, where the text as a whole has no fault.
+    fn target_of_whole(&self) -> Result<u64, FaultKind>
+        ensures { result ≡ refuse_if (is_none self.now.heading.target) FaultKind.NoTarget (refuse_if (not self.now.heading.has_media) FaultKind.NoSegments (refuse_if (are_mixed self.now.segments) FaultKind.MixedMaps (Ok (unwrap_or self.now.heading.target 0)))) }
     {
         let Some(target) = self.target else {
             return Err(FaultKind::NoTarget);
@@ -265,9 +265,17 @@ impl<'a> Progress<'a> {
         if !self.has_media {
             return Err(FaultKind::NoSegments);
         }
-        if is_any_mapped(self.segments.as_slice()) && !are_all_mapped(self.segments.as_slice()) {
+        if are_mixed(self.segments.as_slice()) {
             return Err(FaultKind::MixedMaps);
         }
+        Ok(target)
+    }
+
+    /// The playlist, where the text as a whole has no fault: `NoTarget`, `NoSegments`, `MixedMaps`.
+    pub fn playlist(self) -> Result<Playlist, FaultKind>
+        ensures { Ends self.entry result }
+    {
+        let target = self.target_of_whole()?;
         Ok(Playlist {
             version: self.version.unwrap_or(1),
             target,
@@ -331,4 +339,11 @@ fn are_all_mapped(segments: &[Shared<Segment>]) -> bool
     segments
         .iter()
         .all(|s: &Shared<Segment>| s.section.is_some())
+}
+
+// Whether some segments have an initialisation section, and others have none.
+fn are_mixed(segments: &[Shared<Segment>]) -> bool
+    ensures { result ≡ are_mixed segments.now }
+{
+    is_any_mapped(segments) && !are_all_mapped(segments)
 }

@@ -2,7 +2,7 @@
 ghost use Rattle.std.specs.Prelude.{◌≡◌, codes};
 ghost use Rattle.attr_list.specs.Attributes.{attribute};
 ghost use Rattle.playlist_meaning.specs.Said as said;
-ghost use Rattle.playlist_meaning.specs.Said.{iv_of, key_tag_said, uri_of, set_key, key_said, section_said, section_byte_range, byte_range_of, or_fault};
+ghost use Rattle.playlist_meaning.specs.Said.{iv_of, key_tag_said, uri_of, set_key, key_said, section_said, section_byte_range, byte_range_of, stated_byte_range, or_fault};
 ghost use Rattle.attr_list.specs.Numbers.{decimal_of};
 ghost use Rattle.playlist_meaning.specs.Reading.{limited};
 ghost use Rattle.playlist_meaning.specs.Refusals.{Gives};
@@ -103,8 +103,13 @@ pub fn byte_range_of(text: &str) -> Result<(u64, Option<u64>), FaultKind>
     let Some((length, offset)) = text.split_once('@') else {
         return Ok((decimal(text)?, None));
     };
-    let length = decimal(length)?;
-    let offset = decimal(offset)?;
+    stated_byte_range(decimal(length)?, decimal(offset)?)
+}
+
+// A byte range of this length at this offset.
+fn stated_byte_range(length: u64, offset: u64) -> Result<(u64, Option<u64>), FaultKind>
+    ensures { result ≡ stated_byte_range length offset }
+{
     if length.checked_add(offset).is_none() {
         return Err(FaultKind::BadRange);
     }
