@@ -1,3 +1,4 @@
 pub mod Apart
+pub mod Fronts
 pub mod Lines
 pub mod Names

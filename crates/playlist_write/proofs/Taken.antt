@@ -2,7 +2,7 @@
 use Rattle.std.proofs.Common.{subst, ◌≡◌, ℕ, ◌+◌, ◌-◌, List, [], ◌++◌, take, drop, length, refl, ap, sym, ◌∙◌, arith, append_assoc, append-nil, length-append}
 use Rattle.std.proofs.lemmas.List.{take_at, take-append-drop}
 use Rattle.std.proofs.Math.Seq.{take-append-add}
-use Rattle.std.specs.Prelude.{Option, Some, None, Result, Ok, Err, OnErr}
+use Rattle.std.specs.Prelude.{Option, Some, None, Result, Ok, Err, OnOk, OnErr}
 use Rattle.std.specs.Io.KnownBytes.{Appends}
 use Rattle.devices.specs.Handed.{TookFront}
 use Rattle.playlist_write.specs.Taken.{TookAllBut}
@@ -86,6 +86,15 @@ pub on_err : {A E : Type 0} (r : Result A E) (P : Type 0) → P → OnErr r P
 on_err (Ok x) P p = tt
 on_err (Err e) P p = p
 
+-- what follows from what holds of success, or of an error
+pub ok_with : {A E : Type 0} (r : Result A E) (P Q : Type 0) → (P → Q) → OnOk r P → OnOk r Q
+ok_with (Ok x) P Q f p = f p
+ok_with (Err e) P Q f p = tt
+
+pub err_with : {A E : Type 0} (r : Result A E) (P Q : Type 0) → (P → Q) → OnErr r P → OnErr r Q
+err_with (Ok x) P Q f p = tt
+err_with (Err e) P Q f p = f p
+
 -- a text in three parts: the first is held with its front, and what is held after each part is less by what was taken
 two_parts : (a b c : Option (List ℕ)) (front date_ranges held segments last : List ℕ) → TookAllBut a b held (front ++ date_ranges) → TookAllBut b c last (held ++ segments)
     → TookAllBut a c last ((front ++ date_ranges) ++ segments)
@@ -105,27 +114,21 @@ front_in_segments a b c front date_ranges held segments end text e h g =
     let took = then_front a b c ((front ++ date_ranges) ++ segments) (held ++ segments) (with_later a b (front ++ date_ranges) held segments h) g in
     subst (λ t. TookFront a c t) (in_parts front date_ranges segments end ∙ e) (front_of_longer a c ((front ++ date_ranges) ++ segments) end took)
 
-pub front_before_end : (a b c : Option (List ℕ)) (front date_ranges held segments last end text : List ℕ) → front ++ (date_ranges ++ (segments ++ end)) ≡ text
-    → TookAllBut a b held (front ++ date_ranges) → TookAllBut b c last (held ++ segments) → TookFront a c text
-front_before_end a b c front date_ranges held segments last end text e h g =
-    let took = front_taken a c ((front ++ date_ranges) ++ segments) last (two_parts a b c front date_ranges held segments last h g) in
-    subst (λ t. TookFront a c t) (in_parts front date_ranges segments end ∙ e) (front_of_longer a c ((front ++ date_ranges) ++ segments) end took)
+before_last : (a b c : Option (List ℕ)) (front date_ranges held segments last end text : List ℕ) → front ++ (date_ranges ++ (segments ++ end)) ≡ text
+    → TookAllBut a b held (front ++ date_ranges) → TookAllBut b c last (held ++ segments) → TookAllBut a c (last ++ end) text
+before_last a b c front date_ranges held segments last end text e h g =
+    subst (λ t. TookAllBut a c (last ++ end) t) (in_parts front date_ranges segments end ∙ e)
+    (with_later a c ((front ++ date_ranges) ++ segments) last end (two_parts a b c front date_ranges held segments last h g))
 
-before_last : (a b c : Option (List ℕ)) (front date_ranges held segments last end text rest : List ℕ) → front ++ (date_ranges ++ (segments ++ end)) ≡ text
-    → TookAllBut a b held (front ++ date_ranges) → TookAllBut b c last (held ++ segments) → rest ≡ last ++ end → TookAllBut a c rest text
-before_last a b c front date_ranges held segments last end text rest e h g r =
-    let took = with_later a c ((front ++ date_ranges) ++ segments) last end (two_parts a b c front date_ranges held segments last h g) in
-    subst (λ l. TookAllBut a c l text) (sym r) (subst (λ t. TookAllBut a c (last ++ end) t) (in_parts front date_ranges segments end ∙ e) took)
+pub front_in_last : (a b c d : Option (List ℕ)) (front date_ranges held segments last end text : List ℕ) → front ++ (date_ranges ++ (segments ++ end)) ≡ text
+    → TookAllBut a b held (front ++ date_ranges) → TookAllBut b c last (held ++ segments) → TookFront c d (last ++ end) → TookFront a d text
+front_in_last a b c d front date_ranges held segments last end text e h g f =
+    then_front a c d text (last ++ end) (before_last a b c front date_ranges held segments last end text e h g) f
 
-pub front_in_last : (a b c d : Option (List ℕ)) (front date_ranges held segments last end text rest : List ℕ) → front ++ (date_ranges ++ (segments ++ end)) ≡ text
-    → TookAllBut a b held (front ++ date_ranges) → TookAllBut b c last (held ++ segments) → rest ≡ last ++ end → TookFront c d rest → TookFront a d text
-front_in_last a b c d front date_ranges held segments last end text rest e h g r f =
-    then_front a c d text rest (before_last a b c front date_ranges held segments last end text rest e h g r) f
-
-pub whole_text : (a b c d : Option (List ℕ)) (front date_ranges held segments last end text rest : List ℕ) → front ++ (date_ranges ++ (segments ++ end)) ≡ text
-    → TookAllBut a b held (front ++ date_ranges) → TookAllBut b c last (held ++ segments) → rest ≡ last ++ end → Appends c d rest → Appends a d text
-whole_text a b c d front date_ranges held segments last end text rest e h g r f =
-    took_all a d text (then_taken a c d text rest [] (before_last a b c front date_ranges held segments last end text rest e h g r) (all_taken c d rest f))
+pub whole_text : (a b c d : Option (List ℕ)) (front date_ranges held segments last end text : List ℕ) → front ++ (date_ranges ++ (segments ++ end)) ≡ text
+    → TookAllBut a b held (front ++ date_ranges) → TookAllBut b c last (held ++ segments) → Appends c d (last ++ end) → Appends a d text
+whole_text a b c d front date_ranges held segments last end text e h g f =
+    took_all a d text (then_taken a c d text (last ++ end) [] (before_last a b c front date_ranges held segments last end text e h g) (all_taken c d (last ++ end) f))
 
 -- a text in its four parts, each of which is told in other words
 pub as_parts : (front first header r date_ranges s segments end : List ℕ) → front ≡ first ++ header → r ≡ date_ranges → s ≡ segments

@@ -6,7 +6,7 @@ ghost use Rattle.std.specs.Io.KnownBytes.{Appends};
 ghost use Rattle.url.specs.Parts.{Parts};
 ghost use Rattle.devices.specs.Devices.{FailedAtLast, NoneFailed};
 ghost use Rattle.playlist_meaning.specs.Reading.{Denotes};
-ghost use Rattle.playlist_write.specs.Owed.{text_of, said_text, header_owed, with_feed};
+ghost use Rattle.playlist_write.specs.Owed.{text_of, said_text, header_owed, ended_owed, with_feed};
 ghost use Rattle.playlist_write.specs.WellFormed.{well_formed};
 ghost use Rattle.playlist_write.specs.Denoted.{denoted};
 ghost use Rattle.devices.specs.Handed.{TookFront};
@@ -131,6 +131,36 @@ pub fn written(alloc: Global, playlist: &OutPlaylist<'_>) -> Result<Text, AllocE
     Ok(Text::from_string(make_text(alloc, playlist)?))
 }
 
+// Adds the end to what is held, and hands all of it out.
+fn write_end<S: Sink>(held: &mut String, ended: bool, sink: &mut S) -> Result<(), WriteFault>
+    ensures ok { OnOk result (Appends (S.contents sink.old) (S.contents sink.new) (string_bytes held.old ++ said_text (ended_owed ended))) }
+    ensures err { OnErr result (TookFront (S.contents sink.old) (S.contents sink.new) (string_bytes held.old ++ said_text (ended_owed ended))) }
+    ensures unfailed { OnOk result (NoneFailed (S.failed sink.old) (S.failed sink.new)) }
+    ensures io { IsErrOf result WriteFault.Io → FailedAtLast (S.failed sink.old) (S.failed sink.new) }
+    ensures memory { IsErrOf result WriteFault.OutOfMemory → NoneFailed (S.failed sink.old) (S.failed sink.new) }
+{
+    push_end(held, ended)?;
+    Ok(hand_out(held.as_bytes(), sink)?)
+}
+
+// Makes the text of a playlist, and hands it out in pieces.
+fn write_text<S: Sink>(
+    alloc: Global,
+    playlist: &OutPlaylist<'_>,
+    sink: &mut S,
+) -> Result<(), WriteFault>
+    ensures ok { OnOk result (Appends (S.contents sink.old) (S.contents sink.new) (text_of playlist.now)) }
+    ensures err { OnErr result (TookFront (S.contents sink.old) (S.contents sink.new) (text_of playlist.now)) }
+    ensures unfailed { OnOk result (NoneFailed (S.failed sink.old) (S.failed sink.new)) }
+    ensures io { IsErrOf result WriteFault.Io → FailedAtLast (S.failed sink.old) (S.failed sink.new) }
+    ensures memory { IsErrOf result WriteFault.OutOfMemory → NoneFailed (S.failed sink.old) (S.failed sink.new) }
+{
+    let mut held = front_of(alloc, PIECE_ROOM, playlist)?;
+    write_date_ranges(&mut held, playlist.date_ranges.as_slice(), sink)?;
+    write_segments(&mut held, playlist.segments.as_slice(), sink)?;
+    write_end(&mut held, playlist.ended, sink)
+}
+
 #[tactic(auto, using(crate::proofs::Whole::text_denotes))]
 /// Writes a playlist: its whole text, or a front of it where the sink fails or memory is refused. It holds no more of
 /// the text than 64 KiB and the lines of one segment or date range.
@@ -151,9 +181,5 @@ pub fn write<S: Sink>(
     ensures io { IsErrOf result WriteFault.Io → FailedAtLast (S.failed sink.old) (S.failed sink.new) }
     ensures memory { IsErrOf result WriteFault.OutOfMemory → NoneFailed (S.failed sink.old) (S.failed sink.new) }
 {
-    let mut held = front_of(alloc, PIECE_ROOM, playlist)?;
-    write_date_ranges(&mut held, playlist.date_ranges.as_slice(), sink)?;
-    write_segments(&mut held, playlist.segments.as_slice(), sink)?;
-    push_end(&mut held, playlist.ended)?;
-    Ok(hand_out(held.as_bytes(), sink)?)
+    write_text(alloc, playlist, sink)
 }

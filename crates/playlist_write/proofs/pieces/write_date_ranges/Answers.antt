@@ -1,7 +1,7 @@
 use Rattle.std.proofs.Common.{◌≡◌, ◌+◌, ◌++◌, drop, arith, string_bytes}
 use Rattle.std.proofs.lemmas.Grind.{common_steps}
 use Rattle.playlist_write.specs.Owed.{date_ranges_text}
-use Rattle.playlist_write.proofs.Taken.{taken_of_held, front_of_held, on_err}
+use Rattle.playlist_write.proofs.Taken.{taken_of_held, front_of_held, front_taken, on_err}
 use Rattle.playlist_write.proofs.pieces.write_date_ranges.Goals as goal
 
 pub returns-in_err-hand_out_piece-clause-err : goal.returns-in_err-hand_out_piece-clause-err
@@ -20,3 +20,6 @@ loop-date_range-preserved g c =
       taken = taken_of_held _ _ _ _ _ (string_bytes c.push_date_range.new.out) later _ c.loop-date_range.invariant.taken held c.in_ok-hand_out_piece.ensures.ok;
       failed = grind arith;
     }
+
+pub returns-in_err-push_date_range-clause-err : goal.returns-in_err-push_date_range-clause-err
+returns-in_err-push_date_range-clause-err g c = on_err c.from_residual.result _ (front_taken _ _ _ _ c.loop-date_range.invariant.taken)

@@ -3,7 +3,7 @@ use Rattle.std.proofs.lemmas.Grind.{common_steps}
 use Rattle.std.specs.Option.{option_copied}
 use Rattle.playlist_meaning.specs.LookBack.{or_earlier}
 use Rattle.playlist_write.specs.Owed.{said_text, segments_owed}
-use Rattle.playlist_write.proofs.Taken.{taken_of_held, front_of_held, on_err}
+use Rattle.playlist_write.proofs.Taken.{taken_of_held, front_of_held, front_taken, on_err}
 use Rattle.playlist_write.proofs.pieces.write_segments.Goals as goal
 
 pub returns-in_err-hand_out_piece-clause-err : goal.returns-in_err-hand_out_piece-clause-err
@@ -25,3 +25,6 @@ loop-next-preserved g c =
       taken = taken_of_held _ _ _ _ _ (string_bytes c.push_segment.new.out) later _ c.loop-next.invariant.taken held c.in_ok-hand_out_piece.ensures.ok;
       failed = grind arith;
     }
+
+pub returns-in_err-push_segment-clause-err : goal.returns-in_err-push_segment-clause-err
+returns-in_err-push_segment-clause-err g c = on_err c.from_residual.result _ (front_taken _ _ _ _ c.loop-next.invariant.taken)
