@@ -10,12 +10,13 @@ ghost use Rattle.live_meaning.specs.Successor.{is_mapped};
 
 use crate::refresh::{accept, next_of, next_of_owned};
 use crate::types_say::know_pods;
+use base_uris::{Base, BaseFault};
 use break_finder::{Knowledge, Why};
 use decision_files::read_decisions;
 use fixed_duration::Nanos;
 use live_meaning::RefreshFault;
 use live_window::{State, is_mapped};
-use playlist_meaning::{Base, BaseFault, Items, Playlist, Shared, Text};
+use playlist_meaning::{Items, Playlist, Shared, Text};
 use pod_store::{DecisionFault, PodStore};
 use std::alloc::{AllocError, Global};
 use std::marker::Model;

@@ -17,13 +17,14 @@ ghost use Rattle.live_window.specs.Listed.{RefusesList};
 use crate::channel::Refreshed;
 use crate::types_say::know_texts;
 use crate::written::{Written, written_of};
+use base_uris::Base;
 use break_finder::Knowledge;
 use fixed_duration::Nanos;
 use live_meaning::RefreshFault;
 use live_window::{
     Showing, State, check_successor, count_before, first_number, fresh_of, from_place, shown_with,
 };
-use playlist_meaning::{Base, Items, Playlist, Shared, Text};
+use playlist_meaning::{Items, Playlist, Shared, Text};
 use playlist_parse::read;
 use std::alloc::Global;
 use stitcher::Marked;

@@ -9,6 +9,3 @@ pub mod LineLaws
 pub mod Pointwise
 pub mod SameParts
 pub mod SameSegments
-pub mod PlainJoin
-pub mod SegmentBytes
-pub mod SegmentRuns

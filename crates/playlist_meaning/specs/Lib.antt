@@ -1,6 +1,5 @@
 pub mod Lines
 pub mod Uri
-pub mod Plain
 pub mod Carried
 pub mod Said
 pub mod LookBack

@@ -1,10 +1,7 @@
 -- What a fault says. Want of memory says nothing of the rest.
 use Rattle.std.specs.Prelude.{◌≡◌, ◌≢◌, ℕ, List, Option, None, Result, Ok, Err, MatchResult}
-use Rattle.url.specs.Parts.{Parts}
 use Rattle.playlist_meaning.specs.declared.FaultKind.{FaultKind}
 use Rattle.playlist_meaning.specs.declared.FaultKind.TheVariants as fault
-use Rattle.playlist_meaning.specs.declared.base.BaseFault.{BaseFault}
-use Rattle.playlist_meaning.specs.declared.base.BaseFault.TheVariants.{BadBase, OutOfMemory, BadUri}
 use Rattle.playlist_meaning.specs.Said.{Outcome}
 
 -- the fault is the outcome's, want of memory apart
@@ -18,13 +15,3 @@ Gives means result outcome = MatchResult result (λ x. outcome ≡ Ok (means x))
 -- the value means what is owed, or the fault is the one owed
 abbrev pub GivesExactly : {A B : Type 0} → (A → B) → Result A FaultKind → Outcome B → Type 0
 GivesExactly means result outcome = MatchResult result (λ x. outcome ≡ Ok (means x)) (λ e. outcome ≡ Err e)
-
-abbrev pub RefusesUri : BaseFault → Option (List ℕ) → Type 0
-RefusesUri BadBase expected = ⊥
-RefusesUri OutOfMemory expected = Unit {0}
-RefusesUri BadUri expected = expected ≡ None
-
-abbrev pub RefusesBase : BaseFault → Option Parts → Type 0
-RefusesBase BadBase expected = expected ≡ None
-RefusesBase OutOfMemory expected = Unit {0}
-RefusesBase BadUri expected = ⊥

@@ -20,7 +20,7 @@ mod limits;
 mod other_attributes;
 mod same;
 
-pub use base::{Base, BaseFault, has_quote, has_scheme, same_resource};
+pub use base::{has_quote, has_scheme, same_resource};
 pub use fault::FaultText;
 pub use in_force::is_iv_needed;
 pub use instants::{Instant, TimeFault, read_instant, write_instant};

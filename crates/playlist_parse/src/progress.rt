@@ -13,8 +13,9 @@ use crate::date_range::date_range_of;
 use crate::line::{LineKind, kind_of};
 use crate::tag::{Tag, tag_of};
 use attr_list::read_decimal;
+use base_uris::Base;
 use playlist_meaning::{
-    Base, DateRange, FaultKind, Items, Playlist, PlaylistKind, Segment, Shared, has_control,
+    DateRange, FaultKind, Items, Playlist, PlaylistKind, Segment, Shared, has_control,
 };
 use segment_state::State;
 use std::alloc::Global;

@@ -9,7 +9,8 @@ ghost use Rattle.playlist_parse.specs.Answers.{Answers, fault_at};
 
 use crate::line::{Lines, has_plain_bytes};
 use crate::progress::Progress;
-use playlist_meaning::{Base, FaultKind, MOST_BYTES, Playlist, PlaylistFault, text_of};
+use base_uris::Base;
+use playlist_meaning::{FaultKind, MOST_BYTES, Playlist, PlaylistFault, text_of};
 use std::alloc::Global;
 
 // A fault at a line. Want of memory stands at none.

@@ -16,10 +16,11 @@ use crate::durations::Durations;
 use crate::keys::{copied_keys, effective_keys, put_key};
 use crate::references::References;
 use crate::tags::{byte_range_of, key_said, section_said};
+use base_uris::Base;
 use fixed_duration::Nanos;
 use playlist_meaning::{
-    Base, ByteRange, FaultKind, InitSection, Instant, Items, Key, KeyTag, Keys, MOST_SEGMENTS,
-    Segment, Shared, Text, is_iv_needed,
+    ByteRange, FaultKind, InitSection, Instant, Items, Key, KeyTag, Keys, MOST_SEGMENTS, Segment,
+    Shared, Text, is_iv_needed,
 };
 use std::alloc::{AllocError, Global};
 use std::marker::Model;

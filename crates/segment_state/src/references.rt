@@ -4,7 +4,8 @@ ghost use Rattle.playlist_meaning.specs.Said.{uri_of};
 ghost use Rattle.playlist_meaning.specs.Refusals.{Gives};
 
 use crate::tags::uri_of;
-use playlist_meaning::{Base, FaultKind, Text};
+use base_uris::Base;
+use playlist_meaning::{FaultKind, Text};
 use std::alloc::Global;
 use std::marker::Model;
 

@@ -11,9 +11,8 @@ ghost use Rattle.segment_state.specs.Tags.{section_tag_said};
 
 use crate::attributes::{attributes_of, optional, required};
 use attr_list::{AttrList, read_decimal, read_hex_u128};
-use playlist_meaning::{
-    Base, BaseFault, ByteRange, FaultKind, Key, KeyTag, OtherAttributes, Shared, Text,
-};
+use base_uris::{Base, BaseFault};
+use playlist_meaning::{ByteRange, FaultKind, Key, KeyTag, OtherAttributes, Shared, Text};
 use std::alloc::Global;
 
 /// The format of a key that states none.

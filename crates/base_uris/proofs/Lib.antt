@@ -1,0 +1,3 @@
+pub mod PlainJoin
+pub mod SegmentBytes
+pub mod SegmentRuns
