@@ -36,8 +36,10 @@ no_name path (b ∷ rest) e uncut = by (cases_lt b 128)
   where
     long : 10 < length path
     long = omega (arith, ap length e, length-drop 10 path)
+
     first : get_or path 10 0 ≡ b
     first = sym (get_or-drop 10 path 0 0) ∙ ap (λ l. get_or l 0 0) e
+
     by : (b < 128) ⊎ (128 ≤ b) → is_name (before_first (λ c. c == 47) (b ∷ rest)) ≡ false
     by (inl low) = absurd (uncut (omega (arith, long)) (IsCharBoundary-before_ascii path 10 long (omega (arith, first, low))))
     by (inr high) = above_ascii b rest high
