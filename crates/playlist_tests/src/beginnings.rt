@@ -4,7 +4,7 @@ use playlist_meaning::{Instant, Items, Segment, Shared, Text, same_segment};
 use std::alloc::{AllocError, Global};
 
 /// A clear segment of this duration and title, which has no section.
-pub fn segment(alloc: Global, duration: Nanos, title: &str) -> Result<Segment, AllocError> {
+pub(crate) fn segment(alloc: Global, duration: Nanos, title: &str) -> Result<Segment, AllocError> {
     Ok(Segment {
         number: 7,
         discontinuity: 0,
