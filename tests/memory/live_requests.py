@@ -61,6 +61,8 @@ def reads_of(*names):
 AB = decisions(("b1", ["a0", "a1"]))
 X = decisions(("b1", ["x0"]))
 Y = decisions(("b2", ["y0"]))
+FALLBACK, LONG_FALLBACK, OTHER_FALLBACK = (json.dumps({"fallback": {"ads": json.loads(it)["breaks"][0]["ads"]}}) for it in (X, AB, Y))
+NO_FALLBACK = json.dumps({"fallback": None})
 # b1 has the segments 1 to 3, and b2 the segment 6
 RANGES = [daterange("b1", 10), daterange("b2", 60, "DURATION=10")]
 OTHER = [make("other"), decide(X, "other"), show(origin_text(0, 2, ranges=RANGES), "other")]
@@ -78,6 +80,7 @@ def later(first):
             origin(6, 7), get("live.m3u8"), get("why"), withdraw("b1"), withdraw("b2"), make()]
 
 
+LENT = [*OTHER, make(), decide(FALLBACK)]
 SHOWN = [*DECIDED, origin(0, 2)]  # s0 and then the pod of b1
 PASSED = [*SHOWN, origin(1, 3)]  # the pod of b1
 
@@ -130,8 +133,13 @@ def refreshes():
     yield case("a refresh that ends", SHOWN, origin(0, 3, ended=True), reply(DONE), later(0))
     rich = [*OTHER, make(), decide(rich_pod())]
     yield case("a refresh of keys, sections and ranges", rich, show(rich_origin()), reply(DONE), [show(rich_origin()), *later(0)])
+    yield case("a first refresh with the fallback", LENT, origin(0, 2), reply(DONE), [decide(NO_FALLBACK), *later(0)])
+    yield case("a refresh that enters both breaks with the fallback", LENT, origin(0, 6), reply(DONE), [decide(NO_FALLBACK), *later(0)])
+    yield case("a refresh that enters a second break with the fallback", [*LENT, origin(0, 3)], origin(1, 6), reply(DONE), [decide(NO_FALLBACK), *later(1)])
     unread, refused = "422 Unprocessable Entity", "409 Conflict"
     top = 2**64 - 2
+    yield case("a refresh with the fallback refused with N10 NumberRange", [*LENT, decide(LONG_FALLBACK)], show(origin_text(0, 1, ranges=RANGES, sequence=top)),
+               reply(refused, "N10 NumberRange\n"), later(1))
     for before, body, status, fault in (
             (SHOWN, origin_text(0, 3, before={3: ["#EXT-X-KEY:METHOD=AES-128"]}), unread, "P12 MissingAttribute line 12"),
             (SHOWN, origin_text(0, 3) + "s4.ts\n", unread, "P17 NoDuration line 14"),
@@ -162,6 +170,10 @@ def files_of_decisions():
     yield case("decisions for which the store grows", [*DECIDED, decide(many(7))], decide(growing), reply(DONE), later(0))
     yield case("a decision on a second break", SHOWN, decide(Y), reply(DONE), later(0))
     yield case("a decision that replaces one of 256", full, decide(decisions(("m7", ["y0"]))), reply(DONE), later(0))
+    yield case("a fallback", made, decide(FALLBACK), reply(DONE), later(0))
+    yield case("a fallback that replaces", [*LENT, origin(0, 2)], decide(OTHER_FALLBACK),
+               reply(DONE), later(0))
+    yield case("no fallback", LENT, decide(NO_FALLBACK), reply(DONE), later(0))
     yield case("a withdrawal", DECIDED, withdraw("b1"), reply(DONE), later(0))
     yield case("a decision after 20,000 spaces", made, decide(" " * 20_000 + AB), reply(DONE), later(0))
     unread, refused = "422 Unprocessable Entity", "409 Conflict"

@@ -3,7 +3,7 @@ use Rattle.std.proofs.Common.{◌≡◌, Bool, true, false, cond, not, ◌&&◌,
 use Rattle.std.specs.Prelude.{Option, ℤ, find, option_map, is_some}
 use Rattle.playlist_meaning.specs.Pods.{Pod}
 use Rattle.pod_store.specs.Pods.{total, pod_fits}
-use Rattle.pod_store.specs.Store.{Entry, pod_for}
+use Rattle.pod_store.specs.Store.{Store, pod_for}
 use Rattle.break_finder.specs.Signals.{is_leaving}
 use Rattle.break_finder.specs.Breaks.{Break, end_of, is_not_past, is_near}
 use Rattle.break_finder.specs.Known.{is_this}
@@ -42,7 +42,7 @@ first_break : (m : Moment) (b : Break) (found : Option Break) (c : Bool) → con
 first_break m b found true = refl
 first_break m b found false = refl
 
-pub first_entered : (m : Moment) (store : List Entry) (breaks : List Break) (instant : ℤ) → taken m.tolerance m.last instant (entrances_in m.target m.mapped store breaks) ≡ option_map id_of (find (enters_break m store instant) breaks)
+pub first_entered : (m : Moment) (store : Store) (breaks : List Break) (instant : ℤ) → taken m.tolerance m.last instant (entrances_in m.target m.mapped store breaks) ≡ option_map id_of (find (enters_break m store instant) breaks)
 first_entered m store [] instant = refl
 first_entered m store (b ∷ later) instant =
     one_break m instant b b.said.start (pod_for store b.id) (entrances_in m.target m.mapped store later) refl

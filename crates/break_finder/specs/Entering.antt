@@ -4,7 +4,7 @@ use Rattle.playlist_meaning.specs.LookBack.{or_earlier}
 use Rattle.playlist_meaning.specs.Pods.{Pod}
 use Rattle.playlist_meaning.specs.Marks.{Mark}
 use Rattle.pod_store.specs.Pods.{total, pod_fits}
-use Rattle.pod_store.specs.Store.{Entry, pod_for, fits}
+use Rattle.pod_store.specs.Store.{Store, pod_for, fits}
 use Rattle.break_finder.specs.declared.why.Why.{Why}
 use Rattle.break_finder.specs.declared.why.Why.TheVariants.{Filled, NotKnown, NoStart, NotSignalled, NotDecided, DoesNotFit, Waiting}
 use Rattle.break_finder.specs.Signals.{is_leaving}
@@ -51,14 +51,14 @@ enters_with m instant b (Some pod) = can_enter m instant b pod
 
 -- it is signalled, decided and fitting, the segment is near its start and before its end, and it isn't the
 -- last one entered
-abbrev pub enters_break : Moment → List Entry → ℤ → Break → Bool
+abbrev pub enters_break : Moment → Store → ℤ → Break → Bool
 enters_break m store instant b = enters_with m instant b (pod_for store b.id)
 
 abbrev pub id_of : Break → List ℕ
 id_of b = b.id
 
 -- the first known break that a segment at this instant enters
-abbrev pub entered : Moment → List Entry → List Break → Option ℤ → Option (List ℕ)
+abbrev pub entered : Moment → Store → List Break → Option ℤ → Option (List ℕ)
 entered m store breaks None = None
 entered m store breaks (Some instant) = option_map id_of (find (enters_break m store instant) breaks)
 
@@ -73,29 +73,29 @@ abbrev pub mark_with : List ℕ → Option Pod → Option Mark
 mark_with id None = None
 mark_with id (Some pod) = Some (record { id = id; pod = pod })
 
-abbrev pub mark_of : List Entry → Option (List ℕ) → Option Mark
+abbrev pub mark_of : Store → Option (List ℕ) → Option Mark
 mark_of store None = None
 mark_of store (Some id) = mark_with id (pod_for store id)
 
 -- a segment's mark, from that of the segment before
-abbrev pub next_mark : Moment → List Entry → List Break → Option ℤ → Option Mark → Option Mark
+abbrev pub next_mark : Moment → Store → List Break → Option ℤ → Option Mark → Option Mark
 next_mark m store breaks instant before =
     or_earlier (continued m breaks instant before) (mark_of store (entered m store breaks instant))
 
 -- ---- why
 
 -- why a known break that isn't filled isn't
-abbrev pub why_said : Said → List ℕ → ℕ → Bool → List Entry → Why
+abbrev pub why_said : Said → List ℕ → ℕ → Bool → Store → Why
 why_said said id target mapped store =
     if is_none said.start then NoStart
     else (if not (is_leaving said.out) then NotSignalled
     else (if is_none (pod_for store id) then NotDecided
     else (if not (fits store id target mapped) then DoesNotFit else Waiting)))
 
-abbrev pub why_known : Option Said → List ℕ → ℕ → Bool → List Entry → Why
+abbrev pub why_known : Option Said → List ℕ → ℕ → Bool → Store → Why
 why_known None id target mapped store = NotKnown
 why_known (Some said) id target mapped store = why_said said id target mapped store
 
 -- the first word that holds
-abbrev pub why : List Break → List ℕ → ℕ → Bool → List Entry → Bool → Why
+abbrev pub why : List Break → List ℕ → ℕ → Bool → Store → Bool → Why
 why breaks id target mapped store filled = if filled then Filled else why_known (said_of breaks id) id target mapped store

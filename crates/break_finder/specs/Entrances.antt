@@ -2,7 +2,7 @@
 use Rattle.std.specs.Prelude.{ℕ, Bool, not, ◌&&◌, ◌||◌, List, [], ◌∷◌, ◌++◌, find, ℤ, pos, ◌+ℤ◌, int_le, int_lt, Option, Some, None, option_map, if◌then◌else◌}
 use Rattle.playlist_meaning.specs.Pods.{Pod}
 use Rattle.pod_store.specs.Pods.{total, pod_fits}
-use Rattle.pod_store.specs.Store.{Entry, pod_for}
+use Rattle.pod_store.specs.Store.{Store, pod_for}
 use Rattle.break_finder.specs.Signals.{is_leaving}
 use Rattle.break_finder.specs.Breaks.{Break, End, end_of, is_not_past, is_near}
 use Rattle.break_finder.specs.Known.{is_this}
@@ -36,7 +36,7 @@ and_later None later = later
 and_later (Some e) later = e ∷ later
 
 -- those of these breaks, in their order
-abbrev pub entrances_in : ℕ → Bool → List Entry → List Break → List Entrance
+abbrev pub entrances_in : ℕ → Bool → Store → List Break → List Entrance
 entrances_in target mapped store [] = []
 entrances_in target mapped store (b ∷ later) =
     and_later (entrance_of target mapped b (pod_for store b.id)) (entrances_in target mapped store later)

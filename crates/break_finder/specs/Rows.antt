@@ -1,11 +1,11 @@
 -- What the worked values of breaks are given.
-use Rattle.std.specs.Prelude.{ℕ, ◌*◌, Bool, true, false, List, [], ◌∷◌, codes, ℤ, pos, ◌+ℤ◌, Option, Some, None, option_map}
+use Rattle.std.specs.Prelude.{ℕ, ◌*◌, Bool, true, false, List, [], ◌∷◌, map, codes, ℤ, pos, ◌+ℤ◌, Option, Some, None, option_map}
 use Rattle.playlist_meaning.specs.declared.DateRange.{DateRange}
 use Rattle.playlist_meaning.specs.declared.Playlist.{Playlist}
-use Rattle.playlist_meaning.specs.Pods.{Pod}
+use Rattle.playlist_meaning.specs.Pods.{Ad, Pod}
 use Rattle.playlist_meaning.specs.Marks.{Mark}
-use Rattle.pod_store.specs.Rows.{pod_ab, clear, segment}
-use Rattle.pod_store.specs.Store.{Entry}
+use Rattle.pod_store.specs.Rows.{pod_ab, clear, segment, without_fallback}
+use Rattle.pod_store.specs.Store.{Store}
 use Rattle.break_finder.specs.declared.why.Why.{Why}
 use Rattle.break_finder.specs.Breaks.{Break}
 use Rattle.break_finder.specs.Known.{known}
@@ -41,8 +41,12 @@ known_of date_ranges = known (record { playlist = plays date_ranges; carried = N
 abbrev pub b1 : DateRange
 b1 = tag (codes "b1") 10 (Some out_30)
 
-abbrev pub store : List Entry
-store = record { id = codes "b1"; pod = pod_ab; used = false } ∷ []
+abbrev pub store : Store
+store = without_fallback (record { id = codes "b1"; pod = pod_ab; used = false; copied = false } ∷ [])
+
+-- no break has a pod of its own
+abbrev pub fallback : Store
+fallback = record { entries = []; fallback = Some pod_ab }
 
 abbrev pub moment : Bool → Option (List ℕ) → Moment
 moment mapped last = record { tolerance = 100000000; target = 10; mapped = mapped; last = last }
@@ -51,11 +55,25 @@ moment mapped last = record { tolerance = 100000000; target = 10; mapped = mappe
 abbrev pub entered_at : Bool → List DateRange → ℕ → Option (List ℕ)
 entered_at mapped date_ranges nanos = entered (moment mapped None) store (known_of date_ranges) (Some (at_nanos nanos))
 
+-- the same where there is a fallback, and this is what else there is
+abbrev pub falls_at : Store → Bool → List DateRange → ℕ → Option (List ℕ)
+falls_at store mapped date_ranges nanos = entered (moment mapped None) store (known_of date_ranges) (Some (at_nanos nanos))
+
 abbrev pub inside_at : List DateRange → ℕ → Bool
 inside_at date_ranges seconds = is_inside (known_of date_ranges) (codes "b1") (Some (at_seconds seconds)) 100000000 pod_ab
 
 abbrev pub why_of : List DateRange → Bool → Why
 why_of date_ranges mapped = why (known_of date_ranges) (codes "b1") 10 mapped store false
+
+abbrev pub why_falls : Store → Bool → Why
+why_falls store mapped = why (known_of (b1 ∷ [])) (codes "b1") 10 mapped store false
+
+-- an ad with an initialisation section, in a fallback beside an own pod without one
+abbrev pub mapped_ab : Pod
+mapped_ab = record { ads = map (λ (ad : Ad). record ad { section = Some (record { uri = codes "http://ads.example/i.mp4"; byte_range = None; keys = [] }) }) pod_ab.ads }
+
+abbrev pub own_beside : Store
+own_beside = record { entries = store.entries; fallback = Some mapped_ab }
 
 -- ---- two breaks
 
@@ -65,8 +83,9 @@ x0 = clear (segment (codes "http://ads.example/x0.ts") 10000000000 ∷ [])
 abbrev pub y0 : Pod
 y0 = clear (segment (codes "http://ads.example/y0.ts") 10000000000 ∷ [])
 
-abbrev pub two_stored : List Entry
-two_stored = record { id = codes "b1"; pod = x0; used = false } ∷ record { id = codes "b2"; pod = y0; used = false } ∷ []
+abbrev pub two_stored : Store
+two_stored =
+    without_fallback (record { id = codes "b1"; pod = x0; used = false; copied = false } ∷ record { id = codes "b2"; pod = y0; used = false; copied = false } ∷ [])
 
 abbrev pub two_known : List Break
 two_known = known_of (lasting 10 b1 ∷ lasting 10 (tag (codes "b2") 20 (Some out_30)) ∷ [])

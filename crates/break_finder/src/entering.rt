@@ -2,7 +2,7 @@
 ghost use Rattle.std.specs.Prelude.{◌≡◌, ◌≤ℤ◌, ◌++◌, ◌∷◌, [], OnOk, ℕ, Bool, true, List, map, option_map, IfOk};
 ghost use Rattle.std.specs.List.{list_all};
 ghost use Rattle.std.specs.Option.{option_copied};
-ghost use Rattle.pod_store.specs.Store.{Entry, pod_for};
+ghost use Rattle.pod_store.specs.Store.{Store, pod_for};
 ghost use Rattle.break_finder.specs.Breaks.{Break};
 ghost use Rattle.break_finder.specs.Ends.{end_view};
 ghost use Rattle.break_finder.specs.Kept.{break_at};
@@ -73,7 +73,7 @@ fn entrance_of<'a>(
     if !is_leaving(said.out) {
         return None;
     }
-    let pod = store.get(id)?;
+    let pod = store.pod_for(id)?;
     if !pod.fits(target, mapped) {
         return None;
     }
@@ -289,7 +289,7 @@ impl<'a> Entrances<'a> {
         tolerance: Nanos,
         last: Option<&str>,
     ) -> Option<&'a str>
-        ensures { (target : ℕ) → (mapped : Bool) → (store : List Entry) → (breaks : List Break)
+        ensures { (target : ℕ) → (mapped : Bool) → (store : Store) → (breaks : List Break)
             → self.now ≡ entrances_in target mapped store breaks
             → option_map (λ id. id.now) result ≡ entered (record { tolerance = tolerance; target = target; mapped = mapped; last = option_copied last.entry }) store breaks instant }
     {

@@ -44,7 +44,7 @@ fn why_said(said: &Said, id: &str, target: u64, mapped: bool, store: &PodStore) 
     if !is_leaving(said.out) {
         return Why::NotSignalled;
     }
-    if store.get(id).is_none() {
+    if store.pod_for(id).is_none() {
         return Why::NotDecided;
     }
     if !store.fits(id, target, mapped) {

@@ -1,5 +1,5 @@
 -- What a decision file says: a function of its JSON value, with the kind and place of the first fault.
-use Rattle.std.specs.Prelude.{ℕ, ◌+◌, ◌^◌, not, ◌==◌, nat_le, nat_lt, List, [], ◌∷◌, map, sum, length, codes, Option, Some, None, Ok, Err, unwrap_or, option_map, bytes_eq}
+use Rattle.std.specs.Prelude.{ℕ, ◌+◌, ◌^◌, not, ◌==◌, nat_le, nat_lt, List, [], ◌∷◌, map, sum, length, codes, Option, Some, None, Ok, Err, is_some, unwrap_or, option_map, bytes_eq, if◌then◌else◌}
 use Rattle.std.specs.List.{list_any}
 use Rattle.std.specs.Str.{is_utf8}
 use Rattle.fixed_duration.specs.Duration.{duration_of}
@@ -9,10 +9,11 @@ use Rattle.playlist_meaning.specs.declared.InitSection.{InitSection}
 use Rattle.playlist_meaning.specs.declared.Key.{Key}
 use Rattle.playlist_meaning.specs.Pods.{PodSegment, Ad, Pod}
 use Rattle.serde_json.specs.Data.{Data}
-use Rattle.serde_json.specs.Find.{get, as_str, as_object}
+use Rattle.serde_json.specs.Find.{get, as_null, as_str, as_object}
 use Rattle.serde_json.specs.Read.{read}
 use Rattle.pod_store.specs.declared.Decisions.{Decisions}
-use Rattle.pod_store.specs.declared.Decisions.TheVariants.{Breaks, Withdraw}
+use Rattle.pod_store.specs.declared.Decisions.TheVariants.{Breaks, Withdraw, Fallback, NoFallback}
+use Rattle.pod_store.specs.declared.fault.DecisionFault.{DecisionFault}
 use Rattle.pod_store.specs.declared.fault.Place.{Place}
 use Rattle.pod_store.specs.declared.fault.DecisionKind.TheVariants.{NotJson, Shape, BadUri, BadDuration, BadKey, EmptyPod, TooMany}
 use Rattle.pod_store.specs.Outcome.{Outcome, ◌>>=◌, nowhere, in_break, in_ad, in_segment, fault_at, or_fault, mended, refuse_if, optional, each_after}
@@ -171,15 +172,32 @@ abbrev pub withdraw_said : Data → Outcome Decisions
 withdraw_said d =
     or_fault (fault_at nowhere Shape) (as_str d) >>= λ id. refuse_if (not (is_id id)) (fault_at nowhere Shape) (Ok (Withdraw id))
 
--- exactly one of `breaks` and `withdraw`
-abbrev pub members_said : Option Data → Option Data → Outcome Decisions
-members_said (Some breaks) None = breaks_said breaks
-members_said None (Some id) = withdraw_said id
-members_said None None = Err (fault_at nowhere Shape)
-members_said (Some breaks) (Some id) = Err (fault_at nowhere Shape)
+-- a fault in an ad of no break
+abbrev pub in_no_break : DecisionFault → DecisionFault
+in_no_break fault = record { kind = fault.kind; place = record { pod = None; ad = fault.place.ad; segment = fault.place.segment } }
+
+abbrev pub of_no_break : {A : Type 0} → Outcome A → Outcome A
+of_no_break (Ok x) = Ok x
+of_no_break (Err fault) = Err (in_no_break fault)
+
+-- the ads are those of a break, and stand in none
+abbrev pub fallback_pod : Data → Outcome Decisions
+fallback_pod d =
+    or_fault (fault_at nowhere Shape) (list_at (codes "ads") d) >>= λ ads. of_no_break (pod_said 0 ads) >>= λ pod. Ok (Fallback pod)
+
+-- null, or the ads of the fallback
+abbrev pub fallback_said : Data → Outcome Decisions
+fallback_said d = if is_some (as_null d) then Ok NoFallback else fallback_pod d
+
+-- exactly one of `breaks`, `withdraw` and `fallback`
+abbrev pub members_said : Option Data → Option Data → Option Data → Outcome Decisions
+members_said (Some breaks) None None = breaks_said breaks
+members_said None (Some id) None = withdraw_said id
+members_said None None (Some pod) = fallback_said pod
+members_said _ _ _ = Err (fault_at nowhere Shape)
 
 abbrev pub value_said : Data → Outcome Decisions
-value_said d = members_said (get (codes "breaks") d) (get (codes "withdraw") d)
+value_said d = members_said (get (codes "breaks") d) (get (codes "withdraw") d) (get (codes "fallback") d)
 
 -- the JSON value of some bytes, as `serde_json` reads it
 abbrev pub json_of : List ℕ → Outcome Data

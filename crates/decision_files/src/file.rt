@@ -3,7 +3,7 @@ ghost use Rattle.std.specs.Prelude.{◌≡◌, ◌∷◌, ◌++◌, [], true, no
 ghost use Rattle.std.specs.List.{list_any};
 ghost use Rattle.serde_json.specs.View.{view};
 ghost use Rattle.pod_store.specs.Outcome.{Gives, GivesExactly, each_after};
-ghost use Rattle.decision_files.specs.Decided.{id_said, break_said, next_break, breaks_said, withdraw_said, value_said, json_of, decisions_of};
+ghost use Rattle.decision_files.specs.Decided.{id_said, pod_said, break_said, next_break, breaks_said, withdraw_said, in_no_break, of_no_break, fallback_pod, fallback_said, value_said, json_of, decisions_of};
 ghost use Rattle.decision_files.specs.Views.{texts_of};
 
 use crate::ads::pod_said;
@@ -11,7 +11,7 @@ use crate::members::{list_at, text_at, values_of};
 use crate::texts::is_id;
 use indexmap::IndexSet;
 use playlist_meaning::{Items, Text, text_of};
-use pod_store::{Decision, DecisionFault, DecisionKind, Decisions, Place};
+use pod_store::{Decision, DecisionFault, DecisionKind, Decisions, Place, Pod};
 use serde_json::Value;
 use std::alloc::Global;
 
@@ -89,12 +89,56 @@ fn withdraw_said(alloc: Global, value: &Value) -> Result<Decisions, DecisionFaul
     Ok(Decisions::Withdraw(Text::copy_of(alloc, id)?))
 }
 
+// The same fault in an ad of no break.
+fn in_no_break(fault: DecisionFault) -> DecisionFault
+    ensures { result ≡ in_no_break fault }
+{
+    let Place { ad, segment, .. } = fault.place;
+    let place = Place {
+        pod: None,
+        ad,
+        segment,
+    };
+    place.fault(fault.kind)
+}
+
+// The pod of these ads, which stand in no break.
+fn pod_outside(alloc: Global, ads: &[Value]) -> Result<Pod, DecisionFault>
+    ensures { Gives (λ pod. pod) result (of_no_break (pod_said 0 (map view ads.now))) }
+{
+    match pod_said(alloc, 0, ads) {
+        Ok(pod) => Ok(pod),
+        Err(fault) => Err(in_no_break(fault)),
+    }
+}
+
+fn fallback_pod(alloc: Global, value: &Value) -> Result<Decisions, DecisionFault>
+    ensures { Gives (λ d. d) result (fallback_pod (view value.now)) }
+{
+    let ads = list_at(value, "ads").ok_or(Place::nowhere().fault(DecisionKind::Shape))?;
+    let pod = pod_outside(alloc, ads)?;
+    Ok(Decisions::Fallback(pod))
+}
+
+fn fallback_said(alloc: Global, value: &Value) -> Result<Decisions, DecisionFault>
+    ensures { Gives (λ d. d) result (fallback_said (view value.now)) }
+{
+    if value.is_null() {
+        return Ok(Decisions::NoFallback);
+    }
+    fallback_pod(alloc, value)
+}
+
 fn value_said(alloc: Global, value: &Value) -> Result<Decisions, DecisionFault>
     ensures { Gives (λ d. d) result (value_said (view value.now)) }
 {
-    match (value.get("breaks"), value.get("withdraw")) {
-        (Some(breaks), None) => breaks_said(alloc, breaks),
-        (None, Some(id)) => withdraw_said(alloc, id),
+    let breaks = value.get("breaks");
+    let withdraw = value.get("withdraw");
+    let fallback = value.get("fallback");
+    match (breaks, withdraw, fallback) {
+        (Some(breaks), None, None) => breaks_said(alloc, breaks),
+        (None, Some(id), None) => withdraw_said(alloc, id),
+        (None, None, Some(pod)) => fallback_said(alloc, pod),
         _ => Err(Place::nowhere().fault(DecisionKind::Shape)),
     }
 }

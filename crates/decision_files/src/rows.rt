@@ -1,5 +1,5 @@
 //! Worked values.
-ghost use Rattle.std.specs.Prelude.{◌≡◌, ◌∷◌, [], codes, Ok, Err};
+ghost use Rattle.std.specs.Prelude.{◌≡◌, ◌∷◌, [], codes, Ok, Err, Some, None};
 ghost use Rattle.pod_store.specs.Outcome.{fault_at, nowhere, in_break, in_ad, in_segment};
 ghost use Rattle.decision_files.specs.Decided.{decisions_of};
 ghost use Rattle.pod_store.specs.Rows.{pod_ab};
@@ -44,4 +44,16 @@ fn ad_rows()
     ensures no_format { decisions_of (with_ad (codes "{\"key\":{\"method\":\"AES-128\",\"uri\":\"http://a/k\",\"iv\":\"0x1\",\"format\":null}}")) ≡ Err (fault_at (in_ad 0 0) DecisionKind.BadKey) }
     ensures key_uri { decisions_of (with_ad (codes "{\"key\":{\"method\":\"AES-128\",\"uri\":\"k\",\"iv\":\"1\"}}")) ≡ Err (fault_at (in_ad 0 0) DecisionKind.BadUri) }
     ensures segments { decisions_of (with_ad (codes "{\"segments\":[]}")) ≡ Err (fault_at (in_ad 0 0) DecisionKind.EmptyPod) }
+{}
+
+/// A fallback: null or an object with ads, and the only member of its kind.
+fn fallback_rows()
+    ensures pod { decisions_of (codes "{\"fallback\":{\"ads\":[{\"segments\":[{\"uri\":\"http://ads.example/a0.ts\",\"duration\":\"8\"},{\"uri\":\"http://ads.example/a1.ts\",\"duration\":\"9.5\"}]}]}}") ≡ Ok (Decisions.Fallback pod_ab) }
+    ensures none { decisions_of (codes "{\"fallback\":null}") ≡ Ok Decisions.NoFallback }
+    ensures empty { decisions_of (codes "{\"fallback\":{\"ads\":[]}}") ≡ Err (fault_at nowhere DecisionKind.EmptyPod) }
+    ensures number { decisions_of (codes "{\"fallback\":7}") ≡ Err (fault_at nowhere DecisionKind.Shape) }
+    ensures no_array { decisions_of (codes "{\"fallback\":{\"ads\":null}}") ≡ Err (fault_at nowhere DecisionKind.Shape) }
+    ensures withdraw { decisions_of (codes "{\"fallback\":null,\"withdraw\":\"b1\"}") ≡ Err (fault_at nowhere DecisionKind.Shape) }
+    ensures breaks { decisions_of (codes "{\"fallback\":null,\"breaks\":[]}") ≡ Err (fault_at nowhere DecisionKind.Shape) }
+    ensures ad { decisions_of (codes "{\"fallback\":{\"ads\":[{\"segments\":[{\"uri\":\"http://a\",\"duration\":\"1\"}]},{\"segments\":[]}]}}") ≡ Err (fault_at (record { pod = None; ad = Some 1; segment = None }) DecisionKind.EmptyPod) }
 {}

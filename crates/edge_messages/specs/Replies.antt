@@ -5,7 +5,7 @@ use Rattle.pod_store.specs.declared.fault.DecisionKind.{DecisionKind}
 use Rattle.pod_store.specs.declared.fault.DecisionKind.TheVariants as decision
 use Rattle.pod_store.specs.FaultTexts.{fault_text}
 use Rattle.pod_store.specs.Outcome.{Outcome}
-use Rattle.pod_store.specs.Store.{Entry}
+use Rattle.pod_store.specs.Store.{Store}
 use Rattle.break_finder.specs.declared.why.Why.{Why}
 use Rattle.break_finder.specs.Breaks.{Break}
 use Rattle.break_finder.specs.Entering.{id_of}
@@ -63,7 +63,7 @@ decision_status decision.Full = 409
 decision_status decision.Unknown = 409
 decision_status _ = 422
 
-abbrev pub decisions_reply : Outcome (List Entry) → Reply
+abbrev pub decisions_reply : Outcome Store → Reply
 decisions_reply (Ok store) = bare 204
 decisions_reply (Err fault) = line (decision_status fault.kind) (fault_text fault)
 

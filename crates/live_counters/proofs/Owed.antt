@@ -7,9 +7,9 @@ use Rattle.playlist_meaning.specs.declared.Playlist.{Playlist}
 use Rattle.playlist_meaning.specs.Marks.{Marked}
 use Rattle.playlist_meaning.specs.LookBack.{or_earlier}
 use Rattle.playlist_meaning.specs.Reading.{reading, limited}
-use Rattle.playlist_meaning.specs.Stitched.{fits, stitched_list}
+use Rattle.playlist_meaning.specs.Stitched.{fits}
 use Rattle.reading_laws.proofs.Whole.{can_be_written}
-use Rattle.pod_store.specs.Store.{Entry}
+use Rattle.pod_store.specs.Store.{Store}
 use Rattle.pod_store.specs.Store.{withdrawn as without_break}
 use Rattle.pod_store.specs.Outcome.{Outcome, Refuses}
 use Rattle.decision_files.specs.Decided.{decisions_of}
@@ -23,15 +23,14 @@ use Rattle.live_meaning.specs.declared.fault.RefreshFault.{RefreshFault}
 use Rattle.live_meaning.specs.declared.fault.RefreshFault.TheVariants.{NumberRange}
 use Rattle.live_meaning.specs.Sound.{IsSoundPlaylist, IsSoundEvent}
 use Rattle.live_meaning.specs.Successor.{Succeeds, first_number, is_mapped, fault_if}
-use Rattle.live_meaning.specs.Live.{Event, Told, told, refusal, number_range_fault, succession_fault, last_playlist, in_use, after_refresh, window_after, owed, owed_for}
+use Rattle.live_meaning.specs.Live.{Event, Told, told, refusal, number_range_fault, succession_fault, last_playlist, list_of, in_use, after_refresh, window_after, owed, owed_for}
 use Rattle.live_meaning.specs.Live as live
 use Rattle.live_meaning.specs.LiveLaws.{GoesOn, first_shown}
 use Rattle.live_meaning.specs.Kept.{Kept, kept_of}
 use Rattle.live_meaning.proofs.InUse.{used_are_in_use}
-use Rattle.live_meaning.proofs.Growth.{only_grows}
-use Rattle.live_meaning.proofs.EachWindow.{each_succeeds}
+use Rattle.live_meaning.proofs.EachWindow.{only_grows, each_succeeds, plain_standing, holds}
 use Rattle.live_meaning.proofs.Decided.{no_fault_succeeds}
-use Rattle.live_meaning.proofs.LiveState.{StandingOf, holds}
+use Rattle.live_meaning.proofs.LiveState.{StandingOf}
 use Rattle.live_laws.proofs.Given.{is_read}
 use Rattle.live_counters.specs.declared.channel.Refreshed.{Refreshed}
 use Rattle.live_counters.specs.Channel.{Channel, Reading, Given, decided, withdrawn, refreshed, readable, decisions_in, events_in, events_of, told_by, StandsFor, judged, refreshed_with, answer_read, owed_answer, fresh_after, after_bytes, ChangesStore, ChangesStoreExactly, Decides, Withdraws, why_by, explained, owed_why_by, Explains, Knows}
@@ -44,22 +43,22 @@ is_ok : {A E : Type 0} (o : Result A E) (x : A) → o ≡ Ok x → IsOk o
 is_ok (Ok y) x h = refl
 is_ok (Err e) x h = absurd (cc)
 
-decides_step : (old new : Channel) (outcome : Outcome (List Entry)) (result : Result (Unit {0}) DecisionFault) → ChangesStore old new result outcome → MatchResult result (λ _. IsOk outcome) (λ e. Refuses e outcome)
+decides_step : (old new : Channel) (outcome : Outcome Store) (result : Result (Unit {0}) DecisionFault) → ChangesStore old new result outcome → MatchResult result (λ _. IsOk outcome) (λ e. Refuses e outcome)
 decides_step old new outcome (Ok u) h = is_ok outcome new.kept.store h.0
 decides_step old new outcome (Err e) h = h.1
 
 pub decides : (old new : Channel) (bytes : List ℕ) (result : Result (Unit {0}) DecisionFault) → ChangesStore old new result (after_bytes old.kept.store bytes) → Decides old bytes result
 decides old new bytes result h given s =
-    subst (λ (store : List Entry). MatchResult result (λ _. IsOk (after_bytes store bytes)) (λ e. Refuses e (after_bytes store bytes))) (ap (λ (k : Kept). k.store) s.kept)
+    subst (λ (store : Store). MatchResult result (λ _. IsOk (after_bytes store bytes)) (λ e. Refuses e (after_bytes store bytes))) (ap (λ (k : Kept). k.store) s.kept)
     (decides_step old new (after_bytes old.kept.store bytes) result h)
 
-withdraws_step : (old new : Channel) (outcome : Outcome (List Entry)) (result : Result (Unit {0}) DecisionFault) → ChangesStoreExactly old new result outcome → MatchResult result (λ _. IsOk outcome) (λ e. outcome ≡ Err e)
+withdraws_step : (old new : Channel) (outcome : Outcome Store) (result : Result (Unit {0}) DecisionFault) → ChangesStoreExactly old new result outcome → MatchResult result (λ _. IsOk outcome) (λ e. outcome ≡ Err e)
 withdraws_step old new outcome (Ok u) h = is_ok outcome new.kept.store h.0
 withdraws_step old new outcome (Err e) h = h.1
 
 pub withdraws : (old new : Channel) (id : List ℕ) (result : Result (Unit {0}) DecisionFault) → ChangesStoreExactly old new result (without_break old.kept.store id) → Withdraws old id result
 withdraws old new id result h given s =
-    subst (λ (store : List Entry). MatchResult result (λ _. IsOk (without_break store id)) (λ e. without_break store id ≡ Err e)) (ap (λ (k : Kept). k.store) s.kept)
+    subst (λ (store : Store). MatchResult result (λ _. IsOk (without_break store id)) (λ e. without_break store id ≡ Err e)) (ap (λ (k : Kept). k.store) s.kept)
     (withdraws_step old new (without_break old.kept.store id) result h)
 
 -- ---- what is known, and why
@@ -71,19 +70,19 @@ first_is : (accepted : List Accepted) (last : Playlist) → last_playlist accept
 first_is [] last e = absurd (cc)
 first_is (a ∷ before) last e = let same : a.playlist ≡ last = cc in ap (λ (p : Playlist). first_number p.segments) same
 
-explain_step : (tolerance : ℕ) (events : List Event) (id : List ℕ) (o : Option Playlist) → last_playlist (told tolerance events).accepted ≡ o
+explain_step : (tolerance : ℕ) (events : List Event) (id : List ℕ) → AllByRecursion IsSoundEvent events → (o : Option Playlist) → last_playlist (told tolerance events).accepted ≡ o
     → why_by o (kept_of (told tolerance events)) id ≡ owed_why_by (told tolerance events) o id
-explain_step tolerance events id None e = refl
-explain_step tolerance events id (Some last) e =
+explain_step tolerance events id sound None e = refl
+explain_step tolerance events id sound (Some last) e =
     let t = told tolerance events in
     ap (λ b. why (known t.accepted) id last.target (is_mapped last.segments) t.store b)
-    (used_are_in_use tolerance events id ∙ ap (λ n. in_use n t.history id) (first_is t.accepted last e))
+    (used_are_in_use tolerance events id sound ∙ ap (λ n. in_use t.start n t.history id) (first_is t.accepted last e))
 
 pub explains : (c : Channel) (id : List ℕ) (result : Why) → result ≡ explained c.kept id → Explains c id result
 explains c id result h given s =
     h
     ∙ (ap (λ (k : Kept). explained k id) s.kept
-    ∙ explain_step c.tolerance (events_of c.base given) id (last_playlist (told_by c.base c.tolerance given).accepted) refl)
+    ∙ explain_step c.tolerance (events_of c.base given) id (all_given c.base given s.typed) (last_playlist (told_by c.base c.tolerance given).accepted) refl)
 
 -- ---- acceptance
 
@@ -122,7 +121,7 @@ module _ (c : Channel) (given : List Given) (bytes : List ℕ) (s : StandsFor c 
 
   follows : (p : Playlist) → reading limited c.base bytes ≡ Ok p → (succession_fault (last_playlist t.accepted) p ≡ None) ↔ SucceedsLast (last_playlist t.accepted) p
   follows p e =
-      succeeds_last t.accepted t.history p (holds c.tolerance (events_of c.base given) (all_given c.base given s.typed)).standing (sound p e) (last_playlist t.accepted) refl
+      succeeds_last t.accepted t.history p (plain_standing t.accepted t.history t.start (holds c.tolerance (events_of c.base given) (all_given c.base given s.typed)).standing) (sound p e) (last_playlist t.accepted) refl
 
   accepted_step : (r : Reading) → reading limited c.base bytes ≡ r → IsOk (answer_read c.tolerance t r) → IsAcceptable c given bytes
   accepted_step (Err fault) e h = absurd (cc)
@@ -132,7 +131,7 @@ module _ (c : Channel) (given : List Given) (bytes : List ℕ) (s : StandsFor c 
         playlist = p;
         read = e;
         succeeds = (follows p e).0 a.0;
-        fits = all_fit (list_all fits (stitched_list (after_refresh c.tolerance t p).history)) a.1;
+        fits = all_fit (list_all fits (list_of (after_refresh c.tolerance t p))) a.1;
       }
 
   answered : IsAcceptable c given bytes → IsOk (owed_answer c given bytes)
@@ -154,9 +153,9 @@ events_after base (g ∷ later) before =
     ap (λ es. events_in base g ++ es) (events_after base later before) ∙ sym (append_assoc (events_in base g) (events_of base later) (events_of base before))
 
 pub stitched_list_grows : StitchedListGrows
-stitched_list_grows base tolerance later before =
-    subst (λ (es : List Event). GoesOn (stitched_list (told tolerance (events_of base before)).history) (stitched_list (told tolerance es).history)) (sym (events_after base later before))
-    (only_grows tolerance (events_of base later) (events_of base before))
+stitched_list_grows base tolerance later before typed =
+    subst (λ (es : List Event). GoesOn (list_of (told tolerance (events_of base before))) (list_of (told tolerance es))) (sym (events_after base later before))
+    (only_grows tolerance (events_of base later) (events_of base before) (subst (λ (es : List Event). AllByRecursion IsSoundEvent es) (events_after base later before) (all_given base (later ++ before) typed)))
 
 same_owed : (old new : Playlist) (o p : Option Playlist) → o ≡ Some old → p ≡ Some new → p ≡ o → (new ≡ old) ⊎ Succeeds new old
 same_owed old new o p e f same = inl (cc)

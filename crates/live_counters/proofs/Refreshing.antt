@@ -1,6 +1,6 @@
 -- A channel after a refresh.
 use Rattle.std.proofs.Common.{◌≡◌, ℕ, Bool, true, false, not, cond, ◌&&◌, ◌||◌, List, [], ◌∷◌, map, refl, ap, sym, ◌∙◌, subst}
-use Rattle.std.specs.Prelude.{Option, Some, None, IsSome, Result, Ok, Err, IsErr, IfErr, option_map, find, nat_le, reverse}
+use Rattle.std.specs.Prelude.{Option, Some, None, IsSome, Result, Ok, Err, IsErr, IfErr, option_map, filter, find, nat_le, reverse}
 use Rattle.std.specs.List.{list_all, list_any, AllByRecursion}
 use Rattle.std.proofs.lemmas.Bool.{and_from}
 use Rattle.url.specs.Parts.{Parts}
@@ -9,18 +9,23 @@ use Rattle.playlist_meaning.specs.declared.Playlist.{Playlist}
 use Rattle.playlist_meaning.specs.Marks.{Marked}
 use Rattle.playlist_meaning.specs.LookBack.{or_earlier}
 use Rattle.playlist_meaning.specs.Reading.{reading, limited}
-use Rattle.playlist_meaning.specs.Stitched.{Numbers, fits, numbered, stitched}
+use Rattle.playlist_meaning.specs.Stitched.{Numbers, fits}
+use Rattle.playlist_meaning.specs.Paced.{Rest as MeantRest}
+use Rattle.playlist_meaning.specs.Pods.{Pod}
 use Rattle.reading_laws.specs.Read.{uris_are_text}
 use Rattle.reading_laws.proofs.Whole.{can_be_written}
-use Rattle.pod_store.specs.Store.{Entry, has_id, pod_for, is_one_of, kept_in_use}
+use Rattle.pod_store.specs.Store.{Entry, Store, has_id, pod_of, pod_for, is_one_of, with_copies, kept_in_use}
+use Rattle.pod_store.proofs.Copies.{pod_stays}
 use Rattle.break_finder.specs.Breaks.{Break}
 use Rattle.stitcher.specs.declared.marked.Marked.{Marked as Held}
-use Rattle.stitcher.specs.StitchedSegments.{meant, mark_in, mark_with, IsDecided, AreDecided}
+use Rattle.stitcher.specs.declared.ends.Rest.{Rest}
+use Rattle.stitcher.specs.StitchedSegments.{meant, mark_in, mark_with, rest_from, rest_in, IsDecided, AreDecided}
+use Rattle.break_finder.specs.Known.{is_this}
 use Rattle.live_meaning.specs.declared.fault.RefreshFault.{RefreshFault}
-use Rattle.live_meaning.specs.declared.fault.RefreshFault.TheVariants.{NumberRange}
+use Rattle.live_meaning.specs.declared.fault.RefreshFault.TheVariants.{NumberRange, OutOfMemory}
 use Rattle.live_meaning.specs.Successor.{first_number, fault_if}
-use Rattle.live_meaning.specs.Live.{is_marked, store_after, succession_fault}
-use Rattle.live_meaning.specs.Kept.{Kept, shown_from, kept_after, kept_first, kept_list, kept_window, kept_refusal, kept_uses}
+use Rattle.live_meaning.specs.Live.{is_marked, rest_id, entries_after, store_after, succession_fault}
+use Rattle.live_meaning.specs.Kept.{Kept, shown_from, kept_after, kept_items, kept_list, kept_window, kept_refusal, kept_uses, kept_marks}
 use Rattle.live_meaning.proofs.HeldPods.{kept_found, same_id}
 use Rattle.live_meaning.proofs.KeptSteps.{store_same}
 use Rattle.live_laws.proofs.Given.{is_read}
@@ -29,40 +34,73 @@ use Rattle.live_counters.specs.declared.refresh.NextKept.{NextKept}
 use Rattle.live_window.specs.declared.state.State.{State}
 use Rattle.live_window.specs.Checked.{AreContiguous}
 use Rattle.live_window.specs.Marking.{so_far}
-use Rattle.live_window.specs.Showing.{kept_in}
+use Rattle.live_window.specs.Showing.{AreKept, kept_in}
+use Rattle.live_window.specs.Listed.{IsRestDecided}
 use Rattle.live_counters.specs.Channel.{Channel, Reading, refreshed, IsAsTyped, Stands, IsContiguous, channel_with, judged, refreshed_with, fresh_after, step_judged, step_read, says_read, Steps, Refreshes}
 use Rattle.live_counters.specs.Accepting.{IsAccepted, Accepts, Refused, accepted_state}
 use Rattle.live_window.proofs.Shown.{marked_too}
-use Rattle.live_counters.proofs.Stores.{Stay, unturned}
+use Rattle.live_counters.proofs.Stores.{MarksStay, RestStays, Stay, unturned}
 use Rattle.live_counters.proofs.Steps.{steps_refresh}
 
 -- ---- the pods of breaks in use stay
 
-pod_found : (uses : List ℕ → Bool) (store : List Entry) (id : List ℕ) (o : Option Entry) → uses id ≡ true → find (has_id id) store ≡ o → IsSome (option_map (λ (e : Entry). e.pod) o)
-    → pod_for (store_after uses store) id ≡ option_map (λ (e : Entry). e.pod) o
-pod_found uses store id None u e d = absurd (cc)
-pod_found uses store id (Some x) u e d = ap (option_map (λ (y : Entry). y.pod)) (kept_found uses id store x u e)
+none_step : (uses : List ℕ → Bool) (id : List ℕ) (e : Entry) (entries : List Entry) → find (has_id id) (entries_after uses entries) ≡ None → (b : Bool) → has_id id e ≡ b → cond b (Some e) None ≡ None
+    → (k : Bool) → find (has_id id) (map (λ (y : Entry). record y { used = uses y.id }) (cond k (e ∷ filter (λ (y : Entry). not y.used || uses y.id) entries) (filter (λ (y : Entry). not y.used || uses y.id) entries))) ≡ None
+none_step uses id e entries rec true same h k = absurd (cc)
+none_step uses id e entries rec false same h true = rw same rec
+none_step uses id e entries rec false same h false = rec
 
-pod_stays : (uses : List ℕ → Bool) (store : List Entry) (id : List ℕ) → uses id ≡ true → IsSome (pod_for store id) → pod_for (store_after uses store) id ≡ pod_for store id
-pod_stays uses store id u d = pod_found uses store id (find (has_id id) store) u refl d
+none_kept : (uses : List ℕ → Bool) (id : List ℕ) (entries : List Entry) → find (has_id id) entries ≡ None → find (has_id id) (entries_after uses entries) ≡ None
+none_kept uses id [] h = refl
+none_kept uses id (e ∷ entries) h = by (has_id id e) refl h (none_kept uses id entries)
+  where
+    by : (b : Bool) → has_id id e ≡ b → cond b (Some e) (find (has_id id) entries) ≡ None → (find (has_id id) entries ≡ None → find (has_id id) (entries_after uses entries) ≡ None)
+        → find (has_id id) (entries_after uses (e ∷ entries)) ≡ None
+    by true same h rec = absurd (cc)
+    by false same h rec = none_step uses id e entries (rec h) false same refl (not e.used || uses e.id)
 
-mark_stays : (uses : List ℕ → Bool) (store : List Entry) (o : Option (List ℕ)) → IsDecided store o → ((id : List ℕ) → is_marked id (mark_in store o) ≡ true → uses id ≡ true)
-    → (mark_in (store_after uses store) o ≡ mark_in store o) × IsDecided (store_after uses store) o
-mark_stays uses store None d h = (refl, tt)
-mark_stays uses store (Some id) d h =
-    let same = pod_stays uses store id (h id (marked_too store id (Some id) d ∙ same_id id)) d in
+after_found : (uses : List ℕ → Bool) (store : Store) (id : List ℕ) (o : Option Entry) → uses id ≡ true → find (has_id id) store.entries ≡ o
+    → option_map pod_of (find (has_id id) (entries_after uses store.entries)) ≡ option_map pod_of o
+after_found uses store id None u e = ap (option_map pod_of) (none_kept uses id store.entries e)
+after_found uses store id (Some x) u e = ap (option_map pod_of) (kept_found uses id store.entries x u e)
+
+abbrev next : (List ℕ → Bool) → Store → List (List ℕ) → Store
+next uses store marks = store_after uses (with_copies store marks)
+
+pod_stays_on : (uses : List ℕ → Bool) (store : Store) (marks : List (List ℕ)) (id : List ℕ) → uses id ≡ true → pod_for (next uses store marks) id ≡ pod_for store id
+pod_stays_on uses store marks id u =
+    let copied = with_copies store marks in
+    ap (λ o. or_earlier o copied.fallback) (after_found uses copied id (find (has_id id) copied.entries) u refl) ∙ pod_stays store marks id
+
+mark_stays : (uses : List ℕ → Bool) (store : Store) (marks : List (List ℕ)) (o : Option (List ℕ)) → IsDecided store o → ((id : List ℕ) → is_marked id (mark_in store o) ≡ true → uses id ≡ true)
+    → (mark_in (next uses store marks) o ≡ mark_in store o) × IsDecided (next uses store marks) o
+mark_stays uses store marks None d h = (refl, tt)
+mark_stays uses store marks (Some id) d h =
+    let same = pod_stays_on uses store marks id (h id (marked_too store id (Some id) d ∙ same_id id)) in
     (ap (mark_with id) same, subst (λ o. IsSome o) (sym same) d)
 
-marks_stay : (uses : List ℕ → Bool) (store : List Entry) (held : List Held) → AreDecided store held
-    → AllByRecursion (λ (x : Marked). (id : List ℕ) → is_marked id x.mark ≡ true → uses id ≡ true) (map (meant store) held) → Stay store (store_after uses store) held
-marks_stay uses store [] d h = record { same = refl; decided = tt }
-marks_stay uses store (m ∷ later) d h =
-    let here = mark_stays uses store m.mark d.0 h.0 in
-    let rest = marks_stay uses store later d.1 h.1 in
+marks_stay : (uses : List ℕ → Bool) (store : Store) (marks : List (List ℕ)) (held : List Held) → AreDecided store held
+    → AllByRecursion (λ (x : Marked). (id : List ℕ) → is_marked id x.mark ≡ true → uses id ≡ true) (map (meant store) held) → MarksStay store (next uses store marks) held
+marks_stay uses store marks [] d h = record { same = refl; decided = tt }
+marks_stay uses store marks (m ∷ later) d h =
+    let here = mark_stays uses store marks m.mark d.0 h.0 in
+    let rest = marks_stay uses store marks later d.1 h.1 in
     record {
-      same = ap (λ o. record (meant store m) { mark = o } ∷ map (meant (store_after uses store)) later) here.0 ∙ ap (λ xs. meant store m ∷ xs) rest.same;
+      same = ap (λ o. record (meant store m) { mark = o } ∷ map (meant (next uses store marks)) later) here.0 ∙ ap (λ xs. meant store m ∷ xs) rest.same;
       decided = (here.1, rest.decided);
     }
+
+-- the pod of the rest in use stays
+rest_stays : (uses : List ℕ → Bool) (store : Store) (marks : List (List ℕ)) (rest : Option Rest) → IsRestDecided store rest → ((id : List ℕ) → is_this id (rest_id (rest_in store rest)) ≡ true → uses id ≡ true)
+    → RestStays store (next uses store marks) rest
+rest_stays uses store marks None d h = record { same = refl; decided = tt }
+rest_stays uses store marks (Some rest) d h =
+    let same = pod_stays_on uses store marks rest.id (h rest.id (named rest.id rest.place (pod_for store rest.id) d)) in
+    record { same = ap (λ o. option_map (rest_from rest.place) (mark_with rest.id o)) same; decided = subst (λ o. IsSome o) (sym same) d }
+  where
+    named : (id : List ℕ) (place : ℕ) (o : Option Pod) → IsSome o → is_this id (rest_id (option_map (rest_from place) (mark_with id o))) ≡ true
+    named id place None d = absurd (cc)
+    named id place (Some pod) d = same_id id
 
 -- ---- each mark of a shown segment is in use
 
@@ -86,14 +124,16 @@ used_from first uses (s ∷ before) h = step (nat_le first s.segment.number) ref
 
 -- ---- an accepted refresh
 
-kept_ext : (a b : Kept) → a.store ≡ b.store → a.breaks ≡ b.breaks → a.last ≡ b.last → a.shown ≡ b.shown → a.entered ≡ b.entered → a.numbers ≡ b.numbers → a ≡ b
-kept_ext a b store breaks last shown entered numbers =
-    ap (λ (x : List Entry). record a { store = x }) store
+kept_ext : (a b : Kept) → a.store ≡ b.store → a.breaks ≡ b.breaks → a.last ≡ b.last → a.shown ≡ b.shown → a.entered ≡ b.entered → a.numbers ≡ b.numbers → a.so_far ≡ b.so_far → a.rest ≡ b.rest → a ≡ b
+kept_ext a b store breaks last shown entered numbers lasted rest =
+    ap (λ (x : Store). record a { store = x }) store
     ∙ (ap (λ (x : List Break). record a { store = b.store; breaks = x }) breaks
     ∙ (ap (λ (x : Option Playlist). record a { store = b.store; breaks = b.breaks; last = x }) last
     ∙ (ap (λ (x : List Marked). record a { store = b.store; breaks = b.breaks; last = b.last; shown = x }) shown
-    ∙ (ap (λ (x : Option (List ℕ)). record b { entered = x; numbers = a.numbers }) entered
-    ∙ ap (λ (x : Numbers). record b { numbers = x }) numbers))))
+    ∙ (ap (λ (x : Option (List ℕ)). record b { entered = x; numbers = a.numbers; so_far = a.so_far; rest = a.rest }) entered
+    ∙ (ap (λ (x : Numbers). record b { numbers = x; so_far = a.so_far; rest = a.rest }) numbers
+    ∙ (ap (λ (x : ℕ). record b { so_far = x; rest = a.rest }) lasted
+    ∙ ap (λ (x : Option MeantRest). record b { rest = x }) rest))))))
 
 no_fault : (succession number_range : Option RefreshFault) → succession ≡ None → number_range ≡ None → or_earlier succession number_range ≡ None
 no_fault None number_range e f = f
@@ -129,22 +169,28 @@ module _ (base : Parts) (tolerance : ℕ) (state : State) (text : Option (List �
     after = channel_with base tolerance (accepted_state state p a) (Some a.written.text)
 
     unrefused : kept_refusal tolerance kept p ≡ None
-    unrefused = no_fault (succession_fault kept.last p) (fault_if (not (list_all fits (numbered (kept_first tolerance kept p) (stitched (kept_list tolerance kept p))))) NumberRange) h.follows.succeeds (ap (λ b. fault_if (not b) NumberRange) accepted.written.fit)
+    unrefused = no_fault (succession_fault kept.last p) (fault_if (not (list_all fits (kept_items tolerance kept p))) NumberRange) h.follows.succeeds (ap (λ b. fault_if (not b) NumberRange) accepted.written.fit)
 
     in_use : AllByRecursion (λ (x : Marked). (id : List ℕ) → is_marked id x.mark ≡ true → is_one_of a.written.ids.items id ≡ true) (so_far state.store a.shown.items)
     in_use =
         subst (λ (xs : List Marked). AllByRecursion (λ (x : Marked). (id : List ℕ) → is_marked id x.mark ≡ true → is_one_of a.written.ids.items id ≡ true) xs) (sym accepted.shown)
-        (used_from (first_number p.segments) (is_one_of a.written.ids.items) (kept_list tolerance kept p) (λ id k. accepted.written.ids id ∙ or_first _ _ k))
+        (used_from (first_number p.segments) (is_one_of a.written.ids.items) (kept_list tolerance kept p) (λ id k. accepted.written.ids id ∙ or_first _ _ (or_first _ _ k)))
 
-    stay : Stay state.store (kept_in_use a.written.ids.items state.store) a.shown.items
-    stay =
-        marks_stay (is_one_of a.written.ids.items) state.store a.shown.items accepted.decided
-        (unturned (λ (x : Marked). (id : List ℕ) → is_marked id x.mark ≡ true → is_one_of a.written.ids.items id ≡ true) (map (meant state.store) a.shown.items) [] in_use).0
+    rest_used : (id : List ℕ) → is_this id (rest_id (rest_in state.store a.written.rest)) ≡ true → is_one_of a.written.ids.items id ≡ true
+    rest_used id k = accepted.written.ids id ∙ or_second _ _ (ap (λ o. is_this id (rest_id o)) (sym accepted.left.rest) ∙ k)
+
+    stay : Stay state.store (kept_in_use a.written.ids.items (with_copies state.store a.written.marks.items)) a.shown.items a.written.rest
+    stay = record {
+      marks =
+          marks_stay (is_one_of a.written.ids.items) state.store a.written.marks.items a.shown.items accepted.decided
+          (unturned (λ (x : Marked). (id : List ℕ) → is_marked id x.mark ≡ true → is_one_of a.written.ids.items id ≡ true) (map (meant state.store) a.shown.items) [] in_use).0;
+      rest = rest_stays (is_one_of a.written.ids.items) state.store a.written.marks.items a.written.rest accepted.left.decided rest_used;
+    }
 
     kept_is : kept_in (accepted_state state p a) ≡ kept_after tolerance kept p
     kept_is =
-        kept_ext (kept_in (accepted_state state p a)) (kept_after tolerance kept p) (store_same (is_one_of a.written.ids.items) (kept_uses tolerance kept p) state.store accepted.written.ids) accepted.breaks refl
-        (ap (λ (xs : List Marked). reverse xs) stay.same ∙ accepted.shown) accepted.written.entered accepted.written.numbers
+        kept_ext (kept_in (accepted_state state p a)) (kept_after tolerance kept p) (store_same (is_one_of a.written.ids.items) (kept_uses tolerance kept p) state.store a.written.marks.items (kept_marks tolerance kept p) accepted.written.ids accepted.written.marks) accepted.breaks refl
+        (ap (λ (xs : List Marked). reverse xs) stay.marks.same ∙ accepted.shown) accepted.written.entered accepted.written.numbers accepted.lasted (stay.rest.same ∙ accepted.left.rest)
 
     steps : Steps before bytes (Ok done) after
     steps = record {
@@ -161,14 +207,14 @@ module _ (base : Parts) (tolerance : ℕ) (state : State) (text : Option (List �
 
     pub record Goes (new : State) (answer : Refreshed × List ℕ) : Type 0 where
       pub stands : Stands (channel_with base tolerance new (Some answer.1))
-      pub decided : AreDecided new.store new.shown
+      pub decided : AreKept new.store new
       pub numbers : IsContiguous new.last
       pub refreshes : Refreshes before bytes (Ok answer.0) (channel_with base tolerance new (Some answer.1))
 
     goes_so : Stands before → Goes (accepted_state state p a) (done, a.written.text)
     goes_so s =
         let r = steps_refresh before bytes (Ok done) after steps in
-        record { stands = (refreshed bytes ∷ s.0, (r s.0 s.1).stands); decided = stay.decided; numbers = h.numbers; refreshes = r }
+        record { stands = (refreshed bytes ∷ s.0, (r s.0 s.1).stands); decided = (stay.marks.decided, stay.rest.decided); numbers = h.numbers; refreshes = r }
 
     pub goes : (new : State) (answer : Refreshed × List ℕ) → new ≡ accepted_state state p a → answer ≡ (done, a.written.text) → Stands before → Goes new answer
     goes new answer e f s = subst (λ (x : State). Goes x answer) (sym e) (subst (Goes (accepted_state state p a)) (sym f) (goes_so s))
@@ -178,6 +224,11 @@ module _ (base : Parts) (tolerance : ℕ) (state : State) (text : Option (List �
   pub stays : (result : Result Refreshed RefreshFault) → IsErr result → IfErr result (λ e. Refused base tolerance state bytes e) → Refreshes before bytes result before
   stays (Ok answer) h k = absurd (cc)
   stays (Err e) h k = steps_refresh before bytes (Err e) before (k text)
+
+  -- one that finds no memory for its copies
+  pub stays_full : (result : Result Refreshed RefreshFault) → IsErr result → IfErr result (λ e. e ≡ OutOfMemory) → Refreshes before bytes result before
+  stays_full (Ok answer) h k = absurd (cc)
+  stays_full (Err e) h k = subst (λ (x : RefreshFault). Refreshes before bytes (Err x) before) (sym k) (steps_refresh before bytes (Err OutOfMemory) before refl)
 
 -- what is read has rising numbers
 pub read_rises : (base : Parts) (bytes : List ℕ) (p : Playlist) → reading limited base bytes ≡ Ok p → AreContiguous p.segments

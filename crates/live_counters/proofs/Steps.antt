@@ -29,7 +29,7 @@ use Rattle.live_laws.specs.Laws.{KeepsRules}
 use Rattle.live_laws.proofs.Given.{is_read, all_of}
 use Rattle.live_meaning.proofs.SoundPods.{kept_is_sound}
 use Rattle.live_meaning.specs.Sound.{AllPods}
-use Rattle.pod_store.specs.Store.{Entry}
+use Rattle.pod_store.specs.Store.{Store}
 use Rattle.decision_files.specs.Decided.{decisions_of}
 use Rattle.pod_store.specs.Outcome.{Outcome}
 use Rattle.pod_store.specs.declared.Decisions.{Decisions}
@@ -161,7 +161,7 @@ steps_refresh old bytes result new k given s = steps_step (is_memory result) old
 
 -- ---- decisions
 
-store_on : (c : Channel) (store : List Entry) (event : Given) (given : List Given) → IsAsTyped c.base event
+store_on : (c : Channel) (store : Store) (event : Given) (given : List Given) → IsAsTyped c.base event
     → record (told_by c.base c.tolerance given) { store = store } ≡ told_by c.base c.tolerance (event ∷ given) → StandsFor c given → StandsFor (with_store c store) (event ∷ given)
 store_on c store event given h e s = record {
   kept = ap (λ (k : Kept). record k { store = store }) s.kept ∙ ap kept_of e;
@@ -172,7 +172,7 @@ store_on c store event given h e s = record {
 pub decide_follows : DecideFollows
 decide_follows c ds bytes given h e s =
     store_on c (live.decide ds c.kept.store) (decided bytes) given h
-    (ap (λ (x : List Entry). record (told_by c.base c.tolerance given) { store = live.decide ds x }) (ap (λ (k : Kept). k.store) s.kept)
+    (ap (λ (x : Store). record (told_by c.base c.tolerance given) { store = live.decide ds x }) (ap (λ (k : Kept). k.store) s.kept)
     ∙ ap (λ o. told c.tolerance (decisions_in o ++ events_of c.base given)) (sym e)) s
 
 pub undecided_follows : UndecidedFollows
@@ -183,7 +183,7 @@ undecided_follows c fault bytes given h e s =
 pub withdraw_follows : WithdrawFollows
 withdraw_follows c id given s =
     store_on c (live.decide (Withdraw id) c.kept.store) (withdrawn id) given tt
-    (ap (λ (x : List Entry). record (told_by c.base c.tolerance given) { store = live.decide (Withdraw id) x }) (ap (λ (k : Kept). k.store) s.kept)) s
+    (ap (λ (x : Store). record (told_by c.base c.tolerance given) { store = live.decide (Withdraw id) x }) (ap (λ (k : Kept). k.store) s.kept)) s
 
 -- ---- what is written
 

@@ -5,37 +5,50 @@ use Rattle.std.specs.List.{AllByRecursion}
 use mathlib.Core.List.{reverse_aux}
 use Rattle.playlist_meaning.specs.Pods.{Pod}
 use Rattle.playlist_meaning.specs.Marks.{Mark, Marked}
-use Rattle.pod_store.specs.Store.{Entry, pod_for}
+use Rattle.pod_store.specs.Store.{Store, pod_of, pod_for}
+use Rattle.playlist_meaning.specs.LookBack.{or_earlier}
 use Rattle.stitcher.specs.declared.marked.Marked.{Marked as Held}
-use Rattle.stitcher.specs.StitchedSegments.{meant, mark_in, mark_with, IsDecided, AreDecided}
+use Rattle.stitcher.specs.declared.ends.Rest.{Rest}
+use Rattle.stitcher.specs.StitchedSegments.{meant, mark_in, mark_with, rest_from, rest_in, IsDecided, AreDecided}
+use Rattle.live_window.specs.Listed.{IsRestDecided}
 use Rattle.live_meaning.specs.Kept.{Kept}
-use Rattle.live_meaning.specs.LiveLaws.{HasPod}
+use Rattle.live_meaning.specs.LiveLaws.{HasPod, rest_mark}
 use Rattle.live_meaning.proofs.KeptPods.{kept_have_pods}
 use Rattle.live_counters.specs.Channel.{Channel, Given, StandsFor, events_of}
+use Rattle.live_counters.proofs.Steps.{all_given}
 
 pub unturned : {A : Type 0} (P : A → Type 0) (xs acc : List A) → AllByRecursion P (reverse_aux xs acc) → AllByRecursion P xs × AllByRecursion P acc
 unturned P [] acc h = (tt, h)
 unturned P (x ∷ xs) acc h = let k = unturned P xs (x ∷ acc) h in ((k.1.0, k.0), k.1.1)
 
-pod_stays : (old new : List Entry) (id : List ℕ) (p : Option Pod) → ((mark : Option Mark) → HasPod old mark → HasPod new mark) → IsSome p → HasPod old (mark_with id p)
+pod_stays : (old new : Store) (id : List ℕ) (p : Option Pod) → ((mark : Option Mark) → HasPod old mark → HasPod new mark) → IsSome p → HasPod old (mark_with id p)
     → (mark_in new (Some id) ≡ mark_with id p) × IsSome (pod_for new id)
 pod_stays old new id None keeps d h = absurd (cc)
 pod_stays old new id (Some pod) keeps d h =
-    let found : pod_for new id ≡ Some pod = ap (option_map (λ (e : Entry). e.pod)) (keeps (Some (record { id = id; pod = pod })) h) in
+    let found : pod_for new id ≡ Some pod = ap (λ o. or_earlier (option_map pod_of o) new.fallback) (keeps (Some (record { id = id; pod = pod })) h).1 in
     (ap (mark_with id) found, subst (λ o. IsSome o) (sym found) refl)
 
-mark_stays : (old new : List Entry) (o : Option (List ℕ)) → ((mark : Option Mark) → HasPod old mark → HasPod new mark) → IsDecided old o → HasPod old (mark_in old o)
+mark_stays : (old new : Store) (o : Option (List ℕ)) → ((mark : Option Mark) → HasPod old mark → HasPod new mark) → IsDecided old o → HasPod old (mark_in old o)
     → (mark_in new o ≡ mark_in old o) × IsDecided new o
 mark_stays old new None keeps d h = (refl, tt)
 mark_stays old new (Some id) keeps d h = pod_stays old new id (pod_for old id) keeps d h
 
 -- each mark is as it was
-pub record Stay (old new : List Entry) (held : List Held) : Type 0 where
+pub record MarksStay (old new : Store) (held : List Held) : Type 0 where
   pub same : map (meant new) held ≡ map (meant old) held
   pub decided : AreDecided new held
 
-marks_stay : (old new : List Entry) (held : List Held) → ((mark : Option Mark) → HasPod old mark → HasPod new mark) → AreDecided old held
-    → AllByRecursion (λ (s : Marked). HasPod old s.mark) (map (meant old) held) → Stay old new held
+-- and the rest
+pub record RestStays (old new : Store) (rest : Option Rest) : Type 0 where
+  pub same : rest_in new rest ≡ rest_in old rest
+  pub decided : IsRestDecided new rest
+
+pub record Stay (old new : Store) (held : List Held) (left : Option Rest) : Type 0 where
+  pub marks : MarksStay old new held
+  pub rest : RestStays old new left
+
+marks_stay : (old new : Store) (held : List Held) → ((mark : Option Mark) → HasPod old mark → HasPod new mark) → AreDecided old held
+    → AllByRecursion (λ (s : Marked). HasPod old s.mark) (map (meant old) held) → MarksStay old new held
 marks_stay old new [] keeps d h = record { same = refl; decided = tt }
 marks_stay old new (m ∷ later) keeps d h =
     let here = mark_stays old new m.mark keeps d.0 h.0 in
@@ -45,12 +58,30 @@ marks_stay old new (m ∷ later) keeps d h =
       decided = (here.1, rest.decided);
     }
 
-kept_pods : (c : Channel) (given : List Given) → StandsFor c given → AllByRecursion (λ (s : Marked). HasPod c.kept.store s.mark) c.kept.shown
-kept_pods c given s = subst (λ (k : Kept). AllByRecursion (λ (x : Marked). HasPod k.store x.mark) k.shown) (sym s.kept) (kept_have_pods c.tolerance (events_of c.base given))
+of_rest : (store : Store) (place : ℕ) (o : Option Mark) → HasPod store (rest_mark (option_map (rest_from place) o)) → HasPod store o
+of_rest store place None h = tt
+of_rest store place (Some mark) h = h
+
+rest_stays : (old new : Store) (rest : Option Rest) → ((mark : Option Mark) → HasPod old mark → HasPod new mark) → IsRestDecided old rest → HasPod old (rest_mark (rest_in old rest)) → RestStays old new rest
+rest_stays old new None keeps d h = record { same = refl; decided = tt }
+rest_stays old new (Some rest) keeps d h =
+    let k = mark_stays old new (Some rest.id) keeps d (of_rest old rest.place (mark_in old (Some rest.id)) h) in
+    record { same = ap (option_map (rest_from rest.place)) k.0; decided = k.1 }
+
+abbrev KeptPods : Kept → Type 0
+KeptPods k = AllByRecursion (λ (x : Marked). HasPod k.store x.mark) k.shown × HasPod k.store (rest_mark k.rest)
+
+kept_pods : (c : Channel) (given : List Given) → StandsFor c given → KeptPods c.kept
+kept_pods c given s = subst KeptPods (sym s.kept) (kept_have_pods c.tolerance (events_of c.base given) (all_given c.base given s.typed))
 
 -- whatever keeps the used pods, keeps the marks
-pub all_stay : (c : Channel) (given : List Given) (new : List Entry) (held : List Held) → StandsFor c given → c.kept.shown ≡ reverse (map (meant c.kept.store) held) → AreDecided c.kept.store held
-    → ((mark : Option Mark) → HasPod c.kept.store mark → HasPod new mark) → Stay c.kept.store new held
-all_stay c given new held s e d keeps =
-    marks_stay c.kept.store new held keeps d
-    (unturned (λ (x : Marked). HasPod c.kept.store x.mark) (map (meant c.kept.store) held) [] (subst (λ xs. AllByRecursion (λ (x : Marked). HasPod c.kept.store x.mark) xs) e (kept_pods c given s))).0
+pub all_stay : (c : Channel) (given : List Given) (new : Store) (held : List Held) (rest : Option Rest) → StandsFor c given → c.kept.shown ≡ reverse (map (meant c.kept.store) held) → c.kept.rest ≡ rest_in c.kept.store rest
+    → AreDecided c.kept.store held → IsRestDecided c.kept.store rest → ((mark : Option Mark) → HasPod c.kept.store mark → HasPod new mark) → Stay c.kept.store new held rest
+all_stay c given new held rest s e f d r keeps =
+    let pods = kept_pods c given s in
+    record {
+      marks =
+          marks_stay c.kept.store new held keeps d
+          (unturned (λ (x : Marked). HasPod c.kept.store x.mark) (map (meant c.kept.store) held) [] (subst (λ xs. AllByRecursion (λ (x : Marked). HasPod c.kept.store x.mark) xs) e pods.0)).0;
+      rest = rest_stays c.kept.store new rest keeps r (subst (λ o. HasPod c.kept.store (rest_mark o)) f pods.1);
+    }

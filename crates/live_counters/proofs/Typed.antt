@@ -5,7 +5,8 @@ use Rattle.std.specs.List.{list_all, AllByRecursion}
 use Rattle.std.proofs.lemmas.Bool.{and_parts}
 use Rattle.playlist_meaning.specs.Pods.{Pod}
 use Rattle.pod_store.specs.declared.Decisions.{Decisions}
-use Rattle.pod_store.specs.declared.Decisions.TheVariants.{Breaks}
+use Rattle.pod_store.specs.declared.Decisions.TheVariants.{Breaks, Fallback}
+use Rattle.pod_store.specs.Rules.{ads_keep}
 use Rattle.pod_store.specs.Outcome.{Outcome}
 use Rattle.decision_files.specs.Decided.{decisions_of}
 use Rattle.live_meaning.specs.Sound.{AllPods}
@@ -18,6 +19,9 @@ all_keep (d ∷ ds) h = let a = and_parts (keeps_rules d) (list_all keeps_rules 
 
 pub breaks_keep : (ds : Decisions) (list : List (List ℕ × Pod)) → ds ≡ Breaks list → list_all keeps_rules list ≡ true → AllPods KeepsRules ds
 breaks_keep ds list e h = subst (AllPods KeepsRules) (sym e) (all_keep list h)
+
+pub fallback_keeps : (ds : Decisions) (pod : Pod) → ds ≡ Fallback pod → ads_keep pod.ads ≡ true → AllPods KeepsRules ds
+fallback_keeps ds pod e h = subst (AllPods KeepsRules) (sym e) h
 
 abbrev Says : Outcome Decisions → Outcome Decisions → Type 0
 Says a b = a ≡ b

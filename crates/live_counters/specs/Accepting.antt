@@ -1,15 +1,16 @@
 -- What an accepted refresh comes to, as a channel holds it.
-use Rattle.std.specs.Prelude.{◌≡◌, ◌≢◌, ℕ, Bool, List, true, filter, map, length, max, Option, Some, None, Ok, Err}
+use Rattle.std.specs.Prelude.{◌≡◌, ◌≢◌, ℕ, Bool, ◌||◌, List, true, filter, map, length, max, Option, Some, None, Ok, Err}
 use Rattle.std.specs.List.{list_all, list_any}
 use Rattle.playlist_meaning.specs.declared.Playlist.{Playlist}
 use Rattle.playlist_meaning.specs.LookBack.{or_earlier}
 use Rattle.playlist_meaning.specs.Marks.{Marked}
-use Rattle.playlist_meaning.specs.Stitched.{Item, fits, numbered, stitched}
-use Rattle.pod_store.specs.Store.{is_one_of, kept_in_use}
+use Rattle.playlist_meaning.specs.Stitched.{Item, fits}
+use Rattle.pod_store.specs.Store.{Store, is_one_of, with_copies, kept_in_use}
 use Rattle.stitcher.specs.declared.OutSegment.{OutSegment}
-use Rattle.stitcher.specs.StitchedSegments.{AreDecided}
+use Rattle.stitcher.specs.declared.ends.Rest.{Rest}
+use Rattle.stitcher.specs.StitchedSegments.{AreDecided, rest_in}
 use Rattle.stitcher.specs.Written.{written_item}
-use Rattle.break_finder.specs.Known.{carry}
+use Rattle.break_finder.specs.Known.{carry, is_this}
 use Rattle.playlist_write.specs.declared.OutPlaylist.{OutPlaylist}
 use Rattle.playlist_write.specs.Owed.{text_of}
 use Rattle.live_meaning.specs.declared.fault.RefreshFault.{RefreshFault}
@@ -19,14 +20,14 @@ use Rattle.playlist_meaning.specs.Reading.{reading, limited}
 use Rattle.reading_laws.specs.Read.{uris_are_text}
 use Rattle.url.specs.Parts.{Parts}
 use Rattle.live_meaning.specs.Live.{date_range_text}
-use Rattle.live_meaning.specs.Live.{succession_fault, states_instant}
-use Rattle.live_meaning.specs.LiveLaws.{window_on}
+use Rattle.live_meaning.specs.Live.{succession_fault, states_instant, rest_id, ids_in_use}
 use Rattle.live_meaning.specs.Successor.{first_number}
 use Rattle.live_meaning.specs.Marking.{is_new, last_entered}
-use Rattle.live_meaning.specs.Kept.{Kept, shown_from, head_numbers, numbers_on, is_in_use, kept_acceptance, kept_list, kept_date_ranges}
+use Rattle.live_meaning.specs.Kept.{Kept, shown_from, head_numbers, is_in_use, items_on, window_on, rest_after, kept_acceptance, kept_list, kept_length, kept_date_ranges}
 use Rattle.live_counters.specs.declared.refresh.NextKept.{NextKept}
 use Rattle.live_counters.specs.declared.written.Written.{Written}
 use Rattle.live_window.specs.Marking.{so_far}
+use Rattle.live_window.specs.Listed.{IsRestDecided}
 use Rattle.live_window.specs.Checked.{AreContiguous}
 use Rattle.live_window.specs.Showing.{kept_in}
 use Rattle.live_counters.specs.Channel.{Reading, channel_with, Steps}
@@ -44,34 +45,40 @@ out_with p date_ranges items = record {
   segments = items;
 }
 
--- the window of these segments, the newest first, from the playlist's first one on
-abbrev pub window_on_list : Kept → Playlist → List Marked → List Item
-window_on_list kept p list = window_on (numbers_on kept.last kept.numbers list) (first_number p.segments) list
-
 -- the break is in use after these segments
 abbrev pub is_used_after : Kept → Playlist → List Marked → List ℕ → Bool
-is_used_after kept p list id = is_in_use (first_number p.segments) list (or_earlier (last_entered list) kept.entered) id
+is_used_after kept p list id =
+    is_in_use (first_number p.segments) list (or_earlier (last_entered list) kept.entered) id || is_this id (rest_id (rest_after kept p list))
 
 -- the playlist's text with this window in place of its segments, without the date ranges of these breaks
 abbrev pub text_with_window : Playlist → (List ℕ → Bool) → List Item → List ℕ
 text_with_window p uses window = text_of (out_with p (map date_range_text (kept_date_ranges (list_any states_instant window) uses p.date_ranges)) (map written_item window))
 
--- what is written, and which breaks are used, where these segments are shown: each number of the stitched list fits
-pub record IsWritten (kept : Kept) (p : Playlist) (list : List Marked) (w : Written) : Type 0 where
-  pub fit : list_all fits (numbered (numbers_on kept.last kept.numbers list) (stitched list)) ≡ true
+-- what is written, and which breaks are used, where these segments are shown, the newest run of which has lasted so long: each
+-- number of the stitched list fits
+pub record IsWritten (kept : Kept) (p : Playlist) (list : List Marked) (n : ℕ) (w : Written) : Type 0 where
+  pub fit : list_all fits (items_on kept p list n) ≡ true
   pub entered : w.entered ≡ or_earlier (last_entered list) kept.entered
   pub ids : (id : List ℕ) → is_one_of w.ids.items id ≡ is_used_after kept p list id
-  pub numbers : w.numbers ≡ head_numbers (window_on_list kept p list)
-  pub count : w.count ≡ length (window_on_list kept p list)
-  pub text : w.text ≡ text_with_window p (is_used_after kept p list) (window_on_list kept p list)
+  pub marks : w.marks.items ≡ ids_in_use (first_number p.segments) list (or_earlier (last_entered list) kept.entered) (rest_after kept p list)
+  pub numbers : w.numbers ≡ head_numbers (window_on kept p list n)
+  pub count : w.count ≡ length (window_on kept p list n)
+  pub text : w.text ≡ text_with_window p (is_used_after kept p list) (window_on kept p list n)
+
+-- the rest that is then kept
+pub record IsLeft (store : Store) (kept : Kept) (p : Playlist) (list : List Marked) (left : Option Rest) : Type 0 where
+  pub rest : rest_in store left ≡ rest_after kept p list
+  pub decided : IsRestDecided store left
 
 -- what is kept after the refresh, what it answers and what is written
 pub record IsAccepted (tolerance : ℕ) (kept : Kept) (p : Playlist) (a : NextKept) : Type 0 where
   pub breaks : a.knowledge ≡ carry (kept_acceptance kept p) kept.breaks
   pub shown : so_far kept.store a.shown.items ≡ shown_from (first_number p.segments) (kept_list tolerance kept p)
   pub decided : AreDecided kept.store a.shown.items
+  pub lasted : a.so_far ≡ kept_length tolerance kept p
   pub fresh : a.fresh ≡ length (filter (is_new kept.shown) p.segments)
-  pub written : IsWritten kept p (kept_list tolerance kept p) a.written
+  pub written : IsWritten kept p (kept_list tolerance kept p) (kept_length tolerance kept p) a.written
+  pub left : IsLeft kept.store kept p (kept_list tolerance kept p) a.written.rest
 
 -- ---- a refresh, from its bytes on
 
@@ -101,13 +108,15 @@ abbrev pub Refused : Parts → ℕ → State → List ℕ → RefreshFault → T
 Refused base tolerance state bytes fault =
     (text : Option (List ℕ)) → Steps (channel_with base tolerance state text) bytes (Err fault) (channel_with base tolerance state text)
 
--- what is kept then
+-- what is kept then: a break that is in use keeps its pod, or a copy of the fallback
 abbrev pub accepted_state : State → Playlist → NextKept → State
 accepted_state state p a = record {
-  store = kept_in_use a.written.ids.items state.store;
+  store = kept_in_use a.written.ids.items (with_copies state.store a.written.marks.items);
   knowledge = a.knowledge;
   last = Some p;
   shown = a.shown.items;
   entered = a.written.entered;
   numbers = a.written.numbers;
+  so_far = a.so_far;
+  rest = a.written.rest;
 }

@@ -12,7 +12,7 @@ use Rattle.playlist_meaning.specs.Stitched.{Item}
 use Rattle.playlist_write.specs.declared.OutPlaylist.{OutPlaylist}
 use Rattle.playlist_write.specs.Owed.{text_of}
 use Rattle.reading_laws.specs.Read.{uris_are_text}
-use Rattle.pod_store.specs.Store.{Entry, is_used}
+use Rattle.pod_store.specs.Store.{Store, nothing_decided, is_used}
 use Rattle.pod_store.specs.Store.{decided as after_decisions}
 use Rattle.pod_store.specs.Store.{withdrawn as without_break}
 use Rattle.decision_files.specs.Decided.{decisions_of}
@@ -202,21 +202,21 @@ Steps old bytes result new = StepsUnless (is_memory result) old bytes result new
 -- ---- decisions
 
 -- the store after the decisions that these bytes say, or their fault
-abbrev pub after_bytes : List Entry → List ℕ → Outcome (List Entry)
+abbrev pub after_bytes : Store → List ℕ → Outcome Store
 after_bytes store bytes = decisions_of bytes >>= after_decisions store
 
-abbrev pub with_store : Channel → List Entry → Channel
+abbrev pub with_store : Channel → Store → Channel
 with_store c store = record c { kept = record c.kept { store = store } }
 
 -- the store that all that was given leads to, and what a decision file and a withdrawal come to then
-abbrev pub store_by : Channel → List Given → List Entry
+abbrev pub store_by : Channel → List Given → Store
 store_by c given = (told_by c.base c.tolerance given).store
 
 -- taken exactly where the outcome is a store; else the fault is the first one, want of memory apart
-abbrev pub AnswersDecision : Result (Unit {0}) DecisionFault → Outcome (List Entry) → Type 0
+abbrev pub AnswersDecision : Result (Unit {0}) DecisionFault → Outcome Store → Type 0
 AnswersDecision result outcome = MatchResult result (λ _. IsOk outcome) (λ e. Refuses e outcome)
 
-abbrev pub AnswersWithdrawal : Result (Unit {0}) DecisionFault → Outcome (List Entry) → Type 0
+abbrev pub AnswersWithdrawal : Result (Unit {0}) DecisionFault → Outcome Store → Type 0
 AnswersWithdrawal result outcome = MatchResult result (λ _. IsOk outcome) (λ e. outcome ≡ Err e)
 
 abbrev pub Decides : Channel → List ℕ → Result (Unit {0}) DecisionFault → Type 0
@@ -226,11 +226,11 @@ abbrev pub Withdraws : Channel → List ℕ → Result (Unit {0}) DecisionFault 
 Withdraws c id result = (given : List Given) → StandsFor c given → AnswersWithdrawal result (without_break (store_by c given) id)
 
 -- the store changes alone; or the fault is the one owed, want of memory apart, and the channel is as it was
-abbrev pub ChangesStore : Channel → Channel → Result (Unit {0}) DecisionFault → Outcome (List Entry) → Type 0
+abbrev pub ChangesStore : Channel → Channel → Result (Unit {0}) DecisionFault → Outcome Store → Type 0
 ChangesStore old new result outcome = MatchResult result (λ _. (outcome ≡ Ok new.kept.store) × (new ≡ with_store old new.kept.store)) (λ e. (new ≡ old) × Refuses e outcome)
 
 -- the same of a call that takes no memory: the fault is the one owed
-abbrev pub ChangesStoreExactly : Channel → Channel → Result (Unit {0}) DecisionFault → Outcome (List Entry) → Type 0
+abbrev pub ChangesStoreExactly : Channel → Channel → Result (Unit {0}) DecisionFault → Outcome Store → Type 0
 ChangesStoreExactly old new result outcome = MatchResult result (λ _. (outcome ≡ Ok new.kept.store) × (new ≡ with_store old new.kept.store)) (λ e. (new ≡ old) × (outcome ≡ Err e))
 
 -- want of memory apart, the channel stands for one event more
@@ -261,10 +261,10 @@ why_by (Some last) kept id = why kept.breaks id last.target (is_mapped last.segm
 abbrev pub explained : Kept → List ℕ → Why
 explained kept id = why_by kept.last kept id
 
--- the same of all that was told: a break is filled where it marks a shown segment or was entered last
+-- the same of all that was told: a break is filled where it is in use
 abbrev pub owed_why_by : Told → Option Playlist → List ℕ → Why
 owed_why_by t None id = NotKnown
-owed_why_by t (Some last) id = why (known t.accepted) id last.target (is_mapped last.segments) t.store (in_use (first_number last.segments) t.history id)
+owed_why_by t (Some last) id = why (known t.accepted) id last.target (is_mapped last.segments) t.store (in_use t.start (first_number last.segments) t.history id)
 
 abbrev pub owed_why : Told → List ℕ → Why
 owed_why t id = owed_why_by t (last_playlist t.accepted) id
@@ -285,7 +285,7 @@ abbrev pub Stands : Channel → Type 0
 Stands c = (given : List Given) × StandsFor c given
 
 abbrev pub nothing_kept : Kept
-nothing_kept = record { store = []; breaks = []; last = None; shown = []; entered = None; numbers = record { media = 0; discontinuity = 0; steps = 0 } }
+nothing_kept = record { store = nothing_decided; breaks = []; last = None; shown = []; entered = None; numbers = record { media = 0; discontinuity = 0; steps = 0 }; so_far = 0; rest = None }
 
 -- the media numbers of a playlist, if any, rise by one
 abbrev pub IsContiguous : Option Playlist → Type 0

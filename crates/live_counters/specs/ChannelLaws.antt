@@ -4,10 +4,10 @@ use Rattle.std.specs.List.{AllByRecursion, list_all}
 use Rattle.url.specs.Parts.{Parts}
 use Rattle.playlist_meaning.specs.declared.Playlist.{Playlist}
 use Rattle.playlist_meaning.specs.Reading.{reading, limited}
-use Rattle.playlist_meaning.specs.Stitched.{fits, stitched_list}
+use Rattle.playlist_meaning.specs.Stitched.{fits}
 use Rattle.live_meaning.specs.declared.fault.RefreshFault.{RefreshFault}
 use Rattle.live_meaning.specs.Live as live
-use Rattle.live_meaning.specs.Live.{last_playlist, after_refresh, owed}
+use Rattle.live_meaning.specs.Live.{last_playlist, list_of, after_refresh, owed}
 use Rattle.live_meaning.specs.LiveLaws.{GoesOn}
 use Rattle.live_meaning.specs.Successor.{Succeeds}
 use Rattle.decision_files.specs.Decided.{decisions_of}
@@ -54,7 +54,7 @@ pub record IsAcceptable (c : Channel) (given : List Given) (bytes : List ℕ) : 
   pub playlist : Playlist
   pub read : reading limited c.base bytes ≡ Ok playlist
   pub succeeds : SucceedsLast (last_playlist (told_by c.base c.tolerance given).accepted) playlist
-  pub fits : list_all fits (stitched_list (after_refresh c.tolerance (told_by c.base c.tolerance given) playlist).history) ≡ true
+  pub fits : list_all fits (list_of (after_refresh c.tolerance (told_by c.base c.tolerance given) playlist)) ≡ true
 
 -- a refresh is accepted exactly then
 abbrev pub AcceptanceIsExact : Type 0
@@ -64,8 +64,8 @@ AcceptanceIsExact = (c : Channel) (given : List Given) (bytes : List ℕ) → St
 
 -- the stitched list, numbers included, only grows, whatever is given
 abbrev pub StitchedListGrows : Type 0
-StitchedListGrows = (base : Parts) (tolerance : ℕ) (later before : List Given) →
-    GoesOn (stitched_list (told_by base tolerance before).history) (stitched_list (told_by base tolerance (later ++ before)).history)
+StitchedListGrows = (base : Parts) (tolerance : ℕ) (later before : List Given) → AllByRecursion (IsAsTyped base) (later ++ before) →
+    GoesOn (list_of (told_by base tolerance before)) (list_of (told_by base tolerance (later ++ before)))
 
 -- each owed playlist is the one before it, or may follow it
 abbrev pub OwedPlaylistsSucceed : Type 0

@@ -2,3 +2,4 @@ pub mod Channel
 pub mod ChannelLaws
 pub mod Typed
 pub mod Accepting
+pub mod Marks

@@ -49,9 +49,9 @@ impl Model for Channel {
 
     ghost view = { λ a. channel_with a.base a.tolerance a.state a.text };
 
-    ghost use Rattle.stitcher.specs.StitchedSegments.{AreDecided};
+    ghost use Rattle.live_window.specs.Showing.{AreKept};
 
-    ghost invariant = { λ a. Stands (channel_with a.base a.tolerance a.state a.text) × AreDecided a.state.store a.state.shown × IsContiguous a.state.last };
+    ghost invariant = { λ a. Stands (channel_with a.base a.tolerance a.state a.text) × AreKept a.state.store a.state × IsContiguous a.state.last };
 }
 
 /// Why a channel can't be made.
@@ -102,6 +102,8 @@ impl Channel {
                     discontinuity: 0,
                     steps: 0,
                 },
+                so_far: Nanos(0),
+                rest: None,
             },
             text: None,
         })
@@ -113,7 +115,7 @@ impl Channel {
         ensures { Refreshes self.old bytes.now result self.new }
     {
         let (playlist, next) = next_of(alloc, &self.base, self.tolerance, &self.state, bytes)?;
-        let (done, text) = accept(&mut self.state, playlist, next);
+        let (done, text) = accept(&mut self.state, playlist, next)?;
         self.text = Some(text);
         Ok(done)
     }
@@ -129,7 +131,7 @@ impl Channel {
     {
         let (base, tolerance) = (&self.base, self.tolerance);
         let (playlist, next) = next_of_owned(alloc, base, tolerance, &self.state, bytes)?;
-        let (refreshed, written) = accept(&mut self.state, playlist, next);
+        let (refreshed, written) = accept(&mut self.state, playlist, next)?;
         self.text = Some(written);
         Ok(refreshed)
     }

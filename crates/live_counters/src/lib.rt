@@ -2,6 +2,7 @@
 #![tactic(auto)]
 
 mod channel;
+mod in_use;
 pub mod laws;
 mod refresh;
 mod types_say;

@@ -1,15 +1,14 @@
 //! What an accepted refresh comes to, from what is kept.
-ghost use Rattle.std.specs.Prelude.{◌≡◌, Ok, IfOk, IfErr, true, false};
+ghost use Rattle.std.specs.Prelude.{◌≡◌, Ok, IfOk, IfErr, OnOk, true, false};
 ghost use Rattle.std.specs.List.{list_all};
-ghost use Rattle.playlist_meaning.specs.Stitched.{fits, numbered, stitched};
+ghost use Rattle.playlist_meaning.specs.Stitched.{fits};
 ghost use Rattle.playlist_meaning.specs.Reading.{reading, limited};
 ghost use Rattle.reading_laws.specs.Read.{uris_are_text};
-ghost use Rattle.stitcher.specs.StitchedSegments.{AreDecided};
-ghost use Rattle.live_meaning.specs.Kept.{kept_first, kept_list, kept_refusal};
+ghost use Rattle.live_meaning.specs.Kept.{kept_items, kept_refusal};
 ghost use Rattle.live_meaning.specs.Live.{succession_fault};
 ghost use Rattle.live_meaning.specs.Successor.{answer_of};
 ghost use Rattle.live_window.specs.Checked.{AreContiguous};
-ghost use Rattle.live_window.specs.Showing.{kept_in};
+ghost use Rattle.live_window.specs.Showing.{AreKept, kept_in};
 ghost use Rattle.live_counters.specs.Channel.{IsContiguous};
 ghost use Rattle.live_counters.specs.Accepting.{IsAccepted, Follows, Accepts, Refused, RefusesNext, RefusesReading, accepted_state};
 ghost use Rattle.live_window.specs.Listed.{RefusesList};
@@ -36,6 +35,8 @@ pub struct NextKept {
     pub knowledge: Knowledge,
     /// The segments that are shown, the oldest first.
     pub shown: Vec<Marked>,
+    /// How long the newest run has lasted.
+    pub so_far: Nanos,
     /// How many segments are shown for the first time.
     pub fresh: usize,
     /// What is written.
@@ -51,17 +52,22 @@ fn next_kept(
     playlist: &Playlist,
 ) -> Result<NextKept, RefreshFault>
     requires contiguous { AreContiguous playlist.now.segments }
-    requires decided { AreDecided state.now.store state.now.shown }
+    requires decided { AreKept state.now.store state.now }
     ensures ok { IfOk result (λ a. IsAccepted tolerance (kept_in state.now) playlist.now a) }
-    ensures err { IfErr result (λ e. RefusesList e (list_all fits (numbered (kept_first tolerance (kept_in state.now) playlist.now) (stitched (kept_list tolerance (kept_in state.now) playlist.now))) ≡ false)) }
+    ensures err { IfErr result (λ e. RefusesList e (list_all fits (kept_items tolerance (kept_in state.now) playlist.now) ≡ false)) }
 {
-    let Showing { knowledge, list } = shown_with(alloc, tolerance, state, playlist)?;
-    let written = written_of(alloc, state, playlist, list.as_slice())?;
+    let Showing {
+        knowledge,
+        list,
+        so_far,
+    } = shown_with(alloc, tolerance, state, playlist)?;
+    let written = written_of(alloc, state, playlist, list.as_slice(), so_far)?;
     let segments = playlist.segments.as_slice();
     let shown_before = count_before(first_number(segments), list.as_slice());
     Ok(NextKept {
         knowledge,
         shown: from_place(list, shown_before)?,
+        so_far,
         fresh: fresh_of(state.shown.as_slice(), segments).len(),
         written,
     })
@@ -86,7 +92,7 @@ fn next_after(
     playlist: &Playlist,
 ) -> Result<NextKept, RefreshFault>
     requires contiguous { AreContiguous playlist.now.segments }
-    requires decided { AreDecided state.now.store state.now.shown }
+    requires decided { AreKept state.now.store state.now }
     requires last { IsContiguous state.now.last }
     ensures ok { IfOk result (λ a. Follows tolerance (kept_in state.now) playlist.now a) }
     ensures err { IfErr result (λ e. RefusesNext e (kept_refusal tolerance (kept_in state.now) playlist.now)) }
@@ -118,7 +124,7 @@ pub fn next_of(
     state: &State,
     bytes: &[u8],
 ) -> Result<(Playlist, NextKept), RefreshFault>
-    requires decided { AreDecided state.now.store state.now.shown }
+    requires decided { AreKept state.now.store state.now }
     requires last { IsContiguous state.now.last }
     ensures ok { IfOk result (λ a. Accepts base.now tolerance state.now bytes.now a.0 a.1) }
     ensures err { IfErr result (λ e. Refused base.now tolerance state.now bytes.now e) }
@@ -136,7 +142,7 @@ pub fn next_of_owned(
     state: &State,
     bytes: Vec<u8>,
 ) -> Result<(Playlist, NextKept), RefreshFault>
-    requires decided { AreDecided state.now.store state.now.shown }
+    requires decided { AreKept state.now.store state.now }
     requires last { IsContiguous state.now.last }
     ensures ok { IfOk result (λ a. Accepts base.now tolerance state.now bytes.items a.0 a.1) }
     ensures err { IfErr result (λ e. Refused base.now tolerance state.now bytes.items e) }
@@ -147,28 +153,39 @@ pub fn next_of_owned(
     Ok((read, next))
 }
 
-/// Keeps what an accepted refresh comes to. Answers what it did, and the text that is written. Takes no memory.
-pub fn accept(state: &mut State, playlist: Playlist, next: NextKept) -> (Refreshed, Shared<Text>)
-    ensures state { state.new ≡ accepted_state state.old playlist next }
-    ensures answer { result ≡ (record { media_sequence = next.written.numbers.media; segments = next.written.count; fresh = next.fresh }, next.written.text) }
+/// Keeps what an accepted refresh comes to. Answers what it did, and the text that is written. The breaks that were entered
+/// with the fallback keep copies of it, which alone takes memory: where it is refused, the state is as it was.
+pub fn accept(
+    state: &mut State,
+    playlist: Playlist,
+    next: NextKept,
+) -> Result<(Refreshed, Shared<Text>), RefreshFault>
+    ensures state { OnOk result (state.new ≡ accepted_state state.old playlist next) }
+    ensures answer { IfOk result (λ done. done ≡ (record { media_sequence = next.written.numbers.media; segments = next.written.count; fresh = next.fresh }, next.written.text)) }
+    ensures err { IfErr result (λ e. (e ≡ RefreshFault.OutOfMemory) × (state.new ≡ state.old)) }
 {
     let Written {
         entered,
         ids,
+        marks,
         numbers,
         count,
+        rest,
         text,
     } = next.written;
+    state.store.copy_fallback(marks.as_slice())?;
     state.store.keep_in_use(ids.as_slice());
     state.knowledge = next.knowledge;
     state.last = Some(playlist);
     state.shown = Items::from_vec(next.shown);
     state.entered = entered;
     state.numbers = numbers;
+    state.so_far = next.so_far;
+    state.rest = rest;
     let done = Refreshed {
         media_sequence: numbers.media,
         segments: count,
         fresh: next.fresh,
     };
-    (done, text)
+    Ok((done, text))
 }

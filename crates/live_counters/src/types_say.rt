@@ -53,12 +53,16 @@ fn know_breaks(breaks: &[Decision])
     }
 }
 
-#[tactic(auto, using(crate::proofs::Typed::breaks_keep))]
+#[tactic(auto, using(crate::proofs::Typed::breaks_keep, crate::proofs::Typed::fallback_keeps))]
 /// Knows that decided pods keep the rules of pods.
 pub fn know_pods(decisions: &Decisions)
     ensures { AllPods KeepsRules decisions.now }
 {
-    if let Decisions::Breaks(breaks) = decisions {
-        know_breaks(breaks.as_slice());
+    match decisions {
+        Decisions::Breaks(breaks) => know_breaks(breaks.as_slice()),
+        Decisions::Fallback(pod) => {
+            let _ads = pod.ads();
+        }
+        _ => {}
     }
 }

@@ -1,25 +1,27 @@
 //! What a refresh writes of the segments that are shown then.
 ghost use Rattle.std.specs.Prelude.{◌≡◌, IfOk, IfErr, false, map};
 ghost use Rattle.std.specs.List.{list_all, list_any};
-ghost use Rattle.playlist_meaning.specs.Stitched.{fits, numbered, stitched};
+ghost use Rattle.playlist_meaning.specs.Stitched.{fits};
 ghost use Rattle.playlist_write.specs.Owed.{text_of};
 ghost use Rattle.pod_store.specs.Store.{is_one_of};
 ghost use Rattle.stitcher.specs.StitchedSegments.{AreDecided};
-ghost use Rattle.live_meaning.specs.Kept.{numbers_on, kept_date_ranges};
+ghost use Rattle.live_meaning.specs.Kept.{items_on, kept_date_ranges};
 ghost use Rattle.live_meaning.specs.Live.{date_range_text};
 ghost use Rattle.live_window.specs.Marking.{so_far};
 ghost use Rattle.live_window.specs.Showing.{kept_in};
-ghost use Rattle.live_window.specs.Listed.{RefusesList, states_time};
-ghost use Rattle.live_counters.specs.Accepting.{IsWritten, out_with};
+ghost use Rattle.live_window.specs.Listed.{IsFront, IsRestDecided, RefusesList, states_time};
+ghost use Rattle.live_counters.specs.Accepting.{IsLeft, IsWritten, out_with};
 
+use crate::in_use::marks_in_use;
+use fixed_duration::Nanos;
 use live_meaning::RefreshFault;
 use live_window::{
-    State, date_ranges_left, first_number, head_of, last_entered, numbers_on, used_ids, window_of,
+    State, Window, date_ranges_left, first_number, head_of, last_entered, used_ids, window_of,
 };
 use playlist_meaning::{Items, Playlist, Shared, Text};
 use playlist_write::{OutPlaylist, written};
 use std::alloc::{AllocError, Global};
-use stitcher::{Marked, Numbers, OriginText, OutSegment};
+use stitcher::{Marked, Numbers, OriginText, OutSegment, Rest};
 
 /// What a refresh writes, and which breaks it uses.
 #[derive(Drop)]
@@ -28,10 +30,14 @@ pub struct Written {
     pub entered: Option<Shared<Text>>,
     /// The breaks in use.
     pub ids: Vec<Text>,
+    /// The same, one for each segment that they mark: each of them that has no pod of its own keeps a copy of the fallback.
+    pub marks: Vec<Shared<Text>>,
     /// The numbers of the window's first item.
     pub numbers: Numbers,
     /// How many items are written.
     pub count: usize,
+    /// The rest of a pod that the window starts with.
+    pub rest: Option<Rest>,
     /// The text that is written.
     pub text: Shared<Text>,
 }
@@ -75,31 +81,37 @@ fn text_without(
     text_with(alloc, playlist, date_ranges, items)
 }
 
-/// What a refresh writes where these segments are shown, and which breaks it uses. `NumberRange` where a number would
-/// pass 2^64 - 1.
+/// What a refresh writes where these segments are shown, the newest run of which has lasted so long, and which breaks it uses.
+/// `NumberRange` where a number would pass 2^64 - 1.
 pub fn written_of(
     alloc: Global,
     state: &State,
     playlist: &Playlist,
     list: &[Marked],
+    length: Nanos,
 ) -> Result<Written, RefreshFault>
-    requires { AreDecided state.now.store list.now }
-    ensures ok { IfOk result (λ w. IsWritten (kept_in state.now) playlist.now (so_far state.now.store list.now) w) }
-    ensures err { IfErr result (λ e. RefusesList e (list_all fits (numbered (numbers_on state.now.last state.now.numbers (so_far state.now.store list.now)) (stitched (so_far state.now.store list.now))) ≡ false)) }
+    requires decided { AreDecided state.now.store list.now }
+    requires front { IsFront state.now.shown list.now }
+    requires rest { IsRestDecided state.now.store state.now.rest }
+    ensures ok { IfOk result (λ w. IsWritten (kept_in state.now) playlist.now (so_far state.now.store list.now) length w) }
+    ensures left { IfOk result (λ w. IsLeft state.now.store (kept_in state.now) playlist.now (so_far state.now.store list.now) w.rest) }
+    ensures err { IfErr result (λ e. RefusesList e (list_all fits (items_on (kept_in state.now) playlist.now (so_far state.now.store list.now) length) ≡ false)) }
 {
     let number = first_number(playlist.segments.as_slice());
-    let first = numbers_on(&state.last, state.numbers, list, &state.store)?;
-    let window = window_of(alloc, list, &state.store, first, number)?;
+    let Window { items, rest } = window_of(alloc, state, playlist, list, length)?;
     let entered = last_entered(list, &state.entered)?;
-    let ids = used_ids(alloc, number, list, &entered)?;
-    let numbers = head_of(window.as_slice());
-    let count = window.len();
-    let text = text_without(alloc, playlist, ids.as_slice(), window)?;
+    let ids = used_ids(alloc, number, list, &entered, &rest)?;
+    let marks = marks_in_use(alloc, number, list, &entered, &rest)?;
+    let numbers = head_of(items.as_slice());
+    let count = items.len();
+    let text = text_without(alloc, playlist, ids.as_slice(), items)?;
     Ok(Written {
         entered,
         ids,
+        marks,
         numbers,
         count,
+        rest,
         text,
     })
 }

@@ -5,7 +5,7 @@ use Rattle.url.specs.Parts.{Parts}
 use Rattle.playlist_meaning.specs.Uri.{base_of}
 use Rattle.playlist_meaning.specs.Reading.{reading, limited}
 use Rattle.pod_store.specs.Outcome.{Outcome}
-use Rattle.pod_store.specs.Store.{Entry}
+use Rattle.pod_store.specs.Store.{Store}
 use Rattle.pod_store.specs.declared.fault.DecisionKind.{DecisionKind}
 use Rattle.pod_store.specs.declared.fault.DecisionKind.TheVariants as decision
 use Rattle.live_meaning.specs.declared.fault.RefreshFault.{RefreshFault}
@@ -48,7 +48,7 @@ kind_served : (kind : DecisionKind) → not (decision_status kind == 503) ≡ tr
 kind_served decision.Used = refl
 kind_served _ = refl
 
-outcome_served : (outcome : Outcome (List Entry)) → was_served (decisions_reply outcome) ≡ true
+outcome_served : (outcome : Outcome Store) → was_served (decisions_reply outcome) ≡ true
 outcome_served (Ok store) = refl
 outcome_served (Err f) = kind_served f.kind
 

@@ -12,7 +12,7 @@ use Rattle.reading_laws.specs.Read.{numbers_read, sections_agree, AreRead}
 use Rattle.live_meaning.specs.Successor.{first_number, is_mapped}
 use Rattle.live_meaning.specs.Sound.{RiseFrom, IsSoundPlaylist, IsSoundPod, AllPods, IsSoundEvent}
 use Rattle.pod_store.specs.declared.Decisions.{Decisions}
-use Rattle.pod_store.specs.declared.Decisions.TheVariants.{Breaks, Withdraw}
+use Rattle.pod_store.specs.declared.Decisions.TheVariants.{Breaks, Withdraw, Fallback, NoFallback}
 use Rattle.live_meaning.specs.Live.{Event, decided, refreshed}
 use Rattle.live_laws.specs.Laws.{KeepsRules, CanBeGiven}
 use Rattle.live_meaning.proofs.SoundPods.{kept_is_sound}
@@ -61,6 +61,8 @@ is_read p r =
 pub all_of : (P Q : Pod → Type 0) (ds : Decisions) → ((x : Pod) → P x → Q x) → AllPods P ds → AllPods Q ds
 all_of P Q (Breaks ds) f h = all_more (λ (d : List ℕ × Pod). P d.1) (λ (d : List ℕ × Pod). Q d.1) ds (λ d k. f d.1 k) h
 all_of P Q (Withdraw id) f h = tt
+all_of P Q (Fallback pod) f h = f pod h
+all_of P Q NoFallback f h = tt
 
 given : (event : Event) → CanBeGiven event → IsSoundEvent event
 given (decided ds) h = all_of KeepsRules IsSoundPod ds (λ d k. kept_is_sound d k) h

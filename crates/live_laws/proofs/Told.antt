@@ -16,14 +16,15 @@ use Rattle.fitting.specs.Fitting.{if_some, is_clean, effective_keys_fit, section
 use Rattle.playlist_write.specs.WellFormed.{resource_fits, duration_fits}
 use Rattle.reading_laws.specs.Read.{segment_reads, uris_are_text, segment_can_be_written, numbers_are_words, numbers_read}
 use Rattle.reading_laws.proofs.Texts.{segment_is_written}
-use Rattle.live_meaning.specs.Marking.{Moment, instant_of, newest_end, next_shown, show_all, is_new, history_after}
+use Rattle.live_meaning.specs.Marking.{Moment, instant_of, newest_end, next_shown, show_all, is_new, history_after, last_entered}
 use Rattle.live_meaning.specs.Successor.{first_number}
-use Rattle.live_meaning.specs.Live.{Event, decided, refreshed, Told, told, happens, refusal, after_refresh, moment, in_use}
+use Rattle.live_meaning.specs.Live.{Event, decided, refreshed, Told, told, happens, refusal, after_refresh, moment, in_use, ids_in_use, rest_before, start_after, last_playlist}
+use Rattle.pod_store.specs.Store.{with_copies}
 use Rattle.live_meaning.proofs.Growth.{history_grows, first_numbers_stay}
 use Rattle.live_laws.proofs.Writable.{pod_can_be_written, kept_is_written}
 use Rattle.live_laws.specs.Laws.{CanBeRead, KeepsRules, CanBeGiven}
 use Rattle.live_laws.proofs.Given.{all_of}
-use Rattle.live_laws.proofs.AllPods.{Pods, OfMark, all_filter, decide_pods, after_pods, marks_of}
+use Rattle.live_laws.proofs.AllPods.{Pods, OfMark, all_filter, decide_pods, copies_pods, after_pods, marks_of}
 use Rattle.live_laws.proofs.Pieces.{can_stand, Stands}
 
 abbrev IsWritten : Pod → Type 0
@@ -105,8 +106,12 @@ fine_segments (s ∷ later) h t = let a = and_parts _ _ h in let b = and_parts _
 pub refresh_good : (tolerance : ℕ) (t : Told) (p : Playlist) → Good t → CanBeRead p → Good (after_refresh tolerance t p)
 refresh_good tolerance t p g r =
     let m = moment tolerance t p in
+    let history = history_after m t.history p in
+    let start = start_after (last_playlist t.accepted) t.start t.history p history in
+    let number = first_number p.segments in
+    let ids = ids_in_use number history (last_entered history) (rest_before start number history) in
     record {
-      pods = after_pods IsWritten (in_use (first_number p.segments) (history_after m t.history p)) t.store g.pods;
+      pods = after_pods IsWritten (in_use start number history) (with_copies t.store ids) (copies_pods IsWritten t.store ids g.pods);
       stands = show_stands m t.history (filter (is_new t.history) p.segments) g.pods g.stands (all_filter IsFine (is_new t.history) p.segments (fine_segments p.segments r.limits.segments r.text));
       first = first_after m t.history p g.first r.limits.numbers;
     }
@@ -125,5 +130,5 @@ event_good tolerance t (decided ds) g h =
 event_good tolerance t (refreshed p) g h = refusal_step (is_none (refusal tolerance t p)) (after_refresh tolerance t p) t (refresh_good tolerance t p g h) g
 
 pub good_told : (tolerance : ℕ) (events : List Event) → AllByRecursion CanBeGiven events → Good (told tolerance events)
-good_told tolerance [] h = record { pods = tt; stands = tt; first = refl }
+good_told tolerance [] h = record { pods = record { entries = tt; fallback = tt }; stands = tt; first = refl }
 good_told tolerance (event ∷ before) h = event_good tolerance (told tolerance before) event (good_told tolerance before h.1) h.0

@@ -1,5 +1,5 @@
 -- What is owed is well formed, and its text denotes it.
-use Rattle.std.proofs.Common.{◌≡◌, ℕ, ◌-◌, ◌<◌, Bool, true, false, cond, zero, suc, List, [], ◌∷◌, ◌++◌, map, take, length, refl, ap, ◌∙◌, subst, inl, inr, arith}
+use Rattle.std.proofs.Common.{◌≡◌, ℕ, ◌-◌, ◌<◌, Bool, true, false, cond, zero, suc, List, [], ◌∷◌, ◌++◌, map, take, length, refl, ap, sym, ◌∙◌, subst, inl, inr, arith}
 use Rattle.std.specs.Prelude.{Option, Some, None, Ok, max, is_none, is_some, not, filter}
 use Rattle.std.specs.List.{list_all, list_any, flat_map, AllByRecursion}
 use Rattle.std.proofs.lemmas.Bool.{and_from, and_parts}
@@ -11,7 +11,9 @@ use Rattle.playlist_meaning.specs.LookBack.{or_earlier}
 use Rattle.playlist_meaning.specs.Reading.{limited, unlimited}
 use Rattle.playlist_meaning.specs.Said.{Reader}
 use Rattle.playlist_meaning.specs.Marks.{Marked}
-use Rattle.playlist_meaning.specs.Stitched.{Piece, is_kept, Numbers, Item, numbered, stitched, stitched_list, fits, first_numbers, up_to}
+use Rattle.playlist_meaning.specs.Stitched.{Piece, is_kept, Numbers, Item, numbered, stitched, fits, first_numbers}
+use Rattle.playlist_meaning.specs.Paced.{due_stitched, due_list}
+use Rattle.std.proofs.lemmas.List.Folds.{list_all-append}
 use Rattle.stitcher.specs.declared.OutSegment.{OutSegment}
 use Rattle.stitcher.specs.Written.{written_item}
 use Rattle.fitting.specs.Fitting.{date_range_fits, says_date_range}
@@ -20,35 +22,21 @@ use Rattle.playlist_write.specs.Denoted.{denoted, denoted_segment, denoted_date_
 use Rattle.playlist_write.proofs.Whole.{text_denotes}
 use Rattle.reading_laws.specs.Read.{version_reads, IsSaid, text_is_clean}
 use Rattle.live_meaning.specs.declared.fault.RefreshFault.TheVariants.{NumberRange}
-use Rattle.live_meaning.specs.Successor.{first_number, end_number, fault_if}
+use Rattle.live_meaning.specs.Successor.{first_number, fault_if}
 use Rattle.live_meaning.specs.Successor as successor
-use Rattle.live_meaning.specs.Live.{refreshed, Told, told, refusal, succession_fault, last_playlist, after_refresh, moment, in_use, item_segment, states_instant, window_after, written_date_ranges, owed_for}
-use Rattle.live_meaning.proofs.Numbered.{window_place}
+use Rattle.live_meaning.specs.Live.{refreshed, Told, told, refusal, succession_fault, last_playlist, after_refresh, in_use, item_segment, states_instant, window_after, written_date_ranges, owed_for}
 use Rattle.live_meaning.proofs.Windows.{In}
-use Rattle.live_meaning.proofs.Fills.{Mapped, stitched_mapped, IsAlike}
-use Rattle.live_meaning.proofs.Places.{place_inside, stitched_longer, up_to_within, up_to_some}
-use Rattle.live_meaning.proofs.EachWindow.{all_after}
-use Rattle.live_meaning.proofs.LiveState.{Standing, holds, new_standing}
+use Rattle.live_meaning.proofs.Fills.{Mapped}
+use Rattle.live_meaning.proofs.Due.{list_rest}
+use Rattle.live_meaning.proofs.EachWindow.{WindowStanding, WindowOf, start_inside, due_mapped, refresh_holds, holds}
 use Rattle.live_laws.specs.Owed.{owed_playlist}
 use Rattle.live_meaning.specs.Live.{date_range_text}
 use Rattle.live_meaning.proofs.Reversed.{list_all-reverse}
 use Rattle.live_laws.specs.Laws.{CanBeRead, OwedIsWellFormed, OwedIsDenoted, TextDenotesOwed}
 use Rattle.live_laws.proofs.AllPods.{all_filter}
-use Rattle.live_laws.proofs.Pieces.{all_taken, pieces_stand, item_fits, items_fit, all_written, window_numbers, is_mapped_item, agree}
+use Rattle.live_laws.proofs.Pieces.{all_taken, piece_stands, pieces_stand, item_fits, items_fit, all_written, window_numbers, is_mapped_item, agree}
 use Rattle.live_laws.proofs.Told.{Good, refresh_good, good_told}
 use Rattle.live_laws.proofs.Given.{is_read, all_given}
-
--- ---- the window isn't empty
-
-place_within : (p : Playlist) (history : List Marked) → Standing p history → window_place (first_number p.segments) history < length (stitched history)
-place_within p history s =
-    let n = first_number p.segments in
-    let some = up_to_some n (end_number p.segments) history s.falls (omega (arith, s.read.some)) (omega (arith, s.long)) in
-    let g = up_to_within n history in
-    let alike = all_after (IsAlike (successor.is_mapped p.segments)) g.0 (up_to n history) (subst (λ h. AllByRecursion (IsAlike (successor.is_mapped p.segments)) h) g.1 s.alike) in
-    let inside = place_inside (successor.is_mapped p.segments) (up_to n history) alike some in
-    let longer = stitched_longer (up_to n history) history g in
-    omega (arith, inside, longer)
 
 length-numbered : (first : Numbers) (pieces : List Piece) → length (numbered first pieces) ≡ length pieces
 length-numbered first [] = refl
@@ -111,7 +99,7 @@ module _ (t : Told) (p : Playlist) where
   stated = list_any states_instant (window_after t p)
 
   abbrev others : DateRange → Bool
-  others r = not (in_use (first_number p.segments) t.history r.id)
+  others r = not (in_use t.start (first_number p.segments) t.history r.id)
 
   written_said : (reader : Reader) → AllByRecursion (IsSaid reader) p.date_ranges → AllByRecursion (IsSaid reader) (written_date_ranges t p)
   written_said reader h = some_said (IsSaid reader) stated (filter others p.date_ranges) (all_filter (IsSaid reader) others p.date_ranges h)
@@ -121,22 +109,28 @@ module _ (t : Told) (p : Playlist) where
 
 -- ---- well formed
 
-well : (t : Told) (p : Playlist) → Good t → Standing p t.history → CanBeRead p → list_all fits (stitched_list t.history) ≡ true → well_formed (owed_playlist t p) ≡ true
+-- what is due of the list can be written where all of it can
+due_stands : (ended : Bool) (history : List Marked) → list_all piece_stands (stitched history) ≡ true → list_all piece_stands (due_stitched ended history) ≡ true
+due_stands ended history h =
+    let r = list_rest ended history in
+    (and_parts _ _ (sym (list_all-append piece_stands r.rest (due_stitched ended history)) ∙ (ap (list_all piece_stands) (sym r.is) ∙ h))).1
+
+well : (t : Told) (p : Playlist) → Good t → WindowStanding p t.history t.start → CanBeRead p → list_all fits (due_list p.ended t.history) ≡ true → well_formed (owed_playlist t p) ≡ true
 well t p g s r f =
     let first = first_numbers t.history in
-    let pieces = stitched t.history in
-    let place = window_place (first_number p.segments) t.history in
-    let n = length (stitched_list t.history) - place in
-    let inside = place_within p t.history s in
+    let pieces = due_stitched p.ended t.history in
+    let list = due_list p.ended t.history in
+    let n = length list - t.start in
+    let inside = start_inside p t.history t.start s p.ended in
     let size = length-numbered first pieces in
     let m = successor.is_mapped p.segments in
-    let items = items_fit first pieces (pieces_stand t.history g.stands) f in
+    let items = items_fit first pieces (due_stands p.ended t.history (pieces_stand t.history g.stands)) f in
     let segments : list_all segment_fits (map written_item (window_after t p)) ≡ true =
-    all_written (window_after t p) ∙ (list_all-reverse item_fits (take n (stitched_list t.history)) ∙ all_taken item_fits n (stitched_list t.history) items) in
+    all_written (window_after t p) ∙ (list_all-reverse item_fits (take n list) ∙ all_taken item_fits n list items) in
     let numbers = window_numbers first g.first n pieces (omega (arith, inside, size)) (omega (arith, inside)) in
     let mapped = outs_mapped m (window_after t p)
-    (all_turned (λ (item : Item). is_some item.piece.segment.section ≡ m) (take n (stitched_list t.history)) []
-    (all_first (λ (item : Item). is_some item.piece.segment.section ≡ m) n (stitched_list t.history) (items_mapped m first pieces (stitched_mapped m t.history s.alike))) tt) in
+    (all_turned (λ (item : Item). is_some item.piece.segment.section ≡ m) (take n list) []
+    (all_first (λ (item : Item). is_some item.piece.segment.section ≡ m) n list (items_mapped m first pieces (due_mapped m p.ended t.history s.standing.alike))) tt) in
     and_from _ _
     (and_from _ _ (and_from _ _ (and_from _ _ (and_from _ _ (version_owed p.version r.limits.version) r.limits.target) numbers) segments) (agree m (map written_item (window_after t p)) mapped))
     (date_ranges_fit (written_date_ranges t p) (written_said t p limited r.limits.date_ranges) (written_clean t p r.limits.date_range_texts))
@@ -149,21 +143,22 @@ within : (b : Bool) → fault_if (not b) NumberRange ≡ None → b ≡ true
 within true e = refl
 within false e = absurd (cc)
 
-accepted : (tolerance : ℕ) (t : Told) (p : Playlist) → refusal tolerance t p ≡ None → (succession_fault (last_playlist t.accepted) p ≡ None) × (list_all fits (stitched_list (after_refresh tolerance t p).history) ≡ true)
+accepted : (tolerance : ℕ) (t : Told) (p : Playlist) → refusal tolerance t p ≡ None → (succession_fault (last_playlist t.accepted) p ≡ None) × (list_all fits (due_list p.ended (after_refresh tolerance t p).history) ≡ true)
 accepted tolerance t p e =
     let a = or_none (succession_fault (last_playlist t.accepted) p) _ e in
-    (a.0, within (list_all fits (stitched_list (after_refresh tolerance t p).history)) a.1)
+    (a.0, within (list_all fits (due_list p.ended (after_refresh tolerance t p).history)) a.1)
 
 now : (tolerance : ℕ) (t : Told) (p : Playlist) → refusal tolerance t p ≡ None → cond (is_none (refusal tolerance t p)) (after_refresh tolerance t p) t ≡ after_refresh tolerance t p
 now tolerance t p e = ap (λ o. cond (is_none o) (after_refresh tolerance t p) t) e
 
 pub owed_is_well_formed : OwedIsWellFormed
+unfolding WindowOf
 owed_is_well_formed tolerance p before g e =
     let t = told tolerance before in
     let a = accepted tolerance t p e in
     let h = holds tolerance before (all_given before g.1) in
     let good = refresh_good tolerance t p (good_told tolerance before g.1) g.0 in
-    let s = new_standing (moment tolerance t p) t.accepted t.history p h.standing (is_read p g.0.limits) refl h.store a.0 in
+    let s = (refresh_holds tolerance t p h (is_read p g.0.limits) a.0).standing in
     ap (λ u. well_formed (owed_playlist u p)) (now tolerance t p e) ∙ well (after_refresh tolerance t p) p good s g.0 a.1
 
 -- ---- denoted

@@ -1,7 +1,7 @@
 //! What a decision file says.
 use decision_files::read_decisions;
 use escaped_bytes::bytes_of;
-use pod_store::{Ad, Decision, Decisions};
+use pod_store::{Ad, Decision, Decisions, Pod};
 use std::alloc::Global;
 use std::io;
 use std::io::Print;
@@ -24,6 +24,11 @@ fn print_break(rt: &impl Print, decision: &Decision) -> io::Result<()> {
     )
 }
 
+fn print_fallback(rt: &impl Print, pod: &Pod) -> io::Result<()> {
+    let (ads, segments, total) = (pod.ads().len(), segments_of(pod.ads()), pod.total().0);
+    println!(rt; "fallback ads {ads} segments {segments} total {total}")
+}
+
 fn print_breaks(rt: &impl Print, breaks: &[Decision]) -> io::Result<()> {
     println!(rt; "decisions")?;
     for decision in breaks {
@@ -32,11 +37,14 @@ fn print_breaks(rt: &impl Print, breaks: &[Decision]) -> io::Result<()> {
     Ok(())
 }
 
-/// Prints what a decision file says: its breaks, a line each, or the one that is withdrawn, or the first fault.
+/// Prints what a decision file says: its breaks, a line each, the one that is withdrawn, the fallback, that there is none, or
+/// the first fault.
 pub(crate) fn print_decisions(rt: &impl Print, alloc: Global, body: &str) -> io::Result<()> {
     match read_decisions(alloc, bytes_of(alloc, body)?.as_slice()) {
         Ok(Decisions::Breaks(breaks)) => print_breaks(rt, breaks.as_slice()),
         Ok(Decisions::Withdraw(id)) => println!(rt; "withdraw {}", id.as_str()),
+        Ok(Decisions::Fallback(pod)) => print_fallback(rt, &pod),
+        Ok(Decisions::NoFallback) => println!(rt; "no fallback"),
         Err(fault) => println!(rt; "{fault}"),
     }
 }

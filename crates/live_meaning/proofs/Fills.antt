@@ -5,7 +5,7 @@ use Rattle.std.specs.List.{AllByRecursion, list_all}
 use Rattle.playlist_meaning.specs.declared.InitSection.{InitSection}
 use Rattle.playlist_meaning.specs.LookBack.{or_earlier}
 use Rattle.playlist_meaning.specs.Pods.{Pod, Ad, PodSegment}
-use Rattle.pod_store.specs.Store.{Entry, pod_for, has_id}
+use Rattle.pod_store.specs.Store.{Entry, Store, pod_of, pod_for, has_id}
 use Rattle.pod_store.specs.Pods.{pod_fits, ad_fits, segment_fits}
 use Rattle.playlist_meaning.specs.Marks.{Mark, Marked, newest_mark, continues}
 use Rattle.live_meaning.specs.Marking.{Moment, last_entered, continued, is_inside, entered, mark_of}
@@ -106,19 +106,29 @@ unfoldable pub IsPodOrNone : Option Pod → Type 0
 IsPodOrNone None = Unit {0}
 IsPodOrNone (Some pod) = IsSoundPod pod
 
-unfoldable pub IsStore : List Entry → Type 0
-IsStore store = AllByRecursion (λ (e : Entry). IsSoundPod e.pod) store
+unfoldable pub HavePods : List Entry → Type 0
+HavePods entries = AllByRecursion (λ (e : Entry). IsSoundPod e.pod) entries
 
-found_step : (e : Entry) (rest : Option Entry) → IsSoundPod e.pod → IsPodOrNone (option_map (λ (x : Entry). x.pod) rest)
-    → (b : Bool) → IsPodOrNone (option_map (λ (x : Entry). x.pod) (cond b (Some e) rest))
+pub record IsStore (store : Store) : Type 0 where
+  pub entries : HavePods store.entries
+  pub fallback : IsPodOrNone store.fallback
+
+found_step : (e : Entry) (rest : Option Entry) → IsSoundPod e.pod → IsPodOrNone (option_map pod_of rest) → (b : Bool) → IsPodOrNone (option_map pod_of (cond b (Some e) rest))
 unfolding IsPodOrNone
 found_step e rest h k true = h
 found_step e rest h k false = k
 
-found : (id : List ℕ) (store : List Entry) → IsStore store → IsPodOrNone (pod_for store id)
-unfolding IsStore IsPodOrNone
-found id [] h = tt
-found id (e ∷ store) h = found_step e (find (has_id id) store) h.0 (found id store h.1) (has_id id e)
+found_in : (id : List ℕ) (entries : List Entry) → HavePods entries → IsPodOrNone (option_map pod_of (find (has_id id) entries))
+unfolding HavePods IsPodOrNone
+found_in id [] h = tt
+found_in id (e ∷ entries) h = found_step e (find (has_id id) entries) h.0 (found_in id entries h.1) (has_id id e)
+
+either_pod : (a b : Option Pod) → IsPodOrNone a → IsPodOrNone b → IsPodOrNone (or_earlier a b)
+either_pod None b h k = k
+either_pod (Some pod) b h k = h
+
+found : (id : List ℕ) (store : Store) → IsStore store → IsPodOrNone (pod_for store id)
+found id store h = either_pod (option_map pod_of (find (has_id id) store.entries)) store.fallback (found_in id store.entries h.entries) h.fallback
 
 or_good : (m : Bool) (a b : Option Mark) → IsGood m a → IsGood m b → IsGood m (or_earlier a b)
 or_good m None b f g = g

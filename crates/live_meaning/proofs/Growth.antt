@@ -39,35 +39,3 @@ pub first_numbers_stay : (more : List Marked) (s : Marked) (before : List Marked
 first_numbers_stay [] s before = refl
 first_numbers_stay (x ∷ []) s before = refl
 first_numbers_stay (x ∷ y ∷ more) s before = first_numbers_stay (y ∷ more) s before
-
-pub list_grows : (more history : List Marked) → GoesOn (stitched_list history) (stitched_list (more ++ history))
-list_grows more [] = (stitched_list (more ++ []), sym (append-nil (stitched_list (more ++ []))))
-list_grows more (s ∷ before) =
-    let pieces = stitched_grows more (s ∷ before) in
-    let first = first_numbers_stay more s before in
-    let e : stitched_list (more ++ (s ∷ before)) ≡ numbered (first_numbers (s ∷ before)) (pieces.0 ++ stitched (s ∷ before)) = rw (first, pieces.1) refl in
-    let g = numbered_grows (first_numbers (s ∷ before)) pieces.0 (stitched (s ∷ before)) in
-    (g.0, e ∙ g.1)
-
-list_goes_on : (history new : List Marked) → GoesOn history new → GoesOn (stitched_list history) (stitched_list new)
-list_goes_on history new (more, e) = subst (λ h. GoesOn (stitched_list history) (stitched_list h)) (sym e) (list_grows more history)
-
-chosen : (b : Bool) (t u v : Told) → GoesOn t.history u.history → GoesOn t.history v.history → GoesOn t.history (cond b u v).history
-chosen true t u v p q = p
-chosen false t u v p q = q
-
-pub event_grows : (tolerance : ℕ) (t : Told) (event : Event) → GoesOn t.history (happens tolerance t event).history
-event_grows tolerance t (decided decisions) = goes_nowhere t.history
-event_grows tolerance t (refreshed playlist) =
-    chosen (is_none (refusal tolerance t playlist)) t (after_refresh tolerance t playlist) t
-    (history_grows (moment tolerance t playlist) t.history (filter (is_new t.history) playlist.segments)) (goes_nowhere t.history)
-
-pub histories_grow : (tolerance : ℕ) (later before : List Event) → GoesOn (told tolerance before).history (told tolerance (later ++ before)).history
-histories_grow tolerance [] before = goes_nowhere (told tolerance before).history
-histories_grow tolerance (event ∷ later) before =
-    goes_on_through (told tolerance before).history (told tolerance (later ++ before)).history (told tolerance (event ∷ (later ++ before))).history
-    (histories_grow tolerance later before) (event_grows tolerance (told tolerance (later ++ before)) event)
-
-pub only_grows : OnlyGrows
-only_grows tolerance later before =
-    list_goes_on (told tolerance before).history (told tolerance (later ++ before)).history (histories_grow tolerance later before)

@@ -8,9 +8,9 @@ use Rattle.playlist_meaning.specs.declared.Segment.{Segment}
 use Rattle.playlist_meaning.specs.declared.DateRange.{DateRange}
 use Rattle.playlist_meaning.specs.LookBack.{or_earlier}
 use Rattle.playlist_meaning.specs.Marks.{Mark, Marked, newest_mark}
-use Rattle.pod_store.specs.Store.{Entry}
+use Rattle.pod_store.specs.Store.{Entry, Store, with_entries, with_copies}
 use Rattle.live_meaning.specs.Marking.{Moment, mark_id, last_mark, last_entered, next_mark, instant_of, next_shown, show_all, is_new}
-use Rattle.live_meaning.specs.Live.{is_marked, store_after}
+use Rattle.live_meaning.specs.Live.{is_marked, ids_in, marks_from, marks_in_use, entries_after, store_after}
 use Rattle.live_meaning.specs.LiveLaws.{GoesOn}
 use Rattle.live_meaning.specs.Kept.{shown_from, marked_on, entered_with, show_on}
 use Rattle.live_meaning.proofs.Growth.{goes_nowhere, goes_on_through}
@@ -18,7 +18,7 @@ use Rattle.live_meaning.proofs.Risen.{FallFrom}
 
 -- ---- the new marks
 
-entered_cons : (mark : Option Mark) (before : List Marked) → option_map mark_id (or_earlier mark (last_mark before)) ≡ entered_with mark (last_entered before)
+pub entered_cons : (mark : Option Mark) (before : List Marked) → option_map mark_id (or_earlier mark (last_mark before)) ≡ entered_with mark (last_entered before)
 entered_cons None before = refl
 entered_cons (Some f) before = refl
 
@@ -152,17 +152,33 @@ entered_on more front gone =
 
 -- ---- the store, by any two words of what is used that agree
 
-pub store_same : (f g : List ℕ → Bool) (store : List Entry) → ((id : List ℕ) → f id ≡ g id) → store_after f store ≡ store_after g store
-store_same f g [] h = refl
-store_same f g (e ∷ store) h =
+pub entries_same : (f g : List ℕ → Bool) (store : List Entry) → ((id : List ℕ) → f id ≡ g id) → entries_after f store ≡ entries_after g store
+entries_same f g [] h = refl
+entries_same f g (e ∷ store) h =
     ap (λ b. map (λ (x : Entry). record x { used = f x.id }) (cond (not e.used || b) (e ∷ filter (λ (x : Entry). not x.used || f x.id) store) (filter (λ (x : Entry). not x.used || f x.id) store))) (h e.id)
-    ∙ step (not e.used || g e.id) (store_same f g store h)
+    ∙ step (not e.used || g e.id) (entries_same f g store h)
   where
-    step : (b : Bool) → store_after f store ≡ store_after g store
+    step : (b : Bool) → entries_after f store ≡ entries_after g store
         → map (λ (x : Entry). record x { used = f x.id }) (cond b (e ∷ filter (λ (x : Entry). not x.used || f x.id) store) (filter (λ (x : Entry). not x.used || f x.id) store))
         ≡ map (λ (x : Entry). record x { used = g x.id }) (cond b (e ∷ filter (λ (x : Entry). not x.used || g x.id) store) (filter (λ (x : Entry). not x.used || g x.id) store))
-    step true k = ap (λ u. record e { used = u } ∷ store_after f store) (h e.id) ∙ ap (λ es. record e { used = g e.id } ∷ es) k
+    step true k = ap (λ u. record e { used = u } ∷ entries_after f store) (h e.id) ∙ ap (λ es. record e { used = g e.id } ∷ es) k
     step false k = k
+
+-- the marks of the segments that are gone are no part
+pub none_marked : (first end : ℕ) (gone : List Marked) → FallFrom end gone → end ≤ first → marks_from first gone ≡ []
+none_marked first end [] f h = refl
+none_marked first end (g ∷ gone) f h =
+    ap (λ ids. ids ++ cond (nat_le first g.segment.number) (ids_in (option_map mark_id g.mark)) []) (none_marked first g.segment.number gone f.1 (omega (arith, f.0, h)))
+    ∙ ap (λ b. cond b (ids_in (option_map mark_id g.mark)) []) (lt-leb first g.segment.number (omega (arith, f.0, h)))
+
+pub marks_append : (first : ℕ) (list gone : List Marked) → marks_from first gone ≡ [] → marks_from first (list ++ gone) ≡ marks_from first list
+marks_append first [] gone e = e
+marks_append first (x ∷ list) gone e = ap (λ ids. ids ++ cond (nat_le first x.segment.number) (ids_in (option_map mark_id x.mark)) []) (marks_append first list gone e)
+
+pub store_same : (f g : List ℕ → Bool) (store : Store) (ids other : List (List ℕ)) → ((id : List ℕ) → f id ≡ g id) → ids ≡ other
+    → store_after f (with_copies store ids) ≡ store_after g (with_copies store other)
+store_same f g store ids other h e =
+    ap (λ is. store_after f (with_copies store is)) e ∙ ap (with_entries (with_copies store other)) (entries_same f g (with_copies store other).entries h)
 
 pub date_ranges_same : (f g : List ℕ → Bool) (date_ranges : List DateRange) → ((id : List ℕ) → f id ≡ g id) → filter (λ (r : DateRange). not (f r.id)) date_ranges ≡ filter (λ (r : DateRange). not (g r.id)) date_ranges
 date_ranges_same f g [] h = refl

@@ -35,7 +35,7 @@ one_none : (o : Option Mark) → are_one o None ≡ true → ⊥
 one_none None e = cc
 one_none (Some f) e = cc
 
-link_step : (m : Moment) (before : List Marked) (instant : Option ℤ) (o : Option Mark) → newest_mark before ≡ o
+pub link_step : (m : Moment) (before : List Marked) (instant : Option ℤ) (o : Option Mark) → newest_mark before ≡ o
     → are_one (or_earlier (continued m instant o) (entered m instant (last_entered before))) o ≡ true → or_earlier (continued m instant o) (entered m instant (last_entered before)) ≡ o
 link_step m before instant None e h = absurd (one_none (entered m instant (last_entered before)) h)
 link_step m before instant (Some g) e h = step (is_inside m instant g) h

@@ -1,5 +1,5 @@
 -- What holds of all that a list of events tells, and that each window succeeds the one before.
-use Rattle.std.proofs.Common.{◌≡◌, ℕ, ◌+◌, ◌<◌, ◌≤◌, Bool, true, false, cond, not, ◌||◌, List, [], ◌∷◌, map, length, refl, ap, sym, ◌∙◌, subst, arith}
+use Rattle.std.proofs.Common.{◌≡◌, ℕ, ◌+◌, ◌<◌, ◌≤◌, Bool, true, false, cond, not, ◌||◌, List, [], ◌∷◌, ◌++◌, map, length, refl, ap, sym, ◌∙◌, subst, arith}
 use Rattle.std.specs.Prelude.{Option, Some, None, Ok, fold, is_some, is_none, filter, nat_lt, bytes_eq}
 use Rattle.std.specs.List.{AllByRecursion}
 use Rattle.playlist_meaning.specs.declared.Segment.{Segment}
@@ -8,19 +8,19 @@ use Rattle.playlist_meaning.specs.LookBack.{or_earlier}
 use Rattle.playlist_meaning.specs.Pods.{Pod}
 use Rattle.std.specs.List.{list_any}
 use Rattle.pod_store.specs.declared.fault.DecisionKind.TheVariants.{Used, Full, Unknown}
-use Rattle.pod_store.specs.Store.{Entry, has_id, put, without, names_used, count_with, is_decided, is_used}
+use Rattle.pod_store.specs.Store.{Entry, Store, with_entries, has_id, put, without, names_used, count_with, has_own, is_used, copied_last, with_copy, with_copies}
 use Rattle.pod_store.specs.Outcome.{refuse_if, fault_at, nowhere}
 use Rattle.pod_store.specs.declared.fault.DecisionFault.{DecisionFault}
 use Rattle.pod_store.specs.declared.Decisions.{Decisions}
-use Rattle.pod_store.specs.declared.Decisions.TheVariants.{Breaks, Withdraw}
+use Rattle.pod_store.specs.declared.Decisions.TheVariants.{Breaks, Withdraw, Fallback, NoFallback}
 use Rattle.playlist_meaning.specs.Marks.{Marked, newest_mark}
-use Rattle.live_meaning.specs.Marking.{Moment, next_shown, show_all, is_new, instant_of, history_after}
-use Rattle.live_meaning.specs.Live.{Event, decided, refreshed, Told, told, happens, refusal, succession_fault, after_refresh, moment, last_playlist, taken, decide, store_after, in_use}
+use Rattle.live_meaning.specs.Marking.{Moment, next_shown, show_all, is_new, instant_of, history_after, last_entered}
+use Rattle.live_meaning.specs.Live.{Event, decided, refreshed, Told, told, happens, refusal, succession_fault, after_refresh, moment, last_playlist, taken, decide, entries_after, store_after, in_use, marks_in_use}
 use Rattle.break_finder.specs.Known.{Accepted}
 use Rattle.live_meaning.specs.declared.fault.RefreshFault.{RefreshFault}
 use Rattle.live_meaning.specs.Successor.{first_number, end_number, last_discontinuity, is_mapped}
 use Rattle.live_meaning.specs.Sound.{IsSoundPlaylist, IsSoundPod, AllPods, IsSoundEvent}
-use Rattle.live_meaning.proofs.Fills.{IsGood, IsStore, IsAlike, fill_good}
+use Rattle.live_meaning.proofs.Fills.{IsGood, IsPodOrNone, HavePods, IsStore, IsAlike, fill_good}
 use Rattle.live_meaning.proofs.Risen.{FallFrom, newest_discontinuity, fall_on, length_on, newest_on, past, are_past, last_same}
 use Rattle.live_meaning.proofs.Passed.{Passed, passed}
 
@@ -114,48 +114,79 @@ later_standing m last playlist (newest ∷ before) s p r e k =
 
 -- ---- the store holds pods
 
-put_step : (d : List ℕ × Pod) (e : Entry) (store : List Entry) → IsSoundPod d.1 → IsStore (e ∷ store) → IsStore (put store d)
-    → (b : Bool) → IsStore (cond b (record { id = e.id; pod = d.1; used = false } ∷ store) (e ∷ put store d))
-unfolding IsStore
+put_step : (d : List ℕ × Pod) (e : Entry) (store : List Entry) → IsSoundPod d.1 → HavePods (e ∷ store) → HavePods (put store d)
+    → (b : Bool) → HavePods (cond b (record { id = e.id; pod = d.1; used = false; copied = false } ∷ store) (e ∷ put store d))
+unfolding HavePods
 put_step d e store p h k true = (p, h.1)
 put_step d e store p h k false = (h.0, k)
 
-put_pod : (d : List ℕ × Pod) (store : List Entry) → IsSoundPod d.1 → IsStore store → IsStore (put store d)
-unfolding IsStore
+put_pod : (d : List ℕ × Pod) (store : List Entry) → IsSoundPod d.1 → HavePods store → HavePods (put store d)
+unfolding HavePods
 put_pod d [] p h = (p, tt)
 put_pod d (e ∷ store) p h = put_step d e store p h (put_pod d store p h.1) (bytes_eq d.0 e.id)
 
-put_all_pods : (ds : List (List ℕ × Pod)) (store : List Entry) → AllByRecursion (λ (d : List ℕ × Pod). IsSoundPod d.1) ds → IsStore store → IsStore (fold put store ds)
+put_all_pods : (ds : List (List ℕ × Pod)) (store : List Entry) → AllByRecursion (λ (d : List ℕ × Pod). IsSoundPod d.1) ds → HavePods store → HavePods (fold put store ds)
 put_all_pods [] store p h = h
 put_all_pods (d ∷ ds) store p h = put_all_pods ds (put store d) p.1 (put_pod d store p.0 h)
 
-without_step : (e : Entry) (store more : List Entry) → IsStore (e ∷ store) → IsStore more → (b : Bool) → IsStore (cond b store (e ∷ more))
-unfolding IsStore
+without_step : (e : Entry) (store more : List Entry) → HavePods (e ∷ store) → HavePods more → (b : Bool) → HavePods (cond b store (e ∷ more))
+unfolding HavePods
 without_step e store more h k true = h.1
 without_step e store more h k false = (h.0, k)
 
-without_pods : (id : List ℕ) (store : List Entry) → IsStore store → IsStore (without id store)
-unfolding IsStore
+without_pods : (id : List ℕ) (store : List Entry) → HavePods store → HavePods (without id store)
+unfolding HavePods
 without_pods id [] h = tt
 without_pods id (e ∷ store) h = without_step e store (without id store) h (without_pods id store h.1) (has_id id e)
 
-either_store : (a b : Bool) (f g : DecisionFault) (x y : List Entry) → IsStore x → IsStore y → IsStore (taken x (refuse_if a f (refuse_if b g (Ok y))))
+either_store : (a b : Bool) (f g : DecisionFault) (x y : Store) → IsStore x → IsStore y → IsStore (taken x (refuse_if a f (refuse_if b g (Ok y))))
 either_store true b f g x y h k = h
 either_store false true f g x y h k = h
 either_store false false f g x y h k = k
 
-pub decide_pods : (ds : Decisions) (store : List Entry) → AllPods IsSoundPod ds → IsStore store → IsStore (decide ds store)
-decide_pods (Breaks ds) store p h = either_store (list_any (names_used store) ds) (nat_lt 256 (count_with store ds)) (fault_at nowhere Used) (fault_at nowhere Full) store (fold put store ds) h (put_all_pods ds store p h)
-decide_pods (Withdraw id) store p h = either_store (not (is_decided store id)) (is_used store id) (fault_at nowhere Unknown) (fault_at nowhere Used) store (without id store) h (without_pods id store h)
+pub decide_pods : (ds : Decisions) (store : Store) → AllPods IsSoundPod ds → IsStore store → IsStore (decide ds store)
+unfolding IsPodOrNone
+decide_pods (Breaks ds) store p h =
+    either_store (list_any (names_used store) ds) (nat_lt 256 (count_with store ds)) (fault_at nowhere Used) (fault_at nowhere Full) store (with_entries store (fold put store.entries ds)) h
+    (record { entries = put_all_pods ds store.entries p h.entries; fallback = h.fallback })
+decide_pods (Withdraw id) store p h =
+    either_store (not (has_own store id)) (is_used store id) (fault_at nowhere Unknown) (fault_at nowhere Used) store (with_entries store (without id store.entries)) h
+    (record { entries = without_pods id store.entries h.entries; fallback = h.fallback })
+decide_pods (Fallback pod) store p h = record { entries = h.entries; fallback = p }
+decide_pods NoFallback store p h = record { entries = h.entries; fallback = tt }
 
-marked_pods : (used : List ℕ → Bool) (store : List Entry) → IsStore store → IsStore (map (λ (e : Entry). record e { used = used e.id }) store)
-unfolding IsStore
+last_pod : (store : List Entry) (x : Entry) → HavePods store → IsSoundPod x.pod → HavePods (store ++ (x ∷ []))
+unfolding HavePods
+last_pod [] x h p = (p, tt)
+last_pod (e ∷ store) x h p = (h.0, last_pod store x h.1 p)
+
+copy_pods : (id : List ℕ) (store : List Entry) (pod : Option Pod) → HavePods store → IsPodOrNone pod → HavePods (copied_last store id pod)
+unfolding IsPodOrNone
+copy_pods id store None h p = h
+copy_pods id store (Some pod) h p = last_pod store (record { id = id; pod = pod; used = true; copied = true }) h p
+
+copied_pods : (store : Store) (id : List ℕ) → IsStore store → IsStore (with_copy store id)
+copied_pods store id h = by (has_own store id)
+  where
+    by : (b : Bool) → IsStore (cond b store (with_entries store (copied_last store.entries id store.fallback)))
+    by true = h
+    by false = record { entries = copy_pods id store.entries store.fallback h.entries h.fallback; fallback = h.fallback }
+
+pub copies_pods : (store : Store) (ids : List (List ℕ)) → IsStore store → IsStore (with_copies store ids)
+copies_pods store [] h = h
+copies_pods store (id ∷ ids) h = copies_pods (with_copy store id) ids (copied_pods store id h)
+
+marked_pods : (used : List ℕ → Bool) (store : List Entry) → HavePods store → HavePods (map (λ (e : Entry). record e { used = used e.id }) store)
+unfolding HavePods
 marked_pods used [] h = tt
 marked_pods used (e ∷ store) h = (h.0, marked_pods used store h.1)
 
-pub store_pods : (used : List ℕ → Bool) (store : List Entry) → IsStore store → IsStore (store_after used store)
-unfolding IsStore
-store_pods used store h = marked_pods used (filter (λ (e : Entry). not e.used || used e.id) store) (all_filter (λ (e : Entry). IsSoundPod e.pod) (λ (e : Entry). not e.used || used e.id) store h)
+entries_pods : (used : List ℕ → Bool) (store : List Entry) → HavePods store → HavePods (entries_after used store)
+unfolding HavePods
+entries_pods used store h = marked_pods used (filter (λ (e : Entry). not e.used || used e.id) store) (all_filter (λ (e : Entry). IsSoundPod e.pod) (λ (e : Entry). not e.used || used e.id) store h)
+
+pub store_pods : (used : List ℕ → Bool) (store : Store) → IsStore store → IsStore (store_after used store)
+store_pods used store h = record { entries = entries_pods used store.entries h.entries; fallback = h.fallback }
 
 -- ---- what holds after every list of events
 
@@ -163,39 +194,8 @@ unfoldable pub StandingOf : List Accepted → List Marked → Type 0
 StandingOf [] history = history ≡ []
 StandingOf (r ∷ before) history = Standing r.playlist history
 
-pub record Holds (t : Told) : Type 0 where
-  pub store : IsStore t.store
-  pub standing : StandingOf t.accepted t.history
-
-or_none : {A : Type 0} (a b : Option A) → or_earlier a b ≡ None → a ≡ None
-or_none None b e = refl
-or_none (Some x) b e = absurd (cc)
-
 pub new_standing : (m : Moment) (accepted : List Accepted) (history : List Marked) (playlist : Playlist) → StandingOf accepted history → IsSoundPlaylist playlist
     → m.mapped ≡ is_mapped playlist.segments → IsStore m.store → succession_fault (last_playlist accepted) playlist ≡ None → Standing playlist (history_after m history playlist)
 unfolding StandingOf
 new_standing m [] history playlist s r e k f = subst (λ h. Standing playlist (history_after m h playlist)) (sym s) (first_standing m playlist r e k)
 new_standing m (a ∷ before) history playlist s r e k f = later_standing m a.playlist playlist history s (passed a.playlist playlist f) r e k
-
-refresh_holds : (tolerance : ℕ) (t : Told) (playlist : Playlist) → Holds t → IsSoundPlaylist playlist → succession_fault (last_playlist t.accepted) playlist ≡ None → Holds (after_refresh tolerance t playlist)
-unfolding StandingOf
-refresh_holds tolerance t playlist h r f =
-    let m = moment tolerance t playlist in
-    record {
-      store = store_pods (in_use (first_number playlist.segments) (history_after m t.history playlist)) t.store h.store;
-      standing = new_standing m t.accepted t.history playlist h.standing r refl h.store f;
-    }
-
-refusal_step : (tolerance : ℕ) (t : Told) (playlist : Playlist) → Holds t → IsSoundPlaylist playlist → (o : Option RefreshFault) → refusal tolerance t playlist ≡ o
-    → Holds (cond (is_none o) (after_refresh tolerance t playlist) t)
-refusal_step tolerance t playlist h r None e = refresh_holds tolerance t playlist h r (or_none (succession_fault (last_playlist t.accepted) playlist) _ e)
-refusal_step tolerance t playlist h r (Some x) e = h
-
-event_holds : (tolerance : ℕ) (t : Told) (event : Event) → Holds t → IsSoundEvent event → Holds (happens tolerance t event)
-event_holds tolerance t (decided ds) h g = record { store = decide_pods ds t.store g h.store; standing = h.standing }
-event_holds tolerance t (refreshed playlist) h g = refusal_step tolerance t playlist h g (refusal tolerance t playlist) refl
-
-pub holds : (tolerance : ℕ) (events : List Event) → AllByRecursion IsSoundEvent events → Holds (told tolerance events)
-unfolding StandingOf IsStore
-holds tolerance [] g = record { store = tt; standing = refl }
-holds tolerance (event ∷ before) g = event_holds tolerance (told tolerance before) event (holds tolerance before g.1) g.0

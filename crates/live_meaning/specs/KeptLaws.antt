@@ -3,7 +3,7 @@ use Rattle.std.specs.Prelude.{◌≡◌, ℕ, List, ◌∷◌, filter, None}
 use Rattle.std.specs.List.{AllByRecursion}
 use Rattle.playlist_meaning.specs.declared.Playlist.{Playlist}
 use Rattle.playlist_meaning.specs.Marks.{Marked}
-use Rattle.live_meaning.specs.LiveLaws.{HasPod}
+use Rattle.live_meaning.specs.LiveLaws.{HasPod, rest_mark}
 use Rattle.live_meaning.specs.Sound.{IsSoundEvent}
 use Rattle.live_meaning.specs.Live.{Event, refreshed, told, refusal, window_after, written_date_ranges, owed_for}
 use Rattle.live_meaning.specs.Marking.{is_new}
@@ -26,7 +26,8 @@ pub record Follows (tolerance : ℕ) (playlist : Playlist) (before : List Event)
 abbrev pub KeptFollows : Type 0
 KeptFollows = (tolerance : ℕ) (playlist : Playlist) (before : List Event) → AllByRecursion IsSoundEvent (refreshed playlist ∷ before) → Follows tolerance playlist before
 
--- the store that is kept has the pod of each mark that is kept, used
+-- the store that is kept has the pod of each mark that is kept, and of the rest, used
 abbrev pub KeptHavePods : Type 0
-KeptHavePods = (tolerance : ℕ) (events : List Event) →
+KeptHavePods = (tolerance : ℕ) (events : List Event) → AllByRecursion IsSoundEvent events →
     AllByRecursion (λ (s : Marked). HasPod (kept_of (told tolerance events)).store s.mark) (kept_of (told tolerance events)).shown
+    × HasPod (kept_of (told tolerance events)).store (rest_mark (kept_of (told tolerance events)).rest)

@@ -6,3 +6,4 @@ pub mod LiveLaws
 pub mod Rows
 pub mod Kept
 pub mod KeptLaws
+pub mod FallbackRows

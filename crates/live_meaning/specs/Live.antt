@@ -1,18 +1,19 @@
 -- What is owed after the decisions and refreshes so far, the newest of these events first. One playlist that is
 -- rewritten is the case of one refresh.
-use Rattle.std.specs.Prelude.{ℕ, max, Bool, not, ◌&&◌, ◌||◌, nat_le, List, [], ◌∷◌, map, filter, Option, Some, None, Ok, Err, is_none, is_some, option_map, if◌then◌else◌}
+use Rattle.std.specs.Prelude.{ℕ, ◌+◌, ◌-◌, ◌==◌, max, min, Bool, false, not, ◌&&◌, ◌||◌, nat_le, nat_lt, List, [], ◌∷◌, ◌++◌, map, filter, reverse, length, Option, Some, None, Ok, Err, is_none, is_some, option_map, if◌then◌else◌}
 use Rattle.std.specs.List.{list_all, list_any}
 use Rattle.playlist_meaning.specs.declared.Segment.{Segment}
 use Rattle.playlist_meaning.specs.declared.Playlist.{Playlist}
 use Rattle.playlist_meaning.specs.declared.DateRange.{DateRange}
 use Rattle.playlist_meaning.specs.LookBack.{or_earlier}
-use Rattle.pod_store.specs.Store.{Entry}
+use Rattle.pod_store.specs.Store.{Entry, Store, nothing_decided, with_entries, with_copies}
 use Rattle.pod_store.specs.Store.{decided as after_decisions}
 use Rattle.pod_store.specs.Outcome.{Outcome}
 use Rattle.pod_store.specs.declared.Decisions.{Decisions}
 use Rattle.playlist_meaning.specs.Marks.{Mark, Marked, newest_mark}
 use Rattle.live_meaning.specs.Marking.{Moment, mark_id, last_entered, history_after}
-use Rattle.playlist_meaning.specs.Stitched.{Item, fits, stitched_list, window}
+use Rattle.playlist_meaning.specs.Stitched.{Item, fits, newest_place, up_to, from_place}
+use Rattle.playlist_meaning.specs.Paced.{Rest, due_stitched, due_list}
 use Rattle.break_finder.specs.Known.{Accepted, known, is_this}
 use Rattle.live_meaning.specs.Successor.{successor_fault, first_number, is_mapped, fault_if}
 use Rattle.live_meaning.specs.declared.fault.RefreshFault.{RefreshFault}
@@ -23,21 +24,22 @@ pub data Event : Type 0 where
   decided : Decisions → Event
   refreshed : Playlist → Event
 
--- all that a list of events tells: the accepted refreshes and the history, each with the newest first, and the
--- store, in order
+-- all that a list of events tells: the accepted refreshes and the history, each with the newest first, the store, in
+-- order, and the place in the stitched list, from the oldest item, at which the last window starts
 pub record Told : Type 0 where
   pub accepted : List Accepted
   pub history : List Marked
-  pub store : List Entry
+  pub store : Store
+  pub start : ℕ
 
 -- ---- decisions
 
 -- what is refused changes nothing
-abbrev pub taken : List Entry → Outcome (List Entry) → List Entry
+abbrev pub taken : Store → Outcome Store → Store
 taken store (Ok new) = new
 taken store (Err fault) = store
 
-abbrev pub decide : Decisions → List Entry → List Entry
+abbrev pub decide : Decisions → Store → Store
 decide decisions store = taken store (after_decisions store decisions)
 
 -- ---- the breaks that are used
@@ -45,15 +47,65 @@ decide decisions store = taken store (after_decisions store decisions)
 abbrev pub is_marked : List ℕ → Option Mark → Bool
 is_marked id mark = is_this id (option_map mark_id mark)
 
--- a break is used while it marks a shown segment of the origin, or is the last one entered
-abbrev pub in_use : ℕ → List Marked → List ℕ → Bool
-in_use first history id =
+-- it marks a shown segment of the origin, or is the last one entered
+abbrev pub is_shown : ℕ → List Marked → List ℕ → Bool
+is_shown first history id =
     list_any (λ (s : Marked). nat_le first s.segment.number && is_marked id s.mark) history || is_this id (last_entered history)
 
+-- the segments before this number
+abbrev pub gone_before : ℕ → List Marked → List Marked
+gone_before number [] = []
+gone_before number (s ∷ before) = if nat_le number s.segment.number then gone_before number before else s ∷ before
+
+-- the place of the item of the segment of this number
+abbrev pub place_of : ℕ → List Marked → ℕ
+place_of number history = newest_place (up_to number history)
+
+-- what a window that starts at this place has before the item of its first shown segment: the rest of the pod before that. The
+-- place counts `more` items that stand before those of this history
+abbrev pub rest_over : ℕ → ℕ → ℕ → List Marked → Option Rest
+rest_over more start number history =
+    if nat_lt start (place_of number history + more)
+    then option_map (λ (mark : Mark). record { mark = mark; place = start - (newest_place (gone_before number history) + more) }) (newest_mark (gone_before number history))
+    else None
+
+abbrev pub rest_before : ℕ → ℕ → List Marked → Option Rest
+rest_before start number history = rest_over 0 start number history
+
+abbrev pub rest_id : Option Rest → Option (List ℕ)
+rest_id None = None
+rest_id (Some rest) = Some rest.mark.id
+
+-- a break is used while a segment of its pod is written, so where it marks a shown segment of the origin or the window starts
+-- with the rest of its pod, or it is the last one entered
+abbrev pub in_use : ℕ → ℕ → List Marked → List ℕ → Bool
+in_use start first history id = is_shown first history id || is_this id (rest_id (rest_before start first history))
+
+abbrev pub ids_in : Option (List ℕ) → List (List ℕ)
+ids_in None = []
+ids_in (Some id) = id ∷ []
+
+-- the breaks that mark the segments from a number on, the oldest first
+abbrev pub marks_from : ℕ → List Marked → List (List ℕ)
+marks_from first [] = []
+marks_from first (s ∷ before) =
+    marks_from first before ++ (if nat_le first s.segment.number then ids_in (option_map mark_id s.mark) else [])
+
+-- and then this one, which was entered last
+abbrev pub marks_in_use : ℕ → List Marked → Option (List ℕ) → List (List ℕ)
+marks_in_use first history last = marks_from first history ++ ids_in last
+
+-- the breaks that are used, where a window starts with this rest
+abbrev pub ids_in_use : ℕ → List Marked → Option (List ℕ) → Option Rest → List (List ℕ)
+ids_in_use first history last rest = marks_in_use first history last ++ ids_in (rest_id rest)
+
 -- pods that were entered and are used no more are dropped
-abbrev pub store_after : (List ℕ → Bool) → List Entry → List Entry
-store_after used store =
-    map (λ (e : Entry). record e { used = used e.id }) (filter (λ (e : Entry). not e.used || used e.id) store)
+abbrev pub entries_after : (List ℕ → Bool) → List Entry → List Entry
+entries_after used entries =
+    map (λ (e : Entry). record e { used = used e.id }) (filter (λ (e : Entry). not e.used || used e.id) entries)
+
+abbrev pub store_after : (List ℕ → Bool) → Store → Store
+store_after used store = with_entries store (entries_after used store.entries)
 
 -- ---- refreshes
 
@@ -73,17 +125,43 @@ moment tolerance told playlist = record {
   store = told.store;
 }
 
+-- the rest that the last window starts with
+abbrev pub rest_by : Option Playlist → ℕ → List Marked → Option Rest
+rest_by None start history = None
+rest_by (Some last) start history = rest_before start (first_number last.segments) history
+
+-- where the window starts after a refresh: where the one before did, if the first shown segment is the same; else at the item
+-- of the first shown segment, but no later than one past the last item written before
+abbrev pub start_after : Option Playlist → ℕ → List Marked → Playlist → List Marked → ℕ
+start_after None start before playlist history = place_of (first_number playlist.segments) history
+start_after (Some last) start before playlist history =
+    if first_number playlist.segments == first_number last.segments then start
+    else min (place_of (first_number playlist.segments) history) (length (due_stitched last.ended before))
+
+-- a break that is used has its pod from then on: one that was entered with the fallback keeps a copy of it
 abbrev pub after_refresh : ℕ → Told → Playlist → Told
 after_refresh tolerance told playlist =
     let history = history_after (moment tolerance told playlist) told.history playlist in
+    let start = start_after (last_playlist told.accepted) told.start told.history playlist history in
+    let first = first_number playlist.segments in
+    let ids = ids_in_use first history (last_entered history) (rest_before start first history) in
     record {
       accepted = acceptance told playlist ∷ told.accepted;
       history = history;
-      store = store_after (in_use (first_number playlist.segments) history) told.store;
+      store = store_after (in_use start first history) (with_copies told.store ids);
+      start = start;
     }
 
+abbrev pub has_ended : List Accepted → Bool
+has_ended [] = false
+has_ended (refresh ∷ before) = refresh.playlist.ended
+
+-- the stitched list of all segments ever shown: its newest run is open until the last playlist has ended
+abbrev pub list_of : Told → List Item
+list_of told = due_list (has_ended told.accepted) told.history
+
 abbrev pub number_range_fault : Told → Option RefreshFault
-number_range_fault told = fault_if (not (list_all fits (stitched_list told.history))) NumberRange
+number_range_fault told = fault_if (not (list_all fits (list_of told))) NumberRange
 
 abbrev pub succession_fault : Option Playlist → Playlist → Option RefreshFault
 succession_fault None playlist = None
@@ -100,7 +178,7 @@ happens tolerance told (refreshed playlist) =
     if is_none (refusal tolerance told playlist) then after_refresh tolerance told playlist else told
 
 abbrev pub nothing_told : Told
-nothing_told = record { accepted = []; history = []; store = [] }
+nothing_told = record { accepted = []; history = []; store = nothing_decided; start = 0 }
 
 -- what these events tell, the newest event first
 abbrev pub told : ℕ → List Event → Told
@@ -124,15 +202,18 @@ abbrev pub states_instant : Item → Bool
 states_instant item = is_some item.piece.instant
 
 -- the written part of the stitched list
+abbrev pub window_from : ℕ → List Marked → Playlist → List Item
+window_from start history playlist = reverse (from_place start (due_list playlist.ended history))
+
 abbrev pub window_after : Told → Playlist → List Item
-window_after told playlist = window (first_number playlist.segments) told.history
+window_after told playlist = window_from told.start told.history playlist
 
 -- the origin's date ranges but those of used breaks; none where no written segment states a time, since a date range
 -- has its place by the segments' times alone (4.3.2.7)
 abbrev pub written_date_ranges : Told → Playlist → List DateRange
 written_date_ranges told playlist =
     if list_any states_instant (window_after told playlist)
-    then filter (λ (r : DateRange). not (in_use (first_number playlist.segments) told.history r.id)) playlist.date_ranges
+    then filter (λ (r : DateRange). not (in_use told.start (first_number playlist.segments) told.history r.id)) playlist.date_ranges
     else []
 
 -- a date range is written as its line was read

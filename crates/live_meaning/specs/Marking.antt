@@ -5,7 +5,7 @@ use Rattle.playlist_meaning.specs.declared.Segment.{Segment}
 use Rattle.playlist_meaning.specs.declared.Playlist.{Playlist}
 use Rattle.playlist_meaning.specs.LookBack.{or_earlier}
 use Rattle.playlist_meaning.specs.Marks.{Mark, Marked, newest_mark}
-use Rattle.pod_store.specs.Store.{Entry}
+use Rattle.pod_store.specs.Store.{Store}
 use Rattle.break_finder.specs.Breaks.{Break}
 use Rattle.break_finder.specs.Entering as entering
 
@@ -28,7 +28,7 @@ pub record Moment : Type 0 where
   pub target : ℕ
   pub mapped : Bool
   pub breaks : List Break
-  pub store : List Entry
+  pub store : Store
 
 -- the last break entered: the mark of the newest segment that has one
 abbrev pub last_mark : List Marked → Option Mark

@@ -5,7 +5,7 @@ use Rattle.playlist_meaning.specs.declared.Segment.{Segment}
 use Rattle.playlist_meaning.specs.declared.Playlist.{Playlist}
 use Rattle.playlist_meaning.specs.Pods.{Pod, Ad}
 use Rattle.pod_store.specs.declared.Decisions.{Decisions}
-use Rattle.pod_store.specs.declared.Decisions.TheVariants.{Breaks, Withdraw}
+use Rattle.pod_store.specs.declared.Decisions.TheVariants.{Breaks, Withdraw, Fallback, NoFallback}
 use Rattle.live_meaning.specs.Live.{Event, decided, refreshed}
 use Rattle.live_meaning.specs.Successor.{first_number, is_mapped}
 
@@ -29,6 +29,8 @@ pub record IsSoundPod (pod : Pod) : Type 0 where
 abbrev pub AllPods : (Pod → Type 0) → Decisions → Type 0
 AllPods P (Breaks decisions) = AllByRecursion (λ (d : List ℕ × Pod). P d.1) decisions
 AllPods P (Withdraw id) = Unit {0}
+AllPods P (Fallback pod) = P pod
+AllPods P NoFallback = Unit {0}
 
 abbrev pub IsSoundEvent : Event → Type 0
 IsSoundEvent (decided decisions) = AllPods IsSoundPod decisions

@@ -4,9 +4,11 @@
 #![tactic(auto)]
 
 ghost use Rattle.live_meaning.specs.KeptLaws.{KeptFollows, KeptHavePods};
-ghost use Rattle.live_meaning.specs.LiveLaws.{OnlyGrows, EachSucceeds, MarksFollow, HistoriesAreLinked, WindowsFollow, MarksAreKnown, NoFaultSucceeds, NewestFits, MarksHavePods, UsedAreInUse};
+ghost use Rattle.live_meaning.specs.LiveLaws.{OnlyGrows, EachSucceeds, MarksFollow, HistoriesAreLinked, MarksAreKnown, NoFaultSucceeds, NewestFits, MarksHavePods, UsedAreInUse};
 
+pub mod fallback_rows;
 mod fault;
+pub mod paced_rows;
 pub mod rows;
 
 pub use fault::RefreshFault;
@@ -31,11 +33,6 @@ pub fn histories_are_linked()
     ensures { HistoriesAreLinked }
 {}
 
-/// The window follows from the shown segments and the numbers of the first item.
-pub fn windows_follow()
-    ensures { WindowsFollow }
-{}
-
 /// A mark that a refresh carries was known before it.
 pub fn marks_are_known()
     ensures { MarksAreKnown }
@@ -51,12 +48,14 @@ pub fn newest_fits()
     ensures { NewestFits }
 {}
 
-/// The store has the pod of each mark of a shown segment and of the last break entered, used.
+/// The store has the pod of each mark of a shown segment, of the last break entered, and of the rest of a pod that the
+/// window starts with, used.
 pub fn marks_have_pods()
     ensures { MarksHavePods }
 {}
 
-/// A break is used in the store exactly where it marks a shown segment or was entered last.
+/// A break is used in the store exactly where it marks a shown segment, was entered last, or the window starts with the
+/// rest of its pod.
 pub fn used_are_in_use()
     ensures { UsedAreInUse }
 {}

@@ -7,10 +7,11 @@ use Rattle.playlist_meaning.specs.Pods.{Pod}
 use Rattle.playlist_meaning.specs.Marks.{Marked}
 use Rattle.playlist_meaning.specs.LookBack.{or_earlier}
 use Rattle.playlist_meaning.specs.Stitched.{up_to}
-use Rattle.pod_store.specs.Store.{Entry, pod_for}
+use Rattle.pod_store.specs.Store.{Store, pod_for}
 use Rattle.stitcher.specs.declared.marked.Marked.{Marked as Held}
 use Rattle.stitcher.specs.StitchedSegments.{meant, mark_in, mark_with, IsDecided, AreDecided}
 use Rattle.live_meaning.specs.Marking.{mark_id, last_mark, last_entered}
+use Rattle.live_meaning.specs.Live.{gone_before}
 use Rattle.live_meaning.specs.Kept.{shown_from}
 use Rattle.live_window.specs.Marking.{so_far}
 use Rattle.live_window.specs.Listed.{IsFront}
@@ -38,34 +39,49 @@ front_whole list = ([], sym (nothing_after list))
 pub front_less : (list rest before : List Held) (m : Held) → IsFront rest list → rest ≡ before ++ m ∷ [] → IsFront before list
 front_less list rest before m f e = (m ∷ f.0, f.1 ∙ (ap (λ xs. xs ++ f.0) e ∙ one_on before m f.0))
 
-pub front_seen : (number : ℕ) (store : List Entry) (rest before : List Held) (m : Held) → rest ≡ before ++ m ∷ [] → number < m.segment.number → up_to number (so_far store before) ≡ up_to number (so_far store rest)
+pub front_seen : (number : ℕ) (store : Store) (rest before : List Held) (m : Held) → rest ≡ before ++ m ∷ [] → number < m.segment.number → up_to number (so_far store before) ≡ up_to number (so_far store rest)
 front_seen number store rest before m e h =
     sym (ap (up_to number) (last_seen store rest before m e) ∙ ap (λ b. cond b (up_to number (so_far store before)) (meant store m ∷ so_far store before)) (over m.segment.number number h))
 
-pub front_stops : (number : ℕ) (store : List Entry) (rest before : List Held) (m : Held) → rest ≡ before ++ m ∷ [] → m.segment.number ≤ number → so_far store rest ≡ up_to number (so_far store rest)
+pub front_stops : (number : ℕ) (store : Store) (rest before : List Held) (m : Held) → rest ≡ before ++ m ∷ [] → m.segment.number ≤ number → so_far store rest ≡ up_to number (so_far store rest)
 front_stops number store rest before m e h =
     last_seen store rest before m e
     ∙ (sym (ap (λ b. cond b (up_to number (so_far store before)) (meant store m ∷ so_far store before)) (not_over m.segment.number number h))
     ∙ ap (up_to number) (sym (last_seen store rest before m e)))
 
-pub front_ends : (number : ℕ) (store : List Entry) (rest : List Held) → length rest ≡ 0 → so_far store rest ≡ up_to number (so_far store rest)
+pub front_ends : (number : ℕ) (store : Store) (rest : List Held) → length rest ≡ 0 → so_far store rest ≡ up_to number (so_far store rest)
 front_ends number store rest h = none_seen store rest h ∙ ap (up_to number) (sym (none_seen store rest h))
 
--- ---- those from a number on
-
-pub record Counted (number : ℕ) (rest list : List Held) : Type 0 where
-  pub tail : List Held
-  pub whole : list ≡ rest ++ tail
-  pub seen : (store : List Entry) → shown_from number (so_far store list) ≡ reverse_aux (map (meant store) tail) (shown_from number (so_far store rest))
-
-pub none_counted : (number : ℕ) (list : List Held) → Counted number list list
-none_counted number list = record { tail = []; whole = sym (nothing_after list); seen = λ store. refl }
+-- ---- those before a number
 
 at_least : (n m : ℕ) → n ≤ m → nat_le n m ≡ true
 at_least n m h = grind (arith, nat_tests)
 
 less : (n m : ℕ) → m < n → nat_le n m ≡ false
 less n m h = grind (arith, nat_tests)
+
+pub gone_seen : (number : ℕ) (store : Store) (rest before : List Held) (m : Held) → rest ≡ before ++ m ∷ [] → number ≤ m.segment.number → gone_before number (so_far store before) ≡ gone_before number (so_far store rest)
+gone_seen number store rest before m e h =
+    sym (ap (gone_before number) (last_seen store rest before m e) ∙ ap (λ b. cond b (gone_before number (so_far store before)) (meant store m ∷ so_far store before)) (at_least number m.segment.number h))
+
+pub gone_stops : (number : ℕ) (store : Store) (rest before : List Held) (m : Held) → rest ≡ before ++ m ∷ [] → m.segment.number < number → so_far store rest ≡ gone_before number (so_far store rest)
+gone_stops number store rest before m e h =
+    last_seen store rest before m e
+    ∙ (sym (ap (λ b. cond b (gone_before number (so_far store before)) (meant store m ∷ so_far store before)) (less number m.segment.number h))
+    ∙ ap (gone_before number) (sym (last_seen store rest before m e)))
+
+pub gone_ends : (number : ℕ) (store : Store) (rest : List Held) → length rest ≡ 0 → so_far store rest ≡ gone_before number (so_far store rest)
+gone_ends number store rest h = none_seen store rest h ∙ ap (gone_before number) (sym (none_seen store rest h))
+
+-- ---- those from a number on
+
+pub record Counted (number : ℕ) (rest list : List Held) : Type 0 where
+  pub tail : List Held
+  pub whole : list ≡ rest ++ tail
+  pub seen : (store : Store) → shown_from number (so_far store list) ≡ reverse_aux (map (meant store) tail) (shown_from number (so_far store rest))
+
+pub none_counted : (number : ℕ) (list : List Held) → Counted number list list
+none_counted number list = record { tail = []; whole = sym (nothing_after list); seen = λ store. refl }
 
 pub counted_on : (number : ℕ) (list rest before : List Held) (m : Held) → Counted number rest list → rest ≡ before ++ m ∷ [] → number ≤ m.segment.number → Counted number before list
 counted_on number list rest before m c e h = record {
@@ -82,7 +98,7 @@ dropped : {A : Type 0} (xs ys : List A) → drop (length xs) (xs ++ ys) ≡ ys
 dropped [] ys = refl
 dropped (x ∷ xs) ys = dropped xs ys
 
-pub counted_there : (number : ℕ) (list rest before : List Held) (m : Held) (store : List Entry) → Counted number rest list → rest ≡ before ++ m ∷ [] → m.segment.number < number
+pub counted_there : (number : ℕ) (list rest before : List Held) (m : Held) (store : Store) → Counted number rest list → rest ≡ before ++ m ∷ [] → m.segment.number < number
     → so_far store (drop (length rest) list) ≡ shown_from number (so_far store list)
 counted_there number list rest before m store c e h =
     ap (λ xs. so_far store (drop (length rest) xs)) c.whole
@@ -94,7 +110,7 @@ counted_there number list rest before m store c e h =
 pub counted_within : (number : ℕ) (list rest : List Held) → Counted number rest list → length rest ≤ length list
 counted_within number list rest c = let n = ap length c.whole ∙ length-append rest c.tail in omega (arith, n)
 
-pub counted_all : (number : ℕ) (list rest : List Held) (store : List Entry) → Counted number rest list → length rest ≡ 0 → so_far store list ≡ shown_from number (so_far store list)
+pub counted_all : (number : ℕ) (list rest : List Held) (store : Store) → Counted number rest list → length rest ≡ 0 → so_far store list ≡ shown_from number (so_far store list)
 counted_all number list rest store c h = by rest h c.whole (c.seen store)
   where
     by : (rest : List Held) → length rest ≡ 0 → list ≡ rest ++ c.tail → shown_from number (so_far store list) ≡ reverse_aux (map (meant store) c.tail) (shown_from number (so_far store rest))
@@ -106,12 +122,12 @@ counted_all number list rest store c h = by rest h c.whole (c.seen store)
 
 pub record Unentered (rest list : List Held) (entered : Option (List ℕ)) : Type 0 where
   pub front : IsFront rest list
-  pub same : (store : List Entry) → AreDecided store list → or_earlier (last_entered (so_far store list)) entered ≡ or_earlier (last_entered (so_far store rest)) entered
+  pub same : (store : Store) → AreDecided store list → or_earlier (last_entered (so_far store list)) entered ≡ or_earlier (last_entered (so_far store rest)) entered
 
 pub none_passed : (list : List Held) (entered : Option (List ℕ)) → Unentered list list entered
 none_passed list entered = record { front = front_whole list; same = λ store d. refl }
 
-unmarked_last : (store : List Entry) (before : List Marked) (m : Held) (o : Option (List ℕ)) → m.mark ≡ o → is_some o ≡ false → last_entered (meant store m ∷ before) ≡ last_entered before
+unmarked_last : (store : Store) (before : List Marked) (m : Held) (o : Option (List ℕ)) → m.mark ≡ o → is_some o ≡ false → last_entered (meant store m ∷ before) ≡ last_entered before
 unmarked_last store before m None e h = ap (λ mark. option_map mark_id (or_earlier (mark_in store mark) (last_mark before))) e
 unmarked_last store before m (Some id) e h = absurd (cc)
 
@@ -128,18 +144,18 @@ marked_by : (id : List ℕ) (p : Option Pod) (rest : Option (List ℕ)) (before 
 marked_by id None rest before entered h = absurd (cc)
 marked_by id (Some pod) rest before entered h = refl
 
-marked_last : (store : List Entry) (before : List Marked) (o entered : Option (List ℕ)) → is_some o ≡ true → IsDecided store o
+marked_last : (store : Store) (before : List Marked) (o entered : Option (List ℕ)) → is_some o ≡ true → IsDecided store o
     → or_earlier (option_map mark_id (or_earlier (mark_in store o) (last_mark before))) entered ≡ o
 marked_last store before None entered h d = absurd (cc)
 marked_last store before (Some id) entered h d = marked_by id (pod_for store id) None before entered d
 
-pub passed_to : (list rest before : List Held) (m : Held) (entered : Option (List ℕ)) (store : List Entry) → Unentered rest list entered → rest ≡ before ++ m ∷ [] → is_some m.mark ≡ true → AreDecided store list
+pub passed_to : (list rest before : List Held) (m : Held) (entered : Option (List ℕ)) (store : Store) → Unentered rest list entered → rest ≡ before ++ m ∷ [] → is_some m.mark ≡ true → AreDecided store list
     → m.mark ≡ or_earlier (last_entered (so_far store list)) entered
 passed_to list rest before m entered store u e h d =
     let in_rest : AreDecided store rest = (all_after (λ (x : Held). IsDecided store x.mark) rest u.front.0 (subst (AreDecided store) u.front.1 d)).0 in
     let here : IsDecided store m.mark = (all_after (λ (x : Held). IsDecided store x.mark) before (m ∷ []) (subst (AreDecided store) e in_rest)).1.0 in
     sym (u.same store d ∙ ap (λ xs. or_earlier (last_entered xs) entered) (last_seen store rest before m e) ∙ marked_last store (so_far store before) m.mark entered h here)
 
-pub passed_all : (list rest : List Held) (entered : Option (List ℕ)) (store : List Entry) → Unentered rest list entered → length rest ≡ 0 → AreDecided store list
+pub passed_all : (list rest : List Held) (entered : Option (List ℕ)) (store : Store) → Unentered rest list entered → length rest ≡ 0 → AreDecided store list
     → entered ≡ or_earlier (last_entered (so_far store list)) entered
 passed_all list rest entered store u h d = sym (u.same store d ∙ ap (λ xs. or_earlier (last_entered xs) entered) (none_seen store rest h))

@@ -1,10 +1,13 @@
 pub mod Found
-pub mod Marked
 pub mod Placed
+pub mod Marked
 pub mod Sizes
 pub mod Listed
 pub mod Counted
 pub mod Rest
+pub mod Runs
+pub mod Dues
 pub mod Passing
 pub mod Ranges
 pub mod Shown
+pub mod Starting

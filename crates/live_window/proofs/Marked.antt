@@ -1,21 +1,24 @@
 -- The new segments, marked in the order of the playlist, are those that are shown.
-use Rattle.std.proofs.Common.{◌≡◌, ℕ, ℤ, Bool, true, false, cond, List, [], ◌∷◌, map, length, refl, ap, sym, ◌∙◌}
-use Rattle.std.specs.Prelude.{Option, Some, None, IsSome, option_map, find}
+use Rattle.std.proofs.Common.{◌≡◌, ℕ, ◌+◌, ℤ, Bool, true, false, cond, ◌&&◌, List, [], ◌∷◌, map, length, refl, ap, sym, ◌∙◌, arith}
+use Rattle.std.specs.Prelude.{Option, Some, None, IsSome, ◌==◌, is_none, option_map, find}
 use mathlib.Core.List.{reverse_aux}
+use Rattle.std.proofs.lemmas.Bool.{and_parts, eqb-true}
 use Rattle.playlist_meaning.specs.declared.Segment.{Segment}
 use Rattle.playlist_meaning.specs.Pods.{Pod}
-use Rattle.playlist_meaning.specs.Marks.{Marked, newest_mark}
+use Rattle.playlist_meaning.specs.Marks.{Marked, newest_mark, continues, are_one}
 use Rattle.playlist_meaning.specs.LookBack.{or_earlier}
 use Rattle.playlist_meaning.specs.Instants.{begins_at, ends_at, instants_after}
-use Rattle.pod_store.specs.Store.{Entry, pod_for}
+use Rattle.pod_store.specs.Store.{Entry, Store, has_id, pod_of, pod_for, is_empty}
 use Rattle.break_finder.specs.Breaks.{Break}
 use Rattle.break_finder.specs.Entering as entering
 use Rattle.break_finder.specs.Entering.{is_inside, enters_break, enters_with, id_of}
 use Rattle.stitcher.specs.StitchedSegments.{meant, mark_in, mark_with, IsDecided, AreDecided}
 use Rattle.live_meaning.specs.Marking.{Moment, limits, next_mark, newest_end, continued}
-use Rattle.live_meaning.specs.Kept.{marked_on, entered_with, show_on}
-use Rattle.live_window.specs.Marking.{is_still_inside, stays, next_id, mark_on}
-use Rattle.live_window.specs.MarkingLaws.{MarksAreShown}
+use Rattle.live_meaning.specs.Kept.{marked_on, entered_with, show_on, capped, extended, length_on}
+use Rattle.live_window.specs.Marking.{is_still_inside, stays, next_id, mark_on, capped_by, capped_in, length_before, length_after}
+use Rattle.live_window.specs.MarkingLaws.{MarksAreShown, LengthsAreKept}
+use Rattle.stitcher.specs.Making.{is_same_run}
+use Rattle.live_window.proofs.Placed.{same_run}
 
 -- ---- marks and their IDs
 
@@ -23,7 +26,7 @@ same_pod : (id : List ℕ) (o : Option Pod) → mark_with id o ≡ entering.mark
 same_pod id None = refl
 same_pod id (Some pod) = refl
 
-same_mark : (store : List Entry) (o : Option (List ℕ)) → mark_in store o ≡ entering.mark_of store o
+same_mark : (store : Store) (o : Option (List ℕ)) → mark_in store o ≡ entering.mark_of store o
 same_mark store None = refl
 same_mark store (Some id) = same_pod id (pod_for store id)
 
@@ -43,14 +46,20 @@ marks_agree m (Some id) last instant = stay_step m id (entering.entered (limits 
 
 -- ---- where no break is decided, none is entered
 
-none_enters : (limits : entering.Moment) (instant : ℤ) (breaks : List Break) → find (enters_break limits [] instant) breaks ≡ None
-none_enters limits instant [] = refl
-none_enters limits instant (b ∷ later) = none_enters limits instant later
+no_pod : (entries : List Entry) (fallback : Option Pod) → (length entries == 0 && is_none fallback) ≡ true → (id : List ℕ) → or_earlier (option_map pod_of (find (has_id id) entries)) fallback ≡ None
+no_pod [] None h id = refl
+no_pod [] (Some pod) h id = let k : false ≡ true = (and_parts (length {A = Entry} [] == 0) false h).1 in absurd (cc)
+no_pod (e ∷ entries) fallback h id = absurd (omega (arith, eqb-true (length (e ∷ entries)) 0 (and_parts (length (e ∷ entries) == 0) (is_none fallback) h).0))
 
-pub none_entered : (limits : entering.Moment) (store : List Entry) (breaks : List Break) (instant : Option ℤ) → length store ≡ 0 → entering.entered limits store breaks instant ≡ None
-none_entered limits [] breaks None h = refl
-none_entered limits [] breaks (Some instant) h = ap (option_map id_of) (none_enters limits instant breaks)
-none_entered limits (e ∷ later) breaks instant h = absurd (cc)
+none_enters : (limits : entering.Moment) (store : Store) (instant : ℤ) (breaks : List Break) → is_empty store ≡ true → find (enters_break limits store instant) breaks ≡ None
+none_enters limits store instant [] h = refl
+none_enters limits store instant (b ∷ later) h =
+    ap (λ o. cond (enters_with limits instant b o) (Some b) (find (enters_break limits store instant) later)) (no_pod store.entries store.fallback h b.id)
+    ∙ none_enters limits store instant later h
+
+pub none_entered : (limits : entering.Moment) (store : Store) (breaks : List Break) (instant : Option ℤ) → is_empty store ≡ true → entering.entered limits store breaks instant ≡ None
+none_entered limits store breaks None h = refl
+none_entered limits store breaks (Some instant) h = ap (option_map id_of) (none_enters limits store instant breaks h)
 
 -- ---- each mark is decided
 
@@ -74,7 +83,7 @@ entered_decided : (m : Moment) (last : Option (List ℕ)) (instant : Option ℤ)
 entered_decided m last None = tt
 entered_decided m last (Some instant) = found_decided m last instant (find (enters_break (limits m last) m.store instant) m.breaks) refl
 
-either_decided : (store : List Entry) (b : Bool) (x y : Option (List ℕ)) → IsDecided store x → IsDecided store y → IsDecided store (cond b x y)
+either_decided : (store : Store) (b : Bool) (x y : Option (List ℕ)) → IsDecided store x → IsDecided store y → IsDecided store (cond b x y)
 either_decided store true x y h k = h
 either_decided store false x y h k = k
 
@@ -92,7 +101,7 @@ pod_entered : (id : List ℕ) (last : Option (List ℕ)) (o : Option Pod) → Is
 pod_entered id last None h = absurd (cc)
 pod_entered id last (Some pod) h = refl
 
-entered_same : (store : List Entry) (o last : Option (List ℕ)) → IsDecided store o → entered_with (mark_in store o) last ≡ or_earlier o last
+entered_same : (store : Store) (o last : Option (List ℕ)) → IsDecided store o → entered_with (mark_in store o) last ≡ or_earlier o last
 entered_same store None last h = refl
 entered_same store (Some id) last h = pod_entered id last (pod_for store id) h
 
@@ -114,3 +123,29 @@ shown_all m newest last before (s ∷ later) h e =
 
 pub marks_are_shown : MarksAreShown
 marks_are_shown m newest last before segments h e = (shown_all m newest last before segments h e, all_decided m newest last segments (instants_after (newest_end before) segments) h)
+
+-- ---- how long the newest run has lasted
+
+pod_capped : (id : List ℕ) (o : Option Pod) (n : ℕ) → capped_by o n ≡ capped (mark_with id o) n
+pod_capped id None n = refl
+pod_capped id (Some pod) n = refl
+
+capped_same : (store : Store) (o : Option (List ℕ)) (n : ℕ) → capped_in store o n ≡ capped (mark_in store o) n
+capped_same store None n = refl
+capped_same store (Some id) n = pod_capped id (pod_for store id) n
+
+pub lengths_are_kept : LengthsAreKept
+lengths_are_kept m newest last before so_far [] h e = refl
+lengths_are_kept m newest last before so_far (s ∷ later) h e =
+    let begun = begins_at (newest_end before) s later in
+    let id = next_id m newest last begun in
+    let here = marked_on m before last s later in
+    let mark : mark_in m.store id ≡ here.mark = marks_agree m newest last begun ∙ ap (λ o. next_mark m o last begun) (sym e) in
+    let d = next_decided m newest last begun h in
+    let goes_on : is_same_run id newest ≡ continues here before = sym (ap (are_one here.mark) e ∙ ap (λ o. are_one o (mark_in m.store newest)) (sym mark) ∙ same_run m.store id newest d h) in
+    let one : capped_in m.store id (s.duration + length_before id newest so_far) ≡ extended here before so_far =
+    capped_same m.store id (s.duration + length_before id newest so_far)
+    ∙ ap (λ o. capped o (s.duration + length_before id newest so_far)) mark ∙ ap (λ b. capped here.mark (s.duration + cond b so_far 0)) goes_on in
+    ap (λ n. length_after m.store id n (mark_on m id (or_earlier id last) later (instants_after (ends_at begun s.duration) later))) one
+    ∙ (lengths_are_kept m id (or_earlier id last) (here ∷ before) (extended here before so_far) later d (sym mark)
+    ∙ ap (λ l. length_on m (here ∷ before) l (extended here before so_far) later) (sym (entered_same m.store id last d) ∙ ap (λ o. entered_with o last) mark))

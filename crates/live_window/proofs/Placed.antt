@@ -5,7 +5,7 @@ use mathlib.Core.List.{reverse_aux}
 use Rattle.playlist_meaning.specs.Pods.{Pod}
 use Rattle.playlist_meaning.specs.Marks.{Marked, newest_mark, are_one}
 use Rattle.playlist_meaning.specs.Stitched.{stitched, run_pieces, newest_place}
-use Rattle.pod_store.specs.Store.{Entry, pod_for}
+use Rattle.pod_store.specs.Store.{Store, pod_for}
 use Rattle.stitcher.specs.declared.marked.Marked.{Marked as Held}
 use Rattle.stitcher.specs.StitchedSegments.{meant, mark_in, mark_with, IsDecided, AreDecided}
 use Rattle.stitcher.specs.Making.{is_same_run, begun, pod_with}
@@ -22,21 +22,21 @@ both id other None p h k = absurd (cc)
 both id other (Some pod) None h k = absurd (cc)
 both id other (Some pod) (Some q) h k = refl
 
-same_run : (store : List Entry) (mark previous : Option (List ℕ)) → IsDecided store mark → IsDecided store previous
+pub same_run : (store : Store) (mark previous : Option (List ℕ)) → IsDecided store mark → IsDecided store previous
     → are_one (mark_in store mark) (mark_in store previous) ≡ is_same_run mark previous
 same_run store None previous h k = refl
 same_run store (Some id) None h k = alone id (pod_for store id) h
 same_run store (Some id) (Some other) h k = both id other (pod_for store id) (pod_for store other) h k
 
-pod_long : (store : List Entry) (m : Held) (id : List ℕ) (o : Option Pod) → IsSome o → length (run_pieces (meant store m) (mark_with id o)) ≡ length (pod_with id o)
+pod_long : (store : Store) (m : Held) (id : List ℕ) (o : Option Pod) → IsSome o → length (run_pieces (meant store m) (mark_with id o)) ≡ length (pod_with id o)
 pod_long store m id None h = absurd (cc)
 pod_long store m id (Some pod) h = length-reverse (pod_with id (Some pod))
 
-long : (store : List Entry) (m : Held) (mark : Option (List ℕ)) → IsDecided store mark → length (run_pieces (meant store m) (mark_in store mark)) ≡ length (begun store m mark)
+long : (store : Store) (m : Held) (mark : Option (List ℕ)) → IsDecided store mark → length (run_pieces (meant store m) (mark_in store mark)) ≡ length (begun store m mark)
 long store m None h = refl
 long store m (Some id) h = pod_long store m id (pod_for store id) h
 
-counted_on : (store : List Entry) (previous : Option (List ℕ)) (before : List Marked) (held : List Held) → newest_mark before ≡ mark_in store previous → IsDecided store previous → AreDecided store held
+counted_on : (store : Store) (previous : Option (List ℕ)) (before : List Marked) (held : List Held) → newest_mark before ≡ mark_in store previous → IsDecided store previous → AreDecided store held
     → newest_place (reverse_aux (map (meant store) held) before) ≡ place_on store previous (newest_place before) (length (stitched before)) held
 counted_on store previous before [] h k d = refl
 counted_on store previous before (m ∷ later) h k d =

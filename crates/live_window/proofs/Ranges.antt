@@ -1,28 +1,20 @@
 -- The date ranges that are left, and the breaks in use.
 use Rattle.std.proofs.Common.{◌≡◌, ℕ, ◌<◌, ◌≤◌, Bool, true, false, ◌||◌, ◌&&◌, List, [], ◌∷◌, map, filter, not, Bor, refl, ap, sym, ◌∙◌, arith}
 use Rattle.std.specs.Prelude.{Option, nat_le, bytes_eq}
-use Rattle.std.specs.List.{list_all, list_any}
+use Rattle.std.specs.List.{list_any}
 use Rattle.std.proofs.lemmas.Bool.Decides.{nat_tests}
 use Rattle.playlist_meaning.specs.declared.DateRange.{DateRange}
-use Rattle.playlist_meaning.specs.Stitched.{Numbers, fits, numbered, stitched}
-use Rattle.pod_store.specs.Store.{Entry, is_one_of}
+use Rattle.pod_store.specs.Store.{is_one_of}
 use Rattle.stitcher.specs.declared.marked.Marked.{Marked as Held}
-use Rattle.stitcher.specs.StitchedSegments.{item_fits, stitched_segments}
 use Rattle.break_finder.specs.Kept.{has_text}
 use Rattle.break_finder.specs.Known.{is_this}
 use Rattle.break_finder.proofs.TagIds.{filter_same}
 use Rattle.live_meaning.specs.Live.{date_range_text}
-use Rattle.live_window.proofs.Rest.{number_range_is_stitched}
-use Rattle.live_window.specs.Marking.{so_far}
 use Rattle.live_window.specs.Listed.{is_marked_from, is_used_from, texts_left}
 
 pub or_false : (b : Bool) → (b || false) ≡ b
 or_false true = refl
 or_false false = refl
-
--- a number that doesn't fit, by the history
-pub none_fit : (store : List Entry) (first : Numbers) (list : List Held) → list_all item_fits (stitched_segments store first list) ≡ false → list_all fits (numbered first (stitched (so_far store list))) ≡ false
-none_fit store first list h = sym (number_range_is_stitched store first list) ∙ h
 
 under : (n m : ℕ) → m < n → nat_le n m ≡ false
 under n m h = grind (arith, nat_tests)

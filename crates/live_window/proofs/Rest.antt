@@ -3,13 +3,13 @@ use Rattle.std.specs.List.{list_all}
 use Rattle.std.specs.Prelude.{◌&&◌}
 use Rattle.stitcher.specs.StitchedSegments.{item_fits}
 use Rattle.std.proofs.Common.{◌≡◌, ℕ, ◌+◌, ◌-◌, ◌≤◌, zero, List, [], ◌∷◌, ◌++◌, map, take, drop, length, reverse, refl, ap, sym, ◌∙◌, suc, arith, length-append}
-use Rattle.std.proofs.lemmas.List.{take-append-drop, reverse-append, drop-map}
+use Rattle.std.proofs.lemmas.List.{take-append-drop, reverse-append, drop-map, length-map}
 use Rattle.std.proofs.Math.Seq.{drop-append_seam}
-use Rattle.playlist_meaning.specs.Stitched.{Piece, Numbers, numbered, stitched, newest_place, up_to, Item, fits}
-use Rattle.stitcher.specs.StitchedSegments.{item_fits, meant}
+use Rattle.playlist_meaning.specs.Stitched.{Numbers, numbered, Item, fits}
+use Rattle.playlist_meaning.specs.Paced.{stitched_with}
+use Rattle.stitcher.specs.StitchedSegments.{ends_in, item_fits, meant, stitched_segments}
 use Rattle.stitcher.specs.Written.{written_item}
 use Rattle.live_meaning.proofs.Windows.{length-reverse}
-use Rattle.live_meaning.proofs.Places.{place_within, up_to_within, stitched_longer}
 use Rattle.live_meaning.proofs.Reversed.{list_all-reverse}
 use Rattle.live_window.specs.WindowLaws.{WindowIsStitched, NumberRangeIsStitched}
 
@@ -30,24 +30,17 @@ reverse-take k xs h =
     let whole : reverse xs ≡ front ++ back = ap reverse (sym (take-append-drop m xs)) ∙ reverse-append (take m xs) (drop m xs) in
     sym (ap (λ n. drop n (reverse xs)) (sym size) ∙ (ap (drop (length front)) whole ∙ drop-append_seam front back))
 
-length-numbered : (first : Numbers) (pieces : List Piece) → length (numbered first pieces) ≡ length pieces
-length-numbered first [] = refl
-length-numbered first (p ∷ before) = ap suc (length-numbered first before)
-
 pub window_is_stitched : WindowIsStitched
-window_is_stitched store first number marked =
-    let history = reverse (map (meant store) marked) in
-    let items = numbered first (stitched history) in
-    let place = newest_place (up_to number history) in
-    let within : place ≤ length items =
-    omega (arith, place_within (up_to number history), stitched_longer (up_to number history) history (up_to_within number history), length-numbered first (stitched history)) in
-    ap (map written_item) (reverse-take place items within) ∙ sym (drop-map written_item place (reverse items))
+window_is_stitched store first ends marked place h =
+    let items = numbered first (stitched_with (ends_in store ends) (reverse (map (meant store) marked))) in
+    let size : length (stitched_segments store first ends marked) ≡ length items = length-map (reverse items) written_item ∙ length-reverse items in
+    ap (map written_item) (reverse-take place items (omega (arith, h, size))) ∙ sym (drop-map written_item place (reverse items))
 
 written_fit : (items : List Item) → list_all item_fits (map written_item items) ≡ list_all fits items
 written_fit [] = refl
 written_fit (item ∷ items) = ap (λ b. fits item && b) (written_fit items)
 
 pub number_range_is_stitched : NumberRangeIsStitched
-number_range_is_stitched store first marked =
-    let items = numbered first (stitched (reverse (map (meant store) marked))) in
+number_range_is_stitched store first ends marked =
+    let items = numbered first (stitched_with (ends_in store ends) (reverse (map (meant store) marked))) in
     written_fit (reverse items) ∙ list_all-reverse fits items

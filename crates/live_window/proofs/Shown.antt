@@ -4,17 +4,18 @@ use Rattle.std.specs.Prelude.{Option, Some, None, IsSome, option_map, filter}
 use Rattle.playlist_meaning.specs.declared.Playlist.{Playlist}
 use Rattle.playlist_meaning.specs.Pods.{Pod}
 use Rattle.playlist_meaning.specs.Marks.{newest_mark}
-use Rattle.pod_store.specs.Store.{Entry, pod_for}
+use Rattle.pod_store.specs.Store.{Store, pod_for}
 use Rattle.stitcher.specs.declared.marked.Marked.{Marked as Held}
 use Rattle.stitcher.specs.StitchedSegments.{mark_in, mark_with, IsDecided, AreDecided}
 use Rattle.break_finder.specs.Known.{is_this, carry}
 use Rattle.live_meaning.specs.Successor.{is_mapped}
 use Rattle.live_meaning.specs.Marking.{mark_id, is_new}
 use Rattle.live_meaning.specs.Live.{is_marked}
-use Rattle.live_meaning.specs.Kept.{show_on, kept_acceptance}
+use Rattle.live_meaning.specs.Kept.{show_on, length_on, kept_acceptance}
 use Rattle.live_window.specs.declared.state.State.{State}
 use Rattle.live_window.specs.declared.showing.Showing.{Showing}
 use Rattle.live_window.specs.Marking.{so_far}
+use Rattle.live_window.specs.Listed.{IsFront}
 use Rattle.live_window.specs.Showing.{kept_in, IsShown}
 
 -- ---- the mark that is carried
@@ -23,11 +24,11 @@ pod_marks : (id : List ℕ) (o : Option Pod) → IsSome o → option_map mark_id
 pod_marks id None h = absurd (cc)
 pod_marks id (Some pod) h = refl
 
-mark_named : (store : List Entry) (o : Option (List ℕ)) → IsDecided store o → option_map mark_id (mark_in store o) ≡ o
+mark_named : (store : Store) (o : Option (List ℕ)) → IsDecided store o → option_map mark_id (mark_in store o) ≡ o
 mark_named store None h = refl
 mark_named store (Some id) h = pod_marks id (pod_for store id) h
 
-pub marked_too : (store : List Entry) (id : List ℕ) (o : Option (List ℕ)) → IsDecided store o → is_marked id (mark_in store o) ≡ is_this id o
+pub marked_too : (store : Store) (id : List ℕ) (o : Option (List ℕ)) → IsDecided store o → is_marked id (mark_in store o) ≡ is_this id o
 marked_too store id o d = ap (is_this id) (mark_named store o d)
 
 -- ---- what is shown
@@ -36,8 +37,10 @@ marked_too store id o d = ap (is_this id) (mark_named store o d)
 pub shown_is : (tolerance : ℕ) (state : State) (shown : List Held) (newest : Option (List ℕ)) (a : Showing) (p : Playlist) → shown ≡ state.shown
     → newest_mark (so_far state.store shown) ≡ mark_in state.store newest → (AreDecided state.store shown → IsDecided state.store newest) → a.knowledge ≡ carry (record { playlist = p; carried = newest }) state.knowledge
     → so_far state.store a.list.items ≡ show_on (record { tolerance = tolerance; target = p.target; mapped = is_mapped p.segments; breaks = a.knowledge; store = state.store }) (so_far state.store shown) state.entered (filter (is_new (so_far state.store shown)) p.segments)
-    → AreDecided state.store a.list.items → AreDecided state.store state.shown → IsShown tolerance (kept_in state) p a
-shown_is tolerance state shown newest a p e mark named breaks list decided before =
+    → a.so_far ≡ length_on (record { tolerance = tolerance; target = p.target; mapped = is_mapped p.segments; breaks = a.knowledge; store = state.store }) (so_far state.store shown) state.entered state.so_far (filter (is_new (so_far state.store shown)) p.segments)
+    → IsFront shown a.list.items
+    → AreDecided state.store a.list.items → AreDecided state.store state.shown → IsShown tolerance state p a
+shown_is tolerance state shown newest a p e mark named breaks list long front decided before =
     let named_now = named (subst (AreDecided state.store) (sym e) before) in
     let mark_now : newest_mark (so_far state.store state.shown) ≡ mark_in state.store newest = subst (λ (xs : List Held). newest_mark (so_far state.store xs) ≡ mark_in state.store newest) e mark in
     let breaks_kept : a.knowledge ≡ carry (kept_acceptance (kept_in state) p) state.knowledge =
@@ -48,5 +51,10 @@ shown_is tolerance state shown newest a p e mark named breaks list decided befor
           list
           ∙ (ap (λ (xs : List Held). show_on (record { tolerance = tolerance; target = p.target; mapped = is_mapped p.segments; breaks = a.knowledge; store = state.store }) (so_far state.store xs) state.entered (filter (is_new (so_far state.store xs)) p.segments)) e
           ∙ ap (λ b. show_on (record { tolerance = tolerance; target = p.target; mapped = is_mapped p.segments; breaks = b; store = state.store }) (so_far state.store state.shown) state.entered (filter (is_new (so_far state.store state.shown)) p.segments)) breaks_kept);
+      length =
+          long
+          ∙ (ap (λ (xs : List Held). length_on (record { tolerance = tolerance; target = p.target; mapped = is_mapped p.segments; breaks = a.knowledge; store = state.store }) (so_far state.store xs) state.entered state.so_far (filter (is_new (so_far state.store xs)) p.segments)) e
+          ∙ ap (λ b. length_on (record { tolerance = tolerance; target = p.target; mapped = is_mapped p.segments; breaks = b; store = state.store }) (so_far state.store state.shown) state.entered state.so_far (filter (is_new (so_far state.store state.shown)) p.segments)) breaks_kept);
+      front = subst (λ (xs : List Held). IsFront xs a.list.items) e front;
       decided = decided;
     }

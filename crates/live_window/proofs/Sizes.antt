@@ -1,11 +1,13 @@
 -- How many pieces stand for a pod.
-use Rattle.std.proofs.Common.{◌≡◌, suc, ℕ, ◌+◌, false, List, [], ◌∷◌, map, sum, length, refl, ap, sym, ◌∙◌, arith, length-append}
+use Rattle.std.proofs.Common.{◌≡◌, ◌≤◌, suc, ℕ, ◌+◌, true, false, List, [], ◌∷◌, map, sum, length, refl, ap, sym, ◌∙◌, arith, length-append}
 use Rattle.std.proofs.lemmas.List.{length-map}
 use Rattle.std.specs.Prelude.{Some, fold}
+use Rattle.std.proofs.lemmas.Bool.{and_parts, leb-true}
+use Rattle.pod_store.specs.Rules.{ads_keep}
 use Rattle.playlist_meaning.specs.Pods.{Pod, Ad, PodSegment}
 use Rattle.playlist_meaning.specs.Marks.{Mark}
 use Rattle.playlist_meaning.specs.Stitched.{pieces_of_ads, ad_pieces, ad_piece}
-use Rattle.pod_store.specs.Store.{Entry, pod_for}
+use Rattle.pod_store.specs.Store.{Store, pod_for}
 use Rattle.pod_store.specs.Pods.{segment_count}
 use Rattle.stitcher.specs.declared.marked.Marked.{Marked}
 use Rattle.stitcher.specs.Making.{begun, pod_with}
@@ -22,7 +24,7 @@ fold_from n (x ∷ xs) =
     let c : (n + x) + fold ◌+◌ 0 xs ≡ n + ((0 + x) + fold ◌+◌ 0 xs) = omega arith in
     a ∙ (c ∙ ap (λ k. n + k) (sym b))
 
-sum_cons : (x : ℕ) (xs : List ℕ) → x + sum xs ≡ sum (x ∷ xs)
+pub sum_cons : (x : ℕ) (xs : List ℕ) → x + sum xs ≡ sum (x ∷ xs)
 sum_cons x xs =
     let b : fold ◌+◌ (0 + x) xs ≡ (0 + x) + fold ◌+◌ 0 xs = fold_from (0 + x) xs in
     let c : x + fold ◌+◌ 0 xs ≡ (0 + x) + fold ◌+◌ 0 xs = omega arith in
@@ -37,5 +39,9 @@ ads_size mark (ad ∷ ads) =
     let rest : length ad.segments + length (pieces_of_ads mark ads) ≡ length ad.segments + sum (map segment_count ads) = ap (λ n. length ad.segments + n) (ads_size mark ads) in
     first ∙ (here ∙ (rest ∙ more))
 
-pub begun_pod : (store : List Entry) (m : Marked) (id : List ℕ) (pod : Pod) → m.mark ≡ Some id → pod_for store id ≡ Some pod → length (begun store m m.mark) ≡ sum (map segment_count pod.ads)
+pub begun_pod : (store : Store) (m : Marked) (id : List ℕ) (pod : Pod) → m.mark ≡ Some id → pod_for store id ≡ Some pod → length (begun store m m.mark) ≡ sum (map segment_count pod.ads)
 begun_pod store m id pod e f = ap (λ o. length (begun store m o)) e ∙ (ap (λ o. length (pod_with id o)) f ∙ ads_size (record { id = id; pod = pod }) pod.ads)
+
+-- a pod that keeps the rules has few of them
+pub few_segments : (ads : List Ad) → ads_keep ads ≡ true → sum (map segment_count ads) ≤ 500
+few_segments ads h = leb-true (sum (map segment_count ads)) 500 (and_parts _ _ (and_parts _ _ h).0).1

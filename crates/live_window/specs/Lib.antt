@@ -4,3 +4,4 @@ pub mod MarkingLaws
 pub mod Listed
 pub mod WindowLaws
 pub mod Showing
+pub mod Placing

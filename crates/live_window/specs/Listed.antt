@@ -1,5 +1,5 @@
 -- What is kept, as the segments stand that a channel holds, the oldest first.
-use Rattle.std.specs.Prelude.{◌≡◌, ℕ, ◌+◌, if◌then◌else◌, Some, None, true, Bool, ◌&&◌, ◌||◌, not, nat_le, nat_lt, map, filter, List, ◌∷◌, ◌++◌, [], Option, is_some}
+use Rattle.std.specs.Prelude.{◌≡◌, ℕ, ◌+◌, if◌then◌else◌, Some, None, true, Bool, ◌&&◌, ◌||◌, not, nat_le, nat_lt, map, filter, List, ◌∷◌, ◌++◌, [], Option, is_some, bytes_eq, false}
 use Rattle.std.specs.Borrow.{Bor}
 use Rattle.std.specs.List.{list_any}
 use Rattle.playlist_meaning.specs.declared.Segment.{Segment}
@@ -11,6 +11,9 @@ use Rattle.break_finder.specs.Kept.{has_text}
 use Rattle.break_finder.specs.Known.{is_this}
 use Rattle.stitcher.specs.declared.OutSegment.{OutSegment}
 use Rattle.stitcher.specs.declared.marked.Marked.{Marked as Held}
+use Rattle.stitcher.specs.declared.ends.Rest.{Rest}
+use Rattle.stitcher.specs.StitchedSegments.{IsDecided}
+use Rattle.pod_store.specs.Store.{Store}
 use Rattle.live_meaning.specs.Live.{date_range_text}
 use Rattle.live_meaning.specs.declared.fault.RefreshFault.{RefreshFault}
 use Rattle.live_meaning.specs.declared.fault.RefreshFault.TheVariants.{NumberRange, OutOfMemory}
@@ -26,6 +29,16 @@ is_marked_from first id m = nat_le first m.segment.number && is_this id m.mark
 -- the break marks a segment from a number on, or is the last one entered
 abbrev pub is_used_from : ℕ → List Held → Option (List ℕ) → List ℕ → Bool
 is_used_from first held entered id = list_any (is_marked_from first id) held || is_this id entered
+
+-- the rest is of this break's pod
+abbrev pub is_rest_of : List ℕ → Option Rest → Bool
+is_rest_of id None = false
+is_rest_of id (Some rest) = bytes_eq id rest.id
+
+-- the store has the pod of the rest, if there is one
+abbrev pub IsRestDecided : Store → Option Rest → Type 0
+IsRestDecided store None = Unit {0}
+IsRestDecided store (Some rest) = IsDecided store (Some rest.id)
 
 -- the texts of the date ranges of other breaks than these
 abbrev pub texts_left : List (Bor (List ℕ)) → List DateRange → List (List ℕ)

@@ -1,11 +1,12 @@
 -- The new segments of a refresh, marked in the order of the playlist.
 use mathlib.Core.List.{reverse_aux}
-use Rattle.std.specs.Prelude.{ℕ, ◌+◌, length, Bool, false, List, [], ◌∷◌, map, reverse, ℤ, Option, Some, None, if◌then◌else◌}
+use Rattle.std.specs.Prelude.{ℕ, ◌+◌, min, length, Bool, false, List, [], ◌∷◌, map, reverse, ℤ, Option, Some, None, if◌then◌else◌}
 use Rattle.playlist_meaning.specs.declared.Segment.{Segment}
 use Rattle.playlist_meaning.specs.Pods.{Pod}
 use Rattle.playlist_meaning.specs.Marks.{Marked}
 use Rattle.playlist_meaning.specs.LookBack.{or_earlier}
-use Rattle.pod_store.specs.Store.{Entry, pod_for}
+use Rattle.pod_store.specs.Store.{Store, pod_for}
+use Rattle.pod_store.specs.Pods.{total}
 use Rattle.break_finder.specs.Entering.{is_inside, entered}
 use Rattle.stitcher.specs.declared.marked.Marked.{Marked as Held}
 use Rattle.stitcher.specs.StitchedSegments.{meant}
@@ -13,7 +14,7 @@ use Rattle.stitcher.specs.Making.{is_same_run, begun}
 use Rattle.live_meaning.specs.Marking.{Moment, limits}
 
 -- these segments as they are meant, the newest first
-abbrev pub so_far : List Entry → List Held → List Marked
+abbrev pub so_far : Store → List Held → List Marked
 so_far store held = reverse (map (meant store) held)
 
 abbrev pub is_still_inside : Moment → List ℕ → Option ℤ → Option Pod → Bool
@@ -43,8 +44,26 @@ reversed_onto xs ys = reverse_aux xs ys
 
 -- the place of the first item of the run of the last of these segments: after a run of this mark that begins at
 -- the place `start`, where the list has `count` items so far
-abbrev pub place_on : List Entry → Option (List ℕ) → ℕ → ℕ → List Held → ℕ
+abbrev pub place_on : Store → Option (List ℕ) → ℕ → ℕ → List Held → ℕ
 place_on store previous start count [] = start
 place_on store previous start count (m ∷ later) =
     if is_same_run m.mark previous then place_on store m.mark start count later
     else place_on store m.mark count (count + length (begun store m m.mark)) later
+
+-- no more of a run's length counts than a nanosecond above its pod's total
+abbrev pub capped_by : Option Pod → ℕ → ℕ
+capped_by None length = 0
+capped_by (Some pod) length = min length (total pod + 1)
+
+abbrev pub capped_in : Store → Option (List ℕ) → ℕ → ℕ
+capped_in store None length = 0
+capped_in store (Some id) length = capped_by (pod_for store id) length
+
+abbrev pub length_before : Option (List ℕ) → Option (List ℕ) → ℕ → ℕ
+length_before mark previous so_far = if is_same_run mark previous then so_far else 0
+
+-- how long the newest run has lasted with these segments, after one of this mark and a run that had lasted so long
+abbrev pub length_after : Store → Option (List ℕ) → ℕ → List Held → ℕ
+length_after store previous so_far [] = so_far
+length_after store previous so_far (m ∷ later) =
+    length_after store m.mark (capped_in store m.mark (m.segment.duration + length_before m.mark previous so_far)) later

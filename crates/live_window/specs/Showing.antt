@@ -1,12 +1,14 @@
 -- What is kept in a channel's state, and what it shows with a playlist.
-use Rattle.std.specs.Prelude.{◌≡◌, ℕ}
+use Rattle.std.specs.Prelude.{◌≡◌, ℕ, List}
 use Rattle.playlist_meaning.specs.declared.Playlist.{Playlist}
-use Rattle.stitcher.specs.StitchedSegments.{AreDecided}
+use Rattle.pod_store.specs.Store.{Store}
+use Rattle.stitcher.specs.StitchedSegments.{AreDecided, rest_in}
 use Rattle.break_finder.specs.Known.{carry}
-use Rattle.live_meaning.specs.Kept.{Kept, kept_acceptance, kept_list}
+use Rattle.live_meaning.specs.Kept.{Kept, kept_acceptance, kept_list, kept_length}
 use Rattle.live_window.specs.declared.state.State.{State}
 use Rattle.live_window.specs.declared.showing.Showing.{Showing}
 use Rattle.live_window.specs.Marking.{so_far}
+use Rattle.live_window.specs.Listed.{IsFront, IsRestDecided}
 
 -- what is kept in a channel's state, whose shown segments stand with the oldest first
 abbrev pub kept_in : State → Kept
@@ -17,10 +19,19 @@ kept_in state = record {
   shown = so_far state.store state.shown;
   entered = state.entered;
   numbers = state.numbers;
+  so_far = state.so_far;
+  rest = rest_in state.store state.rest;
 }
 
--- the breaks that are known after the refresh, and the segments that are shown then
-pub record IsShown (tolerance : ℕ) (kept : Kept) (p : Playlist) (a : Showing) : Type 0 where
-  pub breaks : a.knowledge ≡ carry (kept_acceptance kept p) kept.breaks
-  pub list : so_far kept.store a.list.items ≡ kept_list tolerance kept p
-  pub decided : AreDecided kept.store a.list.items
+-- this store has the pod of each mark of a shown segment, and of the rest
+abbrev pub AreKept : Store → State → Type 0
+AreKept store state = AreDecided store state.shown × IsRestDecided store state.rest
+
+-- the breaks that are known after the refresh, the segments that are shown then, those that were shown before in front, and how
+-- long their newest run has lasted
+pub record IsShown (tolerance : ℕ) (state : State) (p : Playlist) (a : Showing) : Type 0 where
+  pub breaks : a.knowledge ≡ carry (kept_acceptance (kept_in state) p) state.knowledge
+  pub list : so_far state.store a.list.items ≡ kept_list tolerance (kept_in state) p
+  pub length : a.so_far ≡ kept_length tolerance (kept_in state) p
+  pub front : IsFront state.shown a.list.items
+  pub decided : AreDecided state.store a.list.items

@@ -11,10 +11,10 @@ mod state;
 mod successor;
 mod writing;
 
-pub use listing::{count_before, fresh_of, from_place, last_entered};
+pub use listing::{Listing, count_before, fresh_of, from_place, last_entered};
 pub use marking::{Limits, mark_on, text_in};
-pub use placing::place_of;
+pub use placing::{place_of, rest_count, run_count};
 pub use showing::{Showing, shown_with};
 pub use state::State;
 pub use successor::{check_successor, first_number, is_mapped};
-pub use writing::{date_ranges_left, head_of, numbers_on, used_ids, window_of};
+pub use writing::{Window, date_ranges_left, head_of, used_ids, window_of};

@@ -88,7 +88,7 @@ impl<'a> Marker<'a> {
     fn is_still_inside(&self, id: &str, instant: Option<Instant>) -> bool
         ensures { result ≡ is_still_inside self.now id.now instant (pod_for self.now.store id.now) }
     {
-        match self.store.get(id) {
+        match self.store.pod_for(id) {
             Some(pod) => self
                 .knowledge
                 .inside(id, instant, self.limits.tolerance, pod),
@@ -115,7 +115,7 @@ impl<'a> Marker<'a> {
     ) -> Result<Option<Shared<Text>>, AllocError>
         ensures { IfOk result (λ id. id ≡ entered (limits self.now (option_copied last.entry)) self.now.store self.now.breaks instant) }
     {
-        // Most playlists have no decided break, and then each segment comes here.
+        // Most playlists have no decided break and no fallback, and then each segment comes here.
         if self.store.is_empty() {
             return Ok(None);
         }

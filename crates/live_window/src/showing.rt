@@ -7,7 +7,7 @@ ghost use Rattle.live_window.specs.Checked.{AreContiguous};
 ghost use Rattle.live_window.specs.Showing.{kept_in};
 ghost use Rattle.live_window.specs.Showing.{IsShown};
 
-use crate::listing::{listed, newest_mark};
+use crate::listing::{Listing, listed, newest_mark};
 use crate::marking::{Limits, text_in};
 use crate::state::State;
 use crate::successor::is_mapped;
@@ -25,6 +25,8 @@ pub struct Showing {
     pub knowledge: Knowledge,
     /// The segments that are shown, the oldest first.
     pub list: Vec<Marked>,
+    /// How long their newest run has lasted.
+    pub so_far: Nanos,
 }
 
 fn carried(
@@ -62,21 +64,26 @@ pub fn shown_with(
 ) -> Result<Showing, RefreshFault>
     requires contiguous { AreContiguous playlist.now.segments }
     requires decided { AreDecided state.now.store state.now.shown }
-    ensures ok { IfOk result (λ a. IsShown tolerance (kept_in state.now) playlist.now a) }
+    ensures ok { IfOk result (λ a. IsShown tolerance state.now playlist.now a) }
     ensures err { IfErr result (λ e. e ≡ RefreshFault.OutOfMemory) }
 {
     let shown = state.shown.as_slice();
     let newest = newest_mark(shown)?;
     let knowledge = carried(alloc, &state.knowledge, playlist, &newest)?;
     let limits = limits_of(tolerance, playlist);
-    let list = listed(
+    let Listing { list, so_far } = listed(
         alloc,
         &limits,
         &knowledge,
         &state.store,
         shown,
         &state.entered,
+        state.so_far,
         playlist.segments.as_slice(),
     )?;
-    Ok(Showing { knowledge, list })
+    Ok(Showing {
+        knowledge,
+        list,
+        so_far,
+    })
 }

@@ -1,8 +1,9 @@
 //! What a channel keeps between refreshes.
 use break_finder::Knowledge;
+use fixed_duration::Nanos;
 use playlist_meaning::{Items, Playlist, Shared, Text};
 use pod_store::PodStore;
-use stitcher::{Marked, Numbers};
+use stitcher::{Marked, Numbers, Rest};
 
 /// What a channel keeps of all that it was given, its text apart: one window and a few numbers, and no history.
 #[derive(Drop)]
@@ -19,4 +20,8 @@ pub struct State {
     pub entered: Option<Shared<Text>>,
     /// The numbers of the window's first item.
     pub numbers: Numbers,
+    /// How long the newest run has lasted, no more than a nanosecond above its pod's total.
+    pub so_far: Nanos,
+    /// The rest of a pod that the window starts with.
+    pub rest: Option<Rest>,
 }

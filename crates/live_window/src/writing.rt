@@ -1,63 +1,201 @@
 //! The window, as it is written.
-ghost use Rattle.std.specs.Prelude.{◌≡◌, ◌<◌, ◌+◌, ◌^◌, ◌||◌, ◌∷◌, ℕ, List, IfOk, IfErr, OnOk, filter, map, nat_lt, not, bytes_eq, false, true};
+ghost use Rattle.std.specs.Prelude.{◌≡◌, ◌<◌, ◌≤◌, ◌+◌, ◌-◌, ◌^◌, ◌||◌, ◌∷◌, ℕ, List, IfOk, IfErr, OnOk, None, filter, length, map, min, nat_lt, not, bytes_eq, false, true};
 ghost use Rattle.std.specs.List.{list_all, list_any};
-ghost use Rattle.playlist_meaning.specs.Stitched.{fits, numbered, stitched};
-ghost use Rattle.pod_store.specs.Store.{is_one_of, pod_for};
+ghost use Rattle.playlist_meaning.specs.Stitched.{fits};
+ghost use Rattle.pod_store.specs.Store.{Store, is_one_of, pod_for};
 ghost use Rattle.playlist_meaning.specs.declared.DateRange.{DateRange};
 ghost use Rattle.break_finder.specs.Kept.{has_text};
 ghost use Rattle.break_finder.specs.Known.{is_this};
-ghost use Rattle.stitcher.specs.StitchedSegments.{AreDecided, item_fits, stitched_segments};
+ghost use Rattle.stitcher.specs.StitchedSegments.{AreDecided, ends_in, item_fits, rest_in, stitched_segments};
 ghost use Rattle.stitcher.specs.Written.{written_item};
-ghost use Rattle.live_meaning.specs.LiveLaws.{window_on};
-ghost use Rattle.live_meaning.specs.Kept.{numbers_on, kept_date_ranges};
-ghost use Rattle.live_meaning.specs.Live.{date_range_text};
-ghost use Rattle.live_window.specs.Marking.{so_far};
-ghost use Rattle.live_window.specs.Listed.{RefusesList, first_alone, first_numbers_of, pod_keeps, head_of, is_used_from, is_marked_from, states_time, texts_left};
+ghost use Rattle.live_meaning.specs.Kept.{ends_of, items_on, kept_date_ranges, numbers_on, rest_after, rest_on, start_on, stitched_on, window_on};
+ghost use Rattle.live_meaning.specs.Live.{date_range_text, rest_over};
+ghost use Rattle.live_meaning.specs.Successor.{first_number};
+ghost use Rattle.live_window.specs.Marking.{place_on, so_far};
+ghost use Rattle.live_window.specs.Listed.{IsFront, IsRestDecided, RefusesList, first_alone, first_numbers_of, pod_keeps, head_of, is_rest_of, is_used_from, is_marked_from, states_time, texts_left};
+ghost use Rattle.live_window.specs.Placing.{HasRoom, IsWithin, rest_count};
+ghost use Rattle.live_window.specs.Showing.{kept_in};
 
-use crate::listing::{from_place, front_to};
-use crate::placing::place_of;
+use crate::listing::{from_place, front_before, front_to};
+use crate::placing::{place_of, rest_count, run_count};
+use crate::state::State;
+use crate::successor::first_number;
+use fixed_duration::Nanos;
 use indexmap::IndexSet;
 use live_meaning::RefreshFault;
 use playlist_meaning::{DateRange, Playlist, Segment, Shared, Text};
 use pod_store::PodStore;
 use std::alloc::{AllocError, Global};
-use stitcher::{Marked, Numbers, OriginText, OutSegment, StitchFault, stitch};
+use stitcher::{Ends, Marked, Numbers, OriginText, OutSegment, Rest, StitchFault, stitch};
 
-// The stitched list of these segments, whose first item has these numbers.
+// The stitched list of these segments between these ends, whose first item has these numbers.
 fn stitched<'a>(
     alloc: Global,
     list: &'a [Marked],
     store: &PodStore,
     first: Numbers,
+    ends: &Ends,
 ) -> Result<Vec<OutSegment<'a>>, RefreshFault>
     requires { AreDecided store.now list.now }
-    ensures ok { IfOk result (λ v. (v.items ≡ stitched_segments store.now first list.now) × (list_all item_fits v.items ≡ true)) }
-    ensures err { IfErr result (λ e. RefusesList e (list_all fits (numbered first (stitched (so_far store.now list.now))) ≡ false)) }
+    ensures ok { IfOk result (λ v. (v.items ≡ stitched_segments store.now first ends.now list.now) × (list_all item_fits v.items ≡ true)) }
+    ensures err { IfErr result (λ e. RefusesList e (list_all item_fits (stitched_segments store.now first ends.now list.now) ≡ false)) }
 {
-    match stitch(alloc, list, store, first) {
+    match stitch(alloc, list, store, first, ends) {
         Ok(items) => Ok(items),
         Err(StitchFault::NumberRange) => Err(RefreshFault::NumberRange),
         Err(StitchFault::OutOfMemory) => Err(RefreshFault::OutOfMemory),
     }
 }
 
-/// The window from the segment of a number on, where the first item of the stitched list of these segments has these
-/// numbers. `NumberRange` where a number would pass 2^64 - 1.
+// Another owner of a rest.
+fn copied_rest(rest: &Option<Rest>) -> Result<Option<Rest>, AllocError>
+    ensures { IfOk result (λ r. r ≡ rest.now) }
+{
+    let Some(rest) = rest else {
+        return Ok(None);
+    };
+    Ok(Some(Rest {
+        id: rest.id.clone()?,
+        place: rest.place,
+    }))
+}
+
+// What stands at the ends of the list of the segments that are shown.
+fn ends_of(rest: &Option<Rest>, ended: bool, so_far: Nanos) -> Result<Ends, AllocError>
+    ensures { IfOk result (λ ends. (store : Store) → ends_in store ends ≡ ends_of ended so_far (rest_in store rest.now)) }
+{
+    let rest = copied_rest(rest)?;
+    let open = if ended { None } else { Some(so_far) };
+    Ok(Ends { rest, so_far: open })
+}
+
+// How many items the last window came to, from its first one on; no more of it is told than fits.
+fn written_before(state: &State, last: &Playlist) -> usize
+    requires place { place_on state.now.store None 0 0 state.now.shown < 2 ^ 64 }
+    requires decided { AreDecided state.now.store state.now.shown }
+    ensures { result ≡ min (length (stitched_on last.now.ended state.now.so_far (so_far state.now.store state.now.shown) (rest_in state.now.store state.now.rest))) (2 ^ 64 - 1) }
+{
+    let store = &state.store;
+    let shown = state.shown.as_slice();
+    let before = rest_count(store, &state.rest);
+    let Some((newest, _)) = shown.split_last() else {
+        return before;
+    };
+    let run = run_count(store, &newest.mark, last.ended, state.so_far);
+    before
+        .saturating_add(place_of(store, shown))
+        .saturating_add(run)
+}
+
+// Where the window starts in the stitched list of the segments that are shown, after the rest.
+fn start_of(state: &State, playlist: &Playlist, list: &[Marked]) -> usize
+    requires room { HasRoom state.now.store state.now.rest list.now }
+    requires front { IsFront state.now.shown list.now }
+    requires decided { AreDecided state.now.store list.now }
+    ensures value { result ≡ start_on state.now.last (first_number playlist.now.segments) (kept_in state.now) (so_far state.now.store list.now) }
+    ensures within { (most : ℕ) → IsWithin state.now.store state.now.rest list.now most → result ≤ most }
+{
+    let number = first_number(playlist.segments.as_slice());
+    let place = place_of(&state.store, front_to(number, list));
+    let Some(last) = &state.last else {
+        return place;
+    };
+    if number == first_number(last.segments.as_slice()) {
+        return 0;
+    }
+    let most = written_before(state, last);
+    (place + rest_count(&state.store, &state.rest)).min(most)
+}
+
+// The rest of the pod before the first segment that is shown, where a window that starts at this place starts with it.
+fn rest_from(
+    state: &State,
+    number: u64,
+    start: usize,
+    list: &[Marked],
+) -> Result<Option<Rest>, AllocError>
+    requires room { HasRoom state.now.store state.now.rest list.now }
+    requires decided { AreDecided state.now.store list.now }
+    ensures decided { IfOk result (λ rest. IsRestDecided state.now.store rest) }
+    ensures value { IfOk result (λ rest. rest_in state.now.store rest ≡ rest_over (rest_count state.now.store state.now.rest) start number (so_far state.now.store list.now)) }
+{
+    let store = &state.store;
+    let before = rest_count(store, &state.rest);
+    if start >= place_of(store, front_to(number, list)) + before {
+        return Ok(None);
+    }
+    let gone = front_before(number, list);
+    let Some((newest, _)) = gone.split_last() else {
+        return Ok(None);
+    };
+    let Some(id) = &newest.mark else {
+        return Ok(None);
+    };
+    Ok(Some(Rest {
+        id: id.clone()?,
+        place: start.saturating_sub(place_of(store, gone) + before),
+    }))
+}
+
+// The rest of a pod that a window which starts at this place starts with.
+fn rest_after(
+    state: &State,
+    playlist: &Playlist,
+    start: usize,
+    list: &[Marked],
+) -> Result<Option<Rest>, AllocError>
+    requires room { HasRoom state.now.store state.now.rest list.now }
+    requires decided { AreDecided state.now.store list.now }
+    requires rest { IsRestDecided state.now.store state.now.rest }
+    ensures decided { IfOk result (λ rest. IsRestDecided state.now.store rest) }
+    ensures value { IfOk result (λ rest. rest_in state.now.store rest ≡ rest_on state.now.last (first_number playlist.now.segments) start (so_far state.now.store list.now) (rest_in state.now.store state.now.rest)) }
+{
+    let number = first_number(playlist.segments.as_slice());
+    let Some(last) = &state.last else {
+        return Ok(None);
+    };
+    if number == first_number(last.segments.as_slice()) {
+        return copied_rest(&state.rest);
+    }
+    rest_from(state, number, start, list)
+}
+
+/// A window of the stitched list, and the rest of a pod that it starts with.
+#[derive(Drop)]
+pub struct Window<'a> {
+    /// The window.
+    pub items: Vec<OutSegment<'a>>,
+    /// The rest, if it starts with one.
+    pub rest: Option<Rest>,
+}
+
+/// The window of the stitched list of these segments, the newest run of which has lasted so long. `NumberRange` where a
+/// number would pass 2^64 - 1.
 pub fn window_of<'a>(
     alloc: Global,
+    state: &State,
+    playlist: &Playlist,
     list: &'a [Marked],
-    store: &PodStore,
-    first: Numbers,
-    number: u64,
-) -> Result<Vec<OutSegment<'a>>, RefreshFault>
-    requires { AreDecided store.now list.now }
-    ensures ok { IfOk result (λ v. v.items ≡ map written_item (window_on first number (so_far store.now list.now))) }
-    ensures fit { IfOk result (λ v. list_all fits (numbered first (stitched (so_far store.now list.now))) ≡ true) }
-    ensures err { IfErr result (λ e. RefusesList e (list_all fits (numbered first (stitched (so_far store.now list.now))) ≡ false)) }
+    length: Nanos,
+) -> Result<Window<'a>, RefreshFault>
+    requires decided { AreDecided state.now.store list.now }
+    requires front { IsFront state.now.shown list.now }
+    requires rest { IsRestDecided state.now.store state.now.rest }
+    ensures ok { IfOk result (λ w. w.items.items ≡ map written_item (window_on (kept_in state.now) playlist.now (so_far state.now.store list.now) length)) }
+    ensures left { IfOk result (λ w. IsRestDecided state.now.store w.rest) }
+    ensures rest { IfOk result (λ w. rest_in state.now.store w.rest ≡ rest_after (kept_in state.now) playlist.now (so_far state.now.store list.now)) }
+    ensures fit { IfOk result (λ w. list_all fits (items_on (kept_in state.now) playlist.now (so_far state.now.store list.now) length) ≡ true) }
+    ensures err { IfErr result (λ e. RefusesList e (list_all fits (items_on (kept_in state.now) playlist.now (so_far state.now.store list.now) length) ≡ false)) }
 {
-    let items = stitched(alloc, list, store, first)?;
-    let place = place_of(store, front_to(number, list));
-    Ok(from_place(items, place)?)
+    let ends = ends_of(&state.rest, playlist.ended, length)?;
+    let first = numbers_on(&state.last, state.numbers, list, &state.store, &ends)?;
+    let items = stitched(alloc, list, &state.store, first, &ends)?;
+    let start = start_of(state, playlist, list);
+    let rest = rest_after(state, playlist, start, list)?;
+    Ok(Window {
+        items: from_place(items, start)?,
+        rest,
+    })
 }
 
 /// The numbers of the first of these items.
@@ -103,16 +241,16 @@ fn first_with_pod(segment: &Segment) -> Result<Numbers, RefreshFault>
 fn know_pod(store: &PodStore, id: &str)
     ensures { pod_keeps (pod_for store.now id.now) ≡ true }
 {
-    if let Some(pod) = store.get(id) {
+    if let Some(pod) = store.pod_for(id) {
         let _ads = pod.ads();
     }
 }
 
 // The numbers of the first item where these segments are the first ever shown.
-fn first_numbers(list: &[Marked], store: &PodStore) -> Result<Numbers, RefreshFault>
+fn first_numbers(list: &[Marked], store: &PodStore, ends: &Ends) -> Result<Numbers, RefreshFault>
     requires { AreDecided store.now list.now }
     ensures ok { IfOk result (λ numbers. numbers ≡ first_numbers_of list.now) }
-    ensures err { IfErr result (λ e. RefusesList e (list_all item_fits (stitched_segments store.now (first_numbers_of list.now) list.now) ≡ false)) }
+    ensures err { IfErr result (λ e. RefusesList e (list_all item_fits (stitched_segments store.now (first_numbers_of list.now) ends.now list.now) ≡ false)) }
 {
     let Some(first) = list.first() else {
         return Ok(Numbers {
@@ -134,21 +272,22 @@ fn first_numbers(list: &[Marked], store: &PodStore) -> Result<Numbers, RefreshFa
 }
 
 #[tactic(auto, using(crate::proofs::Passing::first_here, crate::proofs::Passing::refuses_first))]
-/// The numbers of the first item of the stitched list of these segments: those that are kept, where a playlist was
-/// accepted before. `NumberRange` where one would pass 2^64 - 1.
-pub fn numbers_on(
+// The numbers of the first item of the stitched list of these segments: those that are kept, where a playlist was
+// accepted before. `NumberRange` where one would pass 2^64 - 1.
+fn numbers_on(
     last: &Option<Playlist>,
     numbers: Numbers,
     list: &[Marked],
     store: &PodStore,
+    ends: &Ends,
 ) -> Result<Numbers, RefreshFault>
     requires { AreDecided store.now list.now }
     ensures ok { IfOk result (λ n. n ≡ numbers_on last.now numbers (so_far store.now list.now)) }
-    ensures err { IfErr result (λ e. RefusesList e (list_all fits (numbered (numbers_on last.now numbers (so_far store.now list.now)) (stitched (so_far store.now list.now))) ≡ false)) }
+    ensures err { IfErr result (λ e. RefusesList e (list_all item_fits (stitched_segments store.now (numbers_on last.now numbers (so_far store.now list.now)) ends.now list.now) ≡ false)) }
 {
     match last {
         Some(_) => Ok(numbers),
-        None => first_numbers(list, store),
+        None => first_numbers(list, store, ends),
     }
 }
 
@@ -241,8 +380,19 @@ fn note_mark<'a>(
     note(set, &marked.mark)
 }
 
+#[tactic(auto, using(crate::proofs::Ranges::or_false))]
+// Notes the break of a rest, where there is one, in a set.
+fn note_rest<'a>(set: &mut IndexSet<&'a str>, rest: &'a Option<Rest>) -> Result<(), AllocError>
+    ensures { OnOk result ((other : List ℕ) → has_text set.new.keys other ≡ (has_text set.old.keys other || is_rest_of other rest.now)) }
+{
+    match rest {
+        Some(rest) => add_id(set, &rest.id),
+        None => Ok(()),
+    }
+}
+
 #[tactic(auto, using(crate::proofs::Ranges::one_noted))]
-// The breaks in use, as a set.
+// The breaks that mark segments from this number on, and the last one entered, as a set.
 fn set_in_use<'a>(
     alloc: Global,
     number: u64,
@@ -272,16 +422,18 @@ fn copies_of(alloc: Global, set: &IndexSet<&str>) -> Result<Vec<Text>, AllocErro
     Ok(ids)
 }
 
-/// The breaks in use: those that mark segments from this number on, and the last one entered.
+/// The breaks in use: those that mark segments from this number on, the last one entered, and the one of the rest.
 pub fn used_ids(
     alloc: Global,
     number: u64,
     list: &[Marked],
     entered: &Option<Shared<Text>>,
+    rest: &Option<Rest>,
 ) -> Result<Vec<Text>, AllocError>
-    ensures { IfOk result (λ ids. (id : List ℕ) → is_one_of ids.items id ≡ is_used_from number list.now entered.now id) }
+    ensures { IfOk result (λ ids. (id : List ℕ) → is_one_of ids.items id ≡ (is_used_from number list.now entered.now id || is_rest_of id rest.now)) }
 {
-    let set = set_in_use(alloc, number, list, entered)?;
+    let mut set = set_in_use(alloc, number, list, entered)?;
+    note_rest(&mut set, rest)?;
     let ids = copies_of(alloc, &set)?;
     Ok(ids)
 }

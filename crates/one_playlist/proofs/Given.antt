@@ -7,20 +7,20 @@ use Rattle.playlist_meaning.specs.declared.Playlist.{Playlist}
 use Rattle.playlist_meaning.specs.declared.PlaylistFault.{PlaylistFault}
 use Rattle.playlist_meaning.specs.LookBack.{or_earlier}
 use Rattle.playlist_meaning.specs.Reading.{reading, limited}
-use Rattle.playlist_meaning.specs.Stitched.{fits, stitched_list}
+use Rattle.playlist_meaning.specs.Stitched.{fits}
 use Rattle.pod_store.specs.declared.Decisions.{Decisions}
 use Rattle.pod_store.specs.declared.fault.DecisionFault.{DecisionFault}
 use Rattle.pod_store.specs.declared.fault.DecisionKind.{DecisionKind}
 use Rattle.pod_store.specs.declared.fault.DecisionKind.TheVariants.{OutOfMemory as NoRoom}
 use Rattle.decision_files.specs.Decided.{decisions_of}
 use Rattle.pod_store.specs.Outcome.{Outcome, ◌>>=◌}
-use Rattle.pod_store.specs.Store.{Entry}
+use Rattle.pod_store.specs.Store.{Store, nothing_decided}
 use Rattle.pod_store.specs.Store.{decided as after_decisions}
 use Rattle.live_meaning.specs.declared.fault.RefreshFault.{RefreshFault}
 use Rattle.live_meaning.specs.declared.fault.RefreshFault.TheVariants.{Playlist as Unreadable, NumberRange as PassesRange, OutOfMemory as NoMemory}
 use Rattle.live_meaning.specs.Kept.{Kept}
 use Rattle.live_meaning.specs.Live as live
-use Rattle.live_meaning.specs.Live.{Event, Told, told, refusal, number_range_fault, succession_fault, last_playlist, after_refresh, window_after}
+use Rattle.live_meaning.specs.Live.{Event, Told, told, refusal, number_range_fault, succession_fault, last_playlist, list_of, after_refresh, window_after}
 use Rattle.live_meaning.specs.Successor.{fault_if}
 use Rattle.live_counters.specs.declared.channel.Refreshed.{Refreshed}
 use Rattle.live_counters.specs.Channel.{Channel, Given, Reading, decided, decisions_in, told_by, StandsFor, ChangesStore, after_bytes, with_store, refreshed_with, fresh_after, answer_read, owed_answer, judged, is_memory_kind, AnswersAs, AnswersUnless, Answers}
@@ -30,16 +30,16 @@ use Rattle.one_playlist.specs.Given.{given_by, HasDecided, fault_of_refresh, IsR
 
 -- ---- the decision file
 
-tells : (o : Outcome Decisions) (store : List Entry) → (o >>= after_decisions []) ≡ Ok store → (o >>= first_decided) ≡ Ok (decisions_in o ++ [])
-tells (Ok ds) store h = ap (λ (s : Outcome (List Entry)). s >>= λ x. Ok (live.decided ds ∷ [])) h
+tells : (o : Outcome Decisions) (store : Store) → (o >>= after_decisions nothing_decided) ≡ Ok store → (o >>= first_decided) ≡ Ok (decisions_in o ++ [])
+tells (Ok ds) store h = ap (λ (s : Outcome Store). s >>= λ x. Ok (live.decided ds ∷ [])) h
 tells (Err e) store h = absurd (cc)
 
-tells_no : (o : Outcome Decisions) (e : DecisionFault) → (o >>= after_decisions []) ≡ Err e → (o >>= first_decided) ≡ Err e
-tells_no (Ok ds) e h = ap (λ (s : Outcome (List Entry)). s >>= λ x. Ok (live.decided ds ∷ [])) h
+tells_no : (o : Outcome Decisions) (e : DecisionFault) → (o >>= after_decisions nothing_decided) ≡ Err e → (o >>= first_decided) ≡ Err e
+tells_no (Ok ds) e h = ap (λ (s : Outcome Store). s >>= λ x. Ok (live.decided ds ∷ [])) h
 tells_no (Err f) e h = let same : f ≡ e = cc in ap Err same
 
 module _ (bytes : List ℕ) (old new : Channel) (s : StandsFor old []) where
-  from_none : after_bytes old.kept.store bytes ≡ (decisions_of bytes >>= after_decisions [])
+  from_none : after_bytes old.kept.store bytes ≡ (decisions_of bytes >>= after_decisions nothing_decided)
   from_none = ap (λ (k : Kept). after_bytes k.store bytes) s.kept
 
   pub has_decided : (after_bytes old.kept.store bytes ≡ Ok new.kept.store) × (new ≡ with_store old new.kept.store)
@@ -113,7 +113,7 @@ module _ (c : Channel) (bytes : List ℕ) (given : List Given) where
       where
         by : (r : Reading) → reading limited c.base bytes ≡ r → Err f ≡ answer_read c.tolerance before r → RefusesRefresh (fault_of_refresh f) c bytes given
         by (Err fault) is a = let same : Unreadable fault ≡ f = cc in subst (λ x. RefusesRefresh (fault_of_refresh x) c bytes given) same (unread_so fault is (is_memory_kind fault.kind))
-        by (Ok p) is a = judged_so p (answer_to p) f (not (list_all fits (stitched_list (after_refresh c.tolerance before p).history))) is (number_range_alone p) (a ∙ ap (λ o. judged o (answer_to p)) (number_range_alone p))
+        by (Ok p) is a = judged_so p (answer_to p) f (not (list_all fits (list_of (after_refresh c.tolerance before p)))) is (number_range_alone p) (a ∙ ap (λ o. judged o (answer_to p)) (number_range_alone p))
 
     pub refuses_refresh : (f : RefreshFault) (new : Channel) → Answers c bytes given (Err f) new → RefusesRefresh (fault_of_refresh f) c bytes given
     refuses_refresh (Unreadable fault) new h = by (is_memory_kind fault.kind) refl

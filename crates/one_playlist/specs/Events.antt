@@ -6,6 +6,7 @@ use Rattle.pod_store.specs.declared.fault.DecisionKind.TheVariants.{OutOfMemory 
 use Rattle.pod_store.specs.declared.Decisions.{Decisions}
 use Rattle.pod_store.specs.Outcome.{Outcome, ◌>>=◌}
 use Rattle.decision_files.specs.Decided.{decisions_of}
+use Rattle.pod_store.specs.Store.{nothing_decided}
 use Rattle.pod_store.specs.Store.{decided as after_decisions}
 use Rattle.live_meaning.specs.Live.{Event, decided}
 use Rattle.one_playlist.specs.declared.fault.VodFault.{VodFault}
@@ -13,7 +14,7 @@ use Rattle.one_playlist.specs.declared.fault.VodFault.TheVariants.{Decision, Out
 
 -- decisions that a store takes in which no break is decided yet
 abbrev pub first_decided : Decisions → Outcome (List Event)
-first_decided decisions = after_decisions [] decisions >>= λ store. Ok (decided decisions ∷ [])
+first_decided decisions = after_decisions nothing_decided decisions >>= λ store. Ok (decided decisions ∷ [])
 
 -- what a decision file tells, or its first fault; without a file nothing is told
 abbrev pub events_of : Option (List ℕ) → Outcome (List Event)

@@ -83,8 +83,10 @@ fn decided_channel(alloc: Global, base: &str, decisions: Option<&[u8]>) -> Resul
     ensures order { IfErr result (λ e. IsInOrder e base.now (option_copied decisions.entry)) }
 {
     let mut channel = new_channel(alloc, base)?;
-    decide(alloc, &mut channel, decisions)?;
-    Ok(channel)
+    match decide(alloc, &mut channel, decisions) {
+        Ok(()) => Ok(channel),
+        Err(fault) => Err(fault),
+    }
 }
 
 // Gives a channel the input of a source, read to its end, as its one refresh.

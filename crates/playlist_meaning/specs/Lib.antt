@@ -15,4 +15,5 @@ pub mod Pods
 pub mod Marks
 pub mod Numbering
 pub mod Stitched
+pub mod Paced
 pub mod StitchedRows

@@ -29,3 +29,41 @@ fn is_used_and_released(alloc: Global) -> Result<bool, DecisionFault> {
 fn a_used_pod_is_released(rt: HostRuntime) {
     assert!(rt; matches!(is_used_and_released(rt.alloc()), Ok(true)));
 }
+
+const FALLBACK: &[u8] =
+    b"{\"fallback\":{\"ads\":[{\"segments\":[{\"uri\":\"http://ads.example/x0.ts\",\"duration\":\"10\"}]}]}}";
+
+const NO_FALLBACK: &[u8] = b"{\"fallback\":null}";
+
+fn has_fallback(store: &PodStore) -> bool {
+    !store.is_empty() && store.get("b1").is_none() && store.pod_for("b1").is_some()
+}
+
+fn is_adopted(store: &mut PodStore) -> Result<bool, DecisionFault> {
+    Ok(store.adopt("b1")? && store.get("b1").is_some() && store.is_used("b1"))
+}
+
+fn is_kept(alloc: Global, store: &mut PodStore) -> Result<bool, DecisionFault> {
+    store.decide(read_decisions(alloc, NO_FALLBACK)?)?;
+    Ok(store.pod_for("b1").is_some() && !store.adopt("b2")?)
+}
+
+fn is_lent_and_kept(alloc: Global) -> Result<bool, DecisionFault> {
+    let mut store = store_of(alloc, FALLBACK)?;
+    Ok(has_fallback(&store) && is_adopted(&mut store)? && is_kept(alloc, &mut store)?)
+}
+
+#[test]
+fn a_copy_of_the_fallback_is_kept(rt: HostRuntime) {
+    assert!(rt; matches!(is_lent_and_kept(rt.alloc()), Ok(true)));
+}
+
+fn is_own_adopted(alloc: Global) -> Result<bool, DecisionFault> {
+    let mut store = store_of(alloc, POD)?;
+    Ok(store.adopt("b1")? && store.is_used("b1") && !store.adopt("b2")?)
+}
+
+#[test]
+fn a_pod_of_its_own_is_adopted(rt: HostRuntime) {
+    assert!(rt; matches!(is_own_adopted(rt.alloc()), Ok(true)));
+}

@@ -4,7 +4,7 @@ use Rattle.std.specs.Prelude.{filter, String}
 use Rattle.std.specs.Map.Calls.{RetainsPairs}
 use Rattle.std.specs.declared.alloc.Global.{Global}
 use Rattle.pod_store.specs.declared.kept.Kept.{Kept}
-use Rattle.pod_store.specs.Store.{Entry, is_one_of, is_held, kept_in_use}
+use Rattle.pod_store.specs.Store.{Entry, is_one_of, is_held, held_in_use}
 use Rattle.pod_store.specs.Kept.{Pairs, entry_of, is_pair_held, used_if, pairs_in_use}
 
 pushed : {A B : Type 0} (G : A → B) (b : Bool) (x : A) (xs : List A) → cond b (G x ∷ map G xs) (map G xs) ≡ map G (cond b (x ∷ xs) xs)
@@ -34,6 +34,6 @@ module _ (ids : List (List ℕ)) where
   step pair pairs entries false rec = rec
 
   -- the store sees them as its entries
-  pub seen_in_use : (pairs : Pairs) → map entry_of (pairs_in_use ids pairs) ≡ kept_in_use ids (map entry_of pairs)
+  pub seen_in_use : (pairs : Pairs) → map entry_of (pairs_in_use ids pairs) ≡ held_in_use ids (map entry_of pairs)
   seen_in_use [] = refl
   seen_in_use (pair ∷ later) = step pair (filter (is_pair_held ids) later) (filter (is_held ids) (map entry_of later)) (is_pair_held ids pair) (seen_in_use later)

@@ -1,17 +1,18 @@
 -- The laws of the store.
-use Rattle.std.proofs.Common.{◌≡◌, ℕ, suc, ◌+◌, ◌≤◌, Bool, true, false, cond, not, ◌&&◌, ◌||◌, List, [], ◌∷◌, length, filter, refl, ap, sym, ◌∙◌, arith, Some, None}
-use Rattle.std.specs.Prelude.{Option, Ok, Err, fold, is_some, option_map, nat_lt, bytes_eq}
+use Rattle.std.proofs.Common.{◌≡◌, ℕ, zero, suc, ◌+◌, ◌≤◌, Bool, true, false, cond, not, ◌&&◌, ◌||◌, List, [], ◌∷◌, ◌++◌, length, filter, refl, ap, sym, ◌∙◌, subst, arith, Some, None}
+use Rattle.std.specs.Prelude.{Option, Ok, Err, fold, find, is_some, option_map, nat_lt, bytes_eq}
 use Rattle.std.specs.List.{list_any}
 use Rattle.std.proofs.lemmas.Bool.{and_parts, and_from, or_parts, ltb-false}
 use Rattle.std.proofs.lemmas.Slice.Eq.{bytes_eq-Decides}
 use Rattle.playlist_meaning.specs.LookBack.{or_earlier}
 use Rattle.playlist_meaning.specs.Pods.{Pod}
-use Rattle.pod_store.specs.declared.Decisions.TheVariants.{Breaks, Withdraw}
+use Rattle.pod_store.specs.declared.Decisions.TheVariants.{Breaks, Withdraw, Fallback, NoFallback}
 use Rattle.pod_store.specs.declared.fault.DecisionKind.TheVariants.{Used, Full, Unknown}
 use Rattle.pod_store.specs.Outcome.{Outcome, refuse_if, fault_at, nowhere}
 use Rattle.pod_store.specs.Pods.{Decision}
-use Rattle.pod_store.specs.Store.{Entry, has_id, entry_for, pod_for, is_used, is_decided, is_new, names_used, count_with, put, without, with_used, with_all, withdrawn}
-use Rattle.pod_store.specs.Laws.{Call, decide, mark_used, release, accepted, after_call, after_calls, are_distinct, StaysSmall, UsedPodsStay, LastPodStands, pod_in, pod_given, pod_left, pod_after}
+use Rattle.pod_store.specs.Store.{Entry, Store, with_entries, has_id, entry_for, pod_of, own_pod, is_used, has_own, is_named, is_named_if_any, is_new, names_used, count_with, put, without, marked_used, with_used, with_all, withdrawn, copied_last, adopted}
+use Rattle.pod_store.proofs.Copies.{none_there, entry_in, pod_if, pod_at, copy_other, copy_own}
+use Rattle.pod_store.specs.Laws.{Call, decide, mark_used, release, adopt, accepted, after_call, after_calls, are_distinct, StaysSmall, UsedPodsStay, LastPodStands, pod_in, pod_given, pod_left, pod_after}
 
 -- ---- tests
 
@@ -46,11 +47,11 @@ not_true false h = refl
 abbrev stands : List ℕ → List Entry → Bool
 stands id store = list_any (has_id id) store
 
-found_stands : (id : List ℕ) (store : List Entry) → is_some (entry_for store id) ≡ stands id store
+found_stands : (id : List ℕ) (store : List Entry) → is_some (entry_in store id) ≡ stands id store
 found_stands id [] = refl
 found_stands id (e ∷ store) = by (has_id id e) (found_stands id store)
   where
-    by : (b : Bool) → is_some (entry_for store id) ≡ stands id store → is_some (cond b (Some e) (entry_for store id)) ≡ (b || stands id store)
+    by : (b : Bool) → is_some (entry_in store id) ≡ stands id store → is_some (cond b (Some e) (entry_in store id)) ≡ (b || stands id store)
     by true rec = refl
     by false rec = rec
 
@@ -58,7 +59,7 @@ stands_put : (id : List ℕ) (store : List Entry) (d : Decision) → stands id (
 stands_put id [] d = or_false _
 stands_put id (e ∷ store) d = by (bytes_eq d.0 e.id) refl (stands_put id store d)
   where
-    by : (b : Bool) → bytes_eq d.0 e.id ≡ b → stands id (put store d) ≡ (stands id store || bytes_eq id d.0) → stands id (cond b (record { id = e.id; pod = d.1; used = false } ∷ store) (e ∷ put store d)) ≡ (stands id (e ∷ store) || bytes_eq id d.0)
+    by : (b : Bool) → bytes_eq d.0 e.id ≡ b → stands id (put store d) ≡ (stands id store || bytes_eq id d.0) → stands id (cond b (record { id = e.id; pod = d.1; used = false; copied = false } ∷ store) (e ∷ put store d)) ≡ (stands id (e ∷ store) || bytes_eq id d.0)
     by true same rec =
         absorbed (bytes_eq id e.id) (stands id store) ∙ ap (λ i. (bytes_eq id e.id || stands id store) || bytes_eq id i) (sym ((bytes_eq-Decides d.0 e.id).0 same))
     by false same rec =
@@ -72,7 +73,7 @@ distinct_put (e ∷ store) d h = by (bytes_eq d.0 e.id) refl (distinct_put store
     none other f = stands_put e.id store d ∙ (ap (λ b. b || bytes_eq e.id d.0) f ∙ other_way d.0 e.id other)
 
     by : (b : Bool) → bytes_eq d.0 e.id ≡ b → (are_distinct store ≡ true → are_distinct (put store d) ≡ true)
-        → are_distinct (cond b (record { id = e.id; pod = d.1; used = false } ∷ store) (e ∷ put store d)) ≡ true
+        → are_distinct (cond b (record { id = e.id; pod = d.1; used = false; copied = false } ∷ store) (e ∷ put store d)) ≡ true
     by true same rec = h
     by false other rec = let p = and_parts _ _ h in and_from _ _ (ap not (none other (not_true _ p.0))) (rec p.1)
 
@@ -97,58 +98,138 @@ distinct_without id (e ∷ store) h = by (has_id id e) (and_parts _ _ h) (distin
     by true p rec = p.1
     by false p rec = and_from _ _ (ap not (none_without (has_id e.id) id store (not_true _ p.0))) (rec p.1)
 
-stands_used : (other id : List ℕ) (store : List Entry) → stands other (with_used id store) ≡ stands other store
+stands_used : (other id : List ℕ) (store : List Entry) → stands other (marked_used id store) ≡ stands other store
 stands_used other id [] = refl
 stands_used other id (e ∷ store) = by (has_id id e) (stands_used other id store)
   where
-    by : (b : Bool) → stands other (with_used id store) ≡ stands other store → stands other (cond b (record e { used = true } ∷ store) (e ∷ with_used id store)) ≡ stands other (e ∷ store)
+    by : (b : Bool) → stands other (marked_used id store) ≡ stands other store → stands other (cond b (record e { used = true } ∷ store) (e ∷ marked_used id store)) ≡ stands other (e ∷ store)
     by true rec = refl
     by false rec = ap (λ b. bytes_eq other e.id || b) rec
 
-distinct_used : (id : List ℕ) (store : List Entry) → are_distinct store ≡ true → are_distinct (with_used id store) ≡ true
+distinct_used : (id : List ℕ) (store : List Entry) → are_distinct store ≡ true → are_distinct (marked_used id store) ≡ true
 distinct_used id [] h = refl
 distinct_used id (e ∷ store) h = by (has_id id e) (and_parts _ _ h) (distinct_used id store)
   where
-    by : (b : Bool) → (not (stands e.id store) ≡ true) × (are_distinct store ≡ true) → (are_distinct store ≡ true → are_distinct (with_used id store) ≡ true)
-        → are_distinct (cond b (record e { used = true } ∷ store) (e ∷ with_used id store)) ≡ true
+    by : (b : Bool) → (not (stands e.id store) ≡ true) × (are_distinct store ≡ true) → (are_distinct store ≡ true → are_distinct (marked_used id store) ≡ true)
+        → are_distinct (cond b (record e { used = true } ∷ store) (e ∷ marked_used id store)) ≡ true
     by true p rec = h
     by false p rec = and_from _ _ (ap not (stands_used e.id id store) ∙ p.0) (rec p.1)
 
+-- a break that stands last
+stands_last : (id : List ℕ) (store : List Entry) (x : Entry) → stands id (store ++ (x ∷ [])) ≡ (stands id store || bytes_eq id x.id)
+stands_last id [] x = or_false _
+stands_last id (e ∷ store) x = ap (λ b. bytes_eq id e.id || b) (stands_last id store x) ∙ or_grouped (bytes_eq id e.id) (stands id store) (bytes_eq id x.id)
+
+distinct_last : (store : List Entry) (x : Entry) → are_distinct store ≡ true → stands x.id store ≡ false → are_distinct (store ++ (x ∷ [])) ≡ true
+distinct_last [] x h n = refl
+distinct_last (e ∷ store) x h n =
+    let p = and_parts _ _ h in
+    let q = or_parts _ _ n in
+    and_from _ _ (ap not (stands_last e.id store x ∙ (ap (λ b. b || bytes_eq e.id x.id) (not_true _ p.0) ∙ other_way x.id e.id q.0))) (distinct_last store x p.1 q.1)
+
 -- ---- counts
 
-length_without : (id : List ℕ) (store : List Entry) → length (without id store) ≤ length store
-length_without id [] = omega arith
-length_without id (e ∷ store) = by (has_id id e) (length_without id store)
-  where
-    by : (b : Bool) → length (without id store) ≤ length store → length (cond b store (e ∷ without id store)) ≤ length (e ∷ store)
-    by true h = omega arith
-    by false h = omega (arith, h)
+abbrev named_in : List ℕ → List Entry → Bool
+named_in id store = is_named_if_any (entry_in store id)
 
-length_used : (id : List ℕ) (store : List Entry) → length (with_used id store) ≡ length store
-length_used id [] = refl
-length_used id (e ∷ store) = by (has_id id e) (length_used id store)
-  where
-    by : (b : Bool) → length (with_used id store) ≡ length store → length (cond b (record e { used = true } ∷ store) (e ∷ with_used id store)) ≡ length (e ∷ store)
-    by true rec = refl
-    by false rec = ap suc rec
+abbrev new_in : List Entry → Decision → Bool
+new_in store d = not (named_in d.0 store)
 
-length_put : (store : List Entry) (d : Decision) → length (put store d) ≡ cond (stands d.0 store) (length store) (suc (length store))
-length_put [] d = refl
-length_put (e ∷ store) d = by (has_id d.0 e) (stands d.0 store) (length_put store d)
-  where
-    by : (b s : Bool) → length (put store d) ≡ cond s (length store) (suc (length store))
-        → length (cond b (record { id = e.id; pod = d.1; used = false } ∷ store) (e ∷ put store d)) ≡ cond (b || s) (length (e ∷ store)) (suc (length (e ∷ store)))
-    by true s h = refl
-    by false true h = ap suc h
-    by false false h = ap suc h
+abbrev count : List Entry → ℕ
+count store = length (filter is_named store)
 
-new_is : (store : List Entry) (d : Decision) → is_new store d ≡ not (stands d.0 store)
-new_is store d = ap not (found_stands d.0 store)
+abbrev plus : Bool → ℕ → ℕ
+plus true n = suc n
+plus false n = n
+
+counted : (e : Entry) (store : List Entry) → count (e ∷ store) ≡ plus (is_named e) (count store)
+counted e store = by (is_named e)
+  where
+    by : (b : Bool) → length (cond b (e ∷ filter is_named store) (filter is_named store)) ≡ plus b (count store)
+    by true = refl
+    by false = refl
+
+no_more : (b : Bool) (n : ℕ) → n ≤ plus b n
+no_more true n = omega arith
+no_more false n = omega arith
+
+as_many : (b : Bool) (m n : ℕ) → m ≤ n → plus b m ≤ plus b n
+as_many true m n h = omega (arith, h)
+as_many false m n h = h
+
+count_without : (id : List ℕ) (store : List Entry) → count (without id store) ≤ count store
+count_without id [] = omega arith
+count_without id (e ∷ store) = by (has_id id e) (count_without id store)
+  where
+    by : (b : Bool) → count (without id store) ≤ count store → count (cond b store (e ∷ without id store)) ≤ count (e ∷ store)
+    by true h = subst (λ n. count store ≤ n) (sym (counted e store)) (no_more (is_named e) (count store))
+    by false h =
+        subst (λ n. n ≤ count (e ∷ store)) (sym (counted e (without id store)))
+        (subst (λ n. plus (is_named e) (count (without id store)) ≤ n) (sym (counted e store)) (as_many (is_named e) (count (without id store)) (count store) h))
+
+count_used : (id : List ℕ) (store : List Entry) → count (marked_used id store) ≡ count store
+count_used id [] = refl
+count_used id (e ∷ store) = by (has_id id e) (count_used id store)
+  where
+    by : (b : Bool) → count (marked_used id store) ≡ count store → count (cond b (record e { used = true } ∷ store) (e ∷ marked_used id store)) ≡ count (e ∷ store)
+    by true rec = counted (record e { used = true }) store ∙ sym (counted e store)
+    by false rec = counted e (marked_used id store) ∙ (ap (plus (is_named e)) rec ∙ sym (counted e store))
+
+count_last : (store : List Entry) (x : Entry) → is_named x ≡ false → count (store ++ (x ∷ [])) ≡ count store
+count_last [] x h = counted x [] ∙ ap (λ b. plus b zero) h
+count_last (e ∷ store) x h = counted e (store ++ (x ∷ [])) ∙ (ap (plus (is_named e)) (count_last store x h) ∙ sym (counted e store))
+
+count_put : (store : List Entry) (d : Decision) → count (put store d) ≡ cond (named_in d.0 store) (count store) (suc (count store))
+count_put [] d = refl
+count_put (e ∷ store) d = by (bytes_eq d.0 e.id) (count_put store d)
+  where
+    here : (n : Bool) → is_named e ≡ n → suc (count store) ≡ cond n (count (e ∷ store)) (suc (count (e ∷ store)))
+    here true k = sym (counted e store ∙ ap (λ b. plus b (count store)) k)
+    here false k = ap suc (sym (counted e store ∙ ap (λ b. plus b (count store)) k))
+
+    on : (n m : Bool) (p c : ℕ) → p ≡ cond m c (suc c) → plus n p ≡ cond m (plus n c) (suc (plus n c))
+    on true true p c h = ap suc h
+    on true false p c h = ap suc h
+    on false true p c h = h
+    on false false p c h = h
+
+    by : (b : Bool) → count (put store d) ≡ cond (named_in d.0 store) (count store) (suc (count store))
+        → count (cond b (record { id = e.id; pod = d.1; used = false; copied = false } ∷ store) (e ∷ put store d))
+        ≡ cond (is_named_if_any (cond b (Some e) (entry_in store d.0))) (count (e ∷ store)) (suc (count (e ∷ store)))
+    by true rec = here (is_named e) refl
+    by false rec =
+        counted e (put store d)
+        ∙ (on (is_named e) (named_in d.0 store) (count (put store d)) (count store) rec
+        ∙ ap (λ n. cond (named_in d.0 store) n (suc n)) (sym (counted e store)))
+
+or_true : (b : Bool) → (b || true) ≡ true
+or_true true = refl
+or_true false = refl
+
+named_put : (id : List ℕ) (store : List Entry) (d : Decision) → named_in id (put store d) ≡ (named_in id store || bytes_eq id d.0)
+named_put id [] d = by (bytes_eq id d.0)
+  where
+    by : (b : Bool) → is_named_if_any (cond b (Some (record { id = d.0; pod = d.1; used = false; copied = false })) None) ≡ b
+    by true = refl
+    by false = refl
+named_put id (e ∷ store) d = by (bytes_eq d.0 e.id) refl (bytes_eq id e.id) refl (named_put id store d)
+  where
+    by : (b : Bool) → bytes_eq d.0 e.id ≡ b → (t : Bool) → bytes_eq id e.id ≡ t → named_in id (put store d) ≡ (named_in id store || bytes_eq id d.0)
+        → named_in id (cond b (record { id = e.id; pod = d.1; used = false; copied = false } ∷ store) (e ∷ put store d)) ≡ (is_named_if_any (cond t (Some e) (entry_in store id)) || bytes_eq id d.0)
+    by true same true h rec =
+        ap (λ t. is_named_if_any (cond t (Some (record { id = e.id; pod = d.1; used = false; copied = false })) (entry_in store id))) h
+        ∙ sym (ap (λ b. is_named e || b) (ap (bytes_eq id) ((bytes_eq-Decides d.0 e.id).0 same) ∙ h) ∙ or_true (is_named e))
+    by true same false h rec =
+        ap (λ t. is_named_if_any (cond t (Some (record { id = e.id; pod = d.1; used = false; copied = false })) (entry_in store id))) h
+        ∙ sym (ap (λ b. named_in id store || b) (ap (bytes_eq id) ((bytes_eq-Decides d.0 e.id).0 same) ∙ h) ∙ or_false (named_in id store))
+    by false same true h rec =
+        ap (λ t. is_named_if_any (cond t (Some e) (entry_in (put store d) id))) h
+        ∙ sym (ap (λ b. is_named e || b) (ap (λ i. bytes_eq i d.0) ((bytes_eq-Decides id e.id).0 h) ∙ other_way d.0 e.id same) ∙ or_false (is_named e))
+    by false same false h rec = ap (λ t. is_named_if_any (cond t (Some e) (entry_in (put store d) id))) h ∙ rec
 
 -- what is new with a break more in the store is new without it
-still_new : (store : List Entry) (d x : Decision) → is_new (put store d) x ≡ true → is_new store x ≡ true
-still_new store d x h =
-    new_is store x ∙ ap not (or_parts _ _ (sym (stands_put x.0 store d) ∙ not_true _ (sym (new_is (put store d) x) ∙ h))).0
+still_new : (store : List Entry) (d x : Decision) → new_in (put store d) x ≡ true → new_in store x ≡ true
+still_new store d x h = ap not (or_parts _ _ (sym (named_put x.0 store d) ∙ not_true _ h)).0
 
 fewer : (p q : Decision → Bool) → ((x : Decision) → p x ≡ true → q x ≡ true) → (xs : List Decision) → length (filter p xs) ≤ length (filter q xs)
 fewer p q each [] = omega arith
@@ -160,14 +241,12 @@ fewer p q each (x ∷ xs) = by (p x) (q x) (each x) (fewer p q each xs)
     by false true h r = omega (arith, r)
     by false false h r = r
 
-count_put : (store : List Entry) (d : Decision) (n : ℕ) → n + length (put store d) ≤ length (cond (is_new store d) (d ∷ []) []) + n + length store
-count_put store d n = by (stands d.0 store) (is_new store d) (new_is store d) (length_put store d)
+more_put : (store : List Entry) (d : Decision) (n : ℕ) → n + count (put store d) ≤ length (cond (new_in store d) (d ∷ []) []) + n + count store
+more_put store d n = by (named_in d.0 store) (count_put store d)
   where
-    by : (s b : Bool) → b ≡ not s → length (put store d) ≡ cond s (length store) (suc (length store)) → n + length (put store d) ≤ length (cond b (d ∷ []) []) + n + length store
-    by true true e h = absurd (cc)
-    by true false e h = omega (arith, h)
-    by false true e h = omega (arith, h)
-    by false false e h = absurd (cc)
+    by : (s : Bool) → count (put store d) ≡ cond s (count store) (suc (count store)) → n + count (put store d) ≤ length (cond (not s) (d ∷ []) []) + n + count store
+    by true h = omega (arith, h)
+    by false h = omega (arith, h)
 
 filter_split : (p : Decision → Bool) (d : Decision) (ds : List Decision) → length (filter p (d ∷ ds)) ≡ length (cond (p d) (d ∷ []) []) + length (filter p ds)
 filter_split p d ds = by (p d)
@@ -176,12 +255,12 @@ filter_split p d ds = by (p d)
     by true = omega arith
     by false = omega arith
 
-count_all : (ds : List Decision) (store : List Entry) → length (fold put store ds) ≤ count_with store ds
+count_all : (ds : List Decision) (store : List Entry) → count (fold put store ds) ≤ length (filter (new_in store) ds) + count store
 count_all [] store = omega arith
 count_all (d ∷ ds) store =
-    joined (length (fold put (put store d) ds)) (length (filter (is_new (put store d)) ds)) (length (filter (is_new store) ds)) (length (put store d))
-    (length (filter (is_new store) (d ∷ ds))) (length (cond (is_new store d) (d ∷ []) [])) (length store)
-    (count_all ds (put store d)) (fewer (is_new (put store d)) (is_new store) (still_new store d) ds) (filter_split (is_new store) d ds) (count_put store d (length (filter (is_new store) ds)))
+    joined (count (fold put (put store d) ds)) (length (filter (new_in (put store d)) ds)) (length (filter (new_in store) ds)) (count (put store d))
+    (length (filter (new_in store) (d ∷ ds))) (length (cond (new_in store d) (d ∷ []) [])) (count store)
+    (count_all ds (put store d)) (fewer (new_in (put store d)) (new_in store) (still_new store d) ds) (filter_split (new_in store) d ds) (more_put store d (length (filter (new_in store) ds)))
   where
     joined : (t a b p f c n : ℕ) → t ≤ a + p → a ≤ b → f ≡ c + b → b + p ≤ c + b + n → t ≤ f + n
     joined t a b p f c n g h i j = omega (arith, g, h, i, j)
@@ -189,42 +268,64 @@ count_all (d ∷ ds) store =
 -- ---- after any calls
 
 abbrev IsSmall : List Entry → Type 0
-IsSmall store = (are_distinct store ≡ true) × (length store ≤ 256)
+IsSmall store = (are_distinct store ≡ true) × (count store ≤ 256)
 
-small_all : (ds : List Decision) (store : List Entry) → IsSmall store → IsSmall (accepted store (with_all store ds))
+small_all : (ds : List Decision) (store : Store) → IsSmall store.entries → IsSmall (accepted store (with_all store ds)).entries
 small_all ds store h = by (list_any (names_used store) ds) (nat_lt 256 (count_with store ds)) refl
   where
     fit : (n m : ℕ) → n ≤ m → m ≤ 256 → n ≤ 256
     fit n m g h = omega (arith, g, h)
 
-    by : (used full : Bool) → nat_lt 256 (count_with store ds) ≡ full → IsSmall (accepted store (refuse_if used (fault_at nowhere Used) (refuse_if full (fault_at nowhere Full) (Ok (fold put store ds)))))
+    by : (used full : Bool) → nat_lt 256 (count_with store ds) ≡ full
+        → IsSmall (accepted store (refuse_if used (fault_at nowhere Used) (refuse_if full (fault_at nowhere Full) (Ok (with_entries store (fold put store.entries ds)))))).entries
     by true full e = h
     by false true e = h
-    by false false e = (distinct_all ds store h.0, fit _ _ (count_all ds store) (ltb-false _ _ e))
+    by false false e = (distinct_all ds store.entries h.0, fit _ _ (count_all ds store.entries) (ltb-false _ _ e))
 
 small_without : (id : List ℕ) (store : List Entry) → IsSmall store → IsSmall (without id store)
-small_without id store h = (distinct_without id store h.0, fit _ _ (length_without id store) h.1)
+small_without id store h = (distinct_without id store h.0, fit _ _ (count_without id store) h.1)
   where
     fit : (n m : ℕ) → n ≤ m → m ≤ 256 → n ≤ 256
     fit n m g h = omega (arith, g, h)
 
-small_withdrawn : (id : List ℕ) (store : List Entry) → IsSmall store → IsSmall (accepted store (withdrawn store id))
-small_withdrawn id store h = by (not (is_decided store id)) (is_used store id)
+small_withdrawn : (id : List ℕ) (store : Store) → IsSmall store.entries → IsSmall (accepted store (withdrawn store id)).entries
+small_withdrawn id store h = by (not (has_own store id)) (is_used store id)
   where
-    by : (unknown used : Bool) → IsSmall (accepted store (refuse_if unknown (fault_at nowhere Unknown) (refuse_if used (fault_at nowhere Used) (Ok (without id store)))))
+    by : (unknown used : Bool)
+        → IsSmall (accepted store (refuse_if unknown (fault_at nowhere Unknown) (refuse_if used (fault_at nowhere Used) (Ok (with_entries store (without id store.entries)))))).entries
     by true used = h
     by false true = h
-    by false false = small_without id store h
+    by false false = small_without id store.entries h
 
-small_after : (call : Call) (store : List Entry) → IsSmall store → IsSmall (after_call call store)
+small_used : (id : List ℕ) (store : List Entry) → IsSmall store → IsSmall (marked_used id store)
+small_used id store h = let e : count (marked_used id store) ≡ count store = count_used id store in (distinct_used id store h.0, omega (arith, e, h.1))
+
+small_copied : (id : List ℕ) (store : List Entry) (pod : Option Pod) → stands id store ≡ false → IsSmall store → IsSmall (copied_last store id pod)
+small_copied id store None n h = h
+small_copied id store (Some pod) n h =
+    let x : Entry = record { id = id; pod = pod; used = true; copied = true } in
+    let e : count (store ++ (x ∷ [])) ≡ count store = count_last store x refl in
+    (distinct_last store x h.0 n, omega (arith, e, h.1))
+
+small_adopted : (id : List ℕ) (store : Store) → IsSmall store.entries → IsSmall (adopted store id).entries
+small_adopted id store h = by (has_own store id) refl
+  where
+    by : (b : Bool) → has_own store id ≡ b → IsSmall (cond b (with_used id store) (cond b store (with_entries store (copied_last store.entries id store.fallback)))).entries
+    by true e = small_used id store.entries h
+    by false e = small_copied id store.entries store.fallback (sym (found_stands id store.entries) ∙ e) h
+
+small_after : (call : Call) (store : Store) → IsSmall store.entries → IsSmall (after_call call store).entries
 small_after (decide (Breaks ds)) store h = small_all ds store h
 small_after (decide (Withdraw id)) store h = small_withdrawn id store h
-small_after (mark_used id) store h = let e : length (with_used id store) ≡ length store = length_used id store in (distinct_used id store h.0, omega (arith, e, h.1))
+small_after (decide (Fallback pod)) store h = h
+small_after (decide NoFallback) store h = h
+small_after (mark_used id) store h = small_used id store.entries h
 small_after (release id) store h = by (is_used store id)
   where
-    by : (b : Bool) → IsSmall (cond b (without id store) store)
-    by true = small_without id store h
+    by : (b : Bool) → IsSmall (cond b (with_entries store (without id store.entries)) store).entries
+    by true = small_without id store.entries h
     by false = h
+small_after (adopt id) store h = small_adopted id store h
 
 pub stays_small : StaysSmall
 stays_small [] = (refl, omega arith)
@@ -232,31 +333,32 @@ stays_small (call ∷ earlier) = small_after call (after_calls earlier) (stays_s
 
 -- ---- used pods
 
-put_other : (id : List ℕ) (d : Decision) (store : List Entry) → bytes_eq id d.0 ≡ false → entry_for (put store d) id ≡ entry_for store id
-put_other id d [] other = ap (λ b. cond b (Some (record { id = d.0; pod = d.1; used = false })) None) other
+put_other : (id : List ℕ) (d : Decision) (store : List Entry) → bytes_eq id d.0 ≡ false → entry_in (put store d) id ≡ entry_in store id
+put_other id d [] other = ap (λ b. cond b (Some (record { id = d.0; pod = d.1; used = false; copied = false })) None) other
 put_other id d (e ∷ store) other = by (bytes_eq d.0 e.id) refl (put_other id d store other)
   where
-    by : (b : Bool) → bytes_eq d.0 e.id ≡ b → entry_for (put store d) id ≡ entry_for store id → entry_for (cond b (record { id = e.id; pod = d.1; used = false } ∷ store) (e ∷ put store d)) id ≡ entry_for (e ∷ store) id
+    by : (b : Bool) → bytes_eq d.0 e.id ≡ b → entry_in (put store d) id ≡ entry_in store id
+        → entry_in (cond b (record { id = e.id; pod = d.1; used = false; copied = false } ∷ store) (e ∷ put store d)) id ≡ entry_in (e ∷ store) id
     by true same rec = let is : bytes_eq id e.id ≡ false = ap (bytes_eq id) (sym ((bytes_eq-Decides d.0 e.id).0 same)) ∙ other in rw is refl
     by false same rec = ap (λ o. cond (bytes_eq id e.id) (Some e) o) rec
 
-drop_other : (id other : List ℕ) (store : List Entry) → bytes_eq id other ≡ false → entry_for (without other store) id ≡ entry_for store id
+drop_other : (id other : List ℕ) (store : List Entry) → bytes_eq id other ≡ false → entry_in (without other store) id ≡ entry_in store id
 drop_other id other [] h = refl
 drop_other id other (e ∷ store) h = by (bytes_eq other e.id) refl (drop_other id other store h)
   where
-    by : (b : Bool) → bytes_eq other e.id ≡ b → entry_for (without other store) id ≡ entry_for store id → entry_for (cond b store (e ∷ without other store)) id ≡ entry_for (e ∷ store) id
+    by : (b : Bool) → bytes_eq other e.id ≡ b → entry_in (without other store) id ≡ entry_in store id → entry_in (cond b store (e ∷ without other store)) id ≡ entry_in (e ∷ store) id
     by true same rec = let is : bytes_eq id e.id ≡ false = ap (bytes_eq id) (sym ((bytes_eq-Decides other e.id).0 same)) ∙ h in rw is refl
     by false same rec = ap (λ o. cond (bytes_eq id e.id) (Some e) o) rec
 
 -- a used break is none of those that are not used
-apart : (store : List Entry) (id other : List ℕ) → is_used store id ≡ true → is_used store other ≡ false → bytes_eq id other ≡ false
+apart : (store : Store) (id other : List ℕ) → is_used store id ≡ true → is_used store other ≡ false → bytes_eq id other ≡ false
 apart store id other u n = by (bytes_eq id other) refl
   where
     by : (b : Bool) → bytes_eq id other ≡ b → b ≡ false
     by true e = sym u ∙ (ap (is_used store) ((bytes_eq-Decides id other).0 e) ∙ n)
     by false e = refl
 
-put_others : (id : List ℕ) (ds : List Decision) (store first : List Entry) → is_used first id ≡ true → list_any (names_used first) ds ≡ false → entry_for (fold put store ds) id ≡ entry_for store id
+put_others : (id : List ℕ) (ds : List Decision) (store : List Entry) (first : Store) → is_used first id ≡ true → list_any (names_used first) ds ≡ false → entry_in (fold put store ds) id ≡ entry_in store id
 put_others id [] store first u h = refl
 put_others id (d ∷ ds) store first u h =
     let p = or_parts _ _ h in
@@ -266,113 +368,134 @@ pub used_pods_stay : UsedPodsStay
 used_pods_stay store id u (Breaks ds) = by (list_any (names_used store) ds) (nat_lt 256 (count_with store ds)) refl
   where
     by : (used full : Bool) → list_any (names_used store) ds ≡ used
-        → entry_for (accepted store (refuse_if used (fault_at nowhere Used) (refuse_if full (fault_at nowhere Full) (Ok (fold put store ds))))) id ≡ entry_for store id
+        → entry_for (accepted store (refuse_if used (fault_at nowhere Used) (refuse_if full (fault_at nowhere Full) (Ok (with_entries store (fold put store.entries ds)))))) id ≡ entry_for store id
     by true full e = refl
     by false true e = refl
-    by false false e = put_others id ds store store u e
-used_pods_stay store id u (Withdraw other) = by (not (is_decided store other)) (is_used store other) refl
+    by false false e = put_others id ds store.entries store u e
+used_pods_stay store id u (Withdraw other) = by (not (has_own store other)) (is_used store other) refl
   where
     by : (unknown used : Bool) → is_used store other ≡ used
-        → entry_for (accepted store (refuse_if unknown (fault_at nowhere Unknown) (refuse_if used (fault_at nowhere Used) (Ok (without other store))))) id ≡ entry_for store id
+        → entry_for (accepted store (refuse_if unknown (fault_at nowhere Unknown) (refuse_if used (fault_at nowhere Used) (Ok (with_entries store (without other store.entries)))))) id ≡ entry_for store id
     by true used e = refl
     by false true e = refl
-    by false false e = drop_other id other store (apart store id other u e)
+    by false false e = drop_other id other store.entries (apart store id other u e)
+used_pods_stay store id u (Fallback pod) = refl
+used_pods_stay store id u NoFallback = refl
 
 -- ---- what a break has
 
-abbrev pod_of : Option Entry → Option Pod
-pod_of o = option_map (λ (e : Entry). e.pod) o
-
-own_put : (d : Decision) (store : List Entry) → pod_for (put store d) d.0 ≡ Some d.1
+own_put : (d : Decision) (store : List Entry) → pod_at (put store d) d.0 ≡ Some d.1
 own_put d [] = let e = same_id d.0 in rw e refl
 own_put d (x ∷ store) = by (bytes_eq d.0 x.id) refl (own_put d store)
   where
-    by : (b : Bool) → bytes_eq d.0 x.id ≡ b → pod_for (put store d) d.0 ≡ Some d.1
-        → pod_for (cond b (record { id = x.id; pod = d.1; used = false } ∷ store) (x ∷ put store d)) d.0 ≡ Some d.1
+    by : (b : Bool) → bytes_eq d.0 x.id ≡ b → pod_at (put store d) d.0 ≡ Some d.1
+        → pod_at (cond b (record { id = x.id; pod = d.1; used = false; copied = false } ∷ store) (x ∷ put store d)) d.0 ≡ Some d.1
     by true e rec = rw e refl
-    by false e rec = ap (λ b. pod_of (cond b (Some x) (entry_for (put store d) d.0))) e ∙ rec
+    by false e rec = ap (λ b. pod_if (cond b (Some x) (entry_in (put store d) d.0))) e ∙ rec
 
-put_pod : (id : List ℕ) (d : Decision) (store : List Entry) → pod_for (put store d) id ≡ cond (bytes_eq id d.0) (Some d.1) (pod_for store id)
+put_pod : (id : List ℕ) (d : Decision) (store : List Entry) → pod_at (put store d) id ≡ cond (bytes_eq id d.0) (Some d.1) (pod_at store id)
 put_pod id d store = by (bytes_eq id d.0) refl
   where
-    by : (b : Bool) → bytes_eq id d.0 ≡ b → pod_for (put store d) id ≡ cond b (Some d.1) (pod_for store id)
-    by true e = ap (pod_for (put store d)) ((bytes_eq-Decides id d.0).0 e) ∙ own_put d store
-    by false e = ap pod_of (put_other id d store e)
+    by : (b : Bool) → bytes_eq id d.0 ≡ b → pod_at (put store d) id ≡ cond b (Some d.1) (pod_at store id)
+    by true e = ap (pod_at (put store d)) ((bytes_eq-Decides id d.0).0 e) ∙ own_put d store
+    by false e = ap pod_if (put_other id d store e)
 
 or_grouped_pods : (a b c : Option Pod) → or_earlier a (or_earlier b c) ≡ or_earlier (or_earlier a b) c
 or_grouped_pods None b c = refl
 or_grouped_pods (Some x) b c = refl
 
-put_pods : (id : List ℕ) (ds : List Decision) (store : List Entry) → pod_for (fold put store ds) id ≡ or_earlier (pod_in id ds) (pod_for store id)
+put_pods : (id : List ℕ) (ds : List Decision) (store : List Entry) → pod_at (fold put store ds) id ≡ or_earlier (pod_in id ds) (pod_at store id)
 put_pods id [] store = refl
 put_pods id (d ∷ ds) store =
-    put_pods id ds (put store d) ∙ (ap (or_earlier (pod_in id ds)) (put_pod id d store ∙ by (bytes_eq id d.0)) ∙ or_grouped_pods (pod_in id ds) (cond (bytes_eq id d.0) (Some d.1) None) (pod_for store id))
+    put_pods id ds (put store d) ∙ (ap (or_earlier (pod_in id ds)) (put_pod id d store ∙ by (bytes_eq id d.0)) ∙ or_grouped_pods (pod_in id ds) (cond (bytes_eq id d.0) (Some d.1) None) (pod_at store id))
   where
-    by : (b : Bool) → cond b (Some d.1) (pod_for store id) ≡ or_earlier (cond b (Some d.1) None) (pod_for store id)
+    by : (b : Bool) → cond b (Some d.1) (pod_at store id) ≡ or_earlier (cond b (Some d.1) None) (pod_at store id)
     by true = refl
     by false = refl
 
-not_there : (o : Option Entry) → is_some o ≡ false → o ≡ None
-not_there None h = refl
-not_there (Some e) h = absurd (cc)
-
 -- where no break stands twice, one that is taken away stands no more
-own_dropped : (id : List ℕ) (store : List Entry) → are_distinct store ≡ true → entry_for (without id store) id ≡ None
+own_dropped : (id : List ℕ) (store : List Entry) → are_distinct store ≡ true → entry_in (without id store) id ≡ None
 own_dropped id [] h = refl
 own_dropped id (e ∷ store) h = by (bytes_eq id e.id) refl (and_parts _ _ h) (own_dropped id store)
   where
-    by : (b : Bool) → bytes_eq id e.id ≡ b → (not (stands e.id store) ≡ true) × (are_distinct store ≡ true) → (are_distinct store ≡ true → entry_for (without id store) id ≡ None) → entry_for (cond b store (e ∷ without id store)) id ≡ None
-    by true same p rec = not_there _ (found_stands id store ∙ (ap (λ i. stands i store) ((bytes_eq-Decides id e.id).0 same) ∙ not_true _ p.0))
-    by false same p rec = ap (λ b. cond b (Some e) (entry_for (without id store) id)) same ∙ rec p.1
+    by : (b : Bool) → bytes_eq id e.id ≡ b → (not (stands e.id store) ≡ true) × (are_distinct store ≡ true) → (are_distinct store ≡ true → entry_in (without id store) id ≡ None) → entry_in (cond b store (e ∷ without id store)) id ≡ None
+    by true same p rec = none_there _ (found_stands id store ∙ (ap (λ i. stands i store) ((bytes_eq-Decides id e.id).0 same) ∙ not_true _ p.0))
+    by false same p rec = ap (λ b. cond b (Some e) (entry_in (without id store) id)) same ∙ rec p.1
 
-dropped : (id other : List ℕ) (store : List Entry) → are_distinct store ≡ true → pod_for (without other store) id ≡ cond (bytes_eq id other) None (pod_for store id)
+dropped : (id other : List ℕ) (store : List Entry) → are_distinct store ≡ true → pod_at (without other store) id ≡ cond (bytes_eq id other) None (pod_at store id)
 dropped id other store h = by (bytes_eq id other) refl
   where
-    by : (b : Bool) → bytes_eq id other ≡ b → pod_for (without other store) id ≡ cond b None (pod_for store id)
-    by true e = ap (λ i. pod_for (without i store) id) (sym ((bytes_eq-Decides id other).0 e)) ∙ ap pod_of (own_dropped id store h)
-    by false e = ap pod_of (drop_other id other store e)
+    by : (b : Bool) → bytes_eq id other ≡ b → pod_at (without other store) id ≡ cond b None (pod_at store id)
+    by true e = ap (λ i. pod_at (without i store) id) (sym ((bytes_eq-Decides id other).0 e)) ∙ ap pod_if (own_dropped id store h)
+    by false e = ap pod_if (drop_other id other store e)
 
-used_pod : (id other : List ℕ) (store : List Entry) → pod_for (with_used other store) id ≡ pod_for store id
+used_pod : (id other : List ℕ) (store : List Entry) → pod_at (marked_used other store) id ≡ pod_at store id
 used_pod id other [] = refl
 used_pod id other (e ∷ store) = split (has_id other e) ∙ by (has_id other e) (has_id id e) (used_pod id other store)
   where
-    split : (b : Bool) → pod_for (cond b (record e { used = true } ∷ store) (e ∷ with_used other store)) id
-        ≡ pod_of (cond b (cond (has_id id e) (Some (record e { used = true })) (entry_for store id)) (cond (has_id id e) (Some e) (entry_for (with_used other store) id)))
+    split : (b : Bool) → pod_at (cond b (record e { used = true } ∷ store) (e ∷ marked_used other store)) id
+        ≡ pod_if (cond b (cond (has_id id e) (Some (record e { used = true })) (entry_in store id)) (cond (has_id id e) (Some e) (entry_in (marked_used other store) id)))
     split true = refl
     split false = refl
 
-    by : (b t : Bool) → pod_for (with_used other store) id ≡ pod_for store id
-        → pod_of (cond b (cond t (Some (record e { used = true })) (entry_for store id)) (cond t (Some e) (entry_for (with_used other store) id))) ≡ pod_of (cond t (Some e) (entry_for store id))
+    by : (b t : Bool) → pod_at (marked_used other store) id ≡ pod_at store id
+        → pod_if (cond b (cond t (Some (record e { used = true })) (entry_in store id)) (cond t (Some e) (entry_in (marked_used other store) id))) ≡ pod_if (cond t (Some e) (entry_in store id))
     by true true rec = refl
     by true false rec = refl
     by false true rec = refl
     by false false rec = rec
 
-pods_after : (id : List ℕ) (call : Call) (store : List Entry) → are_distinct store ≡ true → pod_for (after_call call store) id ≡ pod_after id call store (pod_for store id)
+-- ---- copies
+
+some_pod : (o : Option Entry) (pod : Option Pod) → is_some o ≡ true → pod_if o ≡ or_earlier (pod_if o) pod
+some_pod None pod h = absurd (cc)
+some_pod (Some e) pod h = refl
+
+adopted_pod : (id other : List ℕ) (store : Store) → own_pod (adopted store other) id ≡ cond (bytes_eq id other) (or_earlier (own_pod store id) store.fallback) (own_pod store id)
+adopted_pod id other store = by (has_own store other) refl (bytes_eq id other) refl
+  where
+    by : (b : Bool) → has_own store other ≡ b → (t : Bool) → bytes_eq id other ≡ t
+        → own_pod (cond b (with_used other store) (cond b store (with_entries store (copied_last store.entries other store.fallback)))) id
+        ≡ cond t (or_earlier (own_pod store id) store.fallback) (own_pod store id)
+    by true h true e =
+        used_pod id other store.entries ∙ some_pod (entry_in store.entries id) store.fallback (ap (has_own store) ((bytes_eq-Decides id other).0 e) ∙ h)
+    by true h false e = used_pod id other store.entries
+    by false h true e =
+        let same = (bytes_eq-Decides id other).0 e in
+        let none : entry_in store.entries other ≡ None = none_there _ h in
+        ap (pod_at (copied_last store.entries other store.fallback)) same
+        ∙ (copy_own other store.entries store.fallback none
+        ∙ sym (ap (λ i. or_earlier (own_pod store i) store.fallback) same ∙ ap (λ o. or_earlier (pod_if o) store.fallback) none))
+    by false h false e = ap pod_if (copy_other id other store.entries store.fallback e)
+
+pods_after : (id : List ℕ) (call : Call) (store : Store) → are_distinct store.entries ≡ true → own_pod (after_call call store) id ≡ pod_after id call store (own_pod store id)
 pods_after id (decide (Breaks ds)) store h = by (with_all store ds) (list_any (names_used store) ds) (nat_lt 256 (count_with store ds)) refl
   where
-    by : (o : Outcome (List Entry)) (used full : Bool) → refuse_if used (fault_at nowhere Used) (refuse_if full (fault_at nowhere Full) (Ok (fold put store ds))) ≡ o
-        → pod_for (accepted store o) id ≡ pod_given id ds (pod_for store id) o
+    by : (o : Outcome Store) (used full : Bool) → refuse_if used (fault_at nowhere Used) (refuse_if full (fault_at nowhere Full) (Ok (with_entries store (fold put store.entries ds)))) ≡ o
+        → own_pod (accepted store o) id ≡ pod_given id ds (own_pod store id) o
     by (Ok new) true full e = absurd (cc)
     by (Ok new) false true e = absurd (cc)
-    by (Ok new) false false e = let same : fold put store ds ≡ new = cc in ap (λ s. pod_for s id) (sym same) ∙ put_pods id ds store
+    by (Ok new) false false e = let same : with_entries store (fold put store.entries ds) ≡ new = cc in ap (λ s. own_pod s id) (sym same) ∙ put_pods id ds store.entries
     by (Err f) used full e = refl
-pods_after id (decide (Withdraw other)) store h = by (withdrawn store other) (not (is_decided store other)) (is_used store other) refl
+pods_after id (decide (Withdraw other)) store h = by (withdrawn store other) (not (has_own store other)) (is_used store other) refl
   where
-    by : (o : Outcome (List Entry)) (unknown used : Bool) → refuse_if unknown (fault_at nowhere Unknown) (refuse_if used (fault_at nowhere Used) (Ok (without other store))) ≡ o
-        → pod_for (accepted store o) id ≡ pod_left (bytes_eq id other) (pod_for store id) o
+    by : (o : Outcome Store) (unknown used : Bool) → refuse_if unknown (fault_at nowhere Unknown) (refuse_if used (fault_at nowhere Used) (Ok (with_entries store (without other store.entries)))) ≡ o
+        → own_pod (accepted store o) id ≡ pod_left (bytes_eq id other) (own_pod store id) o
     by (Ok new) true used e = absurd (cc)
     by (Ok new) false true e = absurd (cc)
-    by (Ok new) false false e = let same : without other store ≡ new = cc in ap (λ s. pod_for s id) (sym same) ∙ dropped id other store h
+    by (Ok new) false false e = let same : with_entries store (without other store.entries) ≡ new = cc in ap (λ s. own_pod s id) (sym same) ∙ dropped id other store.entries h
     by (Err f) unknown used e = refl
-pods_after id (mark_used other) store h = used_pod id other store
+pods_after id (decide (Fallback pod)) store h = refl
+pods_after id (decide NoFallback) store h = refl
+pods_after id (mark_used other) store h = used_pod id other store.entries
 pods_after id (release other) store h = by (bytes_eq id other) (is_used store other) refl
   where
-    by : (t u : Bool) → bytes_eq id other ≡ t → pod_for (cond u (without other store) store) id ≡ cond (t && u) None (pod_for store id)
-    by true true e = dropped id other store h ∙ ap (λ b. cond b None (pod_for store id)) e
+    by : (t u : Bool) → bytes_eq id other ≡ t → own_pod (cond u (with_entries store (without other store.entries)) store) id ≡ cond (t && u) None (own_pod store id)
+    by true true e = dropped id other store.entries h ∙ ap (λ b. cond b None (own_pod store id)) e
     by true false e = refl
-    by false true e = dropped id other store h ∙ ap (λ b. cond b None (pod_for store id)) e
+    by false true e = dropped id other store.entries h ∙ ap (λ b. cond b None (own_pod store id)) e
     by false false e = refl
+pods_after id (adopt other) store h = adopted_pod id other store
 
 pub last_pod_stands : LastPodStands
 last_pod_stands [] id = refl

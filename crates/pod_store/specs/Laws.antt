@@ -1,15 +1,15 @@
 -- What holds of pods that keep the rules, and of the store, whatever was called.
-use Rattle.std.specs.Prelude.{◌≡◌, ℕ, ◌≤◌, Bool, true, not, ◌&&◌, List, [], ◌∷◌, length, Option, Some, None, Ok, Err, bytes_eq, if◌then◌else◌}
+use Rattle.std.specs.Prelude.{◌≡◌, ℕ, ◌≤◌, Bool, true, not, ◌&&◌, List, [], ◌∷◌, length, filter, Option, Some, None, Ok, Err, bytes_eq, if◌then◌else◌}
 use Rattle.std.specs.List.{list_any, list_all}
 use Rattle.playlist_meaning.specs.LookBack.{or_earlier}
 use Rattle.playlist_meaning.specs.Pods.{PodSegment, Ad, Pod}
 use Rattle.fitting.specs.Fitting.{if_some, uri_fits, byte_range_fits, duration_fits, effective_keys_fit, section_fits}
 use Rattle.pod_store.specs.declared.Decisions.{Decisions}
-use Rattle.pod_store.specs.declared.Decisions.TheVariants.{Breaks, Withdraw}
+use Rattle.pod_store.specs.declared.Decisions.TheVariants.{Breaks, Withdraw, Fallback, NoFallback}
 use Rattle.pod_store.specs.Outcome.{Outcome}
 use Rattle.pod_store.specs.Pods.{Decision}
 use Rattle.pod_store.specs.Rules.{ads_keep}
-use Rattle.pod_store.specs.Store.{Entry, has_id, entry_for, pod_for, is_used, with_all, withdrawn, decided, with_used, released}
+use Rattle.pod_store.specs.Store.{Entry, Store, nothing_decided, has_id, is_named, entry_for, own_pod, is_used, with_all, withdrawn, decided, with_used, released, adopted}
 
 -- ---- calls
 
@@ -18,20 +18,22 @@ pub data Call : Type 0 where
   decide : Decisions → Call
   mark_used : List ℕ → Call
   release : List ℕ → Call
+  adopt : List ℕ → Call
 
 -- a refused call leaves the store as it was
-abbrev pub accepted : List Entry → Outcome (List Entry) → List Entry
+abbrev pub accepted : Store → Outcome Store → Store
 accepted store (Ok new) = new
 accepted store (Err e) = store
 
-abbrev pub after_call : Call → List Entry → List Entry
+abbrev pub after_call : Call → Store → Store
 after_call (decide decisions) store = accepted store (decided store decisions)
 after_call (mark_used id) store = with_used id store
 after_call (release id) store = released store id
+after_call (adopt id) store = adopted store id
 
 -- the store after these calls, the newest first
-abbrev pub after_calls : List Call → List Entry
-after_calls [] = []
+abbrev pub after_calls : List Call → Store
+after_calls [] = nothing_decided
 after_calls (call ∷ earlier) = after_call call (after_calls earlier)
 
 -- ---- IDs and the count
@@ -41,16 +43,17 @@ abbrev pub are_distinct : List Entry → Bool
 are_distinct [] = true
 are_distinct (e ∷ later) = not (list_any (has_id e.id) later) && are_distinct later
 
--- after any calls no break stands twice, and at most 256 are decided
+-- after any calls no break stands twice, and at most 256 have pods that decisions gave them; each of the others was adopted
+-- with the fallback
 abbrev pub StaysSmall : Type 0
-StaysSmall = (calls : List Call) → (are_distinct (after_calls calls) ≡ true) × (length (after_calls calls) ≤ 256)
+StaysSmall = (calls : List Call) → (are_distinct (after_calls calls).entries ≡ true) × (length (filter is_named (after_calls calls).entries) ≤ 256)
 
 -- ---- used pods
 
--- neither decisions nor a withdrawal change what stands of a used break
+-- neither decisions, a fallback among them, nor a withdrawal change what stands of a used break
 abbrev pub UsedPodsStay : Type 0
 UsedPodsStay =
-    (store : List Entry) (id : List ℕ) → is_used store id ≡ true → (decisions : Decisions)
+    (store : Store) (id : List ℕ) → is_used store id ≡ true → (decisions : Decisions)
     → entry_for (after_call (decide decisions) store) id ≡ entry_for store id
 
 -- ---- what a break has
@@ -61,29 +64,33 @@ pod_in id [] = None
 pod_in id (d ∷ later) = or_earlier (pod_in id later) (if bytes_eq id d.0 then Some d.1 else None)
 
 -- what a break has that has what stood before, where these decisions are taken
-abbrev pub pod_given : List ℕ → List Decision → Option Pod → Outcome (List Entry) → Option Pod
+abbrev pub pod_given : List ℕ → List Decision → Option Pod → Outcome Store → Option Pod
 pod_given id decisions before (Ok new) = or_earlier (pod_in id decisions) before
 pod_given id decisions before (Err e) = before
 
 -- the same where this break's pod is taken away
-abbrev pub pod_left : Bool → Option Pod → Outcome (List Entry) → Option Pod
+abbrev pub pod_left : Bool → Option Pod → Outcome Store → Option Pod
 pod_left is_this before (Ok new) = if is_this then None else before
 pod_left is_this before (Err e) = before
 
-abbrev pub pod_after : List ℕ → Call → List Entry → Option Pod → Option Pod
+abbrev pub pod_after : List ℕ → Call → Store → Option Pod → Option Pod
 pod_after id (decide (Breaks decisions)) store before = pod_given id decisions before (with_all store decisions)
 pod_after id (decide (Withdraw other)) store before = pod_left (bytes_eq id other) before (withdrawn store other)
+pod_after id (decide (Fallback pod)) store before = before
+pod_after id (decide NoFallback) store before = before
 pod_after id (mark_used other) store before = before
 pod_after id (release other) store before = if bytes_eq id other && is_used store other then None else before
+pod_after id (adopt other) store before = if bytes_eq id other then or_earlier before store.fallback else before
 
--- the pod that the calls gave the break last, and that none took away since
+-- the pod of its own that the calls gave the break last, and that none took away since
 abbrev pub pod_by : List ℕ → List Call → Option Pod
 pod_by id [] = None
 pod_by id (call ∷ earlier) = pod_after id call (after_calls earlier) (pod_by id earlier)
 
--- after any calls each break has the pod that the last decision on it gave it, where none took it away since
+-- after any calls each break has the pod that the last decision on it gave it, or else the fallback with which it was
+-- adopted, where none took it away since
 abbrev pub LastPodStands : Type 0
-LastPodStands = (calls : List Call) (id : List ℕ) → pod_for (after_calls calls) id ≡ pod_by id calls
+LastPodStands = (calls : List Call) (id : List ℕ) → own_pod (after_calls calls) id ≡ pod_by id calls
 
 -- ---- writing
 

@@ -1,93 +1,156 @@
--- The store of decided breaks.
-use Rattle.std.specs.Prelude.{◌≡◌, ℕ, ◌+◌, Bool, true, false, not, ◌||◌, List, [], ◌∷◌, map, filter, fold, find, length, nat_lt, Option, Some, None, option_map, is_some, Result, Ok, Err, MatchResult, bytes_eq, if◌then◌else◌}
+-- The store of decided breaks, with a fallback for those that have no pod of their own.
+use Rattle.std.specs.Prelude.{◌≡◌, ℕ, ◌+◌, Bool, true, false, not, ◌&&◌, ◌||◌, ◌==◌, List, [], ◌∷◌, ◌++◌, map, filter, fold, find, length, nat_lt, Option, Some, None, option_map, is_some, is_none, Result, Ok, Err, MatchResult, bytes_eq, if◌then◌else◌}
 use Rattle.std.specs.List.{list_any}
+use Rattle.playlist_meaning.specs.LookBack.{or_earlier}
 use Rattle.playlist_meaning.specs.Pods.{Pod}
 use Rattle.pod_store.specs.declared.fault.DecisionFault.{DecisionFault}
 use Rattle.pod_store.specs.declared.fault.DecisionKind.TheVariants.{Used, Full, Unknown}
 use Rattle.pod_store.specs.declared.Decisions.{Decisions}
-use Rattle.pod_store.specs.declared.Decisions.TheVariants.{Breaks, Withdraw}
+use Rattle.pod_store.specs.declared.Decisions.TheVariants.{Breaks, Withdraw, Fallback, NoFallback}
 use Rattle.pod_store.specs.Outcome.{Outcome, nowhere, fault_at, refuse_if, Refuses}
 use Rattle.pod_store.specs.Pods.{Decision}
 use Rattle.pod_store.specs.Pods.{pod_fits}
 
--- a decided break: its pod, and whether the break is used
+-- a break with its pod: one that a decision gave it, or a copy of the fallback that it was entered with; and whether the
+-- break is used
 pub record Entry : Type 0 where
   pub id : List ℕ
   pub pod : Pod
   pub used : Bool
+  pub copied : Bool
+
+-- the breaks in the order in which they got their pods, and the pod of those that have none of their own
+pub record Store : Type 0 where
+  pub entries : List Entry
+  pub fallback : Option Pod
+
+-- no break has a pod
+abbrev pub nothing_decided : Store
+nothing_decided = record { entries = []; fallback = None }
+
+abbrev pub with_entries : Store → List Entry → Store
+with_entries store entries = record { entries = entries; fallback = store.fallback }
 
 abbrev pub has_id : List ℕ → Entry → Bool
 has_id id entry = bytes_eq id entry.id
 
-abbrev pub entry_for : List Entry → List ℕ → Option Entry
-entry_for store id = find (has_id id) store
+abbrev pub entry_for : Store → List ℕ → Option Entry
+entry_for store id = find (has_id id) store.entries
 
--- the pod that the break has in the store
-abbrev pub pod_for : List Entry → List ℕ → Option Pod
-pod_for store id = option_map (λ (e : Entry). e.pod) (entry_for store id)
+abbrev pub pod_of : Entry → Pod
+pod_of entry = entry.pod
+
+-- the pod that the break has of its own: the one that a decision gave it, or a copy
+abbrev pub own_pod : Store → List ℕ → Option Pod
+own_pod store id = option_map pod_of (entry_for store id)
+
+-- the pod that the break is filled with: its own, else the fallback
+abbrev pub pod_for : Store → List ℕ → Option Pod
+pod_for store id = or_earlier (own_pod store id) store.fallback
+
+-- no break has a pod that it can be filled with
+abbrev pub is_empty : Store → Bool
+is_empty store = length store.entries == 0 && is_none store.fallback
 
 abbrev pub fits_of : ℕ → Bool → Option Pod → Bool
 fits_of target mapped None = false
 fits_of target mapped (Some pod) = pod_fits target mapped pod
 
--- the break is decided, and its pod fits
-abbrev pub fits : List Entry → List ℕ → ℕ → Bool → Bool
+-- the break has a pod that it can be filled with, and that fits
+abbrev pub fits : Store → List ℕ → ℕ → Bool → Bool
 fits store id target mapped = fits_of target mapped (pod_for store id)
 
 abbrev pub is_used_entry : Option Entry → Bool
 is_used_entry None = false
 is_used_entry (Some e) = e.used
 
-abbrev pub is_used : List Entry → List ℕ → Bool
+abbrev pub is_used : Store → List ℕ → Bool
 is_used store id = is_used_entry (entry_for store id)
 
 -- ---- what becomes of it
 
 -- a break that is there gets the pod in its place, another one stands last
 abbrev pub put : List Entry → Decision → List Entry
-put [] d = record { id = d.0; pod = d.1; used = false } ∷ []
-put (e ∷ later) d = if has_id d.0 e then record { id = e.id; pod = d.1; used = false } ∷ later else e ∷ put later d
+put [] d = record { id = d.0; pod = d.1; used = false; copied = false } ∷ []
+put (e ∷ later) d = if has_id d.0 e then record { id = e.id; pod = d.1; used = false; copied = false } ∷ later else e ∷ put later d
 
 abbrev pub without : List ℕ → List Entry → List Entry
 without id [] = []
 without id (e ∷ later) = if has_id id e then later else e ∷ without id later
 
-abbrev pub with_used : List ℕ → List Entry → List Entry
-with_used id [] = []
-with_used id (e ∷ later) = if has_id id e then record e { used = true } ∷ later else e ∷ with_used id later
+abbrev pub marked_used : List ℕ → List Entry → List Entry
+marked_used id [] = []
+marked_used id (e ∷ later) = if has_id id e then record e { used = true } ∷ later else e ∷ marked_used id later
 
-abbrev pub is_new : List Entry → Decision → Bool
-is_new store d = not (is_some (entry_for store d.0))
+abbrev pub with_used : List ℕ → Store → Store
+with_used id store = with_entries store (marked_used id store.entries)
 
--- the breaks that there would be, with those of a file
-abbrev pub count_with : List Entry → List Decision → ℕ
-count_with store decisions = length (filter (is_new store) decisions) + length store
+-- the break has a pod of its own
+abbrev pub has_own : Store → List ℕ → Bool
+has_own store id = is_some (entry_for store id)
 
-abbrev pub names_used : List Entry → Decision → Bool
+-- a decision gave the break its pod
+abbrev pub is_named : Entry → Bool
+is_named e = not e.copied
+
+abbrev pub is_named_if_any : Option Entry → Bool
+is_named_if_any None = false
+is_named_if_any (Some e) = is_named e
+
+abbrev pub is_new : Store → Decision → Bool
+is_new store d = not (is_named_if_any (entry_for store d.0))
+
+-- the breaks that decisions would have given pods, with those of a file; copies aren't counted
+abbrev pub count_with : Store → List Decision → ℕ
+count_with store decisions = length (filter (is_new store) decisions) + length (filter is_named store.entries)
+
+abbrev pub names_used : Store → Decision → Bool
 names_used store d = is_used store d.0
 
-abbrev pub with_all : List Entry → List Decision → Outcome (List Entry)
+abbrev pub with_all : Store → List Decision → Outcome Store
 with_all store decisions =
     refuse_if (list_any (names_used store) decisions) (fault_at nowhere Used)
     (refuse_if (nat_lt 256 (count_with store decisions)) (fault_at nowhere Full)
-    (Ok (fold put store decisions)))
+    (Ok (with_entries store (fold put store.entries decisions))))
 
-abbrev pub is_decided : List Entry → List ℕ → Bool
-is_decided store id = is_some (entry_for store id)
-
-abbrev pub withdrawn : List Entry → List ℕ → Outcome (List Entry)
+abbrev pub withdrawn : Store → List ℕ → Outcome Store
 withdrawn store id =
-    refuse_if (not (is_decided store id)) (fault_at nowhere Unknown)
-    (refuse_if (is_used store id) (fault_at nowhere Used) (Ok (without id store)))
+    refuse_if (not (has_own store id)) (fault_at nowhere Unknown)
+    (refuse_if (is_used store id) (fault_at nowhere Used) (Ok (with_entries store (without id store.entries))))
 
--- the store after decisions, or why they are refused
-abbrev pub decided : List Entry → Decisions → Outcome (List Entry)
+-- the store after decisions, or why they are refused; a fallback takes the place of the one before
+abbrev pub decided : Store → Decisions → Outcome Store
 decided store (Breaks decisions) = with_all store decisions
 decided store (Withdraw id) = withdrawn store id
+decided store (Fallback pod) = Ok (record { entries = store.entries; fallback = Some pod })
+decided store NoFallback = Ok (record { entries = store.entries; fallback = None })
 
 -- a used break goes; any other stays
-abbrev pub released : List Entry → List ℕ → List Entry
-released store id = if is_used store id then without id store else store
+abbrev pub released : Store → List ℕ → Store
+released store id = if is_used store id then with_entries store (without id store.entries) else store
+
+-- ---- copies
+
+abbrev pub copied_last : List Entry → List ℕ → Option Pod → List Entry
+copied_last entries id None = entries
+copied_last entries id (Some pod) = entries ++ (record { id = id; pod = pod; used = true; copied = true } ∷ [])
+
+-- a break that has no pod of its own keeps a copy of the fallback, and is used
+abbrev pub with_copy : Store → List ℕ → Store
+with_copy store id = if has_own store id then store else with_entries store (copied_last store.entries id store.fallback)
+
+abbrev pub with_copies : Store → List (List ℕ) → Store
+with_copies store ids = fold with_copy store ids
+
+-- entries may have come after those that were there
+abbrev pub GrowsBy : Store → Store → Type 0
+GrowsBy old new = (more : List Entry) × (new ≡ with_entries old (old.entries ++ more))
+
+-- a break is used with the pod that it is filled with
+abbrev pub adopted : Store → List ℕ → Store
+adopted store id = if has_own store id then with_used id store else with_copy store id
+
+-- ---- the breaks in use
 
 -- the break is one of these
 abbrev pub is_one_of : List (List ℕ) → List ℕ → Bool
@@ -97,13 +160,16 @@ abbrev pub is_held : List (List ℕ) → Entry → Bool
 is_held ids e = not e.used || is_one_of ids e.id
 
 -- these breaks are in use: a used one that is none of them goes, and of the others these are used
-abbrev pub kept_in_use : List (List ℕ) → List Entry → List Entry
-kept_in_use ids store = map (λ (e : Entry). record e { used = is_one_of ids e.id }) (filter (is_held ids) store)
+abbrev pub held_in_use : List (List ℕ) → List Entry → List Entry
+held_in_use ids entries = map (λ (e : Entry). record e { used = is_one_of ids e.id }) (filter (is_held ids) entries)
+
+abbrev pub kept_in_use : List (List ℕ) → Store → Store
+kept_in_use ids store = with_entries store (held_in_use ids store.entries)
 
 -- the store is the one owed; or the fault is, want of memory apart, and the store is as it was
-abbrev pub Changes : List Entry → List Entry → Result (Unit {0}) DecisionFault → Outcome (List Entry) → Type 0
+abbrev pub Changes : Store → Store → Result (Unit {0}) DecisionFault → Outcome Store → Type 0
 Changes old new result outcome = MatchResult result (λ _. outcome ≡ Ok new) (λ e. (new ≡ old) × Refuses e outcome)
 
 -- the same of a call that takes no memory: the fault is the one owed
-abbrev pub ChangesExactly : List Entry → List Entry → Result (Unit {0}) DecisionFault → Outcome (List Entry) → Type 0
+abbrev pub ChangesExactly : Store → Store → Result (Unit {0}) DecisionFault → Outcome Store → Type 0
 ChangesExactly old new result outcome = MatchResult result (λ _. outcome ≡ Ok new) (λ e. (new ≡ old) × (outcome ≡ Err e))

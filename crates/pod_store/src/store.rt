@@ -1,35 +1,41 @@
 //! The store of decided breaks.
-ghost use Rattle.std.specs.Prelude.{◌≡◌, ℕ, ◌+◌, ◌==◌, ◌≤◌, ◌<◌, ◌^◌, map, filter, fold, length, option_map, is_some, [], OnOk, OnErr, IfOk};
+ghost use Rattle.std.specs.Prelude.{◌≡◌, ℕ, ◌+◌, ◌==◌, ◌≤◌, ◌<◌, ◌^◌, map, filter, fold, length, option_map, is_some, true, false, OnOk, OnErr, IfOk, IfErr};
 ghost use Rattle.std.specs.List.{list_all, list_any};
 ghost use Rattle.std.specs.Option.{option_copied};
 ghost use Rattle.pod_store.specs.Pods.{section_fits, segment_fits, ad_fits, pod_fits};
-ghost use Rattle.pod_store.specs.Store.{names_used, put, without, entry_for, pod_for, fits, is_used, with_all, withdrawn, decided, released, with_used, kept_in_use, count_with, is_new, Changes, ChangesExactly};
+ghost use Rattle.pod_store.specs.Store.{nothing_decided, with_entries, names_used, put, without, entry_for, has_own, own_pod, pod_for, fits, is_empty, is_used, is_named, is_named_if_any, with_all, withdrawn, decided, released, with_used, with_copy, with_copies, adopted, GrowsBy, kept_in_use, count_with, is_new, Changes, ChangesExactly};
+ghost use Rattle.pod_store.specs.Outcome.{no_memory};
 
 use crate::fault::{DecisionFault, DecisionKind, Place};
-use crate::kept::{Kept, keep_in_use, kept_for, mark, put_all, remove};
+use crate::kept::{
+    Kept, SharedDecision, copy, count_named, keep_in_use, kept_for, mark, put_all, remove,
+};
 use crate::{Ad, Decision, Decisions, Pod, PodSegment};
 use indexmap::IndexMap;
-use playlist_meaning::{InitSection, Text};
+use playlist_meaning::{InitSection, Shared, Text};
 use std::alloc::{AllocError, Global};
 use std::marker::Model;
 
-/// How many breaks are decided at most.
+/// How many breaks get their pods by decisions at most.
 const MOST_PODS: usize = 256;
 
-/// The decided breaks with their pods, in the order in which they were decided.
+/// The decided breaks with their pods, in the order in which they were decided, and the fallback: the pod of each break that
+/// has none of its own. A break that is entered with the fallback keeps a copy of it, whatever becomes of the fallback.
 #[derive(Drop)]
 pub struct PodStore {
     kept: IndexMap<String, Kept>,
+    fallback: Option<Shared<Pod>>,
+    alloc: Global,
 }
 
 impl Model for PodStore {
-    ghost use Rattle.std.specs.Prelude.{List, map};
-    ghost use Rattle.pod_store.specs.Store.{Entry};
+    ghost use Rattle.std.specs.Prelude.{map};
+    ghost use Rattle.pod_store.specs.Store.{Store};
     ghost use Rattle.pod_store.specs.Kept.{entry_of};
 
-    ghost Value = { List Entry };
+    ghost Value = { Store };
 
-    ghost view = { λ a. map entry_of a.kept.entries };
+    ghost view = { λ a. record { entries = map entry_of a.kept.entries; fallback = a.fallback } };
 }
 
 fn segment_fits(segment: &PodSegment, target: u64) -> bool
@@ -68,26 +74,39 @@ impl Pod {
     }
 }
 
+// The decisions, whose pods can be shared.
+fn shared(alloc: Global, decisions: Vec<Decision>) -> Result<Vec<SharedDecision>, AllocError>
+    ensures { IfOk result (λ v. v.items ≡ decisions.items) }
+{
+    let mut done = Vec::with_capacity(alloc, decisions.len())?;
+    for (id, pod) in decisions {
+        done.push((id, Shared::new(alloc, pod)?))?;
+    }
+    Ok(done)
+}
+
 impl PodStore {
-    /// No break is decided.
+    /// No break is decided, and there is no fallback.
     pub fn new(alloc: Global) -> PodStore
-        ensures { result ≡ [] }
+        ensures { result ≡ nothing_decided }
     {
         PodStore {
             kept: IndexMap::new(alloc),
+            fallback: None,
+            alloc,
         }
     }
 
-    /// Whether no break is decided.
+    /// Whether no break has a pod, and there is no fallback.
     pub fn is_empty(&self) -> bool
-        ensures { result ≡ (length self.now == 0) }
+        ensures { result ≡ is_empty self.now }
     {
-        self.len() == 0
+        self.kept.len() == 0 && self.fallback.is_none()
     }
 
-    /// The pod of a break, where it is decided.
+    /// The pod that a break has of its own: one that a decision gave it, or a copy of the fallback that it was entered with.
     pub fn get(&self, id: &str) -> Option<&Pod>
-        ensures { option_copied result ≡ pod_for self.now id.now }
+        ensures { option_copied result ≡ own_pod self.now id.now }
     {
         match kept_for(&self.kept, id) {
             Some(kept) => Some(&kept.pod),
@@ -95,19 +114,38 @@ impl PodStore {
         }
     }
 
-    /// Whether a break is decided, and its pod fits: its ads have initialisation sections exactly where
-    /// the origin's segments have them, and each segment's duration rounds to at most the target. Takes
-    /// no memory.
+    fn fallback(&self) -> Option<&Pod>
+        ensures { option_copied result ≡ self.now.fallback }
+    {
+        match &self.fallback {
+            Some(pod) => Some(pod),
+            None => None,
+        }
+    }
+
+    /// The pod that a break is filled with: its own, else the fallback. Takes no memory.
+    pub fn pod_for(&self, id: &str) -> Option<&Pod>
+        ensures { option_copied result ≡ pod_for self.now id.now }
+    {
+        match self.get(id) {
+            Some(pod) => Some(pod),
+            None => self.fallback(),
+        }
+    }
+
+    /// Whether a break has a pod that it is filled with, and that fits: its ads have initialisation sections exactly where
+    /// the origin's segments have them, and each segment's duration rounds to at most the target. The fallback stands in for
+    /// no pod of the break's own. Takes no memory.
     pub fn fits(&self, id: &str, target: u64, mapped: bool) -> bool
         ensures { result ≡ fits self.now id.now target mapped }
     {
-        match self.get(id) {
+        match self.pod_for(id) {
             Some(pod) => pod.fits(target, mapped),
             None => false,
         }
     }
 
-    /// Whether a break is decided and used.
+    /// Whether a break has a pod of its own and is used.
     pub fn is_used(&self, id: &str) -> bool
         ensures { result ≡ is_used self.now id.now }
     {
@@ -117,14 +155,23 @@ impl PodStore {
         }
     }
 
-    fn is_decided(&self, id: &str) -> bool
-        ensures { result ≡ is_some (entry_for self.now id.now) }
+    fn has_own(&self, id: &str) -> bool
+        ensures { result ≡ has_own self.now id.now }
     {
         kept_for(&self.kept, id).is_some()
     }
 
+    fn is_named(&self, id: &str) -> bool
+        ensures { result ≡ is_named_if_any (entry_for self.now id.now) }
+    {
+        match kept_for(&self.kept, id) {
+            Some(kept) => !kept.copied,
+            None => false,
+        }
+    }
+
     fn remove(&mut self, id: &str)
-        ensures { self.new ≡ without id.now self.old }
+        ensures { self.new ≡ with_entries self.old (without id.now self.old.entries) }
     {
         remove(&mut self.kept, id);
     }
@@ -150,7 +197,7 @@ impl PodStore {
         let mut count = 0;
         let mut rest = decisions;
         while let Some((decision, later)) = rest.split_first() {
-            if !self.is_decided(decision.0.as_str()) {
+            if !self.is_named(decision.0.as_str()) {
                 count += 1;
             }
             rest = later;
@@ -158,20 +205,21 @@ impl PodStore {
         count
     }
 
-    fn len(&self) -> usize
-        ensures value { result ≡ length self.now }
+    fn count_named(&self) -> usize
+        ensures value { result ≡ length (filter is_named self.now.entries) }
         ensures small { result < 2 ^ 63 }
     {
-        self.kept.len()
+        count_named(&self.kept)
     }
 
     // Keeps the pods of these breaks, where there is memory.
     fn put_all(&mut self, decisions: Vec<Decision>) -> Result<(), AllocError>
-        ensures ok { OnOk result (self.new ≡ fold put self.old decisions.items) }
+        ensures ok { OnOk result (self.new ≡ with_entries self.old (fold put self.old.entries decisions.items)) }
         ensures err { OnErr result (self.new ≡ self.old) }
     {
-        self.kept.reserve(decisions.len())?;
-        put_all(&mut self.kept, decisions);
+        let shared = shared(self.alloc, decisions)?;
+        self.kept.reserve(shared.len())?;
+        put_all(&mut self.kept, shared);
         Ok(())
     }
 
@@ -182,31 +230,45 @@ impl PodStore {
         if self.is_any_used(decisions.as_slice()) {
             return Err(Place::nowhere().fault(DecisionKind::Used));
         }
-        if self.count_new(decisions.as_slice()) + self.len() > MOST_PODS {
+        if self.count_new(decisions.as_slice()) + self.count_named() > MOST_PODS {
             return Err(Place::nowhere().fault(DecisionKind::Full));
         }
         self.put_all(decisions)?;
         Ok(())
     }
 
-    /// Takes decisions. `Used` where one of the breaks is used; then `Full` where more than 256 would be
-    /// decided; a break that is decided already gets the new pod in its place. A withdrawal is `withdraw`'s.
-    /// Where it fails the store is as it was.
+    // The breaks without a pod of their own have this one.
+    fn fall_back(&mut self, pod: Pod) -> Result<(), DecisionFault>
+        ensures { Changes self.old self.new result (decided self.old (Decisions.Fallback pod)) }
+    {
+        let shared = Shared::new(self.alloc, pod)?;
+        self.fallback = Some(shared);
+        Ok(())
+    }
+
+    /// Takes decisions. `Used` where one of the breaks is used; then `Full` where decisions would have given pods to more than
+    /// 256; a break that is decided already gets the new pod in its place. A withdrawal is `withdraw`'s. A fallback takes
+    /// the place of the one before, if any; want of memory alone refuses it. Where it fails the store is as it was.
     pub fn decide(&mut self, decisions: Decisions) -> Result<(), DecisionFault>
         ensures { Changes self.old self.new result (decided self.old decisions) }
     {
         match decisions {
             Decisions::Breaks(breaks) => self.decide_all(breaks.into_vec()),
             Decisions::Withdraw(id) => self.withdraw(id.as_str()),
+            Decisions::Fallback(pod) => self.fall_back(pod),
+            Decisions::NoFallback => {
+                self.fallback = None;
+                Ok(())
+            }
         }
     }
 
-    /// Takes the pod of a break away. `Unknown` where it has none, `Used` where the break is used; the
+    /// Takes the pod of a break away. `Unknown` where it has none of its own, `Used` where the break is used; the
     /// store is as it was then. Takes no memory.
     pub fn withdraw(&mut self, id: &str) -> Result<(), DecisionFault>
         ensures { ChangesExactly self.old self.new result (withdrawn self.old id.now) }
     {
-        if !self.is_decided(id) {
+        if !self.has_own(id) {
             return Err(Place::nowhere().fault(DecisionKind::Unknown));
         }
         if self.is_used(id) {
@@ -228,12 +290,69 @@ impl PodStore {
         true
     }
 
-    /// Marks a decided break as used. False where it isn't decided. Takes no memory.
+    /// Marks a break that has a pod of its own as used. False where it has none. Takes no memory.
     pub fn mark_used(&mut self, id: &str) -> bool
-        ensures value { result ≡ is_some (entry_for self.old id.now) }
+        ensures value { result ≡ has_own self.old id.now }
         ensures store { self.new ≡ with_used id.now self.old }
     {
         mark(&mut self.kept, id)
+    }
+
+    // A copy of the fallback, where there is one, is the pod of a break that has none of its own.
+    fn copy(&mut self, id: &str) -> Result<(), AllocError>
+        ensures ok { OnOk result (self.new ≡ with_copy self.old id.now) }
+        ensures err { OnErr result (self.new ≡ self.old) }
+    {
+        if self.has_own(id) {
+            return Ok(());
+        }
+        match &self.fallback {
+            Some(pod) => copy(self.alloc, &mut self.kept, id, pod),
+            None => Ok(()),
+        }
+    }
+
+    /// A break is used with the pod that it is filled with: its own, or a copy of the fallback, which is its own then. False
+    /// where it has neither. Where memory is refused the store is as it was.
+    pub fn adopt(&mut self, id: &str) -> Result<bool, DecisionFault>
+        ensures ok { IfOk result (λ there. (there ≡ is_some (pod_for self.old id.now)) × (self.new ≡ adopted self.old id.now)) }
+        ensures err { IfErr result (λ e. (e ≡ no_memory) × (self.new ≡ self.old)) }
+    {
+        if self.has_own(id) {
+            self.mark_used(id);
+            return Ok(true);
+        }
+        let there = self.fallback().is_some();
+        self.copy(id)?;
+        Ok(there)
+    }
+
+    // A copy of the fallback, where there is one, is the pod of each of these breaks that has none of its own; or of the first
+    // of them.
+    fn copy_each(&mut self, ids: &[Shared<Text>]) -> Result<(), AllocError>
+        ensures ok { OnOk result (self.new ≡ with_copies self.old ids.now) }
+        ensures err { OnErr result (GrowsBy self.old self.new) }
+    {
+        for id in ids {
+            self.copy(id.as_str())?;
+        }
+        Ok(())
+    }
+
+    /// Each of these breaks that has no pod of its own keeps a copy of the fallback, where there is one, and is used. Where
+    /// memory is refused the store is as it was.
+    pub fn copy_fallback(&mut self, ids: &[Shared<Text>]) -> Result<(), AllocError>
+        ensures ok { OnOk result (self.new ≡ with_copies self.old ids.now) }
+        ensures err { OnErr result (self.new ≡ self.old) }
+    {
+        let before = self.kept.len();
+        match self.copy_each(ids) {
+            Ok(()) => Ok(()),
+            Err(error) => {
+                self.kept.truncate(before);
+                Err(error)
+            }
+        }
     }
 
     #[tactic(auto, using(crate::proofs::InUse::seen_in_use))]

@@ -1,5 +1,6 @@
 pub mod TagLaws
 pub mod Putting
 pub mod Counting
+pub mod Parts
 pub mod Runs
 pub mod Outcomes

@@ -1,19 +1,23 @@
 -- The stitched list in the order of a playlist.
-use Rattle.std.proofs.Common.{◌≡◌, ℕ, Bool, true, false, cond, List, [], ◌∷◌, ◌++◌, map, refl, ap, sym, ◌∙◌, append_assoc}
-use Rattle.std.specs.Prelude.{reverse, Option, Some, None, IsSome, bytes_eq}
+use Rattle.std.proofs.Common.{◌≡◌, ℕ, Bool, true, false, cond, ◌&&◌, List, [], ◌∷◌, ◌++◌, map, refl, ap, sym, ◌∙◌, append_assoc}
+use Rattle.std.specs.Prelude.{reverse, Option, Some, None, is_none, option_map, IsSome, bytes_eq}
 use mathlib.Core.List.{reverse_aux}
 use Rattle.std.proofs.lemmas.Grind.{reverse_onto}
-use Rattle.std.proofs.lemmas.List.{reverse-reverse}
+use Rattle.std.proofs.lemmas.List.{reverse-reverse, reverse-append}
 use Rattle.playlist_meaning.specs.Pods.{Pod}
-use Rattle.playlist_meaning.specs.Marks.{newest_mark, are_one}
+use Rattle.playlist_meaning.specs.Marks.{Mark, newest_mark, are_one, continues}
 use Rattle.playlist_meaning.specs.Marks.{Marked as Meant}
 use Rattle.playlist_meaning.specs.Stitched.{Piece, Numbers, stitched, run_pieces, pod_pieces, numbered}
-use Rattle.pod_store.specs.Store.{Entry, pod_for}
+use Rattle.playlist_meaning.specs.Paced.{newest_pieces, due_with, or_zero, rest_pieces, stitched_with}
+use Rattle.pod_store.specs.Store.{Store, pod_for}
 use Rattle.stitcher.specs.declared.marked.Marked.{Marked}
+use Rattle.stitcher.specs.declared.ends.Rest.{Rest}
+use Rattle.stitcher.specs.declared.ends.Ends.{Ends}
 use Rattle.stitcher.specs.Written.{written_item}
-use Rattle.stitcher.specs.StitchedSegments.{mark_with, mark_in, meant, IsDecided, AreDecided, stitched_segments}
-use Rattle.stitcher.specs.Making.{counted, is_same_run, pod_with, begun, pieces_at, pieces_on}
+use Rattle.stitcher.specs.StitchedSegments.{mark_with, mark_in, meant, IsDecided, AreDecided, rest_from, rest_in, ends_in, stitched_segments}
+use Rattle.stitcher.specs.Making.{counted, is_same_run, pod_with, begun_with, part_of, part_at, part_due, whole_from, goes_on_to_last, pieces_at, pieces_on, rest_on, pieces_between}
 use Rattle.stitcher.proofs.Counting.{numbers_count_on}
+use Rattle.stitcher.proofs.Parts.{whole_is_part, due_is_part, rest_is_part}
 
 reverse_aux-append : {A : Type 0} (xs ys acc : List A) → reverse_aux (xs ++ ys) acc ≡ reverse_aux ys (reverse xs ++ acc)
 reverse_aux-append [] ys acc = refl
@@ -32,51 +36,112 @@ both id other None p h k = absurd (cc)
 both id other (Some pod) None h k = absurd (cc)
 both id other (Some pod) (Some q) h k = refl
 
-same_run : (store : List Entry) (mark previous : Option (List ℕ)) → IsDecided store mark → IsDecided store previous
+same_run : (store : Store) (mark previous : Option (List ℕ)) → IsDecided store mark → IsDecided store previous
     → are_one (mark_in store mark) (mark_in store previous) ≡ is_same_run mark previous
 same_run store None previous h k = refl
 same_run store (Some id) None h k = alone id (pod_for store id) h
 same_run store (Some id) (Some other) h k = both id other (pod_for store id) (pod_for store other) h k
 
-pod_stands : (store : List Entry) (m : Marked) (id : List ℕ) (o : Option Pod) → IsSome o → run_pieces (meant store m) (mark_with id o) ≡ reverse (pod_with id o)
-pod_stands store m id None h = absurd (cc)
-pod_stands store m id (Some pod) h = refl
+-- ---- what stands for a run
 
-stands : (store : List Entry) (m : Marked) (mark : Option (List ℕ)) → IsDecided store mark → run_pieces (meant store m) (mark_in store mark) ≡ reverse (begun store m mark)
+pod_stands : (store : Store) (m : Marked) (id : List ℕ) (o : Option Pod) → IsSome o → run_pieces (meant store m) (mark_with id o) ≡ reverse (part_of (whole_from 0) (pod_with id o))
+pod_stands store m id None h = absurd (cc)
+pod_stands store m id (Some pod) h = ap reverse (sym (whole_is_part (pod_pieces (record { id = id; pod = pod }))))
+
+stands : (store : Store) (m : Marked) (mark : Option (List ℕ)) → IsDecided store mark → run_pieces (meant store m) (mark_in store mark) ≡ reverse (begun_with store (whole_from 0) m mark)
 stands store m None h = refl
 stands store m (Some id) h = pod_stands store m id (pod_for store id) h
 
-either : (b : Bool) (run : List Piece) (pieces : List Piece) → run ≡ reverse pieces → cond b [] run ≡ reverse (cond b [] pieces)
-either true run pieces h = refl
-either false run pieces h = h
+abbrev newest : Option ℕ → Meant → Option Mark → List Piece
+newest so_far s mark = newest_pieces (is_none so_far) (or_zero so_far) s mark
+
+pod_due : (store : Store) (so_far : Option ℕ) (m : Marked) (id : List ℕ) (o : Option Pod) → IsSome o → newest so_far (meant store m) (mark_with id o) ≡ reverse (part_of (part_due so_far) (pod_with id o))
+pod_due store so_far m id None h = absurd (cc)
+pod_due store None m id (Some pod) h = ap reverse (sym (whole_is_part (pod_pieces (record { id = id; pod = pod }))))
+pod_due store (Some length) m id (Some pod) h = ap reverse (sym (due_is_part length (pod_pieces (record { id = id; pod = pod }))))
+
+stands_due : (store : Store) (so_far : Option ℕ) (m : Marked) (mark : Option (List ℕ)) → IsDecided store mark → newest so_far (meant store m) (mark_in store mark) ≡ reverse (begun_with store (part_due so_far) m mark)
+stands_due store so_far m None h = refl
+stands_due store so_far m (Some id) h = pod_due store so_far m id (pod_for store id) h
+
+-- ---- one segment more
+
+abbrev list_due : Option ℕ → List Meant → List Piece
+list_due so_far list = due_with (is_none so_far) (or_zero so_far) list
+
+nothing_before : (o : Option Mark) → are_one o None ≡ true → ⊥
+nothing_before None e = cc
+nothing_before (Some m) e = cc
+
+due_goes_on : (so_far : Option ℕ) (here : Meant) (before : List Meant) → continues here before ≡ true → list_due so_far (here ∷ before) ≡ list_due so_far before
+due_goes_on so_far here [] e = absurd (nothing_before here.mark e)
+due_goes_on so_far here (t ∷ before) e = rw e refl
+
+due_begins : (so_far : Option ℕ) (here : Meant) (before : List Meant) → continues here before ≡ false → list_due so_far (here ∷ before) ≡ newest so_far here here.mark ++ stitched before
+due_begins so_far here [] e = rw e refl
+due_begins so_far here (t ∷ before) e = rw e refl
+
+one_more : (store : Store) (so_far : Option ℕ) (m : Marked) (before : List Meant) → IsDecided store m.mark → (same last : Bool) → continues (meant store m) before ≡ same
+    → cond last (list_due so_far (meant store m ∷ before)) (stitched (meant store m ∷ before))
+    ≡ reverse (cond same [] (begun_with store (cond last (part_due so_far) (whole_from 0)) m m.mark)) ++ cond (same && last) (list_due so_far before) (stitched before)
+one_more store so_far m before d true true e = due_goes_on so_far (meant store m) before e
+one_more store so_far m before d true false e = ap (λ b. cond b [] (run_pieces (meant store m) (mark_in store m.mark)) ++ stitched before) e
+one_more store so_far m before d false true e = due_begins so_far (meant store m) before e ∙ ap (λ t. t ++ stitched before) (stands_due store so_far m m.mark d)
+one_more store so_far m before d false false e =
+    ap (λ b. cond b [] (run_pieces (meant store m) (mark_in store m.mark)) ++ stitched before) e ∙ ap (λ t. t ++ stitched before) (stands store m m.mark d)
 
 -- ---- all segments
 
-stitched_on : (store : List Entry) (previous : Option (List ℕ)) (marked : List Marked) (before : List Meant) → newest_mark before ≡ mark_in store previous
-    → IsDecided store previous → AreDecided store marked → stitched (reverse_aux (map (meant store) marked) before) ≡ reverse_aux (pieces_on store previous marked) (stitched before)
-stitched_on store previous [] before h k d = refl
-stitched_on store previous (m ∷ later) before h k d =
+due_on : (store : Store) (so_far : Option ℕ) (previous : Option (List ℕ)) (marked : List Marked) (before : List Meant) → newest_mark before ≡ mark_in store previous
+    → IsDecided store previous → AreDecided store marked → list_due so_far (reverse_aux (map (meant store) marked) before)
+    ≡ reverse_aux (pieces_on store so_far previous marked) (cond (goes_on_to_last previous marked) (list_due so_far before) (stitched before))
+due_on store so_far previous [] before h k d = refl
+due_on store so_far previous (m ∷ later) before h k d =
     let here = meant store m in
-    let pieces = pieces_at store previous m in
-    let added : stitched (here ∷ before) ≡ reverse pieces ++ stitched before =
-    ap (λ o. cond (are_one (mark_in store m.mark) o) [] (run_pieces here (mark_in store m.mark)) ++ stitched before) h
-    ∙ (ap (λ b. cond b [] (run_pieces here (mark_in store m.mark)) ++ stitched before) (same_run store m.mark previous d.0 k)
-    ∙ ap (λ t. t ++ stitched before) (either (is_same_run m.mark previous) (run_pieces here (mark_in store m.mark)) (begun store m m.mark) (stands store m m.mark d.0))) in
-    stitched_on store m.mark later (here ∷ before) refl d.0 d.1
-    ∙ (ap (reverse_aux (pieces_on store m.mark later)) added
-    ∙ sym (reverse_aux-append pieces (pieces_on store m.mark later) (stitched before)))
+    let last = goes_on_to_last m.mark later in
+    let same = is_same_run m.mark previous in
+    let goes_on : continues here before ≡ same = ap (are_one (mark_in store m.mark)) h ∙ same_run store m.mark previous d.0 k in
+    due_on store so_far m.mark later (here ∷ before) refl d.0 d.1
+    ∙ (ap (reverse_aux (pieces_on store so_far m.mark later)) (one_more store so_far m before d.0 same last goes_on)
+    ∙ sym (reverse_aux-append (pieces_at store so_far previous m later) (pieces_on store so_far m.mark later) (cond (same && last) (list_due so_far before) (stitched before))))
+
+nothing_yet : (b : Bool) → ◌≡◌ {A = List Piece} (cond b [] []) []
+nothing_yet true = refl
+nothing_yet false = refl
+
+-- ---- the rest
+
+rest_stands : (place : ℕ) (id : List ℕ) (o : Option Pod) → rest_pieces (option_map (rest_from place) (mark_with id o)) ≡ reverse (part_of (whole_from place) (pod_with id o))
+rest_stands place id None = refl
+rest_stands place id (Some pod) = ap reverse (sym (rest_is_part place (pod_pieces (record { id = id; pod = pod }))))
+
+pub rest_in_order : (store : Store) (rest : Option Rest) → rest_pieces (rest_in store rest) ≡ reverse (rest_on store rest)
+rest_in_order store None = refl
+rest_in_order store (Some rest) = rest_stands rest.place rest.id (pod_for store rest.id)
+
+whole_in_order : (store : Store) (ends : Ends) (marked : List Marked) → AreDecided store marked
+    → stitched_with (ends_in store ends) (reverse (map (meant store) marked)) ≡ reverse (pieces_between store ends marked)
+whole_in_order store ends marked d =
+    let segments = pieces_on store ends.so_far None marked in
+    let rest = rest_on store ends.rest in
+    let list : list_due ends.so_far (reverse (map (meant store) marked)) ≡ reverse segments =
+    due_on store ends.so_far None marked [] refl tt d ∙ ap (reverse_aux segments) (nothing_yet (goes_on_to_last None marked)) in
+    ap (λ t. t ++ rest_pieces (rest_in store ends.rest)) list
+    ∙ (ap (λ t. reverse segments ++ t) (rest_in_order store ends.rest) ∙ sym (reverse-append rest segments))
 
 -- the stitched list is the pieces in order, counted on
-pub in_order : (store : List Entry) (first : Numbers) (marked : List Marked) → AreDecided store marked
-    → stitched_segments store first marked ≡ map written_item (counted first None (pieces_on store None marked))
-in_order store first marked d =
-    let pieces = pieces_on store None marked in
-    ap (λ ps. map written_item (reverse (numbered first ps))) (stitched_on store None marked [] refl tt d)
+pub in_order : (store : Store) (first : Numbers) (ends : Ends) (marked : List Marked) → AreDecided store marked
+    → stitched_segments store first ends marked ≡ map written_item (counted first None (pieces_between store ends marked))
+in_order store first ends marked d =
+    let pieces = pieces_between store ends marked in
+    ap (λ ps. map written_item (reverse (numbered first ps))) (whole_in_order store ends marked d)
     ∙ (ap (λ items. map written_item (reverse items)) (numbers_count_on first pieces)
     ∙ ap (map written_item) (reverse-reverse (counted first None pieces)))
 
--- where a run begins, its pod stands
-pub run_begins : (store : List Entry) (previous : Option (List ℕ)) (m : Marked) (id : List ℕ) (pod : Pod) → is_same_run m.mark previous ≡ false → m.mark ≡ Some id → pod_for store id ≡ Some pod
-    → pieces_at store previous m ≡ pod_pieces (record { id = id; pod = pod })
-run_begins store previous m id pod same is found =
-    ap (λ b. cond b [] (begun store m m.mark)) same ∙ (ap (begun store m) is ∙ ap (pod_with id) found)
+-- where a run begins, a part of its pod stands
+pub run_begins : (store : Store) (so_far : Option ℕ) (previous : Option (List ℕ)) (m : Marked) (later : List Marked) (id : List ℕ) (pod : Pod)
+    → is_same_run m.mark previous ≡ false → m.mark ≡ Some id → pod_for store id ≡ Some pod
+    → pieces_at store so_far previous m later ≡ part_of (part_at so_far m.mark later) (pod_pieces (record { id = id; pod = pod }))
+run_begins store so_far previous m later id pod same is found =
+    let part = part_at so_far m.mark later in
+    ap (λ b. cond b [] (begun_with store part m m.mark)) same ∙ (ap (begun_with store part m) is ∙ ap (λ o. part_of part (pod_with id o)) found)

@@ -1,14 +1,17 @@
 -- A stitched list as it is made, item by item, in the order of a playlist. Its words serve proofs and inner contracts: those
 -- of `stitch`, and of the place of a window in the list (`live_window`).
-use Rattle.std.specs.Prelude.{◌≡◌, ℕ, ◌-◌, ◌^◌, Bool, true, false, ◌&&◌, nat_lt, List, [], ◌∷◌, ◌++◌, map, ℤ, Option, Some, None, bytes_eq, if◌then◌else◌}
+use Rattle.std.specs.Prelude.{◌≡◌, ℕ, ◌-◌, ◌^◌, ◌==◌, Bool, true, false, not, ◌&&◌, ◌||◌, nat_le, nat_lt, List, [], ◌∷◌, ◌++◌, map, ℤ, Option, Some, None, bytes_eq, if◌then◌else◌}
 use Rattle.std.specs.List.{list_all}
 use Rattle.playlist_meaning.specs.declared.Segment.{Segment}
 use Rattle.playlist_meaning.specs.Pods.{Pod}
 use Rattle.playlist_meaning.specs.Stitched.{Piece, is_kept, kept_piece, pod_pieces, Numbers, next_numbers, Item}
-use Rattle.pod_store.specs.Store.{Entry, pod_for}
+use Rattle.pod_store.specs.Store.{Store, pod_for}
 use Rattle.stitcher.specs.declared.OutSegment.{OutSegment}
 use Rattle.stitcher.specs.declared.marked.Marked.{Marked}
 use Rattle.stitcher.specs.declared.making.Last.{Last}
+use Rattle.stitcher.specs.declared.ends.Rest.{Rest}
+use Rattle.stitcher.specs.declared.ends.Ends.{Ends}
+use Rattle.stitcher.specs.declared.making.Part.{Part}
 use Rattle.stitcher.specs.StitchedSegments.{item_fits}
 use Rattle.stitcher.specs.Written.{written_item}
 
@@ -93,19 +96,73 @@ is_same_run None other = false
 abbrev pub plain : Marked → Piece
 plain m = kept_piece (record { segment = m.segment; instant = m.instant; mark = None })
 
+abbrev pub is_nothing : ℕ → Bool
+is_nothing n = n == 0
+
+-- whether the next piece is shown
+abbrev pub shows_next : Part → Bool
+shows_next part = is_nothing part.skip && not part.done
+
+-- the part that is shown of what stands after a piece of this duration
+abbrev pub part_after_one : Part → ℕ → Part
+part_after_one part duration =
+    if is_nothing part.skip then record { skip = 0; whole = part.whole; left = part.left - duration; done = part.done || (not part.whole && nat_le part.left duration) }
+    else record { skip = part.skip - 1; whole = part.whole; left = part.left; done = part.done }
+
+abbrev pub part_here : Part → Piece → List Piece
+part_here part p = if shows_next part then p ∷ [] else []
+
+abbrev pub part_of : Part → List Piece → List Piece
+part_of part [] = []
+part_of part (p ∷ later) = part_here part p ++ part_of (part_after_one part p.segment.duration) later
+
+abbrev pub part_after : Part → List Piece → Part
+part_after part [] = part
+part_after part (p ∷ later) = part_after (part_after_one part p.segment.duration) later
+
+-- the whole of a pod
 abbrev pub pod_with : List ℕ → Option Pod → List Piece
 pod_with id None = []
 pod_with id (Some pod) = pod_pieces (record { id = id; pod = pod })
 
--- what stands where a run begins
-abbrev pub begun : List Entry → Marked → Option (List ℕ) → List Piece
+-- what stands where a run begins that is shown whole
+abbrev pub begun : Store → Marked → Option (List ℕ) → List Piece
 begun store m None = plain m ∷ []
 begun store m (Some id) = pod_with id (pod_for store id)
 
--- what stands for a segment after one of this mark
-abbrev pub pieces_at : List Entry → Option (List ℕ) → Marked → List Piece
-pieces_at store previous m = if is_same_run m.mark previous then [] else begun store m m.mark
+-- a whole pod, from this place on
+abbrev pub whole_from : ℕ → Part
+whole_from place = record { skip = place; whole = true; left = 0; done = false }
 
-abbrev pub pieces_on : List Entry → Option (List ℕ) → List Marked → List Piece
-pieces_on store previous [] = []
-pieces_on store previous (m ∷ later) = pieces_at store previous m ++ pieces_on store m.mark later
+-- what is due of the pod of a run that is so long so far, where it is open; else all of it
+abbrev pub part_due : Option ℕ → Part
+part_due None = whole_from 0
+part_due (Some length) = record { skip = 0; whole = false; left = length; done = false }
+
+-- the run goes on to the last of these
+abbrev pub goes_on_to_last : Option (List ℕ) → List Marked → Bool
+goes_on_to_last previous [] = true
+goes_on_to_last previous (m ∷ later) = is_same_run m.mark previous && goes_on_to_last m.mark later
+
+abbrev pub part_at : Option ℕ → Option (List ℕ) → List Marked → Part
+part_at so_far mark later = if goes_on_to_last mark later then part_due so_far else whole_from 0
+
+abbrev pub begun_with : Store → Part → Marked → Option (List ℕ) → List Piece
+begun_with store part m None = plain m ∷ []
+begun_with store part m (Some id) = part_of part (pod_with id (pod_for store id))
+
+-- what stands for a segment after one of this mark, before these
+abbrev pub pieces_at : Store → Option ℕ → Option (List ℕ) → Marked → List Marked → List Piece
+pieces_at store so_far previous m later = if is_same_run m.mark previous then [] else begun_with store (part_at so_far m.mark later) m m.mark
+
+abbrev pub pieces_on : Store → Option ℕ → Option (List ℕ) → List Marked → List Piece
+pieces_on store so_far previous [] = []
+pieces_on store so_far previous (m ∷ later) = pieces_at store so_far previous m later ++ pieces_on store so_far m.mark later
+
+abbrev pub rest_on : Store → Option Rest → List Piece
+rest_on store None = []
+rest_on store (Some rest) = part_of (whole_from rest.place) (pod_with rest.id (pod_for store rest.id))
+
+-- all of them, in order
+abbrev pub pieces_between : Store → Ends → List Marked → List Piece
+pieces_between store ends marked = rest_on store ends.rest ++ pieces_on store ends.so_far None marked

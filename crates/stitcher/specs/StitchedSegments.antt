@@ -1,13 +1,16 @@
 -- What `stitch` answers: the stitched list of marked segments, told by IDs and a store of pods.
-use Rattle.std.specs.Prelude.{ℕ, ◌^◌, Bool, ◌&&◌, nat_lt, List, map, reverse, Option, Some, None, IsSome}
+use Rattle.std.specs.Prelude.{ℕ, ◌^◌, Bool, ◌&&◌, nat_lt, List, map, reverse, Option, Some, None, IsSome, option_map}
 use Rattle.std.specs.List.{AllByRecursion}
 use Rattle.playlist_meaning.specs.Pods.{Pod}
 use Rattle.playlist_meaning.specs.Marks.{Mark}
 use Rattle.playlist_meaning.specs.Marks.{Marked as Meant}
-use Rattle.playlist_meaning.specs.Stitched.{Numbers, stitched, numbered}
-use Rattle.pod_store.specs.Store.{Entry, pod_for}
+use Rattle.playlist_meaning.specs.Stitched.{Numbers, numbered}
+use Rattle.playlist_meaning.specs.Paced.{Rest as MeantRest, Ends as MeantEnds, stitched_with}
+use Rattle.pod_store.specs.Store.{Store, pod_for}
 use Rattle.stitcher.specs.declared.OutSegment.{OutSegment}
 use Rattle.stitcher.specs.declared.marked.Marked.{Marked}
+use Rattle.stitcher.specs.declared.ends.Rest.{Rest}
+use Rattle.stitcher.specs.declared.ends.Ends.{Ends}
 use Rattle.stitcher.specs.declared.fault.StitchFault.{StitchFault}
 use Rattle.stitcher.specs.declared.fault.StitchFault.TheVariants.{NumberRange, OutOfMemory}
 use Rattle.stitcher.specs.Written.{written_item}
@@ -17,24 +20,35 @@ mark_with id None = None
 mark_with id (Some pod) = Some (record { id = id; pod = pod })
 
 -- the break of an ID, with the pod that it has in the store
-abbrev pub mark_in : List Entry → Option (List ℕ) → Option Mark
+abbrev pub mark_in : Store → Option (List ℕ) → Option Mark
 mark_in store None = None
 mark_in store (Some id) = mark_with id (pod_for store id)
 
-abbrev pub meant : List Entry → Marked → Meant
+abbrev pub meant : Store → Marked → Meant
 meant store m = record { segment = m.segment; instant = m.instant; mark = mark_in store m.mark }
 
 -- the mark, if any, has a pod
-abbrev pub IsDecided : List Entry → Option (List ℕ) → Type 0
+abbrev pub IsDecided : Store → Option (List ℕ) → Type 0
 IsDecided store None = Unit {0}
 IsDecided store (Some id) = IsSome (pod_for store id)
 
-abbrev pub AreDecided : List Entry → List Marked → Type 0
+abbrev pub AreDecided : Store → List Marked → Type 0
 AreDecided store marked = AllByRecursion (λ (m : Marked). IsDecided store m.mark) marked
 
--- the stitched list of these segments, whose first item has these numbers, in the order of a playlist
-abbrev pub stitched_segments : List Entry → Numbers → List Marked → List OutSegment
-stitched_segments store first marked = map written_item (reverse (numbered first (stitched (reverse (map (meant store) marked)))))
+-- the rest of a pod that the store has
+abbrev pub rest_from : ℕ → Mark → MeantRest
+rest_from place mark = record { mark = mark; place = place }
+
+abbrev pub rest_in : Store → Option Rest → Option MeantRest
+rest_in store None = None
+rest_in store (Some rest) = option_map (rest_from rest.place) (mark_in store (Some rest.id))
+
+abbrev pub ends_in : Store → Ends → MeantEnds
+ends_in store ends = record { rest = rest_in store ends.rest; so_far = ends.so_far }
+
+-- the stitched list of these segments between these ends, whose first item has these numbers, in the order of a playlist
+abbrev pub stitched_segments : Store → Numbers → Ends → List Marked → List OutSegment
+stitched_segments store first ends marked = map written_item (reverse (numbered first (stitched_with (ends_in store ends) (reverse (map (meant store) marked)))))
 
 abbrev pub item_fits : OutSegment → Bool
 item_fits out = nat_lt out.media (2 ^ 64) && nat_lt out.discontinuity (2 ^ 64)

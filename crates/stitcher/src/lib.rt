@@ -4,6 +4,7 @@
 use playlist_meaning::Instant;
 
 mod copies;
+mod ends;
 mod fault;
 mod key_tags;
 pub mod laws;
@@ -12,6 +13,7 @@ mod marked;
 mod origin_text;
 mod played;
 
+pub use ends::{Ends, Rest};
 pub use fault::StitchFault;
 pub use key_tags::{is_new, keeps_formats, transition};
 pub use making::stitch;

@@ -1,17 +1,19 @@
 //! The stitched list of marked segments, as it is made.
-ghost use Rattle.std.specs.Prelude.{◌≡◌, Bool, true, false, [], ◌∷◌, None, OnOk, IfOk, IfErr, option_map};
+ghost use Rattle.std.specs.Prelude.{◌≡◌, Bool, true, false, List, [], ◌∷◌, None, OnOk, IfOk, IfErr, option_map};
 ghost use Rattle.std.specs.List.{list_all};
 ghost use Rattle.playlist_meaning.specs.Marks.{Mark};
 ghost use Rattle.playlist_meaning.specs.Pods.{Pod};
 ghost use Rattle.playlist_meaning.specs.Stitched.{ad_piece, ad_pieces, next_numbers, pieces_of_ads, with_keys};
 ghost use Rattle.stitcher.specs.StitchedSegments.{AreDecided, RefusesNumber, item_fits, stitched_segments};
-ghost use Rattle.stitcher.specs.Making.{Passes, Puts, is_same_run, numbers_fit, numbers_with, pieces_at, plain, pushed, steps_from};
+ghost use Rattle.stitcher.specs.Making.{Passes, Puts, goes_on_to_last, is_same_run, numbers_fit, numbers_with, part_after, part_after_one, part_at, part_here, part_of, pieces_at, plain, pushed, rest_on, shows_next, steps_from, whole_from};
 
 use crate::OutSegment;
 use crate::copies::{AdParts, ad_parts, ad_segment};
+use crate::ends::{Ends, Rest};
 use crate::fault::StitchFault;
 use crate::marked::{Marked, Numbers};
 use crate::played::Played;
+use fixed_duration::Nanos;
 use playlist_meaning::{Instant, Shared, Text};
 use pod_store::{Ad, Pod, PodSegment, PodStore};
 use std::alloc::{AllocError, Global};
@@ -24,6 +26,19 @@ pub struct Last {
     pub numbers: Numbers,
     /// Its discontinuity number at the origin, where it is one of the origin's.
     pub origin: Option<u64>,
+}
+
+/// The part of a pod that is shown.
+#[derive(Clone, Copy)]
+pub struct Part {
+    /// How many segments are passed over.
+    pub skip: usize,
+    /// Whether all are shown that stand after them.
+    pub whole: bool,
+    /// How long those that are shown are still to last, where not all are.
+    pub left: u64,
+    /// Whether none is shown any more.
+    pub done: bool,
 }
 
 /// A stitched list, as far as it is made.
@@ -73,6 +88,78 @@ fn is_same_run(mark: &Option<Shared<Text>>, previous: &Option<Shared<Text>>) -> 
     match (mark, previous) {
         (Some(mark), Some(previous)) => mark == previous,
         _ => false,
+    }
+}
+
+// The part that is shown of what stands after a segment of this duration.
+fn part_after(part: &Part, duration: Nanos) -> Part
+    ensures { result ≡ part_after_one part.now duration }
+{
+    if part.skip > 0 {
+        return Part {
+            skip: part.skip - 1,
+            whole: part.whole,
+            left: part.left,
+            done: part.done,
+        };
+    }
+    Part {
+        skip: 0,
+        whole: part.whole,
+        left: part.left.saturating_sub(duration.0),
+        done: part.done || (!part.whole && part.left <= duration.0),
+    }
+}
+
+fn shows_next(part: &Part) -> bool
+    ensures { result ≡ shows_next part.now }
+{
+    part.skip == 0 && !part.done
+}
+
+// Whether a run goes on to the last of these segments.
+fn goes_on_to_last(mark: &Option<Shared<Text>>, later: &[Marked]) -> bool
+    ensures { result ≡ goes_on_to_last mark.now later.now }
+{
+    let mut previous = mark;
+    let mut rest = later;
+    while let Some((here, later)) = rest.split_first() {
+        if !is_same_run(&here.mark, previous) {
+            return false;
+        }
+        previous = &here.mark;
+        rest = later;
+    }
+    true
+}
+
+// A whole pod, from this place on.
+fn from_place(place: usize) -> Part
+    ensures { result ≡ whole_from place }
+{
+    Part {
+        skip: place,
+        whole: true,
+        left: 0,
+        done: false,
+    }
+}
+
+// What is shown of the pod of a run that begins with a segment of this mark, before these.
+fn part_at(ends: &Ends, mark: &Option<Shared<Text>>, later: &[Marked]) -> Part
+    ensures { result ≡ part_at ends.now.so_far mark.now later.now }
+{
+    let Some(length) = ends.so_far else {
+        return from_place(0);
+    };
+    if !goes_on_to_last(mark, later) {
+        return from_place(0);
+    }
+    Part {
+        skip: 0,
+        whole: false,
+        left: length.0,
+        done: false,
     }
 }
 
@@ -166,48 +253,97 @@ impl<'a> Stitching<'a> {
         self.push(Played::of_ad(shared), None, numbers, None)
     }
 
-    fn put_ad(&mut self, alloc: Global, ad: &Ad) -> Result<(), StitchFault>
+    // Puts a segment of an ad at the end, where it is shown. Answers the part of those after it.
+    fn offer(
+        &mut self,
+        alloc: Global,
+        ad: &Ad,
+        parts: &AdParts,
+        segment: &PodSegment,
+        first: bool,
+        part: &Part,
+    ) -> Result<Part, StitchFault>
+        requires fits { numbers_fit self.old.first ≡ true }
+        requires parts { parts.now ≡ option_map (with_keys ad.now.keys) ad.now.section }
+        ensures ok { OnOk result ((mark : Mark) → Puts self.old self.new (part_here part.now (ad_piece mark first ad.now segment.now))) }
+        ensures part { IfOk result (λ after. after ≡ part_after_one part.now segment.now.duration) }
+        ensures err { IfErr result (λ e. RefusesNumber e ((mark : Mark) → Passes self.old (part_here part.now (ad_piece mark first ad.now segment.now)))) }
+    {
+        if !shows_next(part) {
+            return Ok(part_after(part, segment.duration));
+        }
+        self.put(alloc, ad, parts, segment, first)?;
+        Ok(part_after(part, segment.duration))
+    }
+
+    fn put_ad(&mut self, alloc: Global, ad: &Ad, part: Part) -> Result<Part, StitchFault>
         requires { numbers_fit self.old.first ≡ true }
-        ensures ok { OnOk result ((mark : Mark) → Puts self.old self.new (ad_pieces mark ad.now ad.now.segments)) }
-        ensures err { IfErr result (λ e. RefusesNumber e ((mark : Mark) → Passes self.old (ad_pieces mark ad.now ad.now.segments))) }
+        ensures ok { OnOk result ((mark : Mark) → Puts self.old self.new (part_of part (ad_pieces mark ad.now ad.now.segments))) }
+        ensures part { IfOk result (λ after. (mark : Mark) → after ≡ part_after part (ad_pieces mark ad.now ad.now.segments)) }
+        ensures err { IfErr result (λ e. RefusesNumber e ((mark : Mark) → Passes self.old (part_of part (ad_pieces mark ad.now ad.now.segments)))) }
     {
         let parts = ad_parts(alloc, ad)?;
         let Some((first, later)) = ad.segments.as_slice().split_first() else {
-            return Ok(());
+            return Ok(part);
         };
-        self.put(alloc, ad, &parts, first, true)?;
+        let mut left = self.offer(alloc, ad, &parts, first, true, &part)?;
         let mut rest = later;
         while let Some((segment, later)) = rest.split_first() {
-            self.put(alloc, ad, &parts, segment, false)?;
+            left = self.offer(alloc, ad, &parts, segment, false, &left)?;
             rest = later;
         }
-        Ok(())
+        Ok(left)
     }
 
-    fn put_pod(&mut self, alloc: Global, pod: &Pod) -> Result<(), StitchFault>
+    // Puts a part of a pod at the end.
+    fn put_pod(&mut self, alloc: Global, pod: &Pod, part: Part) -> Result<(), StitchFault>
         requires { numbers_fit self.old.first ≡ true }
-        ensures ok { OnOk result ((mark : Mark) → Puts self.old self.new (pieces_of_ads mark pod.now.ads)) }
-        ensures err { IfErr result (λ e. RefusesNumber e ((mark : Mark) → Passes self.old (pieces_of_ads mark pod.now.ads))) }
+        ensures ok { OnOk result ((mark : Mark) → Puts self.old self.new (part_of part (pieces_of_ads mark pod.now.ads))) }
+        ensures err { IfErr result (λ e. RefusesNumber e ((mark : Mark) → Passes self.old (part_of part (pieces_of_ads mark pod.now.ads)))) }
     {
+        let mut left = part;
         let mut rest = pod.ads();
         while let Some((ad, later)) = rest.split_first() {
-            self.put_ad(alloc, ad)?;
+            left = self.put_ad(alloc, ad, left)?;
             rest = later;
         }
         Ok(())
     }
 
-    // Puts at the end what stands for a segment after one of this mark.
+    // Puts the rest of a pod at the end.
+    fn put_rest(
+        &mut self,
+        alloc: Global,
+        rest: &Option<Rest>,
+        store: &PodStore,
+    ) -> Result<(), StitchFault>
+        requires { numbers_fit self.old.first ≡ true }
+        ensures ok { OnOk result (Puts self.old self.new (rest_on store.now rest.now)) }
+        ensures err { IfErr result (λ e. RefusesNumber e (Passes self.old (rest_on store.now rest.now))) }
+    {
+        let Some(rest) = rest else {
+            return Ok(());
+        };
+        let part = from_place(rest.place);
+        match store.pod_for(rest.id.as_str()) {
+            Some(pod) => self.put_pod(alloc, pod, part),
+            None => Ok(()),
+        }
+    }
+
+    // Puts at the end what stands for a segment after one of this mark, before these.
     fn put_marked(
         &mut self,
         alloc: Global,
         marked: &'a Marked,
+        later: &'a [Marked],
         previous: &Option<Shared<Text>>,
         store: &PodStore,
+        ends: &Ends,
     ) -> Result<(), StitchFault>
         requires { numbers_fit self.old.first ≡ true }
-        ensures ok { OnOk result (Puts self.old self.new (pieces_at store.now previous.now marked.now)) }
-        ensures err { IfErr result (λ e. RefusesNumber e (Passes self.old (pieces_at store.now previous.now marked.now))) }
+        ensures ok { OnOk result (Puts self.old self.new (pieces_at store.now ends.now.so_far previous.now marked.now later.now)) }
+        ensures err { IfErr result (λ e. RefusesNumber e (Passes self.old (pieces_at store.now ends.now.so_far previous.now marked.now later.now))) }
     {
         if is_same_run(&marked.mark, previous) {
             return Ok(());
@@ -215,32 +351,36 @@ impl<'a> Stitching<'a> {
         let Some(id) = &marked.mark else {
             return self.keep(marked);
         };
-        match store.get(id.as_str()) {
-            Some(pod) => self.put_pod(alloc, pod),
+        let part = part_at(ends, &marked.mark, later);
+        match store.pod_for(id.as_str()) {
+            Some(pod) => self.put_pod(alloc, pod, part),
             None => Ok(()),
         }
     }
 }
 
-/// The stitched list of these segments, in the order of a playlist, whose first item has these numbers: each run
-/// of one mark replaced by the pod that the break has in the store. `NumberRange` exactly where a number would
-/// pass 2^64 - 1, want of memory apart.
+/// The stitched list of these segments between these ends, in the order of a playlist, whose first item has these numbers:
+/// the rest of a pod first, and each run of one mark replaced by the pod that the break has in the store, of which as much is
+/// shown as is due where the run is the last one and open. `NumberRange` exactly where a number would pass 2^64 - 1, want of
+/// memory apart.
 pub fn stitch<'a>(
     alloc: Global,
     marked: &'a [Marked],
     store: &PodStore,
     first: Numbers,
+    ends: &Ends,
 ) -> Result<Vec<OutSegment<'a>>, StitchFault>
     requires { AreDecided store.now marked.now }
-    ensures ok { IfOk result (λ v. (v.items ≡ stitched_segments store.now first marked.now) × (list_all item_fits v.items ≡ true)) }
-    ensures err { IfErr result (λ e. RefusesNumber e (list_all item_fits (stitched_segments store.now first marked.now) ≡ false)) }
+    ensures ok { IfOk result (λ v. (v.items ≡ stitched_segments store.now first ends.now marked.now) × (list_all item_fits v.items ≡ true)) }
+    ensures err { IfErr result (λ e. RefusesNumber e (list_all item_fits (stitched_segments store.now first ends.now marked.now) ≡ false)) }
 {
     let mut stitching = Stitching::with_room(alloc, first, marked.len())?;
+    stitching.put_rest(alloc, &ends.rest, store)?;
     let unmarked: Option<Shared<Text>> = None;
     let mut previous = &unmarked;
     let mut rest = marked;
     while let Some((here, later)) = rest.split_first() {
-        stitching.put_marked(alloc, here, previous, store)?;
+        stitching.put_marked(alloc, here, later, previous, store, ends)?;
         previous = &here.mark;
         rest = later;
     }

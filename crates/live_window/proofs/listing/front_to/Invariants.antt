@@ -1,12 +1,12 @@
 use Rattle.std.proofs.Common.{◌≡◌, length, List}
-use Rattle.pod_store.specs.Store.{Entry}
+use Rattle.pod_store.specs.Store.{Store}
 use Rattle.live_window.specs.Marking.{so_far}
 use Rattle.playlist_meaning.specs.Stitched.{up_to}
 use Rattle.live_window.specs.Listed.{IsFront}
 use Rattle.live_window.proofs.listing.front_to.Given as goal
 
 abbrev pub invariant-loop-newest : goal.invariant-loop-newest
-invariant-loop-newest l = ((store : List Entry) → up_to l.number (so_far store l.rest) ≡ up_to l.number (so_far store l.list)) × IsFront l.rest l.list
+invariant-loop-newest l = ((store : Store) → up_to l.number (so_far store l.rest) ≡ up_to l.number (so_far store l.list)) × IsFront l.rest l.list
 
 abbrev pub decreases-loop-newest : goal.decreases-loop-newest
 decreases-loop-newest l = length l.rest

@@ -1,13 +1,12 @@
-use Rattle.std.proofs.Common.{◌≡◌, ◌+◌, length}
+use Rattle.std.proofs.Common.{◌≡◌, ◌+◌, ◌≤◌, length}
 use Rattle.std.specs.Prelude.{None}
-use Rattle.stitcher.specs.Making.{pieces_on}
 use Rattle.live_window.specs.Marking.{place_on}
 use Rattle.live_window.proofs.placing.place_of.Given as goal
 
 abbrev pub invariant-loop-here : goal.invariant-loop-here
 invariant-loop-here l = record {
-  place : place_on l.store l.previous l.start l.count l.rest ≡ place_on l.store None 0 0 l.held;
-  fits : l.count + length (pieces_on l.store l.previous l.rest) ≡ length (pieces_on l.store None l.held);
+  place : place_on l.store l.previous l.start (l.start + l.items) l.rest ≡ place_on l.store None 0 0 l.held;
+  few : l.items ≤ 500;
 }
 
 abbrev pub decreases-loop-here : goal.decreases-loop-here

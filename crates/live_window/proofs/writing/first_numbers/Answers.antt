@@ -13,4 +13,4 @@ returns-in-Some-mark-clause-err c =
     let keeps = ap (λ id. pod_keeps (pod_for c.args.store.now id)) (sym (c.as_str.ensures.text ∙ c.deref.ensures)) ∙ c.know_pod.ensures in
     let own : nat_lt (c.deref-in-Some-mark.result.now.discontinuity + 1) (2 ^ 64) ≡ false → nat_lt (c.in-Some.first.now.segment.discontinuity + 1) (2 ^ 64) ≡ false =
     λ h. ap (λ (s : Segment). nat_lt (s.discontinuity + 1) (2 ^ 64)) (sym c.deref-in-Some-mark.ensures) ∙ h in
-    pod_passes c.first_with_pod.result c.first_with_pod.ensures.err (λ h. front_fails c.args.store.now c.args.list.now c.in-Some.first.now c.in-Some-mark.id at c.requires c.in-Some-mark.is keeps (own h))
+    pod_passes c.first_with_pod.result c.first_with_pod.ensures.err (λ h. front_fails c.args.store.now c.args.ends.now c.args.list.now c.in-Some.first.now c.in-Some-mark.id at c.requires c.in-Some-mark.is keeps (own h))

@@ -1,29 +1,55 @@
-use Rattle.std.proofs.Common.{ap, sym, ◌∙◌, arith, length}
+use Rattle.std.proofs.Common.{◌≡◌, List, length, refl, sym, ap, subst, ◌∙◌, arith}
 use Rattle.std.specs.List.{list_all}
+use Rattle.playlist_meaning.specs.declared.Segment.{Segment}
+use Rattle.playlist_meaning.specs.Stitched.{up_to}
 use Rattle.stitcher.specs.StitchedSegments.{item_fits}
-use Rattle.live_window.proofs.Rest.{number_range_is_stitched}
-use Rattle.live_window.proofs.Passing.{front_bounded, place_within, window_left}
+use Rattle.live_meaning.specs.Successor.{first_number}
+use Rattle.live_meaning.specs.Kept.{numbers_on}
+use Rattle.live_window.specs.Marking.{so_far}
+use Rattle.live_window.proofs.Starting.{handed_on, fit_is, window_left, has_room, room_left}
 use Rattle.live_window.proofs.writing.window_of.Goals as goal
 
-pub place_of-place-requires : goal.place_of-place-requires
-place_of-place-requires c =
-    let b = front_bounded c.args.store.now c.args.first c.args.list.now c.front_to.result.now c.requires c.front_to.ensures.front in
-    let e = ap length c.in_ok-items.ensures.ok.0 in
-    let s = c.in_ok-items.items.small in
-    omega (arith, b, e, s)
+pub returns-in_err-first-clause-err : goal.returns-in_err-first-clause-err
+returns-in_err-first-clause-err c =
+    let s = c.args.state.now in
+    let list = c.args.list.now in
+    let same = fit_is s c.args.playlist.now list c.args.length c.in_ok-ends.ends (numbers_on s.last s.numbers (so_far s.store list)) c.requires.decided (c.in_ok-ends.ensures s.store) refl in
+    handed_on c.from_residual-in_err-first.result c.in_err-first.field-0.0 c.from_residual-in_err-first.ensures.1 c.in_err-first.ensures.err (λ h. sym same ∙ h)
+
+pub returns-in_err-items-clause-err : goal.returns-in_err-items-clause-err
+returns-in_err-items-clause-err c =
+    let s = c.args.state.now in
+    let list = c.args.list.now in
+    let same = fit_is s c.args.playlist.now list c.args.length c.in_ok-ends.ends c.in_ok-first.first c.requires.decided (c.in_ok-ends.ensures s.store) c.in_ok-first.ensures.ok in
+    handed_on c.from_residual-in_err-items.result c.in_err-items.field-0.0 c.from_residual-in_err-items.ensures.1 c.in_err-items.ensures.err (λ h. sym same ∙ h)
+
+pub start_of-start-requires-clause-room : goal.start_of-start-requires-clause-room
+start_of-start-requires-clause-room c =
+    let s = c.args.state.now in
+    has_room s c.args.playlist.now c.args.list.now c.args.length c.in_ok-ends.ends c.in_ok-first.first c.requires.decided (c.in_ok-ends.ensures s.store) c.in_ok-first.ensures.ok c.in_ok-items.items.items c.in_ok-items.ensures.ok.0 (omega (arith, c.in_ok-items.items.small))
+
+pub rest_after-requires-clause-room : goal.rest_after-requires-clause-room
+rest_after-requires-clause-room c =
+    let s = c.args.state.now in
+    has_room s c.args.playlist.now c.args.list.now c.args.length c.in_ok-ends.ends c.in_ok-first.first c.requires.decided (c.in_ok-ends.ensures s.store) c.in_ok-first.ensures.ok c.in_ok-items.items.items c.in_ok-items.ensures.ok.0 (omega (arith, c.in_ok-items.items.small))
 
 pub from_place-requires : goal.from_place-requires
 from_place-requires c =
-    let b = place_within c.args.store.now c.args.first c.args.list.now c.front_to.result.now c.requires c.front_to.ensures.front in
-    let e = ap length c.in_ok-items.ensures.ok.0 in
-    let p = c.place_of-place.ensures in
-    omega (arith, b, e, p)
+    let s = c.args.state.now in
+    c.start_of-start.ensures.within (length c.in_ok-items.items.items)
+    (room_left s c.args.playlist.now c.args.list.now c.args.length c.in_ok-ends.ends c.in_ok-first.first c.requires.decided (c.in_ok-ends.ensures s.store) c.in_ok-first.ensures.ok c.in_ok-items.items.items c.in_ok-items.ensures.ok.0)
 
 pub returns-clause-ok : goal.returns-clause-ok
 returns-clause-ok c =
+    let s = c.args.state.now in
+    let inside = c.start_of-start.ensures.within (length c.in_ok-items.items.items)
+    (room_left s c.args.playlist.now c.args.list.now c.args.length c.in_ok-ends.ends c.in_ok-first.first c.requires.decided (c.in_ok-ends.ensures s.store) c.in_ok-first.ensures.ok c.in_ok-items.items.items c.in_ok-items.ensures.ok.0) in
     c.in_ok-from_place.ensures
-    ∙ window_left c.args.store.now c.args.first c.args.number c.args.list.now c.front_to.result.now c.in_ok-items.items.items c.place_of-place.result c.requires c.front_to.ensures.front (c.front_to.ensures.seen c.args.store.now) c.in_ok-items.ensures.ok.0 c.place_of-place.ensures
+    ∙ window_left s c.args.playlist.now c.args.list.now c.args.length c.in_ok-ends.ends c.in_ok-first.first c.requires.decided (c.in_ok-ends.ensures s.store) c.in_ok-first.ensures.ok c.in_ok-items.items.items c.start_of-start.result c.in_ok-items.ensures.ok.0 inside c.start_of-start.ensures.value
 
 pub returns-clause-fit : goal.returns-clause-fit
 returns-clause-fit c =
-    sym (number_range_is_stitched c.args.store.now c.args.first c.args.list.now) ∙ (ap (list_all item_fits) (sym c.in_ok-items.ensures.ok.0) ∙ c.in_ok-items.ensures.ok.1)
+    let s = c.args.state.now in
+    let list = c.args.list.now in
+    let same = fit_is s c.args.playlist.now list c.args.length c.in_ok-ends.ends c.in_ok-first.first c.requires.decided (c.in_ok-ends.ensures s.store) c.in_ok-first.ensures.ok in
+    sym same ∙ (ap (list_all item_fits) (sym c.in_ok-items.ensures.ok.0) ∙ c.in_ok-items.ensures.ok.1)

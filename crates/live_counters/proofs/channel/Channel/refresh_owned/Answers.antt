@@ -1,8 +1,12 @@
-use Rattle.std.proofs.Common.{Ok, rules, subst}
+use Rattle.std.proofs.Common.{◌≡◌, ℕ, List, Ok, rules, subst, sym}
 use Rattle.std.specs.Prelude.{IfErr, Some}
-use Rattle.live_counters.specs.Channel.{Channel, channel_with, Refreshes}
+use Rattle.live_window.specs.Showing.{AreKept}
+use Rattle.live_meaning.specs.declared.fault.RefreshFault.TheVariants.{OutOfMemory}
+use Rattle.live_window.specs.declared.state.State.{State}
+use Rattle.live_counters.specs.Channel.{Channel, Stands, IsContiguous, channel_with, Refreshes}
 use Rattle.live_counters.specs.Accepting.{Refused}
-use Rattle.live_counters.proofs.Refreshing.{goes, stays}
+use Rattle.live_counters.specs.declared.channel.Refreshed.{Refreshed}
+use Rattle.live_counters.proofs.Refreshing.{goes, stays, stays_full}
 use Rattle.live_counters.proofs.channel.Channel.refresh_owned.Goals as goal
 
 pub returns-in_err-playlist : goal.returns-in_err-playlist
@@ -15,9 +19,27 @@ returns-in_err-playlist c =
 pub invariant_of-self : goal.invariant_of-self
 invariant_of-self c =
     let i = c.self.inside in
+    let same : c.accept.new.state ≡ i.state = c.in_err-refreshed.ensures.err.1 in
+    subst (λ (s : State). Stands (channel_with i.base i.tolerance s i.text) × AreKept s.store s × IsContiguous s.last) (sym same) c.self.invariant
+
+pub returns-in_err-refreshed : goal.returns-in_err-refreshed
+returns-in_err-refreshed c =
+    let i = c.self.inside in
+    let bytes = c.args.bytes.items in
+    let result = c.from_residual-in_err-refreshed.result in
+    let same : c.accept.new.state ≡ i.state = c.in_err-refreshed.ensures.err.1 in
+    let full : IfErr result (λ e. e ≡ OutOfMemory) = search rules in
+    let before = channel_with i.base i.tolerance i.state i.text in
+    let stay = subst (λ (x : Channel). Refreshes x bytes result before) c.self.view_is (stays_full i.base i.tolerance i.state i.text bytes result c.from_residual-in_err-refreshed.ensures.0 full) in
+    subst (λ (s : State). Refreshes c.args.self.now bytes result (channel_with i.base i.tolerance s i.text)) (sym same) stay
+
+pub invariant_of-self-2 : goal.invariant_of-self-2
+invariant_of-self-2 c =
+    let i = c.self.inside in
     let p = c.in_ok-playlist.playlist in
     let a = c.in_ok-playlist.next in
-    let g = goes i.base i.tolerance i.state i.text c.args.bytes.items p a c.in_ok-playlist.ensures.ok c.accept-written.new.state c.accept-written.result c.accept-written.ensures.state c.accept-written.ensures.answer c.self.invariant.0 in
+    let answer : Refreshed × List ℕ = (c.in_ok-refreshed.refreshed, c.in_ok-refreshed.written) in
+    let g = goes i.base i.tolerance i.state i.text c.args.bytes.items p a c.in_ok-playlist.ensures.ok c.accept.new.state answer c.in_ok-refreshed.ensures.state c.in_ok-refreshed.ensures.answer c.self.invariant.0 in
     (g.stands, g.decided, g.numbers)
 
 pub returns : goal.returns
@@ -26,5 +48,6 @@ returns c =
     let p = c.in_ok-playlist.playlist in
     let a = c.in_ok-playlist.next in
     let bytes = c.args.bytes.items in
-    let g = goes i.base i.tolerance i.state i.text bytes p a c.in_ok-playlist.ensures.ok c.accept-written.new.state c.accept-written.result c.accept-written.ensures.state c.accept-written.ensures.answer c.self.invariant.0 in
-    subst (λ (x : Channel). Refreshes x bytes (Ok c.accept-written.result.0) (channel_with i.base i.tolerance c.accept-written.new.state (Some c.accept-written.result.1))) c.self.view_is g.refreshes
+    let answer : Refreshed × List ℕ = (c.in_ok-refreshed.refreshed, c.in_ok-refreshed.written) in
+    let g = goes i.base i.tolerance i.state i.text bytes p a c.in_ok-playlist.ensures.ok c.accept.new.state answer c.in_ok-refreshed.ensures.state c.in_ok-refreshed.ensures.answer c.self.invariant.0 in
+    subst (λ (x : Channel). Refreshes x bytes (Ok c.in_ok-refreshed.refreshed) (channel_with i.base i.tolerance c.accept.new.state (Some c.in_ok-refreshed.written))) c.self.view_is g.refreshes

@@ -1,8 +1,9 @@
-use Rattle.std.proofs.Common.{[], ◌∷◌, List, map, sym, subst, ap, ◌∙◌, true, false}
+use Rattle.std.proofs.Common.{[], ◌∷◌, ◌++◌, List, map, sym, subst, ap, ◌∙◌, true, false}
 use Rattle.playlist_meaning.specs.Marks.{Mark}
 use Rattle.playlist_meaning.specs.Pods.{Ad, PodSegment}
 use Rattle.playlist_meaning.specs.Stitched.{ad_piece, ad_pieces}
-use Rattle.stitcher.specs.Making.{Passes, numbers_fit}
+use Rattle.stitcher.specs.declared.making.Part.{Part}
+use Rattle.stitcher.specs.Making.{Passes, numbers_fit, part_here, part_of, part_after, part_after_one}
 use Rattle.stitcher.proofs.Outcomes.{handed_on}
 use Rattle.stitcher.proofs.Putting.{Walks, walks_none, walks_on, walked, passes_there, passes_longer, none_left}
 use Rattle.stitcher.proofs.making.Stitching.put_ad.Goals as goal
@@ -10,49 +11,68 @@ use Rattle.stitcher.proofs.making.Stitching.put_ad.Goals as goal
 any_mark : Mark
 any_mark = record { id = []; pod = record { ads = [] } }
 
-pub returns-in_err-put-clause-err : goal.returns-in_err-put-clause-err
-returns-in_err-put-clause-err c =
+pub returns-in_err-left-clause-err : goal.returns-in_err-left-clause-err
+returns-in_err-left-clause-err c =
     let ad = c.args.ad.now in
+    let part = c.args.part in
+    let segment = c.in-Some.first.now in
     let parts = sym (ap (λ (a : Ad). a.segments) c.ad.view_is) ∙ (sym c.as_slice.ensures ∙ c.in-Some.ensures.cases.0) in
-    handed_on c.from_residual-in_err-put.result c.in_err-put.field-0.0 c.from_residual-in_err-put.ensures.1 c.in_err-put.ensures.err
-    (λ p mark. subst (λ (ss : List PodSegment). Passes c.args.self.now (ad_pieces mark ad ss)) (sym parts)
-    (passes_longer c.args.self.now (ad_piece mark true ad c.in-Some.first.now ∷ []) (map (ad_piece mark false ad) c.in-Some.later.now) (p mark)))
+    handed_on c.from_residual-in_err-left.result c.in_err-left.field-0.0 c.from_residual-in_err-left.ensures.1 c.in_err-left.ensures.err
+    (λ p mark. subst (λ (ss : List PodSegment). Passes c.args.self.now (part_of part (ad_pieces mark ad ss))) (sym parts)
+    (passes_longer c.args.self.now (part_here part (ad_piece mark true ad segment)) (part_of (part_after_one part segment.duration) (map (ad_piece mark false ad) c.in-Some.later.now)) (p mark)))
 
 pub loop-segment-init : goal.loop-segment-init
 loop-segment-init c =
     let ad = c.args.ad.now in
-    let put = c.in_ok-put.ensures.ok in
+    let part = c.args.part in
+    let put = c.in_ok-left.ensures.ok in
+    let segment = c.in-Some.first.now in
+    let later = c.in-Some.later.now in
     let parts = sym (ap (λ (a : Ad). a.segments) c.ad.view_is) ∙ (sym c.as_slice.ensures ∙ c.in-Some.ensures.cases.0) in
     record {
       fits = ap numbers_fit (put any_mark).first ∙ c.requires;
       section = c.parts.view_is ∙ c.in_ok-parts.ensures;
       title = c.parts.invariant;
-      walks = λ mark. subst (λ (ss : List PodSegment). Walks c.args.self.now c.put.new.self (ad_pieces mark ad ss) (map (ad_piece mark false ad) c.in-Some.later.now)) (sym parts)
-          (walks_on c.args.self.now c.args.self.now c.put.new.self (ad_pieces mark ad (c.in-Some.first.now ∷ c.in-Some.later.now)) (ad_piece mark true ad c.in-Some.first.now ∷ []) (map (ad_piece mark false ad) c.in-Some.later.now)
-          (walks_none c.args.self.now (ad_pieces mark ad (c.in-Some.first.now ∷ c.in-Some.later.now))) (put mark));
+      walks = λ mark. subst (λ (ss : List PodSegment). Walks c.args.self.now c.offer.new.self (part_of part (ad_pieces mark ad ss)) (part_of c.in_ok-left.left (map (ad_piece mark false ad) later))) (sym parts)
+          (subst (λ (left : Part). Walks c.args.self.now c.offer.new.self (part_of part (ad_pieces mark ad (segment ∷ later))) (part_of left (map (ad_piece mark false ad) later))) (sym c.in_ok-left.ensures.part)
+          (walks_on c.args.self.now c.args.self.now c.offer.new.self (part_of part (ad_pieces mark ad (segment ∷ later))) (part_here part (ad_piece mark true ad segment)) (part_of (part_after_one part segment.duration) (map (ad_piece mark false ad) later))
+          (walks_none c.args.self.now (part_of part (ad_pieces mark ad (segment ∷ later)))) (put mark)));
+      after = λ mark. ap (λ (ss : List PodSegment). part_after part (ad_pieces mark ad ss)) parts ∙ ap (λ left. part_after left (map (ad_piece mark false ad) later)) (sym c.in_ok-left.ensures.part);
     }
 
-pub returns-in_err-put-2-clause-err : goal.returns-in_err-put-2-clause-err
-returns-in_err-put-2-clause-err c =
+pub returns-in_err-left-2-clause-err : goal.returns-in_err-left-2-clause-err
+returns-in_err-left-2-clause-err c =
     let ad = c.args.ad.now in
-    handed_on c.from_residual-in_err-put-2.result c.in_err-put-2.field-0.0 c.from_residual-in_err-put-2.ensures.1 c.in_err-put-2.ensures.err
-    (λ p mark. passes_there c.args.self.now c.loop-segment.self (ad_pieces mark ad ad.segments) (ad_piece mark false ad c.in-Some-split_first.segment.now ∷ []) (map (ad_piece mark false ad) c.in-Some-split_first.later.now)
-    (subst (λ (ss : List PodSegment). Walks c.args.self.now c.loop-segment.self (ad_pieces mark ad ad.segments) (map (ad_piece mark false ad) ss)) c.in-Some-split_first.ensures.cases.0 (c.loop-segment.invariant.walks mark)) (p mark))
+    let part = c.loop-segment.left in
+    let segment = c.in-Some-split_first.segment.now in
+    handed_on c.from_residual-in_err-left-2.result c.in_err-left-2.field-0.0 c.from_residual-in_err-left-2.ensures.1 c.in_err-left-2.ensures.err
+    (λ p mark. passes_there c.args.self.now c.loop-segment.self (part_of c.args.part (ad_pieces mark ad ad.segments)) (part_here part (ad_piece mark false ad segment)) (part_of (part_after_one part segment.duration) (map (ad_piece mark false ad) c.in-Some-split_first.later.now))
+    (subst (λ (ss : List PodSegment). Walks c.args.self.now c.loop-segment.self (part_of c.args.part (ad_pieces mark ad ad.segments)) (part_of part (map (ad_piece mark false ad) ss))) c.in-Some-split_first.ensures.cases.0 (c.loop-segment.invariant.walks mark)) (p mark))
 
 pub loop-segment-preserved : goal.loop-segment-preserved
 loop-segment-preserved c =
     let ad = c.args.ad.now in
-    let put = c.in_ok-put-2.ensures.ok in
+    let part = c.loop-segment.left in
+    let put = c.in_ok-left-2.ensures.ok in
+    let segment = c.in-Some-split_first.segment.now in
+    let later = c.in-Some-split_first.later.now in
     record {
       fits = ap numbers_fit (put any_mark).first ∙ c.loop-segment.invariant.fits;
       section = c.loop-segment.invariant.section;
       title = c.loop-segment.invariant.title;
-      walks = λ mark. walks_on c.args.self.now c.loop-segment.self c.put-in-Some-split_first.new.self (ad_pieces mark ad ad.segments) (ad_piece mark false ad c.in-Some-split_first.segment.now ∷ []) (map (ad_piece mark false ad) c.in-Some-split_first.later.now)
-          (subst (λ (ss : List PodSegment). Walks c.args.self.now c.loop-segment.self (ad_pieces mark ad ad.segments) (map (ad_piece mark false ad) ss)) c.in-Some-split_first.ensures.cases.0 (c.loop-segment.invariant.walks mark)) (put mark);
+      walks = λ mark. subst (λ (left : Part). Walks c.args.self.now c.offer-in-Some-split_first.new.self (part_of c.args.part (ad_pieces mark ad ad.segments)) (part_of left (map (ad_piece mark false ad) later))) (sym c.in_ok-left-2.ensures.part)
+          (walks_on c.args.self.now c.loop-segment.self c.offer-in-Some-split_first.new.self (part_of c.args.part (ad_pieces mark ad ad.segments)) (part_here part (ad_piece mark false ad segment)) (part_of (part_after_one part segment.duration) (map (ad_piece mark false ad) later))
+          (subst (λ (ss : List PodSegment). Walks c.args.self.now c.loop-segment.self (part_of c.args.part (ad_pieces mark ad ad.segments)) (part_of part (map (ad_piece mark false ad) ss))) c.in-Some-split_first.ensures.cases.0 (c.loop-segment.invariant.walks mark)) (put mark));
+      after = λ mark. c.loop-segment.invariant.after mark ∙ (ap (λ (ss : List PodSegment). part_after part (map (ad_piece mark false ad) ss)) c.in-Some-split_first.ensures.cases.0 ∙ ap (λ left. part_after left (map (ad_piece mark false ad) later)) (sym c.in_ok-left-2.ensures.part));
     }
 
 pub returns-clause-ok : goal.returns-clause-ok
 returns-clause-ok c mark =
     let ad = c.args.ad.now in
-    walked c.args.self.now c.loop-segment.self (ad_pieces mark ad ad.segments)
-    (subst (λ (ss : List PodSegment). Walks c.args.self.now c.loop-segment.self (ad_pieces mark ad ad.segments) (map (ad_piece mark false ad) ss)) (none_left c.loop-segment.rest.now c.in_default-split_first.ensures.cases) (c.loop-segment.invariant.walks mark))
+    walked c.args.self.now c.loop-segment.self (part_of c.args.part (ad_pieces mark ad ad.segments))
+    (subst (λ (ss : List PodSegment). Walks c.args.self.now c.loop-segment.self (part_of c.args.part (ad_pieces mark ad ad.segments)) (part_of c.loop-segment.left (map (ad_piece mark false ad) ss))) (none_left c.loop-segment.rest.now c.in_default-split_first.ensures.cases) (c.loop-segment.invariant.walks mark))
+
+pub returns-clause-part : goal.returns-clause-part
+returns-clause-part c mark =
+    let ad = c.args.ad.now in
+    sym (c.loop-segment.invariant.after mark ∙ ap (λ (ss : List PodSegment). part_after c.loop-segment.left (map (ad_piece mark false ad) ss)) (none_left c.loop-segment.rest.now c.in_default-split_first.ensures.cases))

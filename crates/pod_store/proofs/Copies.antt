@@ -1,0 +1,190 @@
+-- Copies of the fallback stand after what was there.
+use Rattle.std.proofs.Common.{◌≡◌, ℕ, Bool, true, false, cond, ◌||◌, List, [], ◌∷◌, ◌++◌, map, length, take, refl, ap, sym, ◌∙◌, append_assoc, Some, None}
+use Rattle.std.specs.Prelude.{Option, is_some, find, option_map, bytes_eq}
+use Rattle.std.proofs.lemmas.Slice.Eq.{bytes_eq-Decides}
+use Rattle.std.proofs.lemmas.List.{take-map, append-nil, length-map}
+use Rattle.std.proofs.Math.Seq.{take-append_seam}
+use Rattle.playlist_meaning.specs.LookBack.{or_earlier}
+use Rattle.playlist_meaning.specs.Pods.{Pod}
+use Rattle.pod_store.specs.Store.{Entry, Store, with_entries, has_id, pod_of, entry_for, has_own, own_pod, pod_for, is_one_of, copied_last, with_copy, with_copies, with_used, adopted, GrowsBy}
+use Rattle.pod_store.specs.Kept.{Pairs, entry_of}
+use Rattle.pod_store.proofs.KeptLaws.{store_of}
+
+-- ---- one copy
+
+abbrev pub entry_in : List Entry → List ℕ → Option Entry
+entry_in entries id = find (has_id id) entries
+
+abbrev pub pod_if : Option Entry → Option Pod
+pod_if o = option_map pod_of o
+
+abbrev pub pod_at : List Entry → List ℕ → Option Pod
+pod_at entries id = pod_if (entry_in entries id)
+
+pub none_there : (o : Option Entry) → is_some o ≡ false → o ≡ None
+none_there None h = refl
+none_there (Some e) h = absurd (cc)
+
+entry_last : (id : List ℕ) (entries : List Entry) (x : Entry) → entry_in (entries ++ (x ∷ [])) id ≡ or_earlier (entry_in entries id) (cond (bytes_eq id x.id) (Some x) None)
+entry_last id [] x = refl
+entry_last id (e ∷ entries) x = by (bytes_eq id e.id) (entry_last id entries x)
+  where
+    by : (b : Bool) → entry_in (entries ++ (x ∷ [])) id ≡ or_earlier (entry_in entries id) (cond (bytes_eq id x.id) (Some x) None)
+        → cond b (Some e) (entry_in (entries ++ (x ∷ [])) id) ≡ or_earlier (cond b (Some e) (entry_in entries id)) (cond (bytes_eq id x.id) (Some x) None)
+    by true rec = refl
+    by false rec = rec
+
+or_nothing : (o : Option Entry) → or_earlier o None ≡ o
+or_nothing None = refl
+or_nothing (Some e) = refl
+
+pub copy_other : (id other : List ℕ) (entries : List Entry) (pod : Option Pod) → bytes_eq id other ≡ false → entry_in (copied_last entries other pod) id ≡ entry_in entries id
+copy_other id other entries None h = refl
+copy_other id other entries (Some pod) h =
+    let x : Entry = record { id = other; pod = pod; used = true; copied = true } in
+    entry_last id entries x ∙ (ap (λ b. or_earlier (entry_in entries id) (cond b (Some x) None)) h ∙ or_nothing (entry_in entries id))
+
+pub copy_own : (id : List ℕ) (entries : List Entry) (pod : Option Pod) → entry_in entries id ≡ None → pod_at (copied_last entries id pod) id ≡ pod
+copy_own id entries None h = ap pod_if h
+copy_own id entries (Some pod) h =
+    let x : Entry = record { id = id; pod = pod; used = true; copied = true } in
+    ap pod_if (entry_last id entries x ∙ (ap (λ o. or_earlier o (cond (bytes_eq id id) (Some x) None)) h ∙ ap (λ b. cond b (Some x) None) ((bytes_eq-Decides id id).1 refl)))
+
+-- what stands stays
+copy_keeps : (id other : List ℕ) (entries : List Entry) (pod : Option Pod) (e : Entry) → entry_in entries id ≡ Some e → entry_in (copied_last entries other pod) id ≡ Some e
+copy_keeps id other entries None e h = h
+copy_keeps id other entries (Some pod) e h =
+    let x : Entry = record { id = other; pod = pod; used = true; copied = true } in
+    entry_last id entries x ∙ ap (λ o. or_earlier o (cond (bytes_eq id other) (Some x) None)) h
+
+entry_stays_copy : (store : Store) (other id : List ℕ) (e : Entry) → entry_for store id ≡ Some e → entry_for (with_copy store other) id ≡ Some e
+entry_stays_copy store other id e h = by (has_own store other)
+  where
+    by : (b : Bool) → entry_for (cond b store (with_entries store (copied_last store.entries other store.fallback))) id ≡ Some e
+    by true = h
+    by false = copy_keeps id other store.entries store.fallback e h
+
+fallback_stays : (store : Store) (other : List ℕ) → (with_copy store other).fallback ≡ store.fallback
+fallback_stays store other = by (has_own store other)
+  where
+    by : (b : Bool) → (cond b store (with_entries store (copied_last store.entries other store.fallback))).fallback ≡ store.fallback
+    by true = refl
+    by false = refl
+
+some_first : (o : Option Entry) (pod : Option Pod) → is_some o ≡ true → pod_if o ≡ or_earlier (pod_if o) pod
+some_first None pod h = absurd (cc)
+some_first (Some e) pod h = refl
+
+-- a break has the pod that it is filled with of its own then
+own_copy : (store : Store) (id : List ℕ) → own_pod (with_copy store id) id ≡ pod_for store id
+own_copy store id = by (has_own store id) refl
+  where
+    by : (b : Bool) → has_own store id ≡ b → own_pod (cond b store (with_entries store (copied_last store.entries id store.fallback))) id ≡ pod_for store id
+    by true h = some_first (entry_for store id) store.fallback h
+    by false h =
+        let none : entry_for store id ≡ None = none_there _ h in
+        copy_own id store.entries store.fallback none ∙ sym (ap (λ o. or_earlier (pod_if o) store.fallback) none)
+
+or_again : (a b : Option Pod) → or_earlier (or_earlier a b) b ≡ or_earlier a b
+or_again None None = refl
+or_again None (Some x) = refl
+or_again (Some x) b = refl
+
+-- and no break is filled with another pod
+pod_stays_copy : (store : Store) (other id : List ℕ) → pod_for (with_copy store other) id ≡ pod_for store id
+pod_stays_copy store other id = by (bytes_eq id other) refl
+  where
+    apart : bytes_eq id other ≡ false → (b : Bool) → own_pod (cond b store (with_entries store (copied_last store.entries other store.fallback))) id ≡ own_pod store id
+    apart e true = refl
+    apart e false = ap pod_if (copy_other id other store.entries store.fallback e)
+
+    by : (t : Bool) → bytes_eq id other ≡ t → pod_for (with_copy store other) id ≡ pod_for store id
+    by true e =
+        let same = (bytes_eq-Decides id other).0 e in
+        ap (λ f. or_earlier (own_pod (with_copy store other) id) f) (fallback_stays store other)
+        ∙ (ap (λ i. or_earlier (own_pod (with_copy store i) id) store.fallback) (sym same)
+        ∙ (ap (λ o. or_earlier o store.fallback) (own_copy store id) ∙ or_again (own_pod store id) store.fallback))
+    by false e =
+        ap (λ f. or_earlier (own_pod (with_copy store other) id) f) (fallback_stays store other) ∙ ap (λ o. or_earlier o store.fallback) (apart e (has_own store other))
+
+-- ---- copies for some breaks
+
+pub entry_stays : (store : Store) (ids : List (List ℕ)) (id : List ℕ) (e : Entry) → entry_for store id ≡ Some e → entry_for (with_copies store ids) id ≡ Some e
+entry_stays store [] id e h = h
+entry_stays store (x ∷ ids) id e h = entry_stays (with_copy store x) ids id e (entry_stays_copy store x id e h)
+
+pub pod_stays : (store : Store) (ids : List (List ℕ)) (id : List ℕ) → pod_for (with_copies store ids) id ≡ pod_for store id
+pod_stays store [] id = refl
+pod_stays store (x ∷ ids) id = pod_stays (with_copy store x) ids id ∙ pod_stays_copy store x id
+
+own_entry : (o : Option Entry) (pod : Pod) → pod_if o ≡ Some pod → (e : Entry) × ((o ≡ Some e) × (e.pod ≡ pod))
+own_entry None pod h = absurd (cc)
+own_entry (Some e) pod h = let same : e.pod ≡ pod = cc in (e, (refl, same))
+
+-- each of them has the pod that it is filled with of its own then
+pub all_own : (store : Store) (ids : List (List ℕ)) (id : List ℕ) (pod : Pod) → is_one_of ids id ≡ true → pod_for store id ≡ Some pod
+    → (e : Entry) × ((entry_for (with_copies store ids) id ≡ Some e) × (e.pod ≡ pod))
+all_own store [] id pod h p = absurd (cc)
+all_own store (x ∷ ids) id pod h p = by (bytes_eq id x) refl (λ k. all_own (with_copy store x) ids id pod k (pod_stays_copy store x id ∙ p)) h
+  where
+    by : (t : Bool) → bytes_eq id x ≡ t → (is_one_of ids id ≡ true → (e : Entry) × ((entry_for (with_copies (with_copy store x) ids) id ≡ Some e) × (e.pod ≡ pod))) → (t || is_one_of ids id) ≡ true → (e : Entry) × ((entry_for (with_copies (with_copy store x) ids) id ≡ Some e) × (e.pod ≡ pod))
+    by true k rec h =
+        let same = (bytes_eq-Decides id x).0 k in
+        let own = own_entry (entry_for (with_copy store x) id) pod (ap (λ i. own_pod (with_copy store i) id) (sym same) ∙ (own_copy store id ∙ p)) in
+        (own.0, (entry_stays (with_copy store x) ids id own.0 own.1.0, own.1.1))
+    by false k rec h = rec h
+
+-- ---- adopting
+
+-- a break without a pod of its own is adopted with the fallback
+pub adopts : (store : Store) (id : List ℕ) (there : Bool) (new : Store) → has_own store id ≡ false → there ≡ is_some store.fallback → new ≡ with_copy store id
+    → (there ≡ is_some (pod_for store id)) × (new ≡ adopted store id)
+adopts store id there new h e f = (
+  e ∙ sym (ap (λ o. is_some (or_earlier (option_map pod_of o) store.fallback)) (none_there (entry_for store id) h)),
+  f ∙ sym (ap (λ b. cond b (with_used id store) (with_copy store id)) h),
+)
+
+-- so is one that has its own
+pub adopts_own : (store : Store) (id : List ℕ) (new : Store) → has_own store id ≡ true → new ≡ with_used id store → (true ≡ is_some (pod_for store id)) × (new ≡ adopted store id)
+adopts_own store id new h f = (some (entry_for store id) h, f ∙ sym (ap (λ b. cond b (with_used id store) (with_copy store id)) h))
+  where
+    some : (o : Option Entry) → is_some o ≡ true → true ≡ is_some (or_earlier (option_map pod_of o) store.fallback)
+    some None k = absurd (cc)
+    some (Some e) k = refl
+
+pub own_stays : (store : Store) (id : List ℕ) → has_own store id ≡ true → store ≡ with_copy store id
+own_stays store id h = sym (ap (λ b. cond b store (with_entries store (copied_last store.entries id store.fallback))) h)
+
+pub copy_is : (store : Store) (id : List ℕ) (pod : Option Pod) → has_own store id ≡ false → store.fallback ≡ pod → with_copy store id ≡ with_entries store (copied_last store.entries id pod)
+copy_is store id pod h e =
+    ap (λ b. cond b store (with_entries store (copied_last store.entries id store.fallback))) h ∙ ap (λ p. with_entries store (copied_last store.entries id p)) e
+
+-- ---- what comes after what was there
+
+pub grows_nowhere : (store : Store) → GrowsBy store store
+grows_nowhere store = ([], ap (with_entries store) (sym (append-nil store.entries)))
+
+copy_grows : (store : Store) (id : List ℕ) → GrowsBy store (with_copy store id)
+copy_grows store id = by (has_own store id) store.fallback refl
+  where
+    by : (b : Bool) (pod : Option Pod) → store.fallback ≡ pod → GrowsBy store (cond b store (with_entries store (copied_last store.entries id pod)))
+    by true pod e = grows_nowhere store
+    by false None e = grows_nowhere store
+    by false (Some pod) e = (record { id = id; pod = pod; used = true; copied = true } ∷ [], refl)
+
+pub grows_through : (a b c : Store) → GrowsBy a b → GrowsBy b c → GrowsBy a c
+grows_through a b c (x, p) (y, q) =
+    (x ++ y, q ∙ (ap (λ (s : Store). with_entries s (s.entries ++ y)) p ∙ ap (with_entries a) (append_assoc a.entries x y)))
+
+pub copy_grows_on : (first store : Store) (id : List ℕ) → GrowsBy first store → GrowsBy first (with_copy store id)
+copy_grows_on first store id h = grows_through first store (with_copy store id) h (copy_grows store id)
+
+-- what is left of a store that has grown, up to what was there
+pub truncated : (es new : Pairs) (fallback now_fallback : Option Pod) (store now : Store) (n : ℕ) → store_of es fallback ≡ store → n ≡ length es → store_of new now_fallback ≡ now → GrowsBy store now
+    → store_of (take n new) now_fallback ≡ store
+truncated es new fallback now_fallback store now n view_is n_is now_is (more, grown) =
+    let fallbacks : now_fallback ≡ store.fallback = ap (λ (s : Store). s.fallback) (now_is ∙ grown) in
+    let entries : map entry_of new ≡ store.entries ++ more = ap (λ (s : Store). s.entries) (now_is ∙ grown) in
+    let count : n ≡ length store.entries = n_is ∙ (sym (length-map es entry_of) ∙ ap (λ (s : Store). length s.entries) view_is) in
+    ap (λ l. record { entries = l; fallback = now_fallback }) (sym (take-map entry_of n new) ∙ (ap (take n) entries ∙ (ap (λ k. take k (store.entries ++ more)) count ∙ take-append_seam store.entries more)))
+    ∙ ap (λ (f : Option Pod). record { entries = store.entries; fallback = f }) fallbacks

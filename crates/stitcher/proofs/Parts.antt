@@ -1,0 +1,66 @@
+-- The part of a pod that is shown.
+use Rattle.std.proofs.Common.{◌≡◌, ℕ, ◌-◌, Bool, true, false, cond, zero, suc, List, [], ◌∷◌, ◌++◌, refl, ap, sym, ◌∙◌, append_assoc, drop, arith}
+use Rattle.std.specs.Prelude.{nat_le}
+use Rattle.std.proofs.lemmas.Bool.{eqb-true}
+use Rattle.playlist_meaning.specs.Stitched.{Piece}
+use Rattle.playlist_meaning.specs.Paced.{due}
+use Rattle.stitcher.specs.declared.making.Part.{Part}
+use Rattle.stitcher.specs.Making.{is_nothing, shows_next, part_here, part_after_one, part_of, part_after, whole_from}
+
+pub part_append : (part : Part) (xs ys : List Piece) → part_of part (xs ++ ys) ≡ part_of part xs ++ part_of (part_after part xs) ys
+part_append part [] ys = refl
+part_append part (p ∷ xs) ys =
+    let next = part_after_one part p.segment.duration in
+    ap (λ t. part_here part p ++ t) (part_append next xs ys) ∙ sym (append_assoc (part_here part p) (part_of next xs) (part_of (part_after next xs) ys))
+
+pub after_append : (part : Part) (xs ys : List Piece) → part_after part (xs ++ ys) ≡ part_after (part_after part xs) ys
+after_append part [] ys = refl
+after_append part (p ∷ xs) ys = after_append (part_after_one part p.segment.duration) xs ys
+
+abbrev with_parts : ℕ → Bool → ℕ → Bool → Part
+with_parts skip whole left done = record { skip = skip; whole = whole; left = left; done = done }
+
+-- nothing more
+none_of : (whole : Bool) (left : ℕ) (pieces : List Piece) → part_of (with_parts 0 whole left true) pieces ≡ []
+none_of whole left [] = refl
+none_of whole left (p ∷ pieces) = none_of whole (left - p.segment.duration) pieces
+
+-- all of them
+all_of : (left : ℕ) (pieces : List Piece) → part_of (with_parts 0 true left false) pieces ≡ pieces
+all_of left [] = refl
+all_of left (p ∷ pieces) = ap (λ t. p ∷ t) (all_of (left - p.segment.duration) pieces)
+
+pub due_is_part : (length : ℕ) (pieces : List Piece) → part_of (with_parts 0 false length false) pieces ≡ due length pieces
+due_is_part length [] = refl
+due_is_part length (p ∷ pieces) = ap (λ t. p ∷ t) (step (nat_le length p.segment.duration) (due_is_part (length - p.segment.duration) pieces))
+  where
+    step : (b : Bool) → part_of (with_parts 0 false (length - p.segment.duration) false) pieces ≡ due (length - p.segment.duration) pieces
+        → part_of (with_parts 0 false (length - p.segment.duration) b) pieces ≡ cond b [] (due (length - p.segment.duration) pieces)
+    step true e = none_of false (length - p.segment.duration) pieces
+    step false e = e
+
+not_nothing : (n : ℕ) → is_nothing (suc n) ≡ false
+not_nothing n = step (is_nothing (suc n)) refl
+  where
+    step : (b : Bool) → is_nothing (suc n) ≡ b → b ≡ false
+    step true e = absurd (omega (arith, eqb-true (suc n) 0 e))
+    step false e = refl
+
+rest_of : (skip left : ℕ) (pieces : List Piece) → part_of (with_parts skip true left false) pieces ≡ drop skip pieces
+rest_of zero left pieces = all_of left pieces
+rest_of (suc skip) left [] = refl
+rest_of (suc skip) left (p ∷ pieces) =
+    let e = not_nothing skip in
+    let k : suc skip - 1 ≡ skip = omega arith in
+    rw (e, k) (rest_of skip left pieces)
+
+pub rest_is_part : (place : ℕ) (pieces : List Piece) → part_of (whole_from place) pieces ≡ drop place pieces
+rest_is_part place pieces = rest_of place 0 pieces
+
+pub whole_is_part : (pieces : List Piece) → part_of (whole_from 0) pieces ≡ pieces
+whole_is_part pieces = all_of 0 pieces
+
+-- ---- one piece
+
+pub is_here : (part : Part) (p : Piece) → shows_next part ≡ true → p ∷ [] ≡ part_here part p
+is_here part p e = sym (ap (λ b. cond b (p ∷ []) []) e)
