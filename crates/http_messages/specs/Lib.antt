@@ -2,3 +2,4 @@ pub mod Replies
 pub mod Requests
 pub mod Received
 pub mod Runs
+pub mod Arriving

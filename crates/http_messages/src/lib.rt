@@ -1,15 +1,19 @@
 //! Messages of HTTP/1.1 (RFC 9110, RFC 9112): a request is read from a source, and a reply is written to a sink.
 #![tactic(auto)]
 
+mod arriving;
 mod head;
 pub mod laws;
+mod leaving;
 mod message;
 mod receiving;
 mod refusal;
 mod reply_head;
 mod sending;
 
+pub use arriving::{Arrived, Arriving};
 pub use head::{BODY_LIMIT, FIELD_LIMIT, HEAD_LIMIT};
+pub use leaving::Leaving;
 pub use message::{Allow, Body, Content, ContentType, Reply, Request};
 pub use receiving::{Asked, MOST_READS, ReceiveFault, receive};
 pub use refusal::{Refusal, plain_reply, refusal_reply};

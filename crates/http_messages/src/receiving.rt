@@ -71,7 +71,7 @@ fn judged(alloc: Global, bytes: &[u8]) -> Result<HeadRead, AllocError>
 
 // What a look at the bytes gave.
 #[derive(Drop)]
-enum Step {
+pub(crate) enum Step {
     // A head and all bytes of its body, which are so many.
     Whole(Head, usize),
     Refused(Refusal),
@@ -96,7 +96,7 @@ fn with_head(bytes: &[u8], head: Head) -> Step
 }
 
 // Looks at the bytes read so far, of which the head may be known already.
-fn look(alloc: Global, bytes: &[u8], head: Option<Head>) -> Result<Step, AllocError>
+pub(crate) fn look(alloc: Global, bytes: &[u8], head: Option<Head>) -> Result<Step, AllocError>
     requires { IfSome head (IsHeadAt bytes.now) }
     ensures { IfOk result (IsStep bytes.now) }
 {
@@ -111,7 +111,7 @@ fn look(alloc: Global, bytes: &[u8], head: Option<Head>) -> Result<Step, AllocEr
 }
 
 // The request of this head, whose body is the next bytes.
-fn request_of(bytes: Vec<u8>, head: Head, count: usize) -> Request
+pub(crate) fn request_of(bytes: Vec<u8>, head: Head, count: usize) -> Request
     requires { head.len + count ≤ length bytes.items }
     ensures { result ≡ record { method = head.method; target = head.target; body = take count (drop head.len bytes.items) } }
 {

@@ -58,7 +58,7 @@ pub fn sends_body(method: &Method) -> bool
 }
 
 // What is sent of the body.
-fn body_sent(reply: &Reply, with_body: bool) -> &[u8]
+pub(crate) fn body_sent(reply: &Reply, with_body: bool) -> &[u8]
     ensures { result.now ≡ body_sent with_body reply.now }
 {
     if with_body { reply.body() } else { &[] }

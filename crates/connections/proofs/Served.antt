@@ -1,0 +1,256 @@
+-- Each connection is served by itself, whatever the others do.
+use Rattle.std.proofs.Common.{◌≡◌, ℕ, ◌+◌, ◌≤◌, ◌==◌, Bool, true, false, cond, List, [], ◌∷◌, ◌++◌, length, drop, refl, sym, ap, subst, ◌∙◌, inl, inr, arith, append_assoc, eqb-true, eq-eqb}
+use Rattle.std.specs.Prelude.{Option, Some, None, ◌≢◌}
+use Rattle.std.proofs.lemmas.Bool.{eqb-false}
+use Rattle.std.proofs.lemmas.List.{append-nil, drop-drop}
+use Rattle.http_messages.specs.Requests.{IsUnfinished}
+use Rattle.http_messages.proofs.Fronts.{nothing_yet}
+use Rattle.live_edge.specs.Served.{IsServed}
+use Rattle.connections.specs.declared.conversation.Conversation.{Conversation}
+use Rattle.connections.specs.declared.conversation.Conversation.TheVariants.{Asking, Answering}
+use Rattle.connections.specs.Conversing.{Goes}
+use Rattle.connections.specs.Table.{State, at, left_of, taken_of, Event, came, gave, took, went, Puts, GoesOn, Happens}
+use Rattle.connections.specs.Runs.{visits, said, taken, Service, InTurn, AreOf, IsAsking, HasReply, StandsAt, IsRun, IsServedRun}
+
+-- ---- places
+
+same : (key : ℕ) → (key == key) ≡ true
+same key = eq-eqb key key refl
+
+other_of : (k key : ℕ) → (k == key) ≡ false → key ≢ k
+other_of k key e h = eqb-false k key e (sym h)
+
+chosen : {A : Type 0} (b : Bool) (x y : A) → b ≡ true → cond b x y ≡ x
+chosen b x y e = ap (λ c. cond c x y) e
+
+left : {A : Type 0} (b : Bool) (x y : A) → b ≡ false → cond b x y ≡ y
+left b x y e = ap (λ c. cond c x y) e
+
+by_place : (P : ℕ → Type 0) (k : ℕ) → P k → ((key : ℕ) → (k == key) ≡ false → P key) → (key : ℕ) → P key
+by_place P k here there key = split (k == key) refl where
+  split : (b : Bool) → (k == key) ≡ b → P key
+  split true e = subst P (eqb-true k key e) here
+  split false e = there key e
+
+-- ---- what doesn't concern a place
+
+more_services : (key : ℕ) (events : List Event) (s : Service) (services : List Service) (c : Option Conversation) → StandsAt key events services c
+    → StandsAt key events (s ∷ services) c
+more_services key events s services None h = tt
+more_services key events s services (Some (Asking bytes pieces)) h = h
+more_services key events s services (Some (Answering rest status)) h = record {
+  service = h.service;
+  one = inr h.one;
+  key_is = h.key_is;
+  visit_is = h.visit_is;
+  more = h.more;
+  said_is = h.said_is;
+  status_is = h.status_is;
+  rest_is = h.rest_is;
+}
+
+-- where an event leaves what was said, taken and visited
+carried : (key : ℕ) (now before : List Event) (services : List Service) (c : Option Conversation) → visits key now ≡ visits key before
+    → said key now ≡ said key before → taken key now ≡ taken key before → StandsAt key before services c → StandsAt key now services c
+carried key now before services None v s t h = tt
+carried key now before services (Some (Asking bytes pieces)) v s t h =
+    record { all = h.all ∙ sym s; unfinished = h.unfinished; untaken = t ∙ h.untaken }
+carried key now before services (Some (Answering rest status)) v s t h = record {
+  service = h.service;
+  one = h.one;
+  key_is = h.key_is;
+  visit_is = h.visit_is ∙ sym v;
+  more = h.more;
+  said_is = s ∙ h.said_is;
+  status_is = h.status_is;
+  rest_is = h.rest_is ∙ ap (λ n. drop n h.service.text) (sym t);
+}
+
+moved : (key : ℕ) (events : List Event) (services : List Service) (old new : Option Conversation) → new ≡ old → StandsAt key events services old
+    → StandsAt key events services new
+moved key events services old new e h = subst (StandsAt key events services) (sym e) h
+
+-- ---- a client comes
+
+on_came : (first middle last : State) (k : ℕ) (before : List Event) → IsServedRun first before middle → Happens middle (came k) last
+    → IsServedRun first (came k ∷ before) last
+on_came first middle last k before run h =
+    let events = came k ∷ before in record {
+      services = run.services;
+      turns = subst (InTurn first.edge run.services) (sym h.1) run.turns;
+      pieces = run.pieces;
+      each =
+          by_place (λ key. StandsAt key events run.services (at last key)) k
+          (moved k events run.services (Some (Asking [] 0)) (at last k) h.0.here
+          (record { all = sym (chosen (k == k) [] (said k before) (same k)); unfinished = nothing_yet; untaken = chosen (k == k) 0 (taken k before) (same k) }))
+          (λ key e. moved key events run.services (at middle key) (at last key) (h.0.others key (other_of k key e))
+          (carried key events before run.services (at middle key) (left (k == key) (visits key before + 1) (visits key before) e) (left (k == key) [] (said key before) e) (left (k == key) 0 (taken key before) e) (run.each key)));
+    }
+
+-- ---- a client goes
+
+on_went : (first middle last : State) (k : ℕ) (before : List Event) → IsServedRun first before middle → Happens middle (went k) last
+    → IsServedRun first (went k ∷ before) last
+on_went first middle last k before run h =
+    let events = went k ∷ before in record {
+      services = run.services;
+      turns = subst (InTurn first.edge run.services) (sym h.1) run.turns;
+      pieces = run.pieces;
+      each =
+          by_place (λ key. StandsAt key events run.services (at last key)) k
+          (moved k events run.services None (at last k) h.0.here tt)
+          (λ key e. moved key events run.services (at middle key) (at last key) (h.0.others key (other_of k key e))
+          (carried key events before run.services (at middle key) refl refl refl (run.each key)));
+    }
+
+-- ---- a client takes
+
+took_here : (k count : ℕ) (before : List Event) (services : List Service) (c : Option Conversation) → count ≤ length (left_of c) → StandsAt k before services c
+    → StandsAt k (took k count ∷ before) services (taken_of count c)
+took_here k count before services None le h = tt
+took_here k count before services (Some (Asking bytes pieces)) le h = record {
+  all = h.all;
+  unfinished = h.unfinished;
+  untaken = chosen (k == k) (taken k before + count) (taken k before) (same k) ∙ (let z : taken k before + count ≡ 0 = omega (arith, le, h.untaken) in z);
+}
+took_here k count before services (Some (Answering rest status)) le h = record {
+  service = h.service;
+  one = h.one;
+  key_is = h.key_is;
+  visit_is = h.visit_is;
+  more = h.more;
+  said_is = h.said_is;
+  status_is = h.status_is;
+  rest_is =
+      ap (drop count) h.rest_is ∙ drop-drop count (taken k before) h.service.text
+      ∙ ap (λ n. drop n h.service.text) (sym (chosen (k == k) (taken k before + count) (taken k before) (same k)));
+}
+
+on_took : (first middle last : State) (k count : ℕ) (before : List Event) → IsServedRun first before middle → Happens middle (took k count) last
+    → IsServedRun first (took k count ∷ before) last
+on_took first middle last k count before run h =
+    let events = took k count ∷ before in record {
+      services = run.services;
+      turns = subst (InTurn first.edge run.services) (sym h.2) run.turns;
+      pieces = run.pieces;
+      each =
+          by_place (λ key. StandsAt key events run.services (at last key)) k
+          (moved k events run.services (taken_of count (at middle k)) (at last k) h.1.here (took_here k count before run.services (at middle k) h.0 (run.each k)))
+          (λ key e. moved key events run.services (at middle key) (at last key) (h.1.others key (other_of k key e))
+          (carried key events before run.services (at middle key) refl refl (left (k == key) (taken key before + count) (taken key before) e) (run.each key)));
+    }
+
+-- ---- a client gives
+
+said_here : (k : ℕ) (piece : List ℕ) (before : List Event) → said k (gave k piece ∷ before) ≡ said k before ++ piece
+said_here k piece before = chosen (k == k) (said k before ++ piece) (said k before) (same k)
+
+still_of : (k : ℕ) (piece : List ℕ) (before : List Event) (services : List Service) → AreOf before services → AreOf (gave k piece ∷ before) services
+still_of k piece before [] a = a
+still_of k piece before (s ∷ earlier) a = inl a
+
+-- another place
+given_there : (k : ℕ) (piece : List ℕ) (before : List Event) (services : List Service) (middle last : State) (it : Option Conversation) → Puts middle last k it
+    → ((key : ℕ) → StandsAt key before services (at middle key)) → (key : ℕ) → (k == key) ≡ false
+    → StandsAt key (gave k piece ∷ before) services (at last key)
+given_there k piece before services middle last it puts each key e =
+    moved key (gave k piece ∷ before) services (at middle key) (at last key) (puts.others key (other_of k key e))
+    (carried key (gave k piece ∷ before) before services (at middle key) refl (left (k == key) (said key before ++ piece) (said key before) e) refl (each key))
+
+-- nothing is served by it
+unserved : (first middle last : State) (k : ℕ) (piece : List ℕ) (before : List Event) (it : Option Conversation) (run : IsServedRun first before middle)
+    → Puts middle last k it → last.edge ≡ middle.edge → StandsAt k (gave k piece ∷ before) run.services it
+    → IsServedRun first (gave k piece ∷ before) last
+unserved first middle last k piece before it run puts edge here = record {
+  services = run.services;
+  turns = subst (InTurn first.edge run.services) (sym edge) run.turns;
+  pieces = still_of k piece before run.services run.pieces;
+  each =
+      by_place (λ key. StandsAt key (gave k piece ∷ before) run.services (at last key)) k
+      (moved k (gave k piece ∷ before) run.services it (at last k) puts.here here)
+      (given_there k piece before run.services middle last it puts run.each);
+}
+
+-- it makes the request whole
+newly : (first middle last : State) (k : ℕ) (piece : List ℕ) (before : List Event) (bytes rest : List ℕ) (status : ℕ) (run : IsServedRun first before middle)
+    → IsAsking k before bytes → IsServed (bytes ++ piece) middle.edge last.edge rest status → Puts middle last k (Some (Answering rest status))
+    → IsServedRun first (gave k piece ∷ before) last
+newly first middle last k piece before bytes rest status run asks served puts =
+    let service : Service = record { key = k; visit = visits k before; bytes = bytes ++ piece; text = rest; status = status } in
+    let events = gave k piece ∷ before in record {
+      services = service ∷ run.services;
+      turns = (middle.edge, run.turns, served);
+      pieces =
+          inr (
+            record { key = refl; visit = refl; bytes = ap (λ l. l ++ piece) asks.all; unfinished = subst IsUnfinished asks.all asks.unfinished },
+            run.pieces,
+          );
+      each =
+          by_place (λ key. StandsAt key events (service ∷ run.services) (at last key)) k
+          (moved k events (service ∷ run.services) (Some (Answering rest status)) (at last k) puts.here
+          (record {
+            service = service;
+            one = inl refl;
+            key_is = refl;
+            visit_is = refl;
+            more = [];
+            said_is = said_here k piece before ∙ ap (λ l. l ++ piece) (sym asks.all) ∙ sym (append-nil (bytes ++ piece));
+            status_is = refl;
+            rest_is = ap (λ n. drop n rest) (sym asks.untaken);
+          }))
+          (λ key e. more_services key events service run.services (at last key)
+          (given_there k piece before run.services middle last (Some (Answering rest status)) puts run.each key e));
+    }
+
+to_asking : (first middle last : State) (k : ℕ) (piece : List ℕ) (before : List Event) (bytes : List ℕ) (pieces : ℕ) (run : IsServedRun first before middle)
+    → IsAsking k before bytes → (after : Conversation) → Goes (Asking bytes pieces) piece middle.edge last.edge after → Puts middle last k (Some after)
+    → IsServedRun first (gave k piece ∷ before) last
+to_asking first middle last k piece before bytes pieces run stands (Asking more count) goes puts =
+    unserved first middle last k piece before (Some (Asking more count)) run puts goes.3 (record {
+      all = goes.0 ∙ ap (λ l. l ++ piece) stands.all ∙ sym (said_here k piece before);
+      unfinished = subst IsUnfinished (sym goes.0) goes.1;
+      untaken = stands.untaken;
+    })
+to_asking first middle last k piece before bytes pieces run stands (Answering rest status) goes puts =
+    newly first middle last k piece before bytes rest status run stands goes puts
+
+to_answering : (k : ℕ) (piece : List ℕ) (before : List Event) (services : List Service) (rest : List ℕ) (status : ℕ) → HasReply k before services rest status
+    → HasReply k (gave k piece ∷ before) services rest status
+to_answering k piece before services rest status h = record {
+  service = h.service;
+  one = h.one;
+  key_is = h.key_is;
+  visit_is = h.visit_is;
+  more = h.more ++ piece;
+  said_is = said_here k piece before ∙ ap (λ l. l ++ piece) h.said_is ∙ append_assoc h.service.bytes h.more piece;
+  status_is = h.status_is;
+  rest_is = h.rest_is;
+}
+
+on_gave_at : (first middle last : State) (k : ℕ) (piece : List ℕ) (before : List Event) (c : Option Conversation) (run : IsServedRun first before middle)
+    → StandsAt k before run.services c → GoesOn c middle k piece last → IsServedRun first (gave k piece ∷ before) last
+on_gave_at first middle last k piece before None run stands h = unserved first middle last k piece before None run h.0 h.1 tt
+on_gave_at first middle last k piece before (Some (Asking bytes pieces)) run stands h =
+    to_asking first middle last k piece before bytes pieces run stands h.0 h.1 h.2
+on_gave_at first middle last k piece before (Some (Answering rest status)) run stands h =
+    unserved first middle last k piece before (Some (Answering rest status)) run
+    (subst (λ (c : Conversation). Puts middle last k (Some c)) h.1.0 h.2) h.1.1
+    (to_answering k piece before run.services rest status stands)
+
+-- ---- all
+
+on_event : (first middle last : State) (e : Event) (before : List Event) → IsServedRun first before middle → Happens middle e last
+    → IsServedRun first (e ∷ before) last
+on_event first middle last (came k) before run h = on_came first middle last k before run h
+on_event first middle last (gave k piece) before run h = on_gave_at first middle last k piece before (at middle k) run (run.each k) h
+on_event first middle last (took k count) before run h = on_took first middle last k count before run h
+on_event first middle last (went k) before run h = on_went first middle last k before run h
+
+pub served : (first last : State) (events : List Event) → ((key : ℕ) → at first key ≡ None) → IsRun first events last → IsServedRun first events last
+served first last [] vacant h = record {
+  services = [];
+  turns = ap (λ (s : State). s.edge) h;
+  pieces = refl;
+  each = λ key. moved key [] [] None (at last key) (ap (λ s. at s key) h ∙ vacant key) tt;
+}
+served first last (e ∷ before) vacant h = on_event first h.0 last e before (served first h.0 before vacant h.1) h.2

@@ -1,0 +1,4 @@
+pub mod Conversing
+pub mod Table
+pub mod Runs
+pub mod Wires

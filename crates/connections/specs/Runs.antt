@@ -1,0 +1,111 @@
+-- Runs of any number of connections: what happens one after another, and what each one is answered.
+use Rattle.std.specs.Prelude.{◌≡◌, ℕ, ◌+◌, ◌==◌, List, [], ◌∷◌, ◌++◌, drop, Option, Some, None, if◌then◌else◌, ◌⊎◌}
+use Rattle.http_messages.specs.Requests.{IsUnfinished}
+use Rattle.live_edge.specs.Edges.{Kept}
+use Rattle.live_edge.specs.Served.{IsServed}
+use Rattle.connections.specs.declared.conversation.Conversation.{Conversation}
+use Rattle.connections.specs.declared.conversation.Conversation.TheVariants.{Asking, Answering}
+use Rattle.connections.specs.Table.{State, at, Event, came, gave, took, went, Happens}
+
+-- ---- what happened at a place, of all that happened, the newest first
+
+-- how many clients came there
+abbrev pub visits : ℕ → List Event → ℕ
+visits key [] = 0
+visits key (came k ∷ before) = if k == key then visits key before + 1 else visits key before
+visits key (gave k piece ∷ before) = visits key before
+visits key (took k count ∷ before) = visits key before
+visits key (went k ∷ before) = visits key before
+
+-- what the last of them said since it came
+abbrev pub said : ℕ → List Event → List ℕ
+said key [] = []
+said key (came k ∷ before) = if k == key then [] else said key before
+said key (gave k piece ∷ before) = if k == key then said key before ++ piece else said key before
+said key (took k count ∷ before) = said key before
+said key (went k ∷ before) = said key before
+
+-- how many bytes it took of its reply
+abbrev pub taken : ℕ → List Event → ℕ
+taken key [] = 0
+taken key (came k ∷ before) = if k == key then 0 else taken key before
+taken key (gave k piece ∷ before) = taken key before
+taken key (took k count ∷ before) = if k == key then taken key before + count else taken key before
+taken key (went k ∷ before) = taken key before
+
+-- ---- what is served
+
+-- a connection that was served: its place, which client there it was, what it had said, and the text of its reply
+pub record Service : Type 0 where
+  pub key : ℕ
+  pub visit : ℕ
+  pub bytes : List ℕ
+  pub text : List ℕ
+  pub status : ℕ
+
+-- they are served one after the other, the newest first, each as `serve` serves a connection that says these bytes
+abbrev pub InTurn : List Kept → List Service → List Kept → Type 0
+InTurn first [] last = last ≡ first
+InTurn first (s ∷ before) last = (middle : List Kept) × InTurn first before middle × IsServed s.bytes middle last s.text s.status
+
+-- it is what this client has said with this piece, which was no whole request before
+pub record IsNewly (k : ℕ) (piece : List ℕ) (before : List Event) (s : Service) : Type 0 where
+  pub key : s.key ≡ k
+  pub visit : s.visit ≡ visits k before
+  pub bytes : s.bytes ≡ said k before ++ piece
+  pub unfinished : IsUnfinished (said k before)
+
+-- at most one is served at each piece that comes
+abbrev pub AreOf : List Event → List Service → Type 0
+AreOf [] services = services ≡ []
+AreOf (came k ∷ before) services = AreOf before services
+AreOf (took k count ∷ before) services = AreOf before services
+AreOf (went k ∷ before) services = AreOf before services
+AreOf (gave k piece ∷ before) [] = AreOf before []
+AreOf (gave k piece ∷ before) (s ∷ earlier) = AreOf before (s ∷ earlier) ⊎ (IsNewly k piece before s × AreOf before earlier)
+
+abbrev pub IsOneOf : Service → List Service → Type 0
+IsOneOf s [] = ⊥
+IsOneOf s (one ∷ more) = (s ≡ one) ⊎ IsOneOf s more
+
+-- ---- how a connection stands
+
+-- it said nothing that isn't a part of a request, and was sent nothing
+pub record IsAsking (key : ℕ) (events : List Event) (bytes : List ℕ) : Type 0 where
+  pub all : bytes ≡ said key events
+  pub unfinished : IsUnfinished bytes
+  pub untaken : taken key events ≡ 0
+
+-- it was served by what it said first itself, and is still owed all of that reply that it didn't take
+pub record HasReply (key : ℕ) (events : List Event) (services : List Service) (rest : List ℕ) (status : ℕ) : Type 0 where
+  pub service : Service
+  pub one : IsOneOf service services
+  pub key_is : service.key ≡ key
+  pub visit_is : service.visit ≡ visits key events
+  pub more : List ℕ
+  pub said_is : said key events ≡ service.bytes ++ more
+  pub status_is : status ≡ service.status
+  pub rest_is : rest ≡ drop (taken key events) service.text
+
+abbrev pub StandsAt : ℕ → List Event → List Service → Option Conversation → Type 0
+StandsAt key events services None = Unit {0}
+StandsAt key events services (Some (Asking bytes pieces)) = IsAsking key events bytes
+StandsAt key events services (Some (Answering rest status)) = HasReply key events services rest status
+
+-- ---- runs
+
+abbrev pub IsRun : State → List Event → State → Type 0
+IsRun first [] last = last ≡ first
+IsRun first (e ∷ before) last = (middle : State) × IsRun first before middle × Happens middle e last
+
+-- all that was served, in the order in which it became whole, and each connection by itself
+pub record IsServedRun (first : State) (events : List Event) (last : State) : Type 0 where
+  pub services : List Service
+  pub turns : InTurn first.edge services last.edge
+  pub pieces : AreOf events services
+  pub each : (key : ℕ) → StandsAt key events services (at last key)
+
+-- whatever happens, from no connections on
+abbrev pub ConnectionsAreServed : Type 0
+ConnectionsAreServed =
+    (first last : State) (events : List Event) → ((key : ℕ) → at first key ≡ None) → IsRun first events last → IsServedRun first events last

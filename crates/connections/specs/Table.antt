@@ -1,0 +1,76 @@
+-- The connections by their places, and what happens to them.
+use Rattle.std.specs.Prelude.{◌≡◌, ◌≢◌, ℕ, ◌≤◌, List, [], drop, length, slice_index_or, Option, Some, None, sum_by}
+use Rattle.live_edge.specs.Edges.{Kept}
+use Rattle.connections.specs.declared.conversation.Conversation.{Conversation}
+use Rattle.connections.specs.declared.conversation.Conversation.TheVariants.{Asking, Answering}
+use Rattle.connections.specs.declared.table.Phase.{Phase}
+use Rattle.connections.specs.declared.table.Phase.TheVariants.{Vacant}
+use Rattle.connections.specs.declared.table.Phase.TheVariants as phase
+use Rattle.connections.specs.Conversing.{Goes}
+
+-- the edge, and each place: nobody, or a connection
+pub record State : Type 0 where
+  pub edge : List Kept
+  pub places : List (Option Conversation)
+
+abbrev pub at : State → ℕ → Option Conversation
+at s key = slice_index_or s.places key None
+
+-- ---- what is held
+
+-- the bytes that a connection has said and that aren't applied yet
+abbrev pub held_of : Option Conversation → ℕ
+held_of None = 0
+held_of (Some (Asking bytes pieces)) = length bytes
+held_of (Some (Answering rest status)) = 0
+
+abbrev pub held_in : List (Option Conversation) → ℕ
+held_in places = sum_by held_of places
+
+-- what is left of a connection's reply
+abbrev pub left_of : Option Conversation → List ℕ
+left_of None = []
+left_of (Some (Asking bytes pieces)) = []
+left_of (Some (Answering rest status)) = rest
+
+abbrev pub phase_of : Option Conversation → Phase
+phase_of None = Vacant
+phase_of (Some (Asking bytes pieces)) = phase.Asking
+phase_of (Some (Answering rest status)) = phase.Answering status
+
+-- ---- what happens
+
+pub data Event : Type 0 where
+  -- a client came
+  came : ℕ → Event
+  -- it gave its next bytes
+  gave : ℕ → List ℕ → Event
+  -- it took so many bytes of its reply
+  took : ℕ → ℕ → Event
+  -- it went, or was given up
+  went : ℕ → Event
+
+-- only this place is another, and it is this
+pub record Puts (old new : State) (key : ℕ) (it : Option Conversation) : Type 0 where
+  pub here : at new key ≡ it
+  pub others : (other : ℕ) → other ≢ key → at new other ≡ at old other
+  pub count : length new.places ≡ length old.places
+
+-- where there is a connection it goes on
+abbrev pub GoesOn : Option Conversation → State → ℕ → List ℕ → State → Type 0
+GoesOn None old key piece new = Puts old new key None × (new.edge ≡ old.edge)
+GoesOn (Some conversation) old key piece new =
+    (after : Conversation) × Goes conversation piece old.edge new.edge after × Puts old new key (Some after)
+
+-- so many bytes of the reply are gone
+abbrev pub taken_of : ℕ → Option Conversation → Option Conversation
+taken_of count (Some (Answering rest status)) = Some (Answering (drop count rest) status)
+taken_of count None = None
+taken_of count (Some (Asking bytes pieces)) = Some (Asking bytes pieces)
+
+abbrev pub Happens : State → Event → State → Type 0
+Happens old (came key) new = Puts old new key (Some (Asking [] 0)) × (new.edge ≡ old.edge)
+Happens old (gave key piece) new = GoesOn (at old key) old key piece new
+Happens old (took key count) new =
+    (count ≤ length (left_of (at old key))) × Puts old new key (taken_of count (at old key)) × (new.edge ≡ old.edge)
+Happens old (went key) new = Puts old new key None × (new.edge ≡ old.edge)

@@ -1,0 +1,54 @@
+//! One connection: what its client said so far, and then what is left of the reply.
+ghost use Rattle.std.specs.Prelude.{◌≡◌, OnErr, IfOk, IsErrOf};
+ghost use Rattle.live_edge.specs.declared.serving.EdgeFault.TheVariants.{TooManyReads};
+ghost use Rattle.connections.specs.Conversing.{Goes, HasTooMany};
+
+use http_messages::{Arrived, Arriving, Asked, Leaving, MOST_READS, refusal_reply, sends_body};
+use live_edge::{Edge, EdgeFault};
+use std::alloc::Global;
+
+/// Where a connection stands.
+#[derive(Drop)]
+pub enum Conversation {
+    /// The request isn't whole, after so many pieces.
+    Asking(Arriving, u64),
+    /// It was applied, or refused; this is left of the reply, which has this status.
+    Answering(Leaving, u16),
+}
+
+/// Takes the client's next bytes. Once they are a whole request, or can't become one, it is applied, or refused, as a
+/// whole, and what is left is the reply.
+pub fn give(
+    conversation: Conversation,
+    alloc: Global,
+    edge: &mut Edge,
+    piece: &[u8],
+) -> Result<Conversation, EdgeFault>
+    ensures goes { IfOk result (λ after. Goes conversation piece.now edge.old edge.new after) }
+    ensures kept { OnErr result (edge.new ≡ edge.old) }
+    ensures many { IsErrOf result EdgeFault.TooManyReads → HasTooMany conversation piece.now }
+{
+    let (arriving, pieces) = match conversation {
+        Conversation::Asking(arriving, pieces) => (arriving, pieces),
+        answering => return Ok(answering),
+    };
+    match arriving.take(alloc, piece)? {
+        Arrived::More(arriving) => {
+            if pieces >= MOST_READS - 1 {
+                return Err(EdgeFault::TooManyReads);
+            }
+            Ok(Conversation::Asking(arriving, pieces + 1))
+        }
+        Arrived::Whole(Asked::Request(request)) => {
+            let with_body = sends_body(&request.method);
+            let reply = edge.answer(&request);
+            let status = reply.status.as_u16();
+            Ok(Conversation::Answering(Leaving::new(reply, with_body), status))
+        }
+        Arrived::Whole(Asked::Refused(refusal)) => {
+            let reply = refusal_reply(alloc, refusal)?;
+            let status = reply.status.as_u16();
+            Ok(Conversation::Answering(Leaving::new(reply, true), status))
+        }
+    }
+}

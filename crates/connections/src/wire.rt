@@ -1,0 +1,128 @@
+//! What goes through a client's socket: over any reader and any writer that answer `WouldBlock` where they would wait.
+ghost use Rattle.std.specs.Prelude.{◌≡◌, ◌<◌, ◌≤◌, ◌++◌, [], length, take, true};
+ghost use Rattle.connections.specs.Table.{Happens, at, left_of, went};
+ghost use Rattle.connections.specs.Wires.{HasHeard, HasSaid, IsFailed};
+
+use crate::table::{Connections, MOST_HELD};
+use arrayvec::ArrayVec;
+use live_edge::EdgeFault;
+use std::io::{ErrorKind, Read, Write};
+
+// A reply of at most so many bytes is handed out in one write.
+const BLOCK: usize = 8192;
+
+// So many bytes are written at once at the most, so that a client's turn is short.
+const MOST_WRITTEN: usize = 65_536;
+
+/// What a call came to.
+#[derive(Clone, Copy, Debug, PartialEq, Eq)]
+pub enum Moved {
+    /// Bytes were moved.
+    Some,
+    /// It would wait.
+    Waits,
+    /// There is nothing to move.
+    Nothing,
+    /// The connection is gone.
+    Failed(EdgeFault),
+}
+
+// The fault of a client that goes.
+fn gone(connections: &mut Connections, key: usize, fault: EdgeFault) -> Moved
+    requires { key < length connections.old.places }
+    ensures went { Happens connections.old (went key) connections.new }
+    ensures fault { result ≡ Moved.Failed fault }
+{
+    connections.went(key);
+    Moved::Failed(fault)
+}
+
+/// Reads once from a client: what it gave is what it said at its own place.
+pub fn hear<R: Read>(
+    reader: &mut R,
+    connections: &mut Connections,
+    key: usize,
+    block: &mut [u8],
+) -> Moved
+    requires within { key < length connections.old.places }
+    requires room { 0 < length block.old }
+    ensures some { result ≡ Moved.Some → HasHeard (R.remaining reader.old) (R.remaining reader.new) key connections.old connections.new }
+    ensures waits { result ≡ Moved.Waits → connections.new ≡ connections.old }
+    ensures failed { IsFailed result → Happens connections.old (went key) connections.new }
+    ensures moves { result ≡ Moved.Nothing → ⊥ }
+{
+    let count = match reader.read(block) {
+        Ok(count) => count,
+        Err(e) if e.kind() == ErrorKind::WouldBlock => return Moved::Waits,
+        Err(_) => return gone(connections, key, EdgeFault::Read),
+    };
+    if count == 0 {
+        return gone(connections, key, EdgeFault::Ended);
+    }
+    if count > MOST_HELD - connections.held() {
+        return gone(connections, key, EdgeFault::Read);
+    }
+    match connections.give(key, &block[..count]) {
+        Ok(()) => Moved::Some,
+        Err(fault) => Moved::Failed(fault),
+    }
+}
+
+// Puts two texts into an empty block. Whether they fit.
+fn fill(block: &mut ArrayVec<u8, BLOCK>, head: &[u8], body: &[u8]) -> bool
+    requires { block.old.items ≡ [] }
+    ensures { result ≡ true → block.new.items ≡ head.now ++ body.now }
+{
+    if block.try_extend_from_slice(head).is_err() {
+        return false;
+    }
+    block.try_extend_from_slice(body).is_ok()
+}
+
+// The front of a text that is written at once.
+fn cut(text: &[u8]) -> &[u8]
+    ensures front { result.now ≡ take (length result.now) text.now }
+    ensures some { length result.now ≡ 0 → text.now ≡ [] }
+{
+    &text[..text.len().min(MOST_WRITTEN)]
+}
+
+// A front of two texts: both, where they fit into a block, else the first that isn't empty.
+fn front<'a>(block: &'a mut ArrayVec<u8, BLOCK>, head: &'a [u8], body: &'a [u8]) -> &'a [u8]
+    requires { block.old.items ≡ [] }
+    ensures front { result.now ≡ take (length result.now) (head.now ++ body.now) }
+    ensures some { length result.now ≡ 0 → head.now ++ body.now ≡ [] }
+{
+    if head.is_empty() {
+        return cut(body);
+    }
+    if fill(block, head, body) {
+        return block.as_slice();
+    }
+    head
+}
+
+/// Writes once to a client, of what is left of the reply at its own place.
+pub fn say<W: Write>(writer: &mut W, connections: &mut Connections, key: usize) -> Moved
+    requires within { key < length connections.old.places }
+    ensures some { result ≡ Moved.Some → HasSaid (W.contents writer.old) (W.contents writer.new) key connections.old connections.new }
+    ensures waits { result ≡ Moved.Waits → connections.new ≡ connections.old }
+    ensures nothing { result ≡ Moved.Nothing → (left_of (at connections.old key) ≡ []) × (connections.new ≡ connections.old) }
+    ensures failed { IsFailed result → Happens connections.old (went key) connections.new }
+{
+    let mut block = ArrayVec::<u8, BLOCK>::new();
+    let (head, body) = connections.parts(key);
+    let bytes = front(&mut block, head, body);
+    if bytes.is_empty() {
+        return Moved::Nothing;
+    }
+    match writer.write(bytes) {
+        Ok(0) => gone(connections, key, EdgeFault::Write),
+        Ok(count) => {
+            connections.took(key, count);
+            Moved::Some
+        }
+        Err(e) if e.kind() == ErrorKind::WouldBlock => Moved::Waits,
+        Err(_) => gone(connections, key, EdgeFault::Write),
+    }
+}

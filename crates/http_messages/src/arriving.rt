@@ -1,0 +1,69 @@
+//! A request that comes in pieces, from whoever has them.
+ghost use Rattle.std.specs.Prelude.{◌≡◌, ◌++◌, [], length, IfOk};
+ghost use Rattle.http_messages.specs.Arriving.{IsArrived};
+
+use crate::head::Head;
+use crate::receiving::{Asked, Step, look, request_of};
+use std::alloc::{AllocError, Global};
+use std::marker::Model;
+
+/// What has come of a request that isn't whole yet.
+#[derive(Drop)]
+pub struct Arriving {
+    bytes: Vec<u8>,
+    head: Option<Head>,
+}
+
+impl Model for Arriving {
+    ghost use Rattle.std.specs.Prelude.{ℕ, List, IfSome};
+    ghost use Rattle.http_messages.specs.Requests.{IsUnfinished};
+    ghost use Rattle.http_messages.specs.Received.{IsHeadAt};
+
+    ghost Value = { List ℕ };
+
+    ghost view = { λ a. a.bytes.items };
+
+    ghost invariant = { λ a. IfSome a.head (IsHeadAt a.bytes.items) × IsUnfinished a.bytes.items };
+}
+
+/// What the bytes are with the next piece.
+#[derive(Drop)]
+pub enum Arrived {
+    Whole(Asked),
+    More(Arriving),
+}
+
+impl Arriving {
+    /// A request of which nothing has come.
+    pub fn new(alloc: Global) -> Arriving
+        ensures { result ≡ [] }
+    {
+        Arriving {
+            bytes: Vec::new(alloc),
+            head: None,
+        }
+    }
+
+    /// How many bytes have come.
+    pub fn len(&self) -> usize
+        ensures { result ≡ length self.now }
+    {
+        self.bytes.len()
+    }
+
+    /// Takes the next piece. However the bytes are cut, the request that they begin with is the one that is asked. Fails
+    /// only where memory is refused.
+    pub fn take(self, alloc: Global, piece: &[u8]) -> Result<Arrived, AllocError>
+        ensures { IfOk result (IsArrived (self ++ piece.now)) }
+    {
+        let Arriving { mut bytes, head } = self;
+        bytes.extend_from_slice(piece)?;
+        match look(alloc, bytes.as_slice(), head)? {
+            Step::Whole(head, count) => Ok(Arrived::Whole(Asked::Request(request_of(
+                bytes, head, count,
+            )))),
+            Step::Refused(refusal) => Ok(Arrived::Whole(Asked::Refused(refusal))),
+            Step::More(head) => Ok(Arrived::More(Arriving { bytes, head })),
+        }
+    }
+}

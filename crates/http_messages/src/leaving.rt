@@ -1,0 +1,89 @@
+//! A reply that its client takes in parts.
+ghost use Rattle.std.specs.Prelude.{◌≡◌, ◌≤◌, ◌+◌, ◌++◌, drop, length};
+ghost use Rattle.http_messages.specs.Replies.{text_sent};
+
+use crate::message::Reply;
+use crate::reply_head::head_of;
+use crate::sending::body_sent;
+use arrayvec::ArrayString;
+use std::marker::Model;
+
+/// What a client hasn't taken yet of a reply. The body is not copied: it stays where the reply has it.
+#[derive(Drop)]
+pub struct Leaving {
+    head: ArrayString<256>,
+    reply: Reply,
+    with_body: bool,
+    taken: usize,
+}
+
+impl Model for Leaving {
+    ghost use Rattle.std.specs.Prelude.{ℕ, ◌≤◌, ◌++◌, List, drop, length};
+    ghost use Rattle.http_messages.specs.Replies.{body_sent};
+
+    ghost Value = { List ℕ };
+
+    ghost view = { λ l. drop l.taken (l.head.bytes ++ body_sent l.with_body l.reply) };
+
+    ghost invariant = { λ l. l.taken ≤ length (l.head.bytes ++ body_sent l.with_body l.reply) };
+}
+
+impl Leaving {
+    /// All of a reply, with its body or without. It takes no memory.
+    pub fn new(reply: Reply, with_body: bool) -> Leaving
+        ensures { result ≡ text_sent with_body reply }
+    {
+        let head = head_of(&reply);
+        Leaving {
+            head,
+            reply,
+            with_body,
+            taken: 0,
+        }
+    }
+
+    /// What is left, in two parts.
+    pub fn parts(&self) -> (&[u8], &[u8])
+        ensures { result.0.now ++ result.1.now ≡ self.now }
+    {
+        let head = self.head.as_str().as_bytes();
+        let body = body_sent(&self.reply, self.with_body);
+        parts_from(head, body, self.taken)
+    }
+
+    /// How many bytes are left.
+    pub fn len(&self) -> usize
+        ensures { result ≡ length self.now }
+    {
+        let (head, body) = self.parts();
+        head.len() + body.len()
+    }
+
+    /// The client took so many bytes more.
+    pub fn took(&mut self, count: usize)
+        requires { count ≤ length self.old }
+        ensures { self.new ≡ drop count self.old }
+    {
+        let len = self.head.len() + body_sent(&self.reply, self.with_body).len();
+        self.taken = moved(self.taken, count, len);
+    }
+}
+
+// Two texts from a place of both on.
+fn parts_from<'a>(head: &'a [u8], body: &'a [u8], from: usize) -> (&'a [u8], &'a [u8])
+    requires { from ≤ length (head.now ++ body.now) }
+    ensures { result.0.now ++ result.1.now ≡ drop from (head.now ++ body.now) }
+{
+    if from <= head.len() {
+        return (&head[from..], body);
+    }
+    (&[], &body[from - head.len()..])
+}
+
+// A place that is so much further on, up to the end.
+fn moved(place: usize, count: usize, len: usize) -> usize
+    requires { place + count ≤ len }
+    ensures { result ≡ place + count }
+{
+    place + count
+}
