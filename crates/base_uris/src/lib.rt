@@ -9,7 +9,7 @@ ghost use Rattle.base_uris.specs.Refusals.{RefusesUri, RefusesBase};
 ghost use Rattle.base_uris.specs.Plain.{is_relative, is_rooted, StandsBefore};
 
 use crate::plain::{is_relative, is_rooted};
-use playlist_meaning::{has_control, has_quote, has_scheme};
+use playlist_meaning::{ShortText, has_control, has_quote, has_scheme};
 use std::alloc::{AllocError, Global};
 use std::marker::Model;
 use url::{ParseError, Position, Url};
@@ -153,16 +153,11 @@ impl Base {
         None
     }
 
-    /// The resolved URI of a reference (RFC 3986, section 5, as the `url` crate joins): the reference
-    /// itself where it begins with a scheme, else its join to the base. `BadUri` exactly where the join
-    /// fails, or gives a text without a scheme or with a quote or a control character; want of memory
-    /// apart.
-    pub fn resolve(&self, reference: &str) -> Result<String, BaseFault>
+    // The same of a reference before which no plain text is put.
+    #[inline(never)]
+    fn resolve_other(&self, reference: &str) -> Result<String, BaseFault>
         ensures { MatchResult result (λ text. resolved self.now reference.now ≡ Some (string_bytes text)) (λ e. RefusesUri e (resolved self.now reference.now)) }
     {
-        if let Some(front) = self.front_of(reference) {
-            return Ok(joined(self.alloc, front, reference)?);
-        }
         if has_scheme(reference) {
             return Ok(String::from_str(self.alloc, reference)?);
         }
@@ -176,5 +171,29 @@ impl Base {
             return Err(BaseFault::BadUri);
         }
         Ok(String::from(url))
+    }
+
+    /// The resolved URI of a reference (RFC 3986, section 5, as the `url` crate joins): the reference
+    /// itself where it begins with a scheme, else its join to the base. `BadUri` exactly where the join
+    /// fails, or gives a text without a scheme or with a quote or a control character; want of memory
+    /// apart.
+    pub fn resolve(&self, reference: &str) -> Result<String, BaseFault>
+        ensures { MatchResult result (λ text. resolved self.now reference.now ≡ Some (string_bytes text)) (λ e. RefusesUri e (resolved self.now reference.now)) }
+    {
+        if let Some(front) = self.front_of(reference) {
+            return Ok(joined(self.alloc, front, reference)?);
+        }
+        self.resolve_other(reference)
+    }
+
+    /// The same, where most such texts are short.
+    #[inline(always)]
+    pub fn resolve_short(&self, reference: &str) -> Result<ShortText, BaseFault>
+        ensures { MatchResult result (λ text. resolved self.now reference.now ≡ Some text) (λ e. RefusesUri e (resolved self.now reference.now)) }
+    {
+        if let Some(front) = self.front_of(reference) {
+            return Ok(ShortText::joined(self.alloc, front, reference)?);
+        }
+        Ok(ShortText::from_string(self.resolve_other(reference)?))
     }
 }

@@ -17,3 +17,4 @@ pub mod Numbering
 pub mod Stitched
 pub mod Paced
 pub mod StitchedRows
+pub mod ShortTexts

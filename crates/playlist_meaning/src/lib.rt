@@ -19,6 +19,7 @@ pub mod laws;
 mod limits;
 mod other_attributes;
 mod same;
+mod short_text;
 
 pub use base::{has_quote, has_scheme, same_resource};
 pub use fault::FaultText;
@@ -28,6 +29,7 @@ pub use items::{Items, Shared, Text};
 pub use limits::{MOST_BYTES, MOST_FORMATS, MOST_SEGMENTS};
 pub use other_attributes::OtherAttributes;
 pub use same::{is_same_key, is_same_section, same_segment};
+pub use short_text::ShortText;
 
 /// Why a text is no playlist that can be read.
 #[derive(Clone, Copy, PartialEq, Eq, Debug)]
@@ -183,7 +185,7 @@ pub struct Segment {
     /// How many EXT-X-DISCONTINUITY stand between it and the segment before.
     pub steps: u64,
     /// Its resource: an absolute URI.
-    pub uri: Text,
+    pub uri: ShortText,
     /// The part of the resource, where it isn't the whole.
     pub byte_range: Option<ByteRange>,
     /// The keys that it is encrypted under, sorted by format; none where it is clear.

@@ -1,6 +1,6 @@
 //! Segments that are listed again. When they begin is tried on the built program (`tests/run_playlists`).
 use fixed_duration::Nanos;
-use playlist_meaning::{Instant, Items, Segment, Shared, Text, same_segment};
+use playlist_meaning::{Instant, Items, Segment, Shared, ShortText, same_segment};
 use std::alloc::{AllocError, Global};
 
 /// A clear segment of this duration and title, which has no section.
@@ -9,7 +9,7 @@ pub(crate) fn segment(alloc: Global, duration: Nanos, title: &str) -> Result<Seg
         number: 7,
         discontinuity: 0,
         steps: 0,
-        uri: Text::copy_of(alloc, "http://origin.example/s.ts")?,
+        uri: ShortText::copy_of(alloc, "http://origin.example/s.ts")?,
         byte_range: None,
         keys: Items::from_vec(Vec::new(alloc)),
         section: None,

@@ -20,7 +20,7 @@ use base_uris::Base;
 use fixed_duration::Nanos;
 use playlist_meaning::{
     ByteRange, FaultKind, InitSection, Instant, Items, Key, KeyTag, Keys, MOST_SEGMENTS, Segment,
-    Shared, Text, is_iv_needed,
+    Shared, ShortText, Text, is_iv_needed,
 };
 use std::alloc::{AllocError, Global};
 use std::marker::Model;
@@ -227,7 +227,7 @@ impl<'a> State<'a> {
     fn segment_here(
         &self,
         number: u64,
-        uri: Text,
+        uri: ShortText,
         byte_range: Option<ByteRange>,
         own: (Nanos, Shared<Text>),
     ) -> Result<Shared<Segment>, AllocError>

@@ -3,9 +3,9 @@ ghost use Rattle.std.specs.Prelude.{◌≡◌};
 ghost use Rattle.playlist_meaning.specs.Said.{uri_of};
 ghost use Rattle.playlist_meaning.specs.Refusals.{Gives};
 
-use crate::tags::uri_of;
+use crate::tags::short_uri_of;
 use base_uris::Base;
-use playlist_meaning::{FaultKind, Text};
+use playlist_meaning::{FaultKind, ShortText, Text};
 use std::alloc::Global;
 use std::marker::Model;
 
@@ -13,7 +13,7 @@ use std::marker::Model;
 #[derive(Drop)]
 struct Resolved {
     reference: Text,
-    uri: Text,
+    uri: ShortText,
 }
 
 /// The base of a playlist's references, and the last one of a segment that is a part of its resource:
@@ -56,15 +56,16 @@ impl<'a> References<'a> {
     }
 
     /// The resource that a reference names.
-    pub fn resolve(&self, reference: &str) -> Result<Text, FaultKind>
+    #[inline(always)]
+    pub fn resolve(&self, reference: &str) -> Result<ShortText, FaultKind>
         ensures { Gives (λ uri. uri) result (uri_of self.now reference.now) }
     {
-        uri_of(self.base, reference)
+        short_uri_of(self.base, reference)
     }
 
     /// The resource of which a segment is a part. It is kept for the next part.
     #[inline(never)]
-    pub fn resolve_part(&mut self, reference: &str) -> Result<Text, FaultKind>
+    pub fn resolve_part(&mut self, reference: &str) -> Result<ShortText, FaultKind>
         ensures value { Gives (λ uri. uri) result (uri_of self.old reference.now) }
         ensures kept { self.new ≡ self.old }
     {
@@ -73,7 +74,7 @@ impl<'a> References<'a> {
                 return Ok(last.uri.clone()?);
             }
         }
-        let uri = uri_of(self.base, reference)?;
+        let uri = short_uri_of(self.base, reference)?;
         let reference = Text::copy_of(self.alloc, reference)?;
         self.last = Some(Resolved {
             reference,

@@ -12,7 +12,9 @@ ghost use Rattle.segment_state.specs.Tags.{section_tag_said};
 use crate::attributes::{attributes_of, optional, required};
 use attr_list::{AttrList, read_decimal, read_hex_u128};
 use base_uris::{Base, BaseFault};
-use playlist_meaning::{ByteRange, FaultKind, Key, KeyTag, OtherAttributes, Shared, Text};
+use playlist_meaning::{
+    ByteRange, FaultKind, Key, KeyTag, OtherAttributes, Shared, ShortText, Text,
+};
 use std::alloc::Global;
 
 /// The format of a key that states none.
@@ -28,7 +30,7 @@ pub struct SectionTag {
 }
 
 /// The resource that a reference names.
-pub fn uri_of(base: &Base, reference: &str) -> Result<Text, FaultKind>
+fn uri_of(base: &Base, reference: &str) -> Result<Text, FaultKind>
     ensures { Gives (λ uri. uri) result (uri_of base.now reference.now) }
 {
     match base.resolve(reference) {
@@ -36,6 +38,19 @@ pub fn uri_of(base: &Base, reference: &str) -> Result<Text, FaultKind>
         Err(BaseFault::OutOfMemory) => Err(FaultKind::OutOfMemory),
         Err(_) => Err(FaultKind::BadUri),
     }
+}
+
+/// The same, of a segment: most are short.
+#[inline(always)]
+pub fn short_uri_of(base: &Base, reference: &str) -> Result<ShortText, FaultKind>
+    ensures { Gives (λ uri. uri) result (uri_of base.now reference.now) }
+{
+    let fault = match base.resolve_short(reference) {
+        Ok(uri) => return Ok(uri),
+        Err(BaseFault::OutOfMemory) => FaultKind::OutOfMemory,
+        Err(_) => FaultKind::BadUri,
+    };
+    Err(fault)
 }
 
 // The same, to be shared.

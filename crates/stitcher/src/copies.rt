@@ -5,7 +5,7 @@ ghost use Rattle.playlist_meaning.specs.Stitched.{ad_piece, with_keys};
 ghost use Rattle.stitcher.specs.Written.{written_segment};
 
 use crate::marked::Numbers;
-use playlist_meaning::{InitSection, Items, Key, Keys, Segment, Shared, Text};
+use playlist_meaning::{InitSection, Items, Key, Keys, Segment, Shared, ShortText, Text};
 use pod_store::{Ad, PodSegment};
 use std::alloc::{AllocError, Global};
 use std::marker::Model;
@@ -95,7 +95,7 @@ pub fn ad_segment(
         number: numbers.media,
         discontinuity: numbers.discontinuity,
         steps: numbers.steps,
-        uri: Text::copy_of(alloc, segment.uri.as_str())?,
+        uri: ShortText::copy_of(alloc, segment.uri.as_str())?,
         byte_range: segment.byte_range,
         keys: copied_keys(alloc, ad.keys.as_slice())?,
         section: shared_section(&parts.section)?,
