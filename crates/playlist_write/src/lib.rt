@@ -24,6 +24,7 @@ mod date_ranges;
 mod digits;
 mod header;
 mod keys;
+mod last_duration;
 pub mod laws;
 mod lines;
 mod pieces;
@@ -78,6 +79,30 @@ impl From<SinkFailed> for WriteFault {
     }
 }
 
+// So many segments are looked at to reckon how much room all of them take.
+const FEW: usize = 16;
+
+// The room that a segment takes, generously.
+fn room_of(next: &OutSegment<'_>) -> usize {
+    let segment = &next.segment;
+    let texts = segment
+        .uri
+        .as_str()
+        .len()
+        .saturating_add(segment.title.as_str().len());
+    let keys = segment.keys.len().saturating_mul(160);
+    texts.saturating_add(keys).saturating_add(88)
+}
+
+// The most room that one of the first segments takes.
+fn most_room(segments: &[OutSegment<'_>]) -> usize {
+    let mut most: usize = 0;
+    for next in segments.iter().take(FEW) {
+        most = most.max(room_of(next));
+    }
+    most
+}
+
 // At least as much room as most texts take: a text that grows is held twice while it is moved, and room that isn't used takes
 // no memory.
 fn room_for(playlist: &OutPlaylist<'_>) -> usize {
@@ -87,20 +112,8 @@ fn room_for(playlist: &OutPlaylist<'_>) -> usize {
             .saturating_add(date_range.as_str().len())
             .saturating_add(24);
     }
-    for next in playlist.segments.as_slice() {
-        let segment = &next.segment;
-        let texts = segment
-            .uri
-            .as_str()
-            .len()
-            .saturating_add(segment.title.as_str().len());
-        let keys = segment.keys.len().saturating_mul(160);
-        room = room
-            .saturating_add(texts)
-            .saturating_add(keys)
-            .saturating_add(88);
-    }
-    room
+    let segments = playlist.segments.as_slice();
+    room.saturating_add(segments.len().saturating_mul(most_room(segments)))
 }
 
 // The lines before the date ranges, in a text with so much room.
@@ -119,7 +132,7 @@ fn make_text(alloc: Global, playlist: &OutPlaylist<'_>) -> Result<String, AllocE
 {
     let mut text = front_of(alloc, room_for(playlist), playlist)?;
     push_date_ranges(&mut text, playlist.date_ranges.as_slice())?;
-    push_segments(&mut text, playlist.segments.as_slice())?;
+    push_segments(alloc, &mut text, playlist.segments.as_slice())?;
     push_end(&mut text, playlist.ended)?;
     Ok(text)
 }
@@ -157,7 +170,7 @@ fn write_text<S: Sink>(
 {
     let mut held = front_of(alloc, PIECE_ROOM, playlist)?;
     write_date_ranges(&mut held, playlist.date_ranges.as_slice(), sink)?;
-    write_segments(&mut held, playlist.segments.as_slice(), sink)?;
+    write_segments(alloc, &mut held, playlist.segments.as_slice(), sink)?;
     write_end(&mut held, playlist.ended, sink)
 }
 

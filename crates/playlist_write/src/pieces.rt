@@ -7,9 +7,11 @@ ghost use Rattle.playlist_write.specs.Taken.{TookAllBut};
 
 use crate::WriteFault;
 use crate::header::push_date_range;
+use crate::last_duration::LastDuration;
 use crate::segments::{push_segment, section_of};
 use devices::{Sink, SinkFailed, hand_out};
 use playlist_meaning::{InitSection, Key};
+use std::alloc::Global;
 use stitcher::{OriginText, OutSegment};
 
 // What is held of a text is handed out once it is so many bytes, or more.
@@ -57,6 +59,7 @@ pub fn write_date_ranges<S: Sink>(
 
 /// Adds the lines of all segments to what is held, and hands out each piece.
 pub fn write_segments<S: Sink>(
+    alloc: Global,
     held: &mut String,
     segments: &[OutSegment<'_>],
     sink: &mut S,
@@ -67,10 +70,11 @@ pub fn write_segments<S: Sink>(
     ensures io { IsErrOf result WriteFault.Io → FailedAtLast (S.failed sink.old) (S.failed sink.new) }
     ensures memory { IsErrOf result WriteFault.OutOfMemory → NoneFailed (S.failed sink.old) (S.failed sink.new) }
 {
+    let mut last = LastDuration::new(alloc);
     let mut keys: &[Key] = &[];
     let mut section: Option<&InitSection> = None;
     for next in segments {
-        push_segment(held, keys, section, next)?;
+        push_segment(held, &mut last, keys, section, next)?;
         hand_out_piece(held, sink)?;
         keys = next.segment.keys.as_slice();
         section = section_of(next).or(section);

@@ -8,12 +8,13 @@ ghost use Rattle.fixed_duration.specs.Duration.{duration_text};
 ghost use Rattle.fixed_duration.specs.Appended.{Appends};
 
 use crate::keys::{push_key_tags, push_section};
+use crate::last_duration::LastDuration;
 use crate::lines::{push_byte_range, push_feed, push_line};
 use fixed_duration::Nanos;
 use playlist_meaning::{
     ByteRange, InitSection, Instant, Key, Segment, Shared, is_same_section, write_instant,
 };
-use std::alloc::AllocError;
+use std::alloc::{AllocError, Global};
 use stitcher::OutSegment;
 
 #[tactic(auto, unfolding(crate::specs::Owed::line_of))]
@@ -115,7 +116,8 @@ fn push_title(out: &mut String, title: &str) -> Result<(), AllocError>
     push_line(out, title)
 }
 
-fn push_duration(out: &mut String, duration: Nanos, title: &str) -> Result<(), AllocError>
+/// Appends the line of a duration and a title.
+pub fn push_duration(out: &mut String, duration: Nanos, title: &str) -> Result<(), AllocError>
     ensures { Appends result out.old out.new (line_of (Said.duration duration title.now)) }
 {
     out.push_str("#EXTINF:")?;
@@ -149,21 +151,26 @@ fn push_uri(out: &mut String, uri: &str) -> Result<(), AllocError>
     push_line(out, uri)
 }
 
-fn push_media(out: &mut String, segment: &Segment) -> Result<(), AllocError>
+fn push_media<'a>(
+    out: &mut String,
+    last: &mut LastDuration<'a>,
+    segment: &'a Segment,
+) -> Result<(), AllocError>
     ensures { Appends result out.old out.new (said_text (media_owed segment.now)) }
 {
-    push_duration(out, segment.duration, segment.title.as_str())?;
+    last.push(out, segment.duration, segment.title.as_str())?;
     push_byte_range_tag(out, segment.byte_range)?;
     push_uri(out, segment.uri.as_str())?;
     Ok(())
 }
 
 /// Appends the lines of a segment after those with these keys and this section in force.
-pub fn push_segment(
+pub fn push_segment<'a>(
     out: &mut String,
+    last: &mut LastDuration<'a>,
     keys: &[Key],
     section: Option<&InitSection>,
-    next: &OutSegment<'_>,
+    next: &'a OutSegment<'_>,
 ) -> Result<(), AllocError>
     ensures { OnOk result (string_bytes out.new ≡ string_bytes out.old
         ++ said_text (segment_owed (record { keys = keys.now; section = option_copied section.entry }) next.now)) }
@@ -174,7 +181,7 @@ pub fn push_segment(
     push_changed_section(out, keys, changed)?;
     push_key_tags(out, keys_then(keys, changed), segment.keys.as_slice())?;
     push_time_tag(out, next.time)?;
-    push_media(out, segment)?;
+    push_media(out, last, segment)?;
     Ok(())
 }
 
@@ -189,13 +196,18 @@ pub fn section_of<'a>(next: &'a OutSegment<'_>) -> Option<&'a InitSection>
 }
 
 /// Appends the lines of all segments.
-pub fn push_segments(out: &mut String, segments: &[OutSegment<'_>]) -> Result<(), AllocError>
+pub fn push_segments(
+    alloc: Global,
+    out: &mut String,
+    segments: &[OutSegment<'_>],
+) -> Result<(), AllocError>
     ensures { Appends result out.old out.new (said_text (segments_owed none_yet segments.now)) }
 {
+    let mut last = LastDuration::new(alloc);
     let mut keys: &[Key] = &[];
     let mut section: Option<&InitSection> = None;
     for next in segments {
-        push_segment(out, keys, section, next)?;
+        push_segment(out, &mut last, keys, section, next)?;
         keys = next.segment.keys.as_slice();
         section = section_of(next).or(section);
     }

@@ -1,0 +1,96 @@
+//! The line of EXTINF that was written last, since most segments of a playlist state the same one.
+ghost use Rattle.std.specs.Prelude.{◌≡◌, IfOk, IsTrue, ◌↔◌, string_bytes};
+ghost use Rattle.playlist_meaning.specs.Said as Said;
+ghost use Rattle.playlist_write.specs.Owed.{line_of};
+ghost use Rattle.fixed_duration.specs.Appended.{Appends};
+
+use crate::segments::push_duration;
+use fixed_duration::Nanos;
+use std::alloc::{AllocError, Global};
+use std::marker::Model;
+
+/// A duration and a title, and their line once they were written again.
+#[derive(Drop)]
+pub struct LastDuration<'a> {
+    alloc: Global,
+    duration: Nanos,
+    title: &'a str,
+    line: Option<String>,
+}
+
+impl<'a> Model for LastDuration<'a> {
+    ghost use Rattle.std.specs.Prelude.{◌≡◌, ℕ, List, IfSome, string_bytes};
+    ghost use Rattle.playlist_meaning.specs.Said as Said;
+    ghost use Rattle.playlist_write.specs.Owed.{line_of};
+
+    ghost Value = { ℕ × List ℕ };
+
+    ghost view = { λ a. (a.duration, a.title.now) };
+
+    ghost invariant = { λ a. IfSome a.line (λ line. string_bytes line ≡ line_of (Said.duration a.duration a.title.now)) };
+}
+
+// The line of a duration and a title.
+fn line_with(alloc: Global, duration: Nanos, title: &str) -> Result<String, AllocError>
+    ensures { IfOk result (λ line. string_bytes line ≡ line_of (Said.duration duration title.now)) }
+{
+    let mut line = String::new(alloc);
+    push_duration(&mut line, duration, title)?;
+    Ok(line)
+}
+
+impl<'a> LastDuration<'a> {
+    /// Nothing was written yet.
+    pub fn new(alloc: Global) -> LastDuration<'a> {
+        LastDuration {
+            alloc,
+            duration: Nanos(0),
+            title: "",
+            line: None,
+        }
+    }
+
+    // Appends the line of the last duration and title.
+    fn push_again(&mut self, out: &mut String) -> Result<(), AllocError>
+        ensures { Appends result out.old out.new (line_of (Said.duration self.old.0 self.old.1)) }
+    {
+        if let Some(line) = &self.line {
+            return out.push_str(line.as_str());
+        }
+        let line = line_with(self.alloc, self.duration, self.title)?;
+        out.push_str(line.as_str())?;
+        self.line = Some(line);
+        Ok(())
+    }
+
+    // Appends the line of another duration or title.
+    fn push_other(
+        &mut self,
+        out: &mut String,
+        duration: Nanos,
+        title: &'a str,
+    ) -> Result<(), AllocError>
+        ensures { Appends result out.old out.new (line_of (Said.duration duration title.now)) }
+    {
+        self.line = None;
+        self.duration = duration;
+        self.title = title;
+        push_duration(out, duration, title)
+    }
+
+    /// Appends the line of a duration and a title.
+    #[inline(always)]
+    pub fn push(
+        &mut self,
+        out: &mut String,
+        duration: Nanos,
+        title: &'a str,
+    ) -> Result<(), AllocError>
+        ensures { Appends result out.old out.new (line_of (Said.duration duration title.now)) }
+    {
+        if duration == self.duration && title == self.title {
+            return self.push_again(out);
+        }
+        self.push_other(out, duration, title)
+    }
+}
