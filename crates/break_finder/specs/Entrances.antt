@@ -50,19 +50,19 @@ is_entered tolerance last instant e =
 abbrev pub taken : ℕ → Option (List ℕ) → ℤ → List Entrance → Option (List ℕ)
 taken tolerance last instant found = option_map entrance_id (find (is_entered tolerance last instant) found)
 
--- ---- groups
+-- ---- quiet times
 
-abbrev pub joined : List (List Entrance) → List Entrance
-joined [] = []
-joined (group ∷ later) = group ++ joined later
+-- the one instant is at or after the third, or the other at or before it
+abbrev pub is_outside : ℤ → ℤ → ℤ → Bool
+is_outside after before start = int_le start after || int_le before start
 
-abbrev pub starts_within : ℤ → ℤ → Entrance → Bool
-starts_within first last e = int_le first e.start && int_le e.start last
+abbrev pub starts_outside : ℤ → ℤ → Entrance → Bool
+starts_outside after before e = is_outside after before e.start
 
 -- one instant is more than the tolerance before another
 abbrev pub is_far_before : ℤ → ℕ → ℤ → Bool
 is_far_before earlier tolerance later = int_lt (earlier +ℤ pos tolerance) later
 
--- an instant is more than the tolerance away from a span of time
-abbrev pub is_far : ℤ → ℤ → ℕ → ℤ → Bool
-is_far first last tolerance instant = is_far_before instant tolerance first || is_far_before last tolerance instant
+-- an instant lies between two others, more than the tolerance from each
+abbrev pub is_between : ℤ → ℤ → ℕ → ℤ → Bool
+is_between after before tolerance instant = is_far_before after tolerance instant && is_far_before instant tolerance before

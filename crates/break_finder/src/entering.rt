@@ -1,5 +1,5 @@
 //! The breaks that can be entered, and the one that a segment enters.
-ghost use Rattle.std.specs.Prelude.{◌≡◌, ◌≤ℤ◌, ◌++◌, ◌∷◌, [], OnOk, ℕ, Bool, true, List, map, option_map, IfOk};
+ghost use Rattle.std.specs.Prelude.{◌≡◌, ◌≤ℤ◌, ℕ, Bool, true, List, map, option_map, IfOk};
 ghost use Rattle.std.specs.List.{list_all};
 ghost use Rattle.std.specs.Option.{option_copied};
 ghost use Rattle.pod_store.specs.Store.{Store, pod_for};
@@ -8,7 +8,7 @@ ghost use Rattle.break_finder.specs.Ends.{end_view};
 ghost use Rattle.break_finder.specs.Kept.{break_at};
 ghost use Rattle.break_finder.specs.Known.{is_this};
 ghost use Rattle.break_finder.specs.Entering.{entered};
-ghost use Rattle.break_finder.specs.Entrances.{entrance_of, entrances_in, is_entered, is_far, is_far_before, joined, starts_within, taken};
+ghost use Rattle.break_finder.specs.Entrances.{entrance_of, entrances_in, is_between, is_entered, is_far_before, is_outside, starts_outside, taken};
 
 use crate::end::{End, end_of, is_near, is_not_past};
 use crate::said::{Said, is_leaving};
@@ -105,140 +105,80 @@ fn is_far_before(earlier: i64, tolerance: Nanos, later: i64) -> bool
     i128::from(earlier) + i128::from(tolerance.0) < i128::from(later)
 }
 
-// A span of time: its first and its last instant, in nanoseconds from 1970.
+// A time in which nothing starts: what starts does so at its first instant or before, or at its last or after.
 #[derive(Clone, Copy)]
-struct Span {
-    first: i64,
-    last: i64,
+struct Quiet {
+    after: i64,
+    before: i64,
 }
 
-// Whether an instant is more than the tolerance away from a span.
-fn is_far(span: Span, tolerance: Nanos, instant: Instant) -> bool
-    ensures { result ≡ is_far span.first span.last tolerance instant }
+// Whether an instant lies in a quiet time, more than the tolerance from its ends.
+fn is_between(quiet: Quiet, tolerance: Nanos, instant: Instant) -> bool
+    ensures { result ≡ is_between quiet.after quiet.before tolerance instant }
 {
-    is_far_before(instant.0, tolerance, span.first)
-        || is_far_before(span.last, tolerance, instant.0)
+    is_far_before(quiet.after, tolerance, instant.0)
+        && is_far_before(instant.0, tolerance, quiet.before)
 }
 
-// A span with one instant more.
-fn wider(span: Span, instant: Instant) -> Span
-    ensures first { result.first ≤ℤ span.first }
-    ensures last { span.last ≤ℤ result.last }
-    ensures before { result.first ≤ℤ instant }
-    ensures after { instant ≤ℤ result.last }
+// A quiet time around an instant, as far as one more start leaves it.
+fn narrower(quiet: Quiet, instant: Instant, start: Instant) -> Quiet
+    ensures after { quiet.after ≤ℤ result.after }
+    ensures before { result.before ≤ℤ quiet.before }
+    ensures outside { is_outside result.after result.before start ≡ true }
 {
-    Span {
-        first: span.first.min(instant.0),
-        last: span.last.max(instant.0),
+    if start.0 < instant.0 {
+        return Quiet {
+            after: quiet.after.max(start.0),
+            before: quiet.before,
+        };
+    }
+    Quiet {
+        after: quiet.after,
+        before: quiet.before.min(start.0),
     }
 }
 
-// The span within which these start.
-fn span_of(list: &[Entrance<'_>]) -> Span
-    ensures { list_all (starts_within result.first result.last) list.now ≡ true }
+// The quiet time around an instant that these leave.
+fn quiet_around(instant: Instant, list: &[Entrance<'_>]) -> Quiet
+    ensures { list_all (starts_outside result.after result.before) list.now ≡ true }
 {
-    let mut span = Span {
-        first: i64::MAX,
-        last: i64::MIN,
+    let mut quiet = Quiet {
+        after: i64::MIN,
+        before: i64::MAX,
     };
     for entrance in list {
-        span = wider(span, entrance.start);
+        quiet = narrower(quiet, instant, entrance.start);
     }
-    span
+    quiet
 }
 
-// Some entrances, with the span within which they start: most segments are far from it, and need not look at each.
+/// The breaks that can be entered as long as the store, the target and the sections of segments stay as they are: each is
+/// signalled and decided, and its pod fits. Most segments lie where none of them starts, and after the first of these they
+/// aren't looked through.
 #[derive(Drop)]
-struct Group<'a> {
-    span: Span,
+pub struct Entrances<'a> {
     list: Vec<Entrance<'a>>,
+    quiet: Quiet,
 }
 
-impl<'a> Model for Group<'a> {
+impl<'a> Model for Entrances<'a> {
     ghost use Rattle.std.specs.Prelude.{◌≡◌, List, true};
     ghost use Rattle.std.specs.List.{list_all};
-    ghost use Rattle.break_finder.specs.Entrances.{Entrance, starts_within};
+    ghost use Rattle.break_finder.specs.Entrances.{Entrance, starts_outside};
 
     ghost Value = { List Entrance };
 
     ghost view = { λ a. a.list.items };
 
-    ghost invariant = { λ a. list_all (starts_within a.span.first a.span.last) a.list.items ≡ true };
+    ghost invariant = { λ a. list_all (starts_outside a.quiet.after a.quiet.before) a.list.items ≡ true };
 }
 
-impl<'a> Group<'a> {
-    fn new(list: Vec<Entrance<'a>>) -> Group<'a>
-        ensures { result ≡ list.entry.items }
-    {
-        let span = span_of(list.as_slice());
-        Group { span, list }
-    }
-
-    // The ID of the first of them that is entered.
-    fn entered(&self, tolerance: Nanos, last: Option<&str>, instant: Instant) -> Option<&'a str>
-        ensures { option_map (λ id. id.now) result ≡ taken tolerance (option_copied last.entry) instant self.now }
-    {
-        if is_far(self.span, tolerance, instant) {
-            return None;
-        }
-        first_entered(self.list.as_slice(), tolerance, last, instant)
-    }
-}
-
-// How many entrances make a group: as many as there are groups at most, since 256 breaks are decided at most.
-const GROUP: usize = 16;
-
-#[tactic(auto, using(crate::proofs::Groups::joined_more))]
-fn push_group<'a>(groups: &mut Vec<Group<'a>>, list: Vec<Entrance<'a>>) -> Result<(), AllocError>
-    ensures { OnOk result (joined groups.new.items ≡ joined groups.old.items ++ list.entry.items) }
+// These entrances, with no quiet time found yet.
+fn entrances_with(list: Vec<Entrance<'_>>) -> Entrances<'_>
+    ensures { result ≡ list.entry.items }
 {
-    groups.push(Group::new(list))?;
-    Ok(())
-}
-
-// Puts an entrance into the part of a group, which goes to the groups where it is full.
-fn push_entrance<'a>(
-    alloc: Global,
-    groups: &mut Vec<Group<'a>>,
-    part: &mut Vec<Entrance<'a>>,
-    entrance: Entrance<'a>,
-) -> Result<(), AllocError>
-    ensures { OnOk result (joined groups.new.items ++ part.new.items ≡ (joined groups.old.items ++ part.old.items) ++ entrance.entry ∷ []) }
-{
-    part.push(entrance)?;
-    if part.len() >= GROUP {
-        push_group(groups, std::mem::replace(part, Vec::new(alloc)))?;
-    }
-    Ok(())
-}
-
-// These entrances, group by group.
-fn grouped<'a>(alloc: Global, list: Vec<Entrance<'a>>) -> Result<Vec<Group<'a>>, AllocError>
-    ensures { IfOk result (λ groups. joined groups.items ≡ list.entry.items) }
-{
-    let mut groups = Vec::new(alloc);
-    let mut part = Vec::new(alloc);
-    for entrance in list {
-        push_entrance(alloc, &mut groups, &mut part, entrance)?;
-    }
-    push_group(&mut groups, part)?;
-    Ok(groups)
-}
-
-/// The breaks that can be entered as long as the store, the target and the sections of segments stay as they are: each is
-/// signalled and decided, and its pod fits.
-#[derive(Drop)]
-pub struct Entrances<'a> {
-    groups: Vec<Group<'a>>,
-}
-
-impl<'a> Model for Entrances<'a> {
-    ghost use Rattle.std.specs.Prelude.{List};
-    ghost use Rattle.break_finder.specs.Entrances.{Entrance, joined};
-
-    ghost Value = { List Entrance };
-
-    ghost view = { λ a. joined a.groups.items };
+    let quiet = quiet_around(Instant(0), list.as_slice());
+    Entrances { list, quiet }
 }
 
 /// Those of known breaks.
@@ -257,44 +197,56 @@ pub fn entrances_of<'a>(
             list.push(entrance)?;
         }
     }
-    Ok(Entrances {
-        groups: grouped(alloc, list)?,
-    })
-}
-
-// The ID of the first entrance of these groups that is entered.
-fn first_in_groups<'a>(
-    groups: &[Group<'a>],
-    tolerance: Nanos,
-    last: Option<&str>,
-    instant: Instant,
-) -> Option<&'a str>
-    ensures { option_map (λ id. id.now) result ≡ taken tolerance (option_copied last.entry) instant (joined groups.now) }
-{
-    for group in groups {
-        if let Some(id) = group.entered(tolerance, last, instant) {
-            return Some(id);
-        }
-    }
-    None
+    Ok(entrances_with(list))
 }
 
 impl<'a> Entrances<'a> {
+    // The ID of the first of them that is entered. Where none is, the quiet time is found in which none starts.
+    #[inline(never)]
+    fn looked_through(
+        &mut self,
+        instant: Instant,
+        tolerance: Nanos,
+        last: Option<&str>,
+    ) -> Option<&'a str>
+        ensures taken { option_map (λ id. id.now) result ≡ taken tolerance (option_copied last.entry) instant self.old }
+        ensures kept { self.new ≡ self.old }
+    {
+        let found = first_entered(self.list.as_slice(), tolerance, last, instant);
+        if found.is_none() {
+            self.quiet = quiet_around(instant, self.list.as_slice());
+        }
+        found
+    }
+
+    // The same, where most instants lie in the quiet time found last.
+    #[inline(always)]
+    fn first(&mut self, instant: Instant, tolerance: Nanos, last: Option<&str>) -> Option<&'a str>
+        ensures taken { option_map (λ id. id.now) result ≡ taken tolerance (option_copied last.entry) instant self.old }
+        ensures kept { self.new ≡ self.old }
+    {
+        if is_between(self.quiet, tolerance, instant) {
+            return None;
+        }
+        self.looked_through(instant, tolerance, last)
+    }
+
     /// The ID of the first known break, in the order of the IDs, that a segment at this instant enters: the instant
     /// differs from its start by at most the tolerance and is so much before its end, and it isn't the last one
     /// entered. Takes no memory.
     pub fn entered(
-        &self,
+        &mut self,
         instant: Option<Instant>,
         tolerance: Nanos,
         last: Option<&str>,
     ) -> Option<&'a str>
-        ensures { (target : ℕ) → (mapped : Bool) → (store : Store) → (breaks : List Break)
-            → self.now ≡ entrances_in target mapped store breaks
+        ensures entered { (target : ℕ) → (mapped : Bool) → (store : Store) → (breaks : List Break)
+            → self.old ≡ entrances_in target mapped store breaks
             → option_map (λ id. id.now) result ≡ entered (record { tolerance = tolerance; target = target; mapped = mapped; last = option_copied last.entry }) store breaks instant }
+        ensures kept { self.new ≡ self.old }
     {
         match instant {
-            Some(instant) => first_in_groups(self.groups.as_slice(), tolerance, last, instant),
+            Some(instant) => self.first(instant, tolerance, last),
             None => None,
         }
     }

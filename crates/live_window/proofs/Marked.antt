@@ -61,6 +61,11 @@ pub none_entered : (limits : entering.Moment) (store : Store) (breaks : List Bre
 none_entered limits store breaks None h = refl
 none_entered limits store breaks (Some instant) h = ap (option_map id_of) (none_enters limits store instant breaks h)
 
+pub none_marked : (m : Moment) (last : Option (List ℕ)) (s : Segment) (later : List Segment) (instant : Option ℤ) (instants : List (Option ℤ)) → is_empty m.store ≡ true
+    → mark_on m None last (s ∷ later) (instant ∷ instants) ≡ record { segment = s; instant = instant; mark = None } ∷ mark_on m None last later instants
+none_marked m last s later instant instants empty =
+    ap (λ id. record { segment = s; instant = instant; mark = id } ∷ mark_on m id (or_earlier id last) later instants) (none_entered (limits m last) m.store m.breaks instant empty)
+
 -- ---- each mark is decided
 
 test_step : (test : Break → Bool) (y x : Break) (rest : Option Break) (b : Bool) → test y ≡ b → (rest ≡ Some x → test x ≡ true) → cond b (Some y) rest ≡ Some x → test x ≡ true

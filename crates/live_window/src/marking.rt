@@ -1,8 +1,8 @@
 //! The new segments of a refresh, with the breaks that they are marked with.
-ghost use Rattle.std.specs.Prelude.{◌≡◌, ◌++◌, length, IfOk, OnOk, Some, None};
+ghost use Rattle.std.specs.Prelude.{◌≡◌, ◌++◌, ℕ, true, List, Option, IfOk, OnOk, Some, None};
 ghost use Rattle.std.specs.Option.{option_copied};
 ghost use Rattle.playlist_meaning.specs.LookBack.{or_earlier};
-ghost use Rattle.pod_store.specs.Store.{pod_for};
+ghost use Rattle.pod_store.specs.Store.{is_empty, pod_for};
 ghost use Rattle.break_finder.specs.Entering.{entered};
 ghost use Rattle.live_meaning.specs.Marking.{limits};
 ghost use Rattle.live_window.specs.Marking.{is_still_inside, stays, next_id, mark_on};
@@ -108,12 +108,13 @@ impl<'a> Marker<'a> {
     #[tactic(auto, using(crate::proofs::Marked::none_entered))]
     // The first break that is entered at an instant, after this last one.
     fn entered(
-        &self,
+        &mut self,
         alloc: Global,
         last: Option<&str>,
         instant: Option<Instant>,
     ) -> Result<Option<Shared<Text>>, AllocError>
-        ensures { IfOk result (λ id. id ≡ entered (limits self.now (option_copied last.entry)) self.now.store self.now.breaks instant) }
+        ensures entered { IfOk result (λ id. id ≡ entered (limits self.old (option_copied last.entry)) self.old.store self.old.breaks instant) }
+        ensures kept { self.new ≡ self.old }
     {
         // Most playlists have no decided break and no fallback, and then each segment comes here.
         if self.store.is_empty() {
@@ -127,23 +128,25 @@ impl<'a> Marker<'a> {
 
     // The first break but this one that is entered at an instant.
     fn entered_since(
-        &self,
+        &mut self,
         alloc: Global,
         last: &str,
         instant: Option<Instant>,
     ) -> Result<Option<Shared<Text>>, AllocError>
-        ensures { IfOk result (λ id. id ≡ entered (limits self.now (Some last.now)) self.now.store self.now.breaks instant) }
+        ensures entered { IfOk result (λ id. id ≡ entered (limits self.old (Some last.now)) self.old.store self.old.breaks instant) }
+        ensures kept { self.new ≡ self.old }
     {
         self.entered(alloc, Some(last), instant)
     }
 
     fn entered_after(
-        &self,
+        &mut self,
         alloc: Global,
         last: &Option<Shared<Text>>,
         instant: Option<Instant>,
     ) -> Result<Option<Shared<Text>>, AllocError>
-        ensures { IfOk result (λ id. id ≡ entered (limits self.now last.now) self.now.store self.now.breaks instant) }
+        ensures entered { IfOk result (λ id. id ≡ entered (limits self.old last.now) self.old.store self.old.breaks instant) }
+        ensures kept { self.new ≡ self.old }
     {
         match last {
             Some(last) => self.entered_since(alloc, last.as_str(), instant),
@@ -153,15 +156,16 @@ impl<'a> Marker<'a> {
 
     // The break that marks a segment, by whether it stays on the run of the one before it.
     fn next_id(
-        &self,
+        &mut self,
         alloc: Global,
         staying: bool,
         newest: &Option<Shared<Text>>,
         last: &Option<Shared<Text>>,
         instant: Option<Instant>,
     ) -> Result<Option<Shared<Text>>, AllocError>
-        requires { staying ≡ stays self.now newest.now instant }
-        ensures { IfOk result (λ id. id ≡ next_id self.now newest.now last.now instant) }
+        requires { staying ≡ stays self.old newest.now instant }
+        ensures id { IfOk result (λ id. id ≡ next_id self.old newest.now last.now instant) }
+        ensures kept { self.new ≡ self.old }
     {
         if staying {
             return copied_text(newest);
@@ -213,14 +217,15 @@ fn marked_with(
 impl<'a> Marker<'a> {
     // The next segment with its mark; how far the marks are is told after it.
     fn next(
-        &self,
+        &mut self,
         alloc: Global,
         run: &mut Run,
         segment: &Shared<Segment>,
         instant: &Option<Instant>,
     ) -> Result<Marked, AllocError>
-        ensures marked { IfOk result (λ m. m ≡ record { segment = segment.now; instant = instant.now; mark = next_id self.now run.old.before run.old.entered instant.now }) }
+        ensures marked { IfOk result (λ m. m ≡ record { segment = segment.now; instant = instant.now; mark = next_id self.old run.old.before run.old.entered instant.now }) }
         ensures run { IfOk result (λ m. run.new ≡ record { before = m.mark; entered = or_earlier m.mark run.old.entered }) }
+        ensures kept { self.new ≡ self.old }
     {
         let staying = self.stays(&run.before, *instant);
         let mark = self.next_id(alloc, staying, &run.before, &run.entered, *instant)?;
@@ -231,14 +236,14 @@ impl<'a> Marker<'a> {
 
     // Puts these segments, which begin at these instants, after those that are done, with their marks.
     fn all(
-        &self,
+        &mut self,
         alloc: Global,
         run: &mut Run,
         segments: &[Shared<Segment>],
         instants: &mut Beginnings<'_>,
         done: &mut Vec<Marked>,
     ) -> Result<(), AllocError>
-        ensures { OnOk result (done.new.items ≡ done.old.items ++ mark_on self.now run.old.before run.old.entered segments.now instants.old) }
+        ensures { OnOk result (done.new.items ≡ done.old.items ++ mark_on self.old run.old.before run.old.entered segments.now instants.old) }
     {
         let mut rest = segments;
         while let Some((segment, later)) = rest.split_first() {
@@ -251,19 +256,44 @@ impl<'a> Marker<'a> {
         Ok(())
     }
 
+    // The same where no break is decided, with no fallback, and the segment before has no mark: none of these has one.
+    fn all_unmarked(
+        &self,
+        segments: &[Shared<Segment>],
+        instants: &mut Beginnings<'_>,
+        done: &mut Vec<Marked>,
+    ) -> Result<(), AllocError>
+        requires { is_empty self.now.store ≡ true }
+        ensures { OnOk result ((last : Option (List ℕ)) → done.new.items ≡ done.old.items ++ mark_on self.now None last segments.now instants.old) }
+    {
+        let mut rest = segments;
+        while let Some((segment, later)) = rest.split_first() {
+            let Some(begun) = instants.next()? else {
+                return Ok(());
+            };
+            done.push(marked_with(segment, &begun, None)?)?;
+            rest = later;
+        }
+        Ok(())
+    }
+
     // These segments, which begin at these instants, with their marks.
     fn marked(
-        &self,
+        &mut self,
         alloc: Global,
         run: &mut Run,
         segments: &[Shared<Segment>],
         instants: Beginnings<'_>,
     ) -> Result<Vec<Marked>, AllocError>
-        ensures { IfOk result (λ v. v.items ≡ mark_on self.now run.old.before run.old.entered segments.now instants.entry) }
+        ensures { IfOk result (λ v. v.items ≡ mark_on self.old run.old.before run.old.entered segments.now instants.entry) }
     {
         let mut instants = instants;
         let mut done = Vec::with_capacity(alloc, segments.len())?;
-        self.all(alloc, run, segments, &mut instants, &mut done)?;
+        if self.store.is_empty() && run.before.is_none() {
+            self.all_unmarked(segments, &mut instants, &mut done)?;
+        } else {
+            self.all(alloc, run, segments, &mut instants, &mut done)?;
+        }
         Ok(done)
     }
 }
@@ -282,7 +312,7 @@ pub fn mark_on(
 ) -> Result<Vec<Marked>, AllocError>
     ensures { IfOk result (λ v. v.items ≡ mark_on (record { tolerance = limits.now.tolerance; target = limits.now.target; mapped = limits.now.mapped; breaks = knowledge.now; store = store.now }) newest.now last.now segments.now instants.entry) }
 {
-    let marker = marker_of(alloc, limits, knowledge, store)?;
+    let mut marker = marker_of(alloc, limits, knowledge, store)?;
     let mut run = run_of(newest, last)?;
     marker.marked(alloc, &mut run, segments, instants)
 }

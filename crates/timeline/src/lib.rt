@@ -132,6 +132,7 @@ impl<'a> Beginnings<'a> {
     }
 
     /// Where the next segment begins, if there is one. Where memory is refused, all are still to come.
+    #[inline(always)]
     pub fn next(&mut self) -> Result<Option<Option<Instant>>, AllocError>
         ensures next { IfOk result (λ next. MatchOption next ((self.old ≡ []) × (self.new ≡ [])) (λ begun. self.old ≡ begun ∷ self.new)) }
         ensures refused { IfErr result (λ _. self.new ≡ self.old) }
