@@ -1,4 +1,5 @@
 pub mod Feeds
+pub mod Colons
 pub mod HasCount
 pub mod Kept
 pub mod LineLemmas

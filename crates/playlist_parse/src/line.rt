@@ -3,7 +3,7 @@ ghost use Rattle.std.specs.Prelude.{◌≡◌, [], ◌∷◌, map, ◌+◌, ◌^
 ghost use Rattle.std.specs.List.{list_all, position_or_len, before_first, after_first};
 ghost use Rattle.std.specs.Str.Lines.{lines, strip_carriage_return};
 ghost use Rattle.attr_list.specs.Attributes.{slices_at};
-ghost use Rattle.playlist_meaning.specs.Lines.{kind_of, is_blank, placed_lines};
+ghost use Rattle.playlist_meaning.specs.Lines.{kind_of, is_blank, is_colon, placed_lines};
 ghost use Rattle.playlist_parse.specs.LineViews.{line_kind_view, line_span, line_view, is_feed, is_plain_byte, lines_from, with_end};
 
 use attr_list::Span;
@@ -39,6 +39,17 @@ fn is_blank(line: &str) -> bool
     line.as_bytes().iter().all(|b| *b == b' ')
 }
 
+// A text's two parts around its first colon: as `split_once`, by vectors, since names of tags are long.
+#[inline(always)]
+fn cut_at_colon(text: &str) -> Option<(&str, &str)>
+    ensures { MatchOption result (position_or_len is_colon text.now ≡ length text.now) (λ parts. (position_or_len is_colon text.now < length text.now) × (parts.0.now ≡ before_first is_colon text.now) × (parts.1.now ≡ after_first is_colon text.now)) }
+{
+    match memchr(b':', text.as_bytes()) {
+        None => None,
+        Some(at) => Some((&text[..at], &text[at + 1..])),
+    }
+}
+
 #[tactic(auto, using(crate::proofs::LineLemmas::tag_without_colon, crate::proofs::LineLemmas::tag_with_colon))]
 /// What kind of line a text without a line feed is.
 pub fn kind_of(line: &str) -> LineKind<'_>
@@ -55,7 +66,7 @@ pub fn kind_of(line: &str) -> LineKind<'_>
         };
     }
     let text = &line[1..];
-    match text.split_once(':') {
+    match cut_at_colon(text) {
         Some((name, rest)) => LineKind::Tag {
             name,
             rest,
