@@ -1,6 +1,6 @@
 //! Reading sections from hexadecimal text.
 
-ghost use Rattle.std.specs.Prelude.{◌≡◌, ◌≢◌, ◌↔◌, ◌*◌, ℕ, List, IsTrue, false, Ok, Err, IfOk, IfErr, MatchResult, length};
+ghost use Rattle.std.specs.Prelude.{◌≡◌, ◌≢◌, ◌↔◌, ◌*◌, ◌≤◌, ℕ, List, IsTrue, false, Ok, Err, IfOk, IfErr, MatchResult, length};
 ghost use Rattle.std.specs.List.{list_all};
 ghost use Rattle.std.specs.Char.{is_ascii_hexdigit};
 ghost use Rattle.hex.specs.Hex.{decode_of};
@@ -46,8 +46,24 @@ fn decode_into(digits: &[u8], out: &mut [u8])
     hex::decode_to_slice(digits, out).unwrap();
 }
 
-// The section of pairs of digits. No more bytes are decoded than show that there are too many.
-fn read_digits(alloc: Global, digits: &[u8]) -> Result<SpliceInfo, SpliceFault>
+// Most sections have at most so many bytes.
+const FEW: usize = 256;
+
+// The section of pairs of digits, as most are: they are decoded into a small buffer, since it is cleared each time.
+fn read_few(alloc: Global, digits: &[u8]) -> Result<SpliceInfo, SpliceFault>
+    requires pairs { IsTrue (are_pairs digits.now) }
+    requires few { length digits.now ≤ 512 }
+    ensures exact { Gives section_of result (reading_digits digits.now) }
+    ensures told { (e : SpliceFault) → reading_digits digits.now ≡ Err e → e ≢ CommandLength → result ≡ Err e }
+{
+    let mut buffer = [0u8; FEW];
+    let few = &mut buffer[..digits.len() / 2];
+    decode_into(digits, few);
+    read(alloc, few)
+}
+
+// The same of any number of digits. No more bytes are decoded than show that there are too many.
+fn read_many(alloc: Global, digits: &[u8]) -> Result<SpliceInfo, SpliceFault>
     requires { IsTrue (are_pairs digits.now) }
     ensures exact { Gives section_of result (reading_digits digits.now) }
     ensures told { (e : SpliceFault) → reading_digits digits.now ≡ Err e → e ≢ CommandLength → result ≡ Err e }
@@ -57,6 +73,18 @@ fn read_digits(alloc: Global, digits: &[u8]) -> Result<SpliceInfo, SpliceFault>
     let bytes = &mut buffer[..count];
     decode_into(&digits[..2 * count], bytes);
     read(alloc, bytes)
+}
+
+// The section of pairs of digits.
+fn read_digits(alloc: Global, digits: &[u8]) -> Result<SpliceInfo, SpliceFault>
+    requires { IsTrue (are_pairs digits.now) }
+    ensures exact { Gives section_of result (reading_digits digits.now) }
+    ensures told { (e : SpliceFault) → reading_digits digits.now ≡ Err e → e ≢ CommandLength → result ≡ Err e }
+{
+    if digits.len() <= 2 * FEW {
+        return read_few(alloc, digits);
+    }
+    read_many(alloc, digits)
 }
 
 #[tactic(auto, unfolding(crate::specs::Hexadecimal::reading_hex, crate::specs::Hexadecimal::hex_bytes))]

@@ -2,7 +2,7 @@ use Rattle.std.proofs.Common.{subst, ◌∙◌, arith}
 use Rattle.scte35_codec.specs.Section.{section_of}
 use Rattle.scte35_codec.specs.Reading.{Gives}
 use Rattle.scte35_codec.proofs.Hexadecimals.{pairs_in_front, decoded_says}
-use Rattle.scte35_codec.proofs.hexadecimal.read_digits.Goals as goal
+use Rattle.scte35_codec.proofs.hexadecimal.read_many.Goals as goal
 
 pub decode_into-requires-clause-pairs : goal.decode_into-requires-clause-pairs
 decode_into-requires-clause-pairs c = pairs_in_front c.args.digits.now c.min-count.result c.requires (omega (arith, c.min-count.ensures))
