@@ -195,7 +195,7 @@ pub struct Segment {
     /// How long it lasts (EXTINF).
     pub duration: Nanos,
     /// What stands after the duration and a comma.
-    pub title: Shared<Text>,
+    pub title: Shared<ShortText>,
     /// When its first sample is, where EXT-X-PROGRAM-DATE-TIME states that.
     pub time: Option<Instant>,
 }

@@ -14,7 +14,7 @@ pub(crate) fn segment(alloc: Global, duration: Nanos, title: &str) -> Result<Seg
         keys: Items::from_vec(Vec::new(alloc)),
         section: None,
         duration,
-        title: Shared::copy_of(alloc, title)?,
+        title: Shared::new(alloc, ShortText::copy_of(alloc, title)?)?,
         time: None,
     })
 }

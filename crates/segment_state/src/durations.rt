@@ -7,7 +7,7 @@ ghost use Rattle.playlist_meaning.specs.Refusals.{Gives, Refuses};
 ghost use Rattle.segment_state.specs.Kept.{IsDue};
 
 use fixed_duration::Nanos;
-use playlist_meaning::{FaultKind, Shared, Text};
+use playlist_meaning::{FaultKind, Shared, ShortText};
 use std::alloc::{AllocError, Global};
 use std::marker::Model;
 
@@ -16,7 +16,7 @@ use std::marker::Model;
 pub struct Durations<'a> {
     alloc: Global,
     text: &'a str,
-    said: Option<(Nanos, Shared<Text>)>,
+    said: Option<(Nanos, Shared<ShortText>)>,
     is_due: bool,
 }
 
@@ -53,7 +53,7 @@ impl<'a> Durations<'a> {
     }
 
     // A title, to be shared. Takes no memory where it is the last one.
-    fn title(&self, text: &str) -> Result<Shared<Text>, AllocError>
+    fn title(&self, text: &str) -> Result<Shared<ShortText>, AllocError>
         ensures { IfOk result (λ title. title ≡ text.now) }
     {
         if let Some((_, last)) = &self.said {
@@ -61,11 +61,12 @@ impl<'a> Durations<'a> {
                 return last.clone();
             }
         }
-        Shared::copy_of(self.alloc, text)
+        let title = ShortText::copy_of(self.alloc, text)?;
+        Ok(Shared::new(self.alloc, title)?)
     }
 
     // What a text says by itself.
-    fn parsed(&self, text: &str) -> Result<(Nanos, Shared<Text>), FaultKind>
+    fn parsed(&self, text: &str) -> Result<(Nanos, Shared<ShortText>), FaultKind>
         ensures { Gives (λ own. duration own.0 own.1) result (duration_said text.now) }
     {
         let (seconds, title) = parts_at_comma(text);
@@ -76,7 +77,7 @@ impl<'a> Durations<'a> {
     }
 
     // Keeps a text with what it says.
-    fn keep(&mut self, text: &'a str, own: (Nanos, Shared<Text>))
+    fn keep(&mut self, text: &'a str, own: (Nanos, Shared<ShortText>))
         requires { duration_said text.now ≡ Ok (duration own.0 own.1) }
         ensures { self.new ≡ Some own }
     {
@@ -116,7 +117,7 @@ impl<'a> Durations<'a> {
 
     /// The duration and the title that the next segment has.
     #[inline]
-    pub fn own(&self) -> Result<Option<(Nanos, Shared<Text>)>, AllocError>
+    pub fn own(&self) -> Result<Option<(Nanos, Shared<ShortText>)>, AllocError>
         ensures { IfOk result (λ own. own ≡ self.now) }
     {
         match &self.said {

@@ -20,7 +20,7 @@ use base_uris::Base;
 use fixed_duration::Nanos;
 use playlist_meaning::{
     ByteRange, FaultKind, InitSection, Instant, Items, Key, KeyTag, Keys, MOST_SEGMENTS, Segment,
-    Shared, ShortText, Text, is_iv_needed,
+    Shared, ShortText, is_iv_needed,
 };
 use std::alloc::{AllocError, Global};
 use std::marker::Model;
@@ -229,7 +229,7 @@ impl<'a> State<'a> {
         number: u64,
         uri: ShortText,
         byte_range: Option<ByteRange>,
-        own: (Nanos, Shared<Text>),
+        own: (Nanos, Shared<ShortText>),
     ) -> Result<Shared<Segment>, AllocError>
         requires { number ≡ self.now.standing.sequence + self.now.standing.media_count }
         ensures { IfOk result (λ segment. segment ≡ segment_from self.now.standing uri byte_range own) }

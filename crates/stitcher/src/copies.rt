@@ -5,7 +5,7 @@ ghost use Rattle.playlist_meaning.specs.Stitched.{ad_piece, with_keys};
 ghost use Rattle.stitcher.specs.Written.{written_segment};
 
 use crate::marked::Numbers;
-use playlist_meaning::{InitSection, Items, Key, Keys, Segment, Shared, ShortText, Text};
+use playlist_meaning::{InitSection, Items, Key, Keys, Segment, Shared, ShortText};
 use pod_store::{Ad, PodSegment};
 use std::alloc::{AllocError, Global};
 use std::marker::Model;
@@ -34,7 +34,7 @@ fn shared_section(
 #[derive(Drop)]
 pub struct AdParts {
     section: Option<Shared<InitSection>>,
-    title: Shared<Text>,
+    title: Shared<ShortText>,
 }
 
 impl Model for AdParts {
@@ -64,10 +64,10 @@ fn ad_section(alloc: Global, ad: &Ad) -> Result<Option<Shared<InitSection>>, All
     Ok(Some(Shared::new(alloc, section)?))
 }
 
-fn no_title(alloc: Global) -> Result<Shared<Text>, AllocError>
+fn no_title(alloc: Global) -> Result<Shared<ShortText>, AllocError>
     ensures { IfOk result (λ title. title ≡ []) }
 {
-    Shared::new(alloc, Text::from_string(String::new(alloc)))
+    Shared::new(alloc, ShortText::from_string(String::new(alloc)))
 }
 
 /// What the segments of this ad share.
