@@ -11,7 +11,7 @@ mod rows;
 mod writing;
 
 pub use reading::{TimeFault, read_instant};
-pub use writing::write_instant;
+pub use writing::{TimeWriter, write_instant};
 
 /// The first instant: 1900-01-01T00:00:00Z, in nanoseconds from 1970.
 pub const FIRST_INSTANT: i128 = -2_208_988_800_000_000_000;

@@ -7,6 +7,7 @@ ghost use Rattle.fixed_duration.specs.Appended.{Appends};
 
 use crate::{FIRST_INSTANT, Instant};
 use std::alloc::AllocError;
+use std::marker::Model;
 use std::str;
 
 // `YYYY-MM-DDThh:mm:ss.nnnnnnnnnZ` has this many bytes.
@@ -14,6 +15,8 @@ const LONGEST: usize = 30;
 
 /// The nanoseconds from the first instant to 1970.
 const NANOS_TO_1970: u64 = (-FIRST_INSTANT) as u64;
+
+const NANOS_PER_DAY: u64 = 86_400_000_000_000;
 
 /// The days from the first of 1900 to the first of 1901.
 const DAYS_TO_1901: u64 = 365;
@@ -224,18 +227,27 @@ fn put_decimals(text: &mut [u8; LONGEST], nanos: u64) -> usize
     29
 }
 
-// Writes the instant so many nanoseconds after 1900, and returns where it ends.
-fn put_time(text: &mut [u8; LONGEST], nanos: u64) -> usize
+// Writes what stands after the date of the instant so many nanoseconds after 1900, and returns where it ends.
+fn put_after_date(text: &mut [u8; LONGEST], nanos: u64) -> usize
+    requires { take 10 text.old ≡ date_at (nanos / 86400000000000) }
     ensures text { take result text.new ≡ text_at nanos }
     ensures room { result ≤ 30 }
 {
-    put_date(text, nanos / 86_400_000_000_000);
     put_mark(text, 10, b'T');
     put_clock(text, nanos / 1_000_000_000 % 86_400);
     put_mark(text, 19, b'.');
     let end = put_decimals(text, nanos % 1_000_000_000);
     put_mark(text, end, b'Z');
     end + 1
+}
+
+// Writes the instant so many nanoseconds after 1900, and returns where it ends.
+fn put_time(text: &mut [u8; LONGEST], nanos: u64) -> usize
+    ensures text { take result text.new ≡ text_at nanos }
+    ensures room { result ≤ 30 }
+{
+    put_date(text, nanos / NANOS_PER_DAY);
+    put_after_date(text, nanos)
 }
 
 /// Appends an instant in UTC with `Z`, with three decimals of a second, or nine where three would
@@ -254,4 +266,57 @@ pub fn write_instant(instant: Instant, out: &mut String) -> Result<(), AllocErro
     // What is written is ASCII.
     let text = unsafe { str::from_utf8_unchecked(&bytes[..end]) };
     out.push_str(text)
+}
+
+/// Writes instants one after the other, of which most lie on the day of the one before: its date is kept.
+#[derive(Drop)]
+pub struct TimeWriter {
+    days: u64,
+    date: [u8; LONGEST],
+}
+
+impl Model for TimeWriter {
+    ghost use Rattle.std.specs.Prelude.{◌≡◌, take};
+    ghost use Rattle.instants.specs.Times.{date_at};
+
+    ghost Value = { Unit {0} };
+
+    ghost view = { λ _. tt };
+
+    ghost invariant = { λ a. take 10 a.date ≡ date_at a.days };
+}
+
+impl TimeWriter {
+    /// It has written nothing yet.
+    pub fn new() -> TimeWriter {
+        let mut date = [b'0'; LONGEST];
+        put_date(&mut date, 0);
+        TimeWriter { days: 0, date }
+    }
+
+    // The date of a day, with room for what stands after it.
+    fn date_of(&mut self, days: u64) -> [u8; LONGEST]
+        requires { days < 2 ^ 40 }
+        ensures { take 10 result ≡ date_at days }
+    {
+        if days == self.days {
+            return self.date;
+        }
+        put_date(&mut self.date, days);
+        self.days = days;
+        self.date
+    }
+
+    /// Appends an instant, as `write_instant` does.
+    pub fn write(&mut self, instant: Instant, out: &mut String) -> Result<(), AllocError>
+        ensures text { Appends result out.old out.new (time_text instant) }
+        ensures err { OnErr result (string_bytes out.new ≡ string_bytes out.old) }
+    {
+        let since = from_1900(instant);
+        let mut bytes = self.date_of(since / NANOS_PER_DAY);
+        let end = put_after_date(&mut bytes, since);
+        // What is written is ASCII.
+        let time = unsafe { str::from_utf8_unchecked(&bytes[..end]) };
+        out.push_str(time)
+    }
 }

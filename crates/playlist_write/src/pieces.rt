@@ -10,6 +10,7 @@ use crate::header::push_date_range;
 use crate::last_duration::LastDuration;
 use crate::segments::{push_segment, section_of};
 use devices::{Sink, SinkFailed, hand_out};
+use instants::TimeWriter;
 use playlist_meaning::{InitSection, Key};
 use std::alloc::Global;
 use stitcher::{OriginText, OutSegment};
@@ -70,11 +71,12 @@ pub fn write_segments<S: Sink>(
     ensures io { IsErrOf result WriteFault.Io → FailedAtLast (S.failed sink.old) (S.failed sink.new) }
     ensures memory { IsErrOf result WriteFault.OutOfMemory → NoneFailed (S.failed sink.old) (S.failed sink.new) }
 {
+    let mut times = TimeWriter::new();
     let mut last = LastDuration::new(alloc);
     let mut keys: &[Key] = &[];
     let mut section: Option<&InitSection> = None;
     for next in segments {
-        push_segment(held, &mut last, keys, section, next)?;
+        push_segment(held, &mut times, &mut last, keys, section, next)?;
         hand_out_piece(held, sink)?;
         keys = next.segment.keys.as_slice();
         section = section_of(next).or(section);

@@ -11,9 +11,8 @@ use crate::keys::{push_key_tags, push_section};
 use crate::last_duration::LastDuration;
 use crate::lines::{push_byte_range, push_feed, push_line};
 use fixed_duration::Nanos;
-use playlist_meaning::{
-    ByteRange, InitSection, Instant, Key, Segment, Shared, is_same_section, write_instant,
-};
+use instants::TimeWriter;
+use playlist_meaning::{ByteRange, InitSection, Instant, Key, Segment, Shared, is_same_section};
 use std::alloc::{AllocError, Global};
 use stitcher::OutSegment;
 
@@ -86,20 +85,24 @@ fn push_changed_section(
     Ok(())
 }
 
-fn push_instant(out: &mut String, time: Instant) -> Result<(), AllocError>
+fn push_instant(out: &mut String, times: &mut TimeWriter, time: Instant) -> Result<(), AllocError>
     ensures { Appends result out.old out.new (line_of (Said.time time)) }
 {
     out.push_str("#EXT-X-PROGRAM-DATE-TIME:")?;
-    write_instant(time, out)?;
+    times.write(time, out)?;
     push_feed(out)?;
     Ok(())
 }
 
-fn push_time_tag(out: &mut String, time: Option<Instant>) -> Result<(), AllocError>
+fn push_time_tag(
+    out: &mut String,
+    times: &mut TimeWriter,
+    time: Option<Instant>,
+) -> Result<(), AllocError>
     ensures { Appends result out.old out.new (said_text (time_owed time)) }
 {
     if let Some(time) = time {
-        push_instant(out, time)?;
+        push_instant(out, times, time)?;
     }
     Ok(())
 }
@@ -167,6 +170,7 @@ fn push_media<'a>(
 /// Appends the lines of a segment after those with these keys and this section in force.
 pub fn push_segment<'a>(
     out: &mut String,
+    times: &mut TimeWriter,
     last: &mut LastDuration<'a>,
     keys: &[Key],
     section: Option<&InitSection>,
@@ -180,7 +184,7 @@ pub fn push_segment<'a>(
     push_steps(out, next.steps)?;
     push_changed_section(out, keys, changed)?;
     push_key_tags(out, keys_then(keys, changed), segment.keys.as_slice())?;
-    push_time_tag(out, next.time)?;
+    push_time_tag(out, times, next.time)?;
     push_media(out, last, segment)?;
     Ok(())
 }
@@ -203,11 +207,12 @@ pub fn push_segments(
 ) -> Result<(), AllocError>
     ensures { Appends result out.old out.new (said_text (segments_owed none_yet segments.now)) }
 {
+    let mut times = TimeWriter::new();
     let mut last = LastDuration::new(alloc);
     let mut keys: &[Key] = &[];
     let mut section: Option<&InitSection> = None;
     for next in segments {
-        push_segment(out, &mut last, keys, section, next)?;
+        push_segment(out, &mut times, &mut last, keys, section, next)?;
         keys = next.segment.keys.as_slice();
         section = section_of(next).or(section);
     }

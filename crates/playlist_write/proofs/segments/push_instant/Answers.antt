@@ -9,4 +9,4 @@ pub returns : goal.returns
 returns c =
     let s = string_bytes c.args.out.now in
     as_text s (grown3 s (codes "#EXT-X-PROGRAM-DATE-TIME:") (time_text c.args.time) (10 ∷ [])
-    c.in_ok-push_str.ensures.bytes c.in_ok-write_instant.ensures.text c.in_ok-push_feed.ensures) (time_parts c.args.time)
+    c.in_ok-push_str.ensures.bytes c.in_ok-write.ensures.text c.in_ok-push_feed.ensures) (time_parts c.args.time)
