@@ -6,4 +6,5 @@ pub mod LiveLaws
 pub mod Rows
 pub mod Kept
 pub mod KeptLaws
+pub mod BreakLaws
 pub mod FallbackRows

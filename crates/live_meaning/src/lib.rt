@@ -3,6 +3,7 @@
 //! function's contract is its law; calling it does nothing.
 #![tactic(auto)]
 
+ghost use Rattle.live_meaning.specs.BreakLaws.{InUseIsWritten, RunsKeepTheirPods, FallbackFills, WrittenEndIsNear, WindowsFollow};
 ghost use Rattle.live_meaning.specs.KeptLaws.{KeptFollows, KeptHavePods};
 ghost use Rattle.live_meaning.specs.LiveLaws.{OnlyGrows, EachSucceeds, MarksFollow, HistoriesAreLinked, MarksAreKnown, NoFaultSucceeds, NewestFits, MarksHavePods, UsedAreInUse};
 
@@ -58,6 +59,32 @@ pub fn marks_have_pods()
 /// rest of its pod.
 pub fn used_are_in_use()
     ensures { UsedAreInUse }
+{}
+
+/// A break is in use exactly where a segment of its pod is written, or where it is the last one entered.
+pub fn in_use_is_written()
+    ensures { InUseIsWritten }
+{}
+
+/// A run keeps the pod that it was entered with, whatever comes later.
+pub fn runs_keep_their_pods()
+    ensures { RunsKeepTheirPods }
+{}
+
+/// A signalled break that has no pod of its own is filled with the fallback, where that fits.
+pub fn fallback_fills()
+    ensures { FallbackFills }
+{}
+
+/// While a run is open, the written end is later than the end of the run's own segments by at most one segment of its pod.
+pub fn written_end_is_near()
+    ensures { WrittenEndIsNear }
+{}
+
+/// A window follows from the window before, the store, what is known of breaks, the shown segments with their marks, the break
+/// that was entered last, the length of the newest run, the rest of a pod, and the refresh.
+pub fn windows_follow()
+    ensures { WindowsFollow }
 {}
 
 /// What is kept of all events, and what is owed, follow from what was kept before.
