@@ -20,11 +20,11 @@ loop-ad-init c =
           (walks_none c.args.self.now (part_of c.args.part (pieces_of_ads mark c.args.pod.now.ads)));
     }
 
-pub returns-then-left-done-clause-ok : goal.returns-then-left-done-clause-ok
-returns-then-left-done-clause-ok c mark =
+pub returns-then-left-clause-ok : goal.returns-then-left-clause-ok
+returns-then-left-clause-ok c mark =
     let all = part_of c.args.part (pieces_of_ads mark c.args.pod.now.ads) in
     walked c.args.self.now c.loop-ad.self all
-    (subst (λ (ps : List Piece). Walks c.args.self.now c.loop-ad.self all ps) (done_of c.loop-ad.left (pieces_of_ads mark c.loop-ad.rest.now) c.if-left-done.true) (c.loop-ad.invariant.walks mark))
+    (subst (λ (ps : List Piece). Walks c.args.self.now c.loop-ad.self all ps) (done_of c.loop-ad.left (pieces_of_ads mark c.loop-ad.rest.now) c.if-left.true) (c.loop-ad.invariant.walks mark))
 
 pub returns-in_err-left-clause-err : goal.returns-in_err-left-clause-err
 returns-in_err-left-clause-err c =
