@@ -71,7 +71,7 @@ all_append : {A : Type 0} (P : A → Type 0) (xs ys : List A) → AllByRecursion
 all_append P [] ys h k = k
 all_append P (x ∷ xs) ys h k = (h.0, all_append P xs ys h.1 k)
 
-all_drop : {A : Type 0} (P : A → Type 0) (n : ℕ) (xs : List A) → AllByRecursion P xs → AllByRecursion P (drop n xs)
+pub all_drop : {A : Type 0} (P : A → Type 0) (n : ℕ) (xs : List A) → AllByRecursion P xs → AllByRecursion P (drop n xs)
 all_drop P zero xs h = h
 all_drop P (suc n) [] h = tt
 all_drop P (suc n) (x ∷ xs) h = all_drop P n xs h.1
@@ -84,11 +84,11 @@ ad_of : (mark : Mark) (ad : Ad) (segments : List PodSegment) → AllByRecursion 
 ad_of mark ad [] = tt
 ad_of mark ad (s ∷ segments) = (refl, later_of mark ad segments)
 
-ads_of : (mark : Mark) (ads : List Ad) → AllByRecursion (of_mark mark) (pieces_of_ads mark ads)
+pub ads_of : (mark : Mark) (ads : List Ad) → AllByRecursion (of_mark mark) (pieces_of_ads mark ads)
 ads_of mark [] = tt
 ads_of mark (ad ∷ ads) = all_append (of_mark mark) (ad_pieces mark ad ad.segments) (pieces_of_ads mark ads) (ad_of mark ad ad.segments) (ads_of mark ads)
 
-due_of : (mark : Mark) (n : ℕ) (pieces : List Piece) → AllByRecursion (of_mark mark) pieces → AllByRecursion (of_mark mark) (due n pieces)
+pub due_of : (mark : Mark) (n : ℕ) (pieces : List Piece) → AllByRecursion (of_mark mark) pieces → AllByRecursion (of_mark mark) (due n pieces)
 due_of mark n [] h = tt
 due_of mark n (p ∷ pieces) h = (h.0, on (nat_le n p.segment.duration) (due_of mark (n - p.segment.duration) pieces h.1))
   where

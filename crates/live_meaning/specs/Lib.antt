@@ -7,4 +7,5 @@ pub mod Rows
 pub mod Kept
 pub mod KeptLaws
 pub mod BreakLaws
+pub mod OwedLaws
 pub mod FallbackRows

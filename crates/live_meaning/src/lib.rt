@@ -5,6 +5,7 @@
 
 ghost use Rattle.live_meaning.specs.BreakLaws.{InUseIsWritten, RunsKeepTheirPods, FallbackFills, WrittenEndIsNear, WindowsFollow};
 ghost use Rattle.live_meaning.specs.KeptLaws.{KeptFollows, KeptHavePods};
+ghost use Rattle.live_meaning.specs.OwedLaws.{HeaderIsTheLast, DateRangesAreTheOrigins, WindowIsStitched, UnmarkedStandOnce, SegmentsPlayTheWindow, PodsAreKept, StoreStaysSmall};
 ghost use Rattle.live_meaning.specs.LiveLaws.{OnlyGrows, EachSucceeds, MarksFollow, HistoriesAreLinked, MarksAreKnown, NoFaultSucceeds, NewestFits, MarksHavePods, UsedAreInUse};
 
 pub mod fallback_rows;
@@ -85,6 +86,42 @@ pub fn written_end_is_near()
 /// that was entered last, the length of the newest run, the rest of a pod, and the refresh.
 pub fn windows_follow()
     ensures { WindowsFollow }
+{}
+
+/// The header of the owed playlist is that of the one that was accepted last, of version 6 at least.
+pub fn header_is_the_last()
+    ensures { HeaderIsTheLast }
+{}
+
+/// A date range of the origin is written word for word exactly where its break isn't played and a written segment states a time.
+pub fn date_ranges_are_the_origins()
+    ensures { DateRangesAreTheOrigins }
+{}
+
+/// The window is what stands for the shown segments, of the pod of an open run as much as is due, after the rest of one pod.
+pub fn window_is_stitched()
+    ensures { WindowIsStitched }
+{}
+
+/// The origin's segments in the window are the unmarked ones of those that are shown, each once and in their order.
+pub fn unmarked_stand_once()
+    ensures { UnmarkedStandOnce }
+{}
+
+/// The owed segments play what the window's pieces play, one for one.
+pub fn segments_play_the_window()
+    ensures { SegmentsPlayTheWindow }
+{}
+
+/// After an accepted refresh a break has a pod of its own exactly where it is in use and was filled, or where a decision gave it
+/// one and it wasn't entered.
+pub fn pods_are_kept()
+    ensures { PodsAreKept }
+{}
+
+/// No break stands twice in the store, and at most 256 have pods that decisions gave them.
+pub fn store_stays_small()
+    ensures { StoreStaysSmall }
 {}
 
 /// What is kept of all events, and what is owed, follow from what was kept before.

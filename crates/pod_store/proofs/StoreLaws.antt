@@ -497,6 +497,10 @@ kept_pod ids id store h =
     by true e = copies_pod store ids id ∙ ap (λ b. cond b (pod_for store id) (own_pod store id)) e
     by false e = ap (λ o. cond (is_used_entry o) None (pod_if o)) (other_stands store ids id e)
 
+pub pods_in_use : (ids : List (List ℕ)) (id : List ℕ) (store : Store) → are_distinct store.entries ≡ true
+    → own_pod (kept_in_use ids store) id ≡ cond (is_one_of ids id) (pod_for store id) (cond (is_used store id) None (own_pod store id))
+pods_in_use ids id store h = kept_pod ids id store (distinct_copies ids store h)
+
 pods_after : (id : List ℕ) (call : Call) (store : Store) → are_distinct store.entries ≡ true → own_pod (after_call call store) id ≡ pod_after id call store (own_pod store id)
 pods_after id (decide (Breaks ds)) store h = by (with_all store ds) (list_any (names_used store) ds) (nat_lt 256 (count_with store ds)) refl
   where
@@ -516,7 +520,7 @@ pods_after id (decide (Withdraw other)) store h = by (withdrawn store other) (no
     by (Err f) unknown used e = refl
 pods_after id (decide (Fallback pod)) store h = refl
 pods_after id (decide NoFallback) store h = refl
-pods_after id (keep_in_use ids) store h = kept_pod ids id store (distinct_copies ids store h)
+pods_after id (keep_in_use ids) store h = pods_in_use ids id store h
 
 pub last_pod_stands : LastPodStands
 last_pod_stands [] id = refl
