@@ -1,11 +1,10 @@
 -- What is owed, in the words of a playlist.
-use Rattle.std.proofs.Common.{◌≡◌, ℕ, ◌+◌, ◌-◌, ◌≤◌, Bool, true, false, cond, not, ◌&&◌, ◌||◌, List, [], ◌∷◌, ◌++◌, map, filter, take, drop, length, reverse, refl, ap, sym, ◌∙◌, subst, length-append, arith}
+use Rattle.std.proofs.Common.{◌≡◌, ℕ, ◌-◌, ◌≤◌, Bool, true, false, cond, not, ◌&&◌, ◌||◌, List, [], ◌∷◌, ◌++◌, map, filter, take, drop, length, reverse, refl, ap, sym, ◌∙◌, subst, length-append, arith}
 use Rattle.std.proofs.lemmas.List.{take-map, append-nil}
 use Rattle.std.proofs.lemmas.List.Elements.{filter-append}
 use Rattle.std.proofs.Math.Seq.{take-append_seam}
 use Rattle.std.specs.Prelude.{Option, Some, None, Ok, Err, is_some, is_none, nat_le, option_map}
 use Rattle.std.specs.List.{AllByRecursion, list_any}
-use Rattle.playlist_meaning.specs.declared.Segment.{Segment}
 use Rattle.playlist_meaning.specs.declared.DateRange.{DateRange}
 use Rattle.playlist_meaning.specs.declared.Playlist.{Playlist}
 use Rattle.playlist_meaning.specs.Marks.{Mark, Marked, newest_mark, continues, are_one}
@@ -18,15 +17,14 @@ use Rattle.pod_store.specs.Store.{decided as after_decisions}
 use Rattle.pod_store.specs.Laws.{Call, after_calls, are_distinct}
 use Rattle.pod_store.specs.Laws as calls
 use Rattle.pod_store.proofs.StoreLaws.{stays_small, pods_in_use}
-use Rattle.break_finder.specs.Known.{Accepted, is_this}
-use Rattle.live_meaning.specs.Marking.{last_entered, history_after}
-use Rattle.live_meaning.specs.Successor.{first_number, end_number, is_mapped}
-use Rattle.live_meaning.specs.Live.{Event, decided, refreshed, Told, told, last_playlist, refusal, rest_by, rest_over, in_use, breaks_in_use, happens, taken, after_refresh, moment, start_after, item_segment, states_instant, window_after, window_from, date_ranges_left, owed_for}
+use Rattle.break_finder.specs.Known.{Accepted}
+use Rattle.live_meaning.specs.Marking.{history_after}
+use Rattle.live_meaning.specs.Successor.{first_number, end_number}
+use Rattle.live_meaning.specs.Live.{Event, decided, refreshed, Told, told, last_playlist, refusal, rest_by, rest_over, in_use, breaks_in_use, taken, after_refresh, moment, start_after, item_segment, states_instant, window_after, window_from, owed_for}
 use Rattle.live_meaning.specs.LiveLaws.{Linked}
 use Rattle.live_meaning.specs.Kept.{shown_by, shown_from, capped}
-use Rattle.live_meaning.specs.BreakLaws.{is_of_pod}
-use Rattle.live_meaning.specs.OwedLaws.{IsOwed, HasHeaderOf, HeaderIsTheLast, states_time, is_played, DateRangesAreTheOrigins, piece_of, segment_of, WindowIsStitched, is_unmarked, origin_of, UnmarkedStandOnce, PlaysAs, PlayAs, SegmentsPlayTheWindow, PodsAreKept, StoreStaysSmall}
-use Rattle.live_meaning.proofs.Windows.{length-reverse, reverse-cons}
+use Rattle.live_meaning.specs.OwedLaws.{IsOwed, HeaderIsTheLast, states_time, is_played, DateRangesAreTheOrigins, piece_of, segment_of, WindowIsStitched, is_unmarked, origin_of, UnmarkedStandOnce, PlayAs, SegmentsPlayTheWindow, PodsAreKept, StoreStaysSmall}
+use Rattle.live_meaning.proofs.Windows.{reverse-cons}
 use Rattle.live_meaning.proofs.EachWindow.{WindowOf, WindowStanding, holds}
 use Rattle.live_meaning.proofs.Linked.{histories_are_linked}
 use Rattle.live_meaning.proofs.KeptSteps.{cut, newest_same}
