@@ -10,7 +10,7 @@ use Rattle.break_finder.specs.Kept.{has_text}
 use Rattle.break_finder.specs.Known.{is_this}
 use Rattle.break_finder.proofs.TagIds.{filter_same}
 use Rattle.live_meaning.specs.Live.{date_range_text}
-use Rattle.live_window.specs.Listed.{is_marked_from, is_used_from, texts_left}
+use Rattle.live_window.specs.Listed.{texts_left}
 
 -- the date ranges of other breaks than those of a set, where these are in it
 pub left_alike : (ids : List (List ℕ)) (texts : List (Bor (List ℕ))) (date_ranges : List DateRange) → ((id : List ℕ) → has_text texts id ≡ is_one_of ids id)
