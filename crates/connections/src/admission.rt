@@ -4,7 +4,7 @@ ghost use Rattle.std.specs.Prelude.{◌≡◌, ◌<◌, ◌-◌, ◌==◌, ◌&&
 use std::marker::Model;
 
 /// How many clients are still let in. Each connection that is accepted counts, whatever its client says.
-#[derive(Clone, Copy)]
+#[derive(Drop)]
 pub struct Admission {
     left: u32,
 }

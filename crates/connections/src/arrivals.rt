@@ -34,7 +34,10 @@ impl Model for Arrivals {
 pub fn has_come(until: Instant, now: Instant) -> bool
     ensures { result ≡ has_come until now }
 {
-    until <= now
+    match now.checked_duration_since(until) {
+        Some(_) => true,
+        None => false,
+    }
 }
 
 fn first_late(arrivals: &[Arrival], now: Instant) -> Option<usize>
@@ -107,7 +110,8 @@ impl Arrivals {
         ensures ok { OnOk result (self.new ≡ self.old ++ record { place = place; until = until } ∷ []) }
         ensures err { OnErr result (self.new ≡ self.old) }
     {
-        self.arrivals.push(Arrival { place, until })
+        self.arrivals.push(Arrival { place, until })?;
+        Ok(())
     }
 
     /// The one at this place goes, if there is one.

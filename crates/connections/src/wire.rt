@@ -1,5 +1,5 @@
 //! What goes through a client's socket: over any reader and any writer that answer `WouldBlock` where they would wait.
-ghost use Rattle.std.specs.Prelude.{◌≡◌, ◌<◌, ◌≤◌, ◌++◌, [], length, take, true};
+ghost use Rattle.std.specs.Prelude.{◌≡◌, ◌<◌, ◌≤◌, ◌+◌, ◌++◌, [], length, take, true};
 ghost use Rattle.connections.specs.Limits.{most_held};
 ghost use Rattle.connections.specs.Table.{Happens, at, left_of, held_in, went};
 ghost use Rattle.connections.specs.Wires.{HasHeard, HasSaid, IsFailed};
