@@ -7,10 +7,13 @@ use mio::{Interest, Registry, Token};
 use std::io::{ErrorKind, Read};
 use std::net::Shutdown;
 
-// How often a client is read in its turn, and how often it is written to, at the most.
-const READS: u32 = 64;
+// How often a client is read, and how often it is written to, in its turn at the most.
+const READS: u32 = 4;
 
 const WRITES: u32 = 4;
+
+// How often what a client still sends is passed over in its turn at the most.
+const DRAINS: u32 = 32;
 
 /// A client's socket.
 #[derive(Drop)]
@@ -146,7 +149,7 @@ fn speak(stream: &TcpStream, connections: &mut Connections, place: usize) -> Tur
 fn drain(stream: &TcpStream) -> Turn {
     let mut block = [0u8; 8192];
     let mut reader = stream;
-    for _ in 0..READS {
+    for _ in 0..DRAINS {
         match reader.read(&mut block) {
             Ok(0) => return Turn::Done,
             Ok(_) => {}

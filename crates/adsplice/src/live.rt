@@ -56,7 +56,7 @@ struct Room {
     block: Vec<u8>,
 }
 
-fn room(rt: &HostRuntime, alloc: Global) -> Result<Room, AllocError> {
+fn room_for_all(rt: &HostRuntime, alloc: Global) -> Result<Room, AllocError> {
     let edge = Edge::new(alloc)?;
     Ok(Room {
         connections: Connections::new(alloc, edge)?,
@@ -92,7 +92,7 @@ fn serve_all(
 
 /// Serves so many connections on a port of the loopback address. The memory is taken first, so that a client finds it there.
 pub fn live(rt: &HostRuntime, port: u16, count: u32) -> ExitCode {
-    let Ok(room) = room(rt, rt.alloc()) else {
+    let Ok(room) = room_for_all(rt, rt.alloc()) else {
         return fails(rt, "E5 OutOfMemory\n");
     };
     let Room {
