@@ -1,6 +1,7 @@
 //! What `vod` decides by.
 ghost use Rattle.std.specs.Prelude.{◌≡◌};
-ghost use Rattle.adsplice.specs.Decisions.{decided};
+ghost use Rattle.std.specs.IoError.{error_kind};
+ghost use Rattle.adsplice.specs.Decisions.{fault_of, decided};
 
 use std::io;
 use std::io::ErrorKind;
