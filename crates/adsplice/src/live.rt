@@ -4,7 +4,6 @@
 use crate::faults::Faults;
 use crate::server::{LISTENER, Memory, Server};
 use connections::Connections;
-use live_edge::Edge;
 use mio::net::TcpListener;
 use mio::{Events, Interest, Poll};
 use std::alloc::{AllocError, Global};
@@ -57,9 +56,8 @@ struct Room {
 }
 
 fn room_for_all(rt: &HostRuntime, alloc: Global) -> Result<Room, AllocError> {
-    let edge = Edge::new(alloc)?;
     Ok(Room {
-        connections: Connections::new(alloc, edge)?,
+        connections: Connections::over_new_edge(alloc)?,
         faults: Faults::new(rt, alloc)?,
         memory: Memory::new(alloc)?,
         events: Events::with_capacity(alloc, EVENTS)?,

@@ -1,5 +1,6 @@
 //! The connections by their places.
-ghost use Rattle.std.specs.Prelude.{◌≡◌, ◌<◌, ◌≤◌, ◌+◌, ◌++◌, None, Some, true, length, replicate, is_none, IfOk, OnOk, OnErr};
+ghost use Rattle.std.specs.Prelude.{◌≡◌, ◌<◌, ◌≤◌, ◌+◌, ◌++◌, [], None, Some, true, length, replicate, is_none, IfOk, OnOk, OnErr};
+ghost use Rattle.live_edge.specs.Edges.{StandsFor};
 ghost use Rattle.connections.specs.Limits.{most_held, place_count};
 ghost use Rattle.connections.specs.Arrivals.{is_asking};
 ghost use Rattle.connections.specs.Table.{at, held_of, held_in, left_of, taken_of, phase_of, Puts, Happens};
@@ -79,6 +80,16 @@ impl Connections {
             places: vacant(alloc)?,
             held: 0,
         })
+    }
+
+    /// A new edge, which stands for no request, with no connection yet: all that come are served over this one. Fails only
+    /// where memory is refused.
+    pub fn over_new_edge(alloc: Global) -> Result<Connections, AllocError>
+        ensures edge { IfOk result (λ new. StandsFor new.edge []) }
+        ensures vacant { IfOk result (λ new. new.places ≡ replicate place_count None) }
+    {
+        let edge = Edge::new(alloc)?;
+        Connections::new(alloc, edge)
     }
 
     /// How many places there are.

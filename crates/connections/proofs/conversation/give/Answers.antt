@@ -15,7 +15,7 @@ returns-in_ok-reply-in-Whole-Refused-clause-goes c =
     let arrived = subst (IsArrived bytes) c.in-Whole-Refused.is c.in_ok-arriving.ensures in
     let refused = subst (IsAsked bytes) c.in-Whole-Refused.field-0-is arrived in
     let served =
-        turned_away bytes edge c.in-Whole-Refused.refusal c.in_ok-reply-in-Whole-Refused.reply status refused
-        c.in_ok-reply-in-Whole-Refused.ensures c.as_u16-status-in-Whole-Refused.ensures.value in
+    turned_away bytes edge c.in-Whole-Refused.refusal c.in_ok-reply-in-Whole-Refused.reply status refused
+    c.in_ok-reply-in-Whole-Refused.ensures c.as_u16-status-in-Whole-Refused.ensures.value in
     subst (λ k. Goes k c.args.piece.now edge edge (Answering c.new-in-Whole-Refused.result status)) (sym c.in-Asking.is)
     (subst (λ text. IsServed bytes edge edge text status) (sym c.new-in-Whole-Refused.ensures) served)
