@@ -98,6 +98,11 @@ abbrev pub IsRun : State → List Event → State → Type 0
 IsRun first [] last = last ≡ first
 IsRun first (e ∷ before) last = (middle : State) × IsRun first before middle × Happens middle e last
 
+-- things that happen at places lead from one to the other
+pub record HasRun (old new : State) : Type 0 where
+  pub events : List Event
+  pub run : IsRun old events new
+
 -- all that was served, in the order in which it became whole, and each connection by itself
 pub record IsServedRun (first : State) (events : List Event) (last : State) : Type 0 where
   pub services : List Service

@@ -2,6 +2,7 @@
 ghost use Rattle.std.specs.Prelude.{◌≡◌, ◌<◌, ◌≤◌, ◌+◌, ◌++◌, [], length, take, true};
 ghost use Rattle.connections.specs.Limits.{most_held};
 ghost use Rattle.connections.specs.Table.{Happens, at, left_of, held_in, went};
+ghost use Rattle.connections.specs.Runs.{HasRun};
 ghost use Rattle.connections.specs.Wires.{HasHeard, HasSaid, IsFailed};
 
 use crate::table::{Connections, MOST_HELD};
@@ -40,6 +41,7 @@ fn gone(connections: &mut Connections, place: usize, fault: EdgeFault) -> Moved
     Moved::Failed(fault)
 }
 
+#[tactic(auto, using(crate::proofs::Leading::stays))]
 /// Reads once from a client: what it gave is what it said at its own place.
 pub fn hear<R: Read>(
     reader: &mut R,
@@ -55,6 +57,7 @@ pub fn hear<R: Read>(
     ensures full { result ≡ Moved.Full → (most_held < held_in connections.old.places + length block.old) × (connections.new ≡ connections.old) }
     ensures unread { result ≡ Moved.Full → reader.new ≡ reader.old }
     ensures moves { result ≡ Moved.Nothing → ⊥ }
+    ensures run { HasRun connections.old connections.new }
 {
     if block.len() > MOST_HELD - connections.held() {
         return Moved::Full;
@@ -107,6 +110,7 @@ fn front<'a>(block: &'a mut ArrayVec<u8, BLOCK>, head: &'a [u8], body: &'a [u8])
     head
 }
 
+#[tactic(auto, using(crate::proofs::Leading::stays))]
 /// Writes once to a client, of what is left of the reply at its own place.
 pub fn say<W: Write>(writer: &mut W, connections: &mut Connections, place: usize) -> Moved
     requires within { place < length connections.old.places }
@@ -115,6 +119,7 @@ pub fn say<W: Write>(writer: &mut W, connections: &mut Connections, place: usize
     ensures nothing { result ≡ Moved.Nothing → (left_of (at connections.old place) ≡ []) × (connections.new ≡ connections.old) }
     ensures failed { IsFailed result → Happens connections.old (went place) connections.new }
     ensures room { result ≡ Moved.Full → ⊥ }
+    ensures run { HasRun connections.old connections.new }
 {
     let mut block = ArrayVec::<u8, BLOCK>::new();
     let (head, body) = connections.parts(place);
