@@ -1,4 +1,7 @@
 //! A client's socket, and its turn.
+#![tactic(auto, using(connections::proofs::Leading::stays, connections::proofs::Leading::by_one, connections::proofs::Leading::and_then))]
+
+ghost use Rattle.connections.specs.Runs.{HasRun};
 
 use connections::{Connections, Moved, Phase, hear, say};
 use live_edge::EdgeFault;
@@ -59,7 +62,9 @@ impl Client {
         connections: &mut Connections,
         place: usize,
         block: &mut [u8],
-    ) -> Turn {
+    ) -> Turn
+        ensures { HasRun connections.old connections.new }
+    {
         if self.is_ending {
             return drain(&self.stream);
         }
@@ -104,12 +109,9 @@ impl Client {
 }
 
 // Hears a client until its request is whole.
-fn listen(
-    stream: &TcpStream,
-    connections: &mut Connections,
-    place: usize,
-    block: &mut [u8],
-) -> Turn {
+fn listen(stream: &TcpStream, connections: &mut Connections, place: usize, block: &mut [u8]) -> Turn
+    ensures { HasRun connections.old connections.new }
+{
     let mut reader = stream;
     for _ in 0..READS {
         if place >= connections.len() || block.is_empty() {
@@ -129,7 +131,9 @@ fn listen(
 }
 
 // Tells a client its reply.
-fn speak(stream: &TcpStream, connections: &mut Connections, place: usize) -> Turn {
+fn speak(stream: &TcpStream, connections: &mut Connections, place: usize) -> Turn
+    ensures { HasRun connections.old connections.new }
+{
     let mut writer = stream;
     for _ in 0..WRITES {
         if place >= connections.len() {

@@ -1,5 +1,8 @@
 //! `adsplice live PORT COUNT`: connections on the loopback address, side by side in one thread. Which of them is ready the
 //! system tells; what they say and are answered, who is given up and when is `connections`' alone.
+#![tactic(auto, using(connections::proofs::Leading::stays, connections::proofs::Leading::by_one, connections::proofs::Leading::and_then))]
+
+ghost use Rattle.connections.specs.Runs.{HasRun};
 
 use crate::faults::Faults;
 use crate::server::{LISTENER, Memory, Server};
@@ -72,7 +75,9 @@ fn serve_all(
     connections: &mut Connections,
     events: &mut Events,
     block: &mut [u8],
-) -> ExitCode {
+) -> ExitCode
+    ensures { HasRun connections.old connections.new }
+{
     for _ in 0..u64::MAX {
         if server.is_over() {
             return ExitCode::SUCCESS;
@@ -81,9 +86,7 @@ fn serve_all(
             server.tell(rt, "cannot accept");
             return ExitCode::from(1);
         }
-        server.serve_events(rt, connections, events, block);
-        server.let_in(rt, connections, block);
-        server.tick(rt, connections);
+        server.round(rt, connections, events, block);
     }
     ExitCode::SUCCESS
 }

@@ -1,4 +1,7 @@
 //! The sockets of all clients: who is let in, whose turn it is, and whose time is up.
+#![tactic(auto, using(connections::proofs::Leading::stays, connections::proofs::Leading::by_one, connections::proofs::Leading::and_then))]
+
+ghost use Rattle.connections.specs.Runs.{HasRun};
 
 use crate::client::{Client, Turn, fault_at, was_granted};
 use crate::faults::Faults;
@@ -108,6 +111,16 @@ fn is_no_file(error: &io::Error) -> bool {
     }
 }
 
+// Who stands at a place goes.
+fn leave(connections: &mut Connections, place: usize)
+    ensures { HasRun connections.old connections.new }
+{
+    if place >= connections.len() {
+        return;
+    }
+    connections.went(place);
+}
+
 impl Server {
     /// A server that has nobody yet, over what was opened at this instant.
     pub fn new(
@@ -168,10 +181,10 @@ impl Server {
     }
 
     // Closes a connection, and has its place for another.
-    fn close(&mut self, connections: &mut Connections, place: usize) {
-        if place < connections.len() {
-            connections.went(place);
-        }
+    fn close(&mut self, connections: &mut Connections, place: usize)
+        ensures { HasRun connections.old connections.new }
+    {
+        leave(connections, place);
         self.served.went(place);
         self.ending.went(place);
         if let Some(client) = self.clients.get_mut(place) {
@@ -182,7 +195,9 @@ impl Server {
     }
 
     // Waits for a client, or closes its connection where the system can't tell of it.
-    fn watch(&mut self, connections: &mut Connections, place: usize, again: bool) {
+    fn watch(&mut self, connections: &mut Connections, place: usize, again: bool)
+        ensures { HasRun connections.old connections.new }
+    {
         let Some(Some(client)) = self.clients.get_mut(place) else {
             return;
         };
@@ -192,16 +207,17 @@ impl Server {
         } else {
             client.keep_watched(registry, place)
         };
-        if !watched {
-            self.close(connections, place);
+        if watched {
+            return;
         }
+        self.close(connections, place);
     }
 
     // Ends a connection whose reply is gone, or that is given up: what its client still sends is awaited for a while.
-    fn finish(&mut self, connections: &mut Connections, place: usize, was_granted: bool) {
-        if place < connections.len() {
-            connections.went(place);
-        }
+    fn finish(&mut self, connections: &mut Connections, place: usize, was_granted: bool)
+        ensures { HasRun connections.old connections.new }
+    {
+        leave(connections, place);
         self.served.went(place);
         let Some(Some(client)) = self.clients.get_mut(place) else {
             return;
@@ -222,13 +238,17 @@ impl Server {
         }
     }
 
-    fn give_up(&mut self, rt: &HostRuntime, connections: &mut Connections, place: usize) {
+    fn give_up(&mut self, rt: &HostRuntime, connections: &mut Connections, place: usize)
+        ensures { HasRun connections.old connections.new }
+    {
         self.tell_given_up(rt, connections, place);
         self.finish(connections, place, false);
     }
 
     // Gives up a connection whose place, or whose file, another one needs.
-    fn evict(&mut self, rt: &HostRuntime, connections: &mut Connections, place: usize) {
+    fn evict(&mut self, rt: &HostRuntime, connections: &mut Connections, place: usize)
+        ensures { HasRun connections.old connections.new }
+    {
         self.tell_given_up(rt, connections, place);
         self.close(connections, place);
     }
@@ -241,7 +261,9 @@ impl Server {
         place: usize,
         turn: Turn,
         was_ending: bool,
-    ) {
+    )
+        ensures { HasRun connections.old connections.new }
+    {
         match turn {
             Turn::Waits => self.watch(connections, place, false),
             Turn::Goes => self.watch(connections, place, true),
@@ -258,14 +280,28 @@ impl Server {
         }
     }
 
-    /// Gives a client its turn. Where its bytes have no room, the client is given up that has asked longest.
-    pub fn serve_place(
+    // Has room for the bytes of who stands at a place: the client is given up that has asked longest, of those whose bytes
+    // are held.
+    fn make_room(&mut self, rt: &HostRuntime, connections: &mut Connections, place: usize)
+        ensures { HasRun connections.old connections.new }
+    {
+        let Some(other) = self.served.for_bytes(connections) else {
+            self.close(connections, place);
+            return;
+        };
+        self.give_up(rt, connections, other);
+    }
+
+    // Gives a client its turn.
+    fn serve_place(
         &mut self,
         rt: &HostRuntime,
         connections: &mut Connections,
         place: usize,
         block: &mut [u8],
-    ) {
+    )
+        ensures { HasRun connections.old connections.new }
+    {
         for _ in 0..PLACES {
             let Some(Some(client)) = self.clients.get_mut(place) else {
                 return;
@@ -276,33 +312,46 @@ impl Server {
                 self.settle(rt, connections, place, turn, was_ending);
                 return;
             }
-            match self.served.for_bytes(connections) {
-                Some(other) => self.give_up(rt, connections, other),
-                None => self.close(connections, place),
-            }
+            self.make_room(rt, connections, place);
         }
     }
 
-    /// Gives each client its turn of which something was told.
-    pub fn serve_events(
+    fn on_event(
+        &mut self,
+        rt: &HostRuntime,
+        connections: &mut Connections,
+        place: usize,
+        block: &mut [u8],
+    )
+        ensures { HasRun connections.old connections.new }
+    {
+        if place == PLACES {
+            self.on_somebody(rt, connections);
+            return;
+        }
+        self.serve_place(rt, connections, place, block);
+    }
+
+    // Gives each client its turn of which something was told.
+    fn serve_events(
         &mut self,
         rt: &HostRuntime,
         connections: &mut Connections,
         events: &Events,
         block: &mut [u8],
-    ) {
+    )
+        ensures { HasRun connections.old connections.new }
+    {
         for event in events.iter() {
             let Token(place) = event.token();
-            if place == PLACES {
-                self.on_somebody(rt, connections);
-            } else {
-                self.serve_place(rt, connections, place, block);
-            }
+            self.on_event(rt, connections, place, block);
         }
     }
 
     // Somebody waits to be let in. Where there was no file, the client gives up its own that has asked longest.
-    fn on_somebody(&mut self, rt: &HostRuntime, connections: &mut Connections) {
+    fn on_somebody(&mut self, rt: &HostRuntime, connections: &mut Connections)
+        ensures { HasRun connections.old connections.new }
+    {
         if self.door != Door::NoFile {
             self.door = Door::Open;
             return;
@@ -317,7 +366,9 @@ impl Server {
     }
 
     // A vacant place, for which a connection is given up where there is none.
-    fn place_for_one(&mut self, rt: &HostRuntime, connections: &mut Connections) -> Option<usize> {
+    fn place_for_one(&mut self, rt: &HostRuntime, connections: &mut Connections) -> Option<usize>
+        ensures { HasRun connections.old connections.new }
+    {
         if self.vacant.is_empty() {
             let place = self.served.for_place(&self.ending, connections)?;
             self.evict(rt, connections, place);
@@ -330,7 +381,9 @@ impl Server {
         rt: &HostRuntime,
         connections: &mut Connections,
         stream: TcpStream,
-    ) -> Option<usize> {
+    ) -> Option<usize>
+        ensures { HasRun connections.old connections.new }
+    {
         let place = self.place_for_one(rt, connections)?;
         if place >= connections.len() || connections.phase(place) != Phase::Vacant {
             return None;
@@ -375,8 +428,29 @@ impl Server {
         }
     }
 
-    /// Lets in those who wait, up to so many, and gives each its first turn.
-    pub fn let_in(&mut self, rt: &HostRuntime, connections: &mut Connections, block: &mut [u8]) {
+    // Lets a client in, and gives it its first turn.
+    fn admit(
+        &mut self,
+        rt: &HostRuntime,
+        connections: &mut Connections,
+        stream: TcpStream,
+        block: &mut [u8],
+    )
+        ensures { HasRun connections.old connections.new }
+    {
+        if self.admission.is_open() {
+            self.admission.let_in();
+        }
+        let Some(place) = self.seat(rt, connections, stream) else {
+            return;
+        };
+        self.serve_place(rt, connections, place, block);
+    }
+
+    // Lets in those who wait, up to so many.
+    fn let_in(&mut self, rt: &HostRuntime, connections: &mut Connections, block: &mut [u8])
+        ensures { HasRun connections.old connections.new }
+    {
         for _ in 0..LET_IN {
             if self.door != Door::Open {
                 return;
@@ -388,17 +462,38 @@ impl Server {
             let Some(stream) = self.next_client() else {
                 return;
             };
-            if self.admission.is_open() {
-                self.admission.let_in();
-            }
-            if let Some(place) = self.seat(rt, connections, stream) {
-                self.serve_place(rt, connections, place, block);
-            }
+            self.admit(rt, connections, stream, block);
         }
     }
 
-    /// Gives up those whose time is up, and tries again to let in who could not be.
-    pub fn tick(&mut self, rt: &HostRuntime, connections: &mut Connections) {
+    // Closes those that had time to end.
+    fn close_late(&mut self, connections: &mut Connections)
+        ensures { HasRun connections.old connections.new }
+    {
+        for _ in 0..PLACES {
+            let Some(place) = self.ending.late(self.now) else {
+                return;
+            };
+            self.close(connections, place);
+        }
+    }
+
+    // Gives up those whose time is up.
+    fn give_up_late(&mut self, rt: &HostRuntime, connections: &mut Connections)
+        ensures { HasRun connections.old connections.new }
+    {
+        for _ in 0..PLACES {
+            let Some(place) = self.served.late(self.now) else {
+                return;
+            };
+            self.give_up(rt, connections, place);
+        }
+    }
+
+    // Looks whose time is up, and has it tried again to let in who could not be.
+    fn tick(&mut self, rt: &HostRuntime, connections: &mut Connections)
+        ensures { HasRun connections.old connections.new }
+    {
         if !has_come(self.next_tick, self.now) {
             return;
         }
@@ -406,17 +501,23 @@ impl Server {
         if self.door == Door::Shut {
             self.door = Door::Open;
         }
-        for _ in 0..PLACES {
-            let Some(place) = self.ending.late(self.now) else {
-                break;
-            };
-            self.close(connections, place);
-        }
-        for _ in 0..PLACES {
-            let Some(place) = self.served.late(self.now) else {
-                break;
-            };
-            self.give_up(rt, connections, place);
-        }
+        self.close_late(connections);
+        self.give_up_late(rt, connections);
+    }
+
+    /// A round: those have their turn of whom something was told, then those are let in who wait, and then it is looked whose
+    /// time is up.
+    pub fn round(
+        &mut self,
+        rt: &HostRuntime,
+        connections: &mut Connections,
+        events: &Events,
+        block: &mut [u8],
+    )
+        ensures { HasRun connections.old connections.new }
+    {
+        self.serve_events(rt, connections, events, block);
+        self.let_in(rt, connections, block);
+        self.tick(rt, connections);
     }
 }
