@@ -32,10 +32,14 @@ class Pipe:
             frame = self.source.read(self.size)
             if not frame or len(frame) < self.size:
                 return
-            if self.is_whole:
-                line = (media.HEIGHT - media.BLOCK // 2) * media.WIDTH
-                frame = frame[line + media.BLOCK // 2 : line + media.WIDTH : media.BLOCK]
-            self.frames.append((*media.said(frame), time.monotonic() - self.began))
+            shown = self.of_picture(frame) if self.is_whole else media.said(frame)
+            self.frames.append((*shown, time.monotonic() - self.began))
+
+    @staticmethod
+    def of_picture(picture):
+        """What the blocks of a whole gray picture say."""
+        line = (media.HEIGHT - media.BLOCK // 2) * media.WIDTH
+        return media.said(picture[line + media.BLOCK // 2 : line + media.WIDTH : media.BLOCK])
 
     def end(self):
         """Ends the player, and answers what it showed."""
@@ -51,28 +55,48 @@ class Pipe:
 
 
 class Vlc(Pipe):
-    """VLC writes its pictures to a named pipe; it doesn't run as root."""
+    """VLC, which writes its pictures to a file that is read as it grows; it shows each frame twice, and doesn't run as root."""
 
     def __init__(self, name, url):
         self.room = tempfile.mkdtemp(prefix="adsplice-vlc-")
         os.chmod(self.room, 0o777)
-        pipe = f"{self.room}/frames"
-        os.mkfifo(pipe)
-        os.chmod(pipe, 0o666)
-        words = ["cvlc", "--no-audio", "--no-osd", "--no-video-title-show", "--no-drop-late-frames", "--no-skip-frames", "--avcodec-hw=none",
-                 "--vout=yuv", f"--yuv-file={pipe}", "--yuv-chroma=GREY", "--no-yuv-yuv4mpeg2", url]
+        self.is_going = True
+        words = ["/usr/bin/vlc", "-I", "dummy", "--no-audio", "--no-osd", "--no-video-title-show", "--no-drop-late-frames", "--no-skip-frames",
+                 "--avcodec-hw=none", "--vout=yuv", f"--yuv-file={self.room}/frames", "--yuv-chroma=GREY", url]
         super().__init__(name, ["env", f"HOME={self.room}", *words], True, 65534 if os.getuid() == 0 else None)
-        self.pipe = pipe
+
+    def read(self, size):
+        """So many bytes of the file, once they are there; none at the end, and where VLC has begun the file anew."""
+        piece = b""
+        while len(piece) < size:
+            more = self.source.read(size - len(piece))
+            piece += more
+            is_anew = os.fstat(self.source.fileno()).st_size < self.source.tell()
+            if is_anew or not (more or self.is_going):
+                return b""
+            if not more:
+                time.sleep(0.02)
+        return piece
 
     def run(self):
-        """Opens the pipe, then reads as the others do."""
+        """Reads the file's first line, and then frames, each with a line of its own before it (YUV4MPEG)."""
+        while self.is_going and not os.path.exists(f"{self.room}/frames"):
+            time.sleep(0.05)
+        if not self.is_going:
+            return
         with open(f"{self.room}/frames", "rb") as self.source:
-            super().run()
+            while self.is_going:
+                self.source.seek(0)
+                while self.read(1) not in (b"\n", b""):
+                    pass
+                while frame := self.read(6 + self.size):
+                    shown = self.of_picture(frame[6:])
+                    if not self.frames or self.frames[-1][:2] != shown:
+                        self.frames.append((*shown, time.monotonic() - self.began))
 
     def end(self):
-        """Also takes the pipe away; a reader that waits for a VLC that never wrote is let go."""
-        if self.thread.is_alive() and not self.frames:
-            os.close(os.open(f"{self.room}/frames", os.O_RDWR | os.O_NONBLOCK))
+        """Also takes the file away."""
+        self.is_going = False
         frames = super().end()
         shutil.rmtree(self.room, ignore_errors=True)
         return frames
@@ -89,8 +113,9 @@ class Page:
         self.browser.take_picture(path)
 
     def end(self):
-        """Ends the browser, and answers what it showed."""
+        """Ends the browser, and answers what it showed; `missed` is how many frames it says that it dropped, or didn't tell of."""
         with self.browser as it:
+            self.missed = it.value("missed.dropped + missed.unseen") or 0
             return [(kind, number, milliseconds / 1000) for kind, number, milliseconds in it.value("seen") or []]
 
 
@@ -100,9 +125,9 @@ def ffmpeg(name, url):
 
 
 def mpv(name, url):
-    """mpv, which plays by its clock."""
-    words = ["mpv", "--no-config", "--really-quiet", "--no-audio", "--o=-", "--of=rawvideo", "--ovc=rawvideo", "--oneverdrop=yes", f"--vf=lavfi=[{BLOCKS}]", url]
-    return Pipe(name, [it for it in words if it != "--oneverdrop=yes"])
+    """mpv, which shows each frame as soon as it has it where it writes them out."""
+    words = ["mpv", "--no-config", "--really-quiet", "--no-audio", "--o=-", "--of=rawvideo", "--ovc=rawvideo", f"--vf=lavfi=[{BLOCKS}]", url]
+    return Pipe(name, words)
 
 
 def gstreamer(name, url):
@@ -112,4 +137,4 @@ def gstreamer(name, url):
 
 
 # The programs that show frames, and what starts each.
-KINDS = {"ffmpeg": ffmpeg, "mpv": mpv, "gst-launch-1.0": gstreamer, "cvlc": Vlc}
+KINDS = {"ffmpeg": ffmpeg, "mpv": mpv, "gst-launch-1.0": gstreamer, "vlc": Vlc}
