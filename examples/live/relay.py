@@ -10,7 +10,7 @@ import time
 from datetime import datetime, timedelta, timezone
 
 import media
-from plant import request
+from tools import request
 
 # A splice_info_section with a splice_insert that leaves the network (ANSI/SCTE 35, 9.6 and 9.7.3)
 OUT = "0xFC302000000000000000FFF00F05000000017FFFFE002932E00001" + "0" * 16
