@@ -64,11 +64,12 @@ class Relay:
         self.thread = threading.Thread(target=self.run, daemon=True)
 
     def put(self, what, body):
-        """A PUT's status; one that is refused is kept and told."""
+        """A PUT's status; one that is refused is kept, and told unless it was refused so before."""
         status, _, text = request("PUT", self.url + what, body)
-        if status not in (201, 204):
-            self.faults.append(status)
-            print(f"{self.name}: PUT {what or 'channel'}: {status} {text.strip()}", flush=True)
+        fault = f"{status} {text.strip()}" if status else "no answer"
+        if status not in (201, 204) and fault not in self.faults[-1:]:
+            print(f"{self.name}: PUT {what or 'channel'}: {fault}", flush=True)
+            self.faults.append(fault)
         return status
 
     def make(self):
@@ -123,7 +124,7 @@ class Relay:
         """Until it is told to end."""
         while self.going:
             self.turn()
-            time.sleep(0.1)
+            time.sleep(0.2)
 
     def start(self):
         """Makes the channel, and starts."""

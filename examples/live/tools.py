@@ -40,6 +40,19 @@ def free_ports(count):
     return ports
 
 
+def taken(*ports):
+    """Those of the ports on which something listens."""
+    found = []
+    for port in ports:
+        with socket.socket() as it:
+            it.setsockopt(socket.SOL_SOCKET, socket.SO_REUSEADDR, 1)
+            try:
+                it.bind(("127.0.0.1", port))
+            except OSError:
+                found.append(port)
+    return found
+
+
 def wait_for(port, host="127.0.0.1"):
     """Returns once something listens on a port; ends the script where nothing does within 10 seconds."""
     for _ in range(200):
