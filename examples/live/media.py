@@ -35,9 +35,9 @@ def said(row):
     return KINDS[value >> 18], value & 0x3FFFF
 
 
-def coded():
-    """ffmpeg's words for small pictures, segments that begin with a key frame, and a tone."""
-    return ["-r", str(RATE), "-g", str(FRAMES), "-keyint_min", str(FRAMES), "-sc_threshold", "0", "-bf", "0", "-c:v", "libx264", "-preset", "ultrafast",
+def coded(seconds=SECONDS):
+    """ffmpeg's words for small pictures, a tone, and a key frame every so many seconds."""
+    return ["-r", str(RATE), "-g", str(RATE * seconds), "-keyint_min", str(RATE * seconds), "-sc_threshold", "0", "-bf", "0", "-c:v", "libx264", "-preset", "ultrafast",
             "-pix_fmt", "yuv420p", "-b:v", "200k", "-c:a", "aac", "-b:a", "48k", "-ar", "48000"]
 
 
@@ -56,15 +56,16 @@ def programme_words(folder):
 
 
 def make_ads(folder):
-    """Makes the files of the advertisements, cut like the programme."""
+    """Makes the files of the advertisements, cut like the programme (a-0.ts ..), and in pieces of 1 s (a1-0.ts ..)."""
     os.makedirs(folder, exist_ok=True)
     looks = {"ad a": ("0x803020", "Ad A", 660), "ad b": ("0x205080", "Ad B", 550), "fallback": ("0x306030", "Fallback", 330)}
     for kind, (colour, title, tone) in looks.items():
         picture = f"color=c={colour}:size={WIDTH}x{HEIGHT}:rate={RATE},{titled(title)},{numbered(kind)}"
-        words = ["ffmpeg", "-v", "error", "-f", "lavfi", "-i", picture, "-f", "lavfi", "-i", f"sine=frequency={tone}:sample_rate=48000",
-                 "-t", str(CLIP * SECONDS), *coded(), "-f", "hls", "-hls_time", str(SECONDS), "-hls_list_size", "0",
-                 "-hls_segment_filename", f"{folder}/{FILES[kind]}-%d.ts", f"{folder}/{FILES[kind]}.m3u8"]
-        subprocess.run(words, check=True, stdin=subprocess.DEVNULL)
+        source = ["-f", "lavfi", "-i", picture, "-f", "lavfi", "-i", f"sine=frequency={tone}:sample_rate=48000", "-t", str(CLIP * SECONDS)]
+        for seconds, name in ((SECONDS, FILES[kind]), (1, FILES[kind] + "1")):
+            words = ["ffmpeg", "-v", "error", *source, *coded(seconds), "-f", "hls", "-hls_time", str(seconds), "-hls_list_size", "0",
+                     "-hls_segment_filename", f"{folder}/{name}-%d.ts", f"{folder}/{name}.m3u8"]
+            subprocess.run(words, check=True, stdin=subprocess.DEVNULL)
 
 
 def pod_kinds(kinds, segments):
@@ -78,9 +79,11 @@ def pod_kinds(kinds, segments):
     return ads
 
 
-def pod(ads, url):
-    """The pod as a decision file has it; `url` is the address of the advertisements' folder."""
-    return [{"segments": [{"uri": f"{url}/{FILES[kind]}-{n}.ts", "duration": str(SECONDS)} for n in range(count)]} for kind, count in ads]
+def pod(ads, url, seconds=SECONDS):
+    """The pod as a decision file has it, cut so; `url` is the address of the advertisements' folder."""
+    cut = "" if seconds == SECONDS else str(seconds)
+    return [{"segments": [{"uri": f"{url}/{FILES[kind]}{cut}-{n}.ts", "duration": str(seconds)} for n in range(count * SECONDS // seconds)]}
+            for kind, count in ads]
 
 
 def pod_frames(ads):

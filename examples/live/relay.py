@@ -17,13 +17,16 @@ OUT = "0xFC302000000000000000FFF00F05000000017FFFFE002932E00001" + "0" * 16
 
 
 class Plan:
-    """When breaks are: one of `length` seconds begins every `every` seconds, and every second one is left to the fallback."""
+    """When breaks are: one of `length` seconds begins every `every` seconds, and every second one is left to the fallback.
 
-    def __init__(self, every, length, first=None):
+    Pods are as long as their breaks, and cut like the programme, or into pieces of 1 s."""
+
+    def __init__(self, every, length, first=None, cut=media.SECONDS):
         if every % media.SECONDS or length % media.SECONDS or not 0 < length < every:
             raise ValueError(f"a break is shorter than the time between two, and both are multiples of {media.SECONDS} s")
         self.every, self.length = every // media.SECONDS, length // media.SECONDS
         self.first = self.every if first is None else first // media.SECONDS
+        self.cut = cut
         self.own = media.pod_kinds(("ad a", "ad b"), self.length)
         self.fallback = media.pod_kinds(("fallback",), self.length)
 
@@ -75,7 +78,7 @@ class Relay:
     def make(self):
         """Makes the channel, with a fallback for breaks that get no pod of their own."""
         self.put("", json.dumps({"base": f"{self.site}/media/programme/index.m3u8"}))
-        self.put("/decisions", json.dumps({"fallback": {"ads": media.pod(self.plan.fallback, f"{self.site}/media/ads")}}))
+        self.put("/decisions", json.dumps({"fallback": {"ads": media.pod(self.plan.fallback, f"{self.site}/media/ads", self.plan.cut)}}))
         self.decided = -1
 
     def decide(self, turn):
@@ -83,7 +86,7 @@ class Relay:
         if turn > self.decided and turn >= 0:
             self.decided = turn
             if self.plan.is_decided(turn):
-                ads = media.pod(self.plan.own, f"{self.site}/media/ads")
+                ads = media.pod(self.plan.own, f"{self.site}/media/ads", self.plan.cut)
                 self.put("/decisions", json.dumps({"breaks": [{"id": f"break-{turn}", "ads": ads}]}))
 
     def date_range(self, turn, first, begins):
@@ -99,8 +102,8 @@ class Relay:
         after = first + text.count("#EXTINF:")
         turns = [turn for turn in range(after // self.plan.every + 2)
                  if self.plan.begin(turn) + self.plan.length > first and self.plan.begin(turn) < after + 10 // media.SECONDS]
-        if turns:
-            self.decide(turns[-1])
+        for turn in turns:
+            self.decide(turn)
         lines = [self.date_range(turn, first, begins) for turn in turns]
         return text.replace("#EXTM3U\n", "\n".join(["#EXTM3U", *lines, ""]), 1)
 
