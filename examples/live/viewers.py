@@ -138,3 +138,10 @@ def gstreamer(name, url):
 
 # The programs that show frames, and what starts each.
 KINDS = {"ffmpeg": ffmpeg, "mpv": mpv, "gst-launch-1.0": gstreamer, "vlc": Vlc}
+
+
+def is_there(kind):
+    """Whether a player is installed; GStreamer with what it plays HLS by (gstreamer1.0-plugins-bad, gstreamer1.0-libav)."""
+    if kind == "gst-launch-1.0" and shutil.which("gst-inspect-1.0"):
+        return all(subprocess.run(["gst-inspect-1.0", "--exists", it], check=False).returncode == 0 for it in ("hlsdemux", "tsdemux", "avdec_h264"))
+    return shutil.which(kind) is not None
