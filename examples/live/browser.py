@@ -10,7 +10,7 @@ import tempfile
 class Browser:
     """A page in a Chromium of its own, which ends with its block."""
 
-    def __init__(self, address, size=(1200, 560)):
+    def __init__(self, address, size=(1280, 580)):
         self.room = tempfile.mkdtemp(prefix="adsplice-browser-")
         to_browser, self.requests = os.pipe()
         self.replies, from_browser = os.pipe()

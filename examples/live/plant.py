@@ -53,9 +53,9 @@ class Plant:
         return f"{self.viewers}/channels/{name}/live.m3u8"
 
     def is_shown(self, name, seconds=60):
-        """Whether a channel's playlist has as many segments as players want before they begin, within that time."""
+        """Whether a channel's playlist has six segments within that time: a player that comes earlier stays close to the end."""
         for _ in range(seconds * 2):
-            if request("GET", self.playlist(name))[2].count("#EXTINF") >= 3:
+            if request("GET", self.playlist(name))[2].count("#EXTINF") >= 6:
                 return True
             time.sleep(0.5)
         return False

@@ -10,7 +10,8 @@ import urllib.parse
 
 HERE = os.path.dirname(os.path.abspath(__file__))
 ROOT = os.path.dirname(os.path.dirname(HERE))
-PACKAGES = {"nginx": "nginx", "curl": "curl", "ffmpeg": "ffmpeg", "chromium": "chromium", "openssl": "openssl", "ip": "iproute2"}
+# The Debian packages of programs that have another name.
+PACKAGES = {"ip": "iproute2", "unshare": "util-linux"}
 
 
 def lacking(*programs):
@@ -19,7 +20,7 @@ def lacking(*programs):
     if not names:
         return None
     packages = " ".join(PACKAGES.get(it, it) for it in names)
-    return f"{', '.join(names)} isn't installed (Debian: apt-get install {packages})"
+    return f"not installed: {', '.join(names)} (Debian: apt-get install {packages})"
 
 
 def find_program(words):
