@@ -1,0 +1,80 @@
+"""Chromium without a window, driven through its debugging pipe (Chrome DevTools Protocol, JSON texts that end in a zero byte)."""
+import base64
+import json
+import os
+import shutil
+import subprocess
+import tempfile
+
+
+class Browser:
+    """A page in a Chromium of its own, which ends with its block."""
+
+    def __init__(self, address, size=(1280, 580)):
+        self.room = tempfile.mkdtemp(prefix="adsplice-browser-")
+        to_browser, self.requests = os.pipe()
+        self.replies, from_browser = os.pipe()
+        words = ["chromium", "--headless=new", "--no-sandbox", "--disable-gpu", "--mute-audio", "--no-first-run", "--disable-extensions",
+                 "--autoplay-policy=no-user-gesture-required", f"--window-size={size[0]},{size[1]}", f"--user-data-dir={self.room}",
+                 "--remote-debugging-pipe", "about:blank"]
+        # (the pipe's ends have to be 3 and 4 in the browser)
+        self.process = subprocess.Popen(["bash", "-c", f'exec "$@" 3<&{to_browser} 4>&{from_browser}', "bash", *words], pass_fds=(to_browser, from_browser),
+                                        stdin=subprocess.DEVNULL, stdout=subprocess.DEVNULL, stderr=subprocess.DEVNULL, start_new_session=True)
+        os.close(to_browser)
+        os.close(from_browser)
+        self.held, self.count, self.session = b"", 0, None
+        target = next(it for it in self.ask("Target.getTargets")["targetInfos"] if it["type"] == "page")
+        self.session = self.ask("Target.attachToTarget", targetId=target["targetId"], flatten=True)["sessionId"]
+        self.ask("Emulation.setDeviceMetricsOverride", width=size[0], height=size[1], deviceScaleFactor=1, mobile=False)
+        self.ask("Page.navigate", url=address)
+
+    def __enter__(self):
+        return self
+
+    def __exit__(self, *_):
+        try:
+            self.session = None
+            self.ask("Browser.close")
+        except OSError:
+            pass
+        os.close(self.requests)
+        os.close(self.replies)
+        try:
+            self.process.wait(10)
+        except subprocess.TimeoutExpired:
+            self.process.kill()
+            self.process.wait()
+        shutil.rmtree(self.room, ignore_errors=True)
+
+    def next_text(self):
+        """The next text that the browser sends."""
+        while b"\0" not in self.held:
+            piece = os.read(self.replies, 1 << 20)
+            if not piece:
+                raise OSError("the browser has ended")
+            self.held += piece
+        text, self.held = self.held.split(b"\0", 1)
+        return json.loads(text)
+
+    def ask(self, method, **words):
+        """What a method of the protocol answers."""
+        self.count += 1
+        asked = {"id": self.count, "method": method, "params": words}
+        if self.session:
+            asked["sessionId"] = self.session
+        os.write(self.requests, json.dumps(asked).encode() + b"\0")
+        while True:
+            text = self.next_text()
+            if text.get("id") == self.count:
+                if "error" in text:
+                    raise OSError(f"{method}: {text['error']['message']}")
+                return text["result"]
+
+    def value(self, expression):
+        """The value of an expression of the page."""
+        return self.ask("Runtime.evaluate", expression=expression, returnByValue=True)["result"].get("value")
+
+    def take_picture(self, path):
+        """Writes a picture of the page as PNG."""
+        with open(path, "wb") as it:
+            it.write(base64.b64decode(self.ask("Page.captureScreenshot", format="png")["data"]))

@@ -1,0 +1,176 @@
+"""What the scripts of this folder share: processes that are started and ended, nginx's example on ports of its own, requests."""
+import http.client
+import os
+import shutil
+import socket
+import subprocess
+import sys
+import time
+import urllib.parse
+
+HERE = os.path.dirname(os.path.abspath(__file__))
+ROOT = os.path.dirname(os.path.dirname(HERE))
+# The Debian packages of programs that have another name.
+PACKAGES = {"ip": "iproute2", "unshare": "util-linux"}
+
+
+def lacking(*programs):
+    """A sentence that names the programs that aren't installed, and the Debian packages that have them; or none."""
+    names = [it for it in programs if not shutil.which(it)]
+    if not names:
+        return None
+    packages = " ".join(PACKAGES.get(it, it) for it in names)
+    return f"not installed: {', '.join(names)} (Debian: apt-get install {packages})"
+
+
+def find_program(words):
+    """The built program: the path that the first word names, else the one that tests/build proves and builds."""
+    if words:
+        return os.path.abspath(words[0])
+    return subprocess.run([f"{ROOT}/tests/build"], check=True, stdout=subprocess.PIPE, text=True).stdout.strip()
+
+
+def free_ports(count):
+    """Ports of loopback that nothing listens on."""
+    held = [socket.socket() for _ in range(count)]
+    for it in held:
+        it.bind(("127.0.0.1", 0))
+    ports = [it.getsockname()[1] for it in held]
+    for it in held:
+        it.close()
+    return ports
+
+
+def taken(*ports):
+    """Those of the ports on which something listens."""
+    found = []
+    for port in ports:
+        with socket.socket() as it:
+            it.setsockopt(socket.SOL_SOCKET, socket.SO_REUSEADDR, 1)
+            try:
+                it.bind(("127.0.0.1", port))
+            except OSError:
+                found.append(port)
+    return found
+
+
+def wait_for(port, host="127.0.0.1"):
+    """Returns once something listens on a port; ends the script where nothing does within 10 seconds."""
+    for _ in range(200):
+        try:
+            socket.create_connection((host, port), 1).close()
+            return
+        except OSError:
+            time.sleep(0.05)
+    sys.exit(f"{os.path.basename(sys.argv[0])}: nothing listens on port {port}")
+
+
+class Processes:
+    """Processes that end with the block that started them, the last one first."""
+
+    def __init__(self):
+        self.running = []
+
+    def __enter__(self):
+        return self
+
+    def __exit__(self, *_):
+        for it in reversed(list(self.running)):
+            self.end(it)
+
+    def start(self, words, **more):
+        """Starts a process; its standard input is empty, and its standard error is left out unless `more` says where it goes."""
+        more = {"stdin": subprocess.DEVNULL, "stdout": subprocess.DEVNULL, "stderr": subprocess.DEVNULL, **more}
+        it = subprocess.Popen(words, **more)
+        self.running.append(it)
+        return it
+
+    def end(self, it, hard=False):
+        """Ends a process, by SIGKILL where it is to be hard."""
+        if it in self.running:
+            self.running.remove(it)
+        if it.poll() is None:
+            it.kill() if hard else it.terminate()
+        try:
+            it.wait(5)
+        except subprocess.TimeoutExpired:
+            it.kill()
+            it.wait()
+
+    def adsplice(self, program, port):
+        """Starts a process of adsplice, and waits until it listens."""
+        it = self.start([program, "live", str(port), "4294967295"])
+        wait_for(port)
+        return it
+
+    def nginx(self, configuration):
+        """Starts nginx with a configuration; its first lines of complaint are shown where it doesn't start."""
+        tried = subprocess.run(["nginx", "-t", "-c", configuration], capture_output=True, text=True)
+        if tried.returncode:
+            sys.exit(tried.stderr)
+        return self.start(["nginx", "-c", configuration, "-g", "daemon off;"])
+
+
+def replaced(text, pairs):
+    """A text with each old part, which has to stand there, replaced by its new one."""
+    for old, new in pairs:
+        if old not in text:
+            sys.exit(f"nginx.conf has no {old!r} any more")
+        text = text.replace(old, new)
+    return text
+
+
+def configure_nginx(room, ports, viewers, operator, server="", changes=()):
+    """Writes nginx.conf to a folder: the example on these ports, its files in the folder, a server more; answers its path."""
+    with open(f"{HERE}/nginx.conf", encoding="utf-8") as it:
+        text = it.read()
+    for folder in ("log", "cache"):
+        os.makedirs(f"{room}/{folder}", exist_ok=True)
+    pairs = [("127.0.0.1:8081", f"127.0.0.1:{ports[0]}"), ("127.0.0.1:8082", f"127.0.0.1:{ports[1]}"), ("808[12]", f"{ports[0]}|{ports[1]}"),
+             ("listen 8080", f"listen {viewers}"), ("127.0.0.1:8090", f"127.0.0.1:{operator}"), ("/var/log/nginx", f"{room}/log"),
+             ("/run/nginx.pid", f"{room}/nginx.pid"), ("/var/cache/adsplice", f"{room}/cache"), *changes]
+    text = replaced(text, pairs).rstrip().removesuffix("}") + server + "}\n"
+    with open(f"{room}/nginx.conf", "w", encoding="utf-8") as it:
+        it.write(text)
+    return f"{room}/nginx.conf"
+
+
+def request(method, url, body=None, fields=None):
+    """A request's status, header fields (names in small letters) and body; status 0 where no answer came."""
+    parts = urllib.parse.urlsplit(url)
+    data = body.encode() if isinstance(body, str) else body
+    connection = http.client.HTTPConnection(parts.hostname, parts.port or 80, timeout=15)
+    try:
+        connection.request(method, parts.path + (f"?{parts.query}" if parts.query else ""), data, fields or {})
+        reply = connection.getresponse()
+        return reply.status, {name.lower(): value for name, value in reply.getheaders()}, reply.read().decode()
+    except (OSError, http.client.HTTPException):
+        return 0, {}, ""
+    finally:
+        connection.close()
+
+
+def put(url, body):
+    """The status of a PUT."""
+    return request("PUT", url, body)[0]
+
+
+class Results:
+    """What was checked: how many passed and failed; each failure is printed as it comes."""
+
+    def __init__(self):
+        self.passed = self.failed = 0
+
+    def check(self, is_well, what):
+        """Counts a check, and prints what it was of where it failed."""
+        if is_well:
+            self.passed += 1
+        else:
+            self.failed += 1
+            print(f"FAILED: {what}", flush=True)
+        return bool(is_well)
+
+    def end(self):
+        """Prints the last line, 'N passed, M failed', and answers the exit status."""
+        print(f"{self.passed} passed, {self.failed} failed")
+        return 1 if self.failed else 0
