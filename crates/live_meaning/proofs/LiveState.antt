@@ -48,7 +48,7 @@ all_filter : {A : Type 0} (P : A → Type 0) (test : A → Bool) (xs : List A) �
 all_filter P test [] h = tt
 all_filter P test (x ∷ xs) h = filter_step P x (filter test xs) (test x) h.0 (all_filter P test xs h.1)
 
-all_new : (segments : List Segment) → filter (is_new []) segments ≡ segments
+pub all_new : (segments : List Segment) → filter (is_new []) segments ≡ segments
 all_new [] = refl
 all_new (s ∷ later) = ap (λ xs. s ∷ xs) (all_new later)
 

@@ -37,7 +37,7 @@ use Rattle.live_meaning.proofs.Runs.{nothing_continues}
 
 -- ---- what is owed is what was accepted last, with the window
 
-owed_is : (tolerance : ℕ) (events : List Event) (last now : Playlist) → IsOwed tolerance events last now → owed_for (told tolerance events) last ≡ now
+pub owed_is : (tolerance : ℕ) (events : List Event) (last now : Playlist) → IsOwed tolerance events last now → owed_for (told tolerance events) last ≡ now
 owed_is tolerance events last now h =
     let t = told tolerance events in
     let both : ◌≡◌ {A = Option Playlist} (Some (owed_for t last)) (Some now) = sym (ap (option_map (owed_for t)) h.accepted) ∙ h.owed in
@@ -68,7 +68,7 @@ left_by : (b : Bool) (date_ranges : List DateRange) (test : DateRange → Bool) 
 left_by true date_ranges test = refl
 left_by false date_ranges test = none_left date_ranges test
 
-same_left : (date_ranges : List DateRange) (f g : DateRange → Bool) → ((r : DateRange) → f r ≡ g r) → filter f date_ranges ≡ filter g date_ranges
+pub same_left : (date_ranges : List DateRange) (f g : DateRange → Bool) → ((r : DateRange) → f r ≡ g r) → filter f date_ranges ≡ filter g date_ranges
 same_left [] f g h = refl
 same_left (r ∷ date_ranges) f g h = ap (λ b. cond b (r ∷ filter f date_ranges) (filter f date_ranges)) (h r) ∙ ap (λ rs. cond (g r) (r ∷ rs) rs) (same_left date_ranges f g h)
 

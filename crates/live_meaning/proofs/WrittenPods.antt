@@ -52,7 +52,7 @@ or_twice : (a b : Bool) → (a || (a || b)) ≡ (a || b)
 or_twice true b = refl
 or_twice false b = refl
 
-any_reverse : {A : Type 0} (test : A → Bool) (xs : List A) → list_any test (reverse xs) ≡ list_any test xs
+pub any_reverse : {A : Type 0} (test : A → Bool) (xs : List A) → list_any test (reverse xs) ≡ list_any test xs
 any_reverse test [] = refl
 any_reverse test (x ∷ xs) =
     ap (list_any test) (reverse-cons x xs)

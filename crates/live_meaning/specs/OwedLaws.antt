@@ -1,9 +1,11 @@
 -- Laws of the owed playlist, in the words of a playlist: its header, its segments, its date ranges; and of the store.
-use Rattle.std.specs.Prelude.{◌≡◌, ◌≤◌, ℕ, Bool, true, not, ◌&&◌, ◌||◌, List, [], ◌∷◌, ◌++◌, map, filter, reverse, length, max, Some, None, is_some, is_none, if◌then◌else◌}
+use Rattle.std.specs.Prelude.{◌≡◌, ◌≤◌, ℕ, Bool, true, not, ◌&&◌, ◌||◌, List, [], ◌∷◌, ◌++◌, map, filter, reverse, length, max, ℤ, Option, Some, None, is_some, is_none, if◌then◌else◌}
 use Rattle.std.specs.List.{AllByRecursion, list_any}
 use Rattle.playlist_meaning.specs.declared.Segment.{Segment}
 use Rattle.playlist_meaning.specs.declared.DateRange.{DateRange}
 use Rattle.playlist_meaning.specs.declared.Playlist.{Playlist}
+use Rattle.playlist_meaning.specs.Instants.{instants_of}
+use Rattle.playlist_meaning.specs.Numbering.{segment_numbers, numbers_rise}
 use Rattle.playlist_meaning.specs.Marks.{Marked}
 use Rattle.playlist_meaning.specs.Stitched.{Piece, Item, is_kept}
 use Rattle.playlist_meaning.specs.Paced.{run_length, due_with, rest_pieces}
@@ -96,6 +98,23 @@ PlayAs (item ∷ items) (s ∷ segments) = PlaysAs item.piece.segment s × PlayA
 abbrev pub SegmentsPlayTheWindow : Type 0
 SegmentsPlayTheWindow = (tolerance : ℕ) (events : List Event) (last now : Playlist) → IsOwed tolerance events last now →
     PlayAs (window_after (told tolerance events) last) now.segments
+
+-- ---- where nothing is decided
+
+-- these segments, which state these instants in place of their own times
+abbrev pub with_times : List Segment → List (Option ℤ) → List Segment
+with_times [] instants = []
+with_times (s ∷ later) [] = s ∷ later
+with_times (s ∷ later) (instant ∷ instants) = record s { time = instant } ∷ with_times later instants
+
+-- without decisions the playlist that is owed after a first refresh has the segments that were read, under their own numbers,
+-- each of which states the instant at which it begins, where it has one (4.3.2.6); and the date ranges that were read, where one
+-- does
+abbrev pub NothingDecidedNothingChanged : Type 0
+NothingDecidedNothingChanged = (tolerance : ℕ) (playlist now : Playlist) → IsOwed tolerance (refreshed playlist ∷ []) playlist now →
+    numbers_rise segment_numbers playlist.segments ≡ true →
+    (now.segments ≡ with_times playlist.segments (instants_of playlist.segments))
+    × (now.date_ranges ≡ (if list_any states_time now.segments then playlist.date_ranges else []))
 
 -- ---- the store
 

@@ -5,7 +5,7 @@
 
 ghost use Rattle.live_meaning.specs.BreakLaws.{InUseIsWritten, RunsKeepTheirPods, FallbackFills, WrittenEndIsNear, WindowsFollow};
 ghost use Rattle.live_meaning.specs.KeptLaws.{KeptFollows, KeptHavePods};
-ghost use Rattle.live_meaning.specs.OwedLaws.{HeaderIsTheLast, DateRangesAreTheOrigins, WindowIsStitched, UnmarkedStandOnce, SegmentsPlayTheWindow, PodsAreKept, StoreStaysSmall};
+ghost use Rattle.live_meaning.specs.OwedLaws.{HeaderIsTheLast, DateRangesAreTheOrigins, WindowIsStitched, UnmarkedStandOnce, SegmentsPlayTheWindow, NothingDecidedNothingChanged, PodsAreKept, StoreStaysSmall};
 ghost use Rattle.live_meaning.specs.LiveLaws.{OnlyGrows, EachSucceeds, MarksFollow, HistoriesAreLinked, MarksAreKnown, NoFaultSucceeds, NewestFits, MarksHavePods, UsedAreInUse};
 
 pub mod fallback_rows;
@@ -111,6 +111,12 @@ pub fn unmarked_stand_once()
 /// The owed segments play what the window's pieces play, one for one.
 pub fn segments_play_the_window()
     ensures { SegmentsPlayTheWindow }
+{}
+
+/// Without decisions a first refresh is owed as it was read, but that each segment states the instant at which it begins, where
+/// it has one.
+pub fn nothing_decided_nothing_changed()
+    ensures { NothingDecidedNothingChanged }
 {}
 
 /// After an accepted refresh a break has a pod of its own exactly where it is in use and was filled, or where a decision gave it
