@@ -69,7 +69,8 @@ class Relay:
     def put(self, what, body):
         """A PUT's status; one that is refused is kept, and told unless it was refused so before."""
         status, _, text = request("PUT", self.url + what, body)
-        fault = f"{status} {text.strip()}" if status else "no answer"
+        said = "" if text.startswith("<") else text.strip()  # (nginx's own pages say no more than the status)
+        fault = f"{status} {said}".strip() if status else "no answer"
         if status not in (201, 204) and fault not in self.faults[-1:]:
             print(f"{self.name}: PUT {what or 'channel'}: {fault}", flush=True)
             self.faults.append(fault)
