@@ -38,9 +38,9 @@ class Plant:
         wait_for(operator)
         self.packager = processes.start(media.programme_words(f"{room}/site/media/programme"), stderr=None)
 
-    def channel(self, name, plan):
-        """Starts a channel with a plan of breaks; answers its relay."""
-        relay = Relay(name, plan, f"{self.room}/site/media/programme/index.m3u8", self.operator, self.site)
+    def channel(self, name, plan, kind=Relay):
+        """Starts a channel with a plan of breaks, by a kind of relay; answers that."""
+        relay = kind(name, plan, f"{self.room}/site/media/programme/index.m3u8", self.operator, self.site)
         self.relays.append(relay.start())
         return relay
 

@@ -69,7 +69,8 @@ class Relay:
     def put(self, what, body):
         """A PUT's status; one that is refused is kept, and told unless it was refused so before."""
         status, _, text = request("PUT", self.url + what, body)
-        fault = f"{status} {text.strip()}" if status else "no answer"
+        said = "" if text.startswith("<") else text.strip()  # (nginx's own pages say no more than the status)
+        fault = f"{status} {said}".strip() if status else "no answer"
         if status not in (201, 204) and fault not in self.faults[-1:]:
             print(f"{self.name}: PUT {what or 'channel'}: {fault}", flush=True)
             self.faults.append(fault)
@@ -82,12 +83,14 @@ class Relay:
         self.decided = -1
 
     def decide(self, turn):
-        """The decision on a break, once."""
-        if turn > self.decided and turn >= 0:
-            self.decided = turn
-            if self.plan.is_decided(turn):
-                ads = media.pod(self.plan.own, f"{self.site}/media/ads", self.plan.cut)
-                self.put("/decisions", json.dumps({"breaks": [{"id": f"break-{turn}", "ads": ads}]}))
+        """The decision on a break, until it was taken once (409: the break has begun)."""
+        if turn <= self.decided:
+            return
+        if self.plan.is_decided(turn):
+            ads = media.pod(self.plan.own, f"{self.site}/media/ads", self.plan.cut)
+            if self.put("/decisions", json.dumps({"breaks": [{"id": f"break-{turn}", "ads": ads}]})) not in (204, 409):
+                return
+        self.decided = turn
 
     def date_range(self, turn, first, begins):
         """The signal of a break: the first segment's number and instant say when it begins."""
