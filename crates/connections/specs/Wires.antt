@@ -1,5 +1,5 @@
 -- What went through a client's socket.
-use Rattle.std.specs.Prelude.{◌≡◌, ℕ, ◌<◌, List, take, length, Option}
+use Rattle.std.specs.Prelude.{ℕ, ◌<◌, List, take, length, Option}
 use Rattle.std.specs.Io.KnownBytes.{Consumes, Appends}
 use Rattle.connections.specs.declared.wire.Moved.{Moved}
 use Rattle.connections.specs.declared.wire.Moved.TheVariants.{Some, Waits, Nothing, Full, Failed}

@@ -1,6 +1,7 @@
 //! The connections by their places.
-ghost use Rattle.std.specs.Prelude.{◌≡◌, ◌<◌, ◌≤◌, ◌+◌, ◌++◌, [], None, Some, true, length, replicate, is_none, IfOk, OnOk, OnErr};
+ghost use Rattle.std.specs.Prelude.{◌≡◌, ◌<◌, ◌≤◌, ◌+◌, ◌++◌, [], None, Some, true, length, replicate, is_none, IfOk, IfErr, OnOk, OnErr};
 ghost use Rattle.live_edge.specs.Edges.{StandsFor};
+ghost use Rattle.connections.specs.Conversing.{IsFaultOfGiving};
 ghost use Rattle.connections.specs.Limits.{most_held, place_count};
 ghost use Rattle.connections.specs.Arrivals.{is_asking};
 ghost use Rattle.connections.specs.Table.{at, held_of, held_in, left_of, taken_of, phase_of, Puts, Happens};
@@ -178,6 +179,7 @@ impl Connections {
         requires room { held_in self.old.places + length piece.now ≤ most_held }
         ensures ok { OnOk result (Happens self.old (gave place piece.now) self.new) }
         ensures err { OnErr result (Happens self.old (went place) self.new) }
+        ensures kind { IfErr result IsFaultOfGiving }
     {
         let Some(conversation) = self.take_out(place) else {
             return Ok(());
