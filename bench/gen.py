@@ -13,7 +13,8 @@ every other one is decided (a decision file holds 256 breaks at most), each with
 
 Hostile, each as large as a playlist may be, or with as many segments: many-breaks has 10,000 segments and 5,000
 breaks, of which 250 are decided; one-start the same with all breaks at one instant, and all segments near it;
-date-ranges 145,000 date ranges of one segment. Without decisions: dated-ranges has 67,600 date ranges with a time,
+near-breaks has 10,000 segments near 25,000 breaks that have ended, and a fallback; date-ranges 145,000 date ranges of one
+segment. Without decisions: dated-ranges has 67,600 date ranges with a time,
 empty-lines four million empty lines, many-attributes 10,000 keys of 42 attributes."""
 import json, os, sys
 
@@ -171,7 +172,17 @@ def many_attributes():
     return l + ["#EXT-X-ENDLIST"], None
 
 
-HOSTILE = (("many-breaks", spread_breaks), ("one-start", one_start), ("date-ranges", date_ranges),
+def near_breaks():
+    """25,000 breaks that start and end where 10,000 segments of no length begin, and a fallback: each segment is near all
+    of them, and too late for each."""
+    l = ["#EXTM3U", "#EXT-X-TARGETDURATION:10"]
+    l += ['#EXT-X-DATERANGE:ID="%05x",START-DATE="2024-05-01T12:00:00Z",DURATION=0,SCTE35-OUT=%s' % (k, OUT30)
+          for k in range(25_000)]
+    l += ["#EXT-X-PROGRAM-DATE-TIME:2024-05-01T12:00:00Z"] + ["#EXTINF:0,", "s"] * 10_000
+    return l + ["#EXT-X-ENDLIST"], {"fallback": {"ads": pod_of_two("any")["ads"]}}
+
+
+HOSTILE = (("many-breaks", spread_breaks), ("one-start", one_start), ("near-breaks", near_breaks), ("date-ranges", date_ranges),
            ("dated-ranges", dated_ranges), ("empty-lines", empty_lines), ("many-attributes", many_attributes))
 
 

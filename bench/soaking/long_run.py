@@ -12,11 +12,10 @@ from playlists import daterange, decisions, instant, origin_text
 CHANNELS = 64
 PACKAGERS, READERS, FLOODERS = 8, 8, 2  # threads
 USUAL_SECONDS = 600
-DEADLINE = 10  # seconds that a rude client may hold the server
-# Of a good request: what is read away behind a rude one, and the others' own time, are beside the deadline.
-SLOWEST = DEADLINE + 1
-PAUSE = 20  # seconds from one client that holds the server to the next
-LINGERERS = 3  # clients at once that are refused and don't close: each holds the server for a quarter of a second
+DEADLINE = 10  # seconds that a rude client may hold its place
+SLOWEST = 1  # seconds of a good request, which waits for no rude one
+PAUSE = 20  # seconds from one client that holds its place to the next
+LINGERERS = 3  # clients at once that are refused and don't close
 GROWTH = 512 << 10  # bytes by which resident memory may be above that of the first minute
 EVERY, RUN = 20, 3  # segments from break to break, and within one
 PODS = (["a0", "a1"], ["x0"], ["a0", "a1", "x0"])

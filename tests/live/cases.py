@@ -2,7 +2,7 @@
 import json
 
 from events import BASE, Case
-from playlists import IN, NOT_OUT, daterange, decisions, instant, origin_text, owed_text, window
+from playlists import IN, NOT_OUT, daterange, decisions, fallback, instant, origin_text, owed_text, window
 
 AB = decisions(("b1", ["a0", "a1"]))
 B1 = daterange("b1", 10)
@@ -204,6 +204,129 @@ made.why("b1", "Filled").why("q", "NotKnown").known("b1 Filled").withdraw("b1", 
 
 made = bare("channels that can be made").channel(tolerance=10**10).channel(tolerance=10**10 + 1, owed="C2 BadTolerance")
 made.channel("ftp://origin.example/", owed="C1 BadBase").channel("ftp://origin.example/", 10**10 + 1, "C1 BadBase")
+
+# ---- pods at the pace of their runs
+
+X3 = ["x0", "x1", "x2"]  # 30 s
+SHORT = daterange("b1", 10, "DURATION=10")
+
+
+def bare_channel(name):
+    return bare(name).channel()
+
+
+def rolling(name, pod, tag):
+    made = bare_channel(name).decide(decisions(("b1", pod)))
+    return made, lambda first, last, fresh, items, now=tag, **how: shows(
+        made, origin_text(first, last, ranges=[now], ended=how.get("ended", False)), fresh, items, **how)
+
+
+made, roll = rolling("a pod goes through the window at the pace of its break", X3, B1)
+roll(0, 1, 2, window("s0 / x0"))
+roll(1, 2, 1, window("/ x0 x1", 1))
+roll(2, 3, 1, window("/ x0 x1 x2", 1))
+roll(3, 4, 1, window("/ x0 x1 x2 / s4", 1))
+roll(4, 5, 1, window("/ s4 s5", 4, 1))
+
+made, roll = rolling("a return that is told while the break runs shows the rest of its pod at once", X3, B1)
+roll(0, 1, 2, window("s0 / x0"))
+roll(0, 2, 1, window("s0 / x0 x1 x2 / s2"), daterange("b1", 10, f"SCTE35-IN={IN}"))
+
+made, roll = rolling("the end of the list shows the rest of a pod at once", X3, B1)
+roll(0, 1, 2, window("s0 / x0"))
+roll(0, 1, 0, window("s0 / x0 x1 x2"), ended=True)
+
+made, roll = rolling("the rest of a pod stands before the first segment, for as long as that is the first", X3, SHORT)
+roll(0, 1, 2, window("s0 / x0"))
+roll(2, 3, 2, window("x1 x2 / s2 s3", 2, 1))
+roll(2, 3, 0, window("x1 x2 / s2 s3", 2, 1))
+roll(2, 4, 1, window("x1 x2 / s2 s3 s4", 2, 1))
+roll(3, 4, 0, window("s3 s4", 5, 2))
+
+made, roll = rolling("a window goes on right after the pod of an open break", ["x0"], SHORT)
+roll(0, 1, 2, window("s0 / x0"))
+roll(2, 3, 2, window("/ s2 s3", 2, 1))
+
+made, roll = rolling("a break whose last segment leaves the window in the refresh that ends it", X3, daterange("b1", 10, "DURATION=20"))
+roll(0, 1, 2, window("s0 / x0"))
+roll(1, 2, 1, window("/ x0 x1", 1))
+roll(3, 4, 2, window("x2 / s3 s4", 3, 1))
+
+made, roll = rolling("a break that opens, is passed over by the window, and ends", X3, SHORT)
+roll(0, 0, 1, window("s0"), ranges=[SHORT])
+roll(1, 1, 1, window("/ x0", 1))
+roll(2, 2, 1, window("x1 x2 / s2", 2, 1))
+roll(3, 3, 1, window("s3", 5, 2))
+
+made, roll = rolling("advertisements that last nothing are shown once the break lasts longer than those before them", ["x0", "z0", "z1"], B1)
+roll(0, 1, 2, window("s0 / x0"))
+roll(0, 2, 1, window("s0 / x0 z0 z1"))
+roll(2, 3, 1, window("/ x0 z0 z1", 1))
+roll(2, 4, 1, window("/ x0 z0 z1 / s4", 1))
+
+for first, due in (("n0", "n0 x1"), ("x0", "x0"), ("n1", "n1")):
+    made, roll = rolling(f"a front of {first} and a break of 10 s", [first, "x1"], B1)
+    roll(0, 1, 2, window(f"s0 / {due}"))
+
+# ---- a fallback
+
+made = bare_channel("a break without a pod of its own is filled with the fallback, and keeps it").decide(fallback(["x0"]))
+for names in (["x0"], ["y0"]):
+    made.decide(fallback(names))
+    shows(made, origin_text(0, 4, ranges=[B1], ended=True), 5 if names == ["x0"] else 0, window("s0 / x0 / s4"), ended=True)
+made.decide(AB, "J9 Used").withdraw("b1", "J9 Used").why("b1", "Filled")
+
+made = bare_channel("a fallback that is taken away fills nothing").decide(fallback(["a0", "a1"])).decide(fallback(None))
+shows(made, origin_text(0, 4, ranges=[B1], ended=True), 5, window("s0 s1 s2 s3 s4"), ranges=[B1], ended=True).why("b1", "NotDecided")
+
+made = bare_channel("two breaks are filled with one fallback, one after the other").decide(fallback(["x0"]))
+tags = [SHORT, daterange("b2", 30, "DURATION=10")]
+shows(made, origin_text(0, 2, ranges=tags), 3, window("s0 / x0 / s2"), ranges=tags[1:])
+shows(made, origin_text(1, 3, ranges=tags), 1, window("/ x0 / s2 / x0", 1))
+made.known("b1 Filled", "b2 Filled").withdraw("b1", "J9 Used")
+shows(made, origin_text(2, 4, ranges=tags), 1, window("/ s2 / x0 / s4", 2, 1), ranges=tags[:1])
+made.known("b1 Waiting", "b2 Filled").withdraw("b1", "J11 Unknown")
+
+TURNS = [SHORT, daterange("b2", 50, "DURATION=10")]
+AT = {0: 0, 1: 10, 2: 100, 3: 50, 4: 100, 5: 10}  # seconds; b2 is between segments that lie outside both breaks
+made_times = {number: instant(seconds) for number, seconds in AT.items()}
+outside = {"s2": instant(100), "s4": instant(100)}
+for name, between, last in (("a break that is entered again has its copy of the fallback while that is there", False, "x0"),
+                            ("and else the fallback of now", True, "y0")):
+    made = bare_channel(name).decide(fallback(["x0"]))
+    shows(made, origin_text(0, 4, ranges=TURNS, times=made_times), 5, window("s0 / x0 / s2 / x0 / s4", times=outside))
+    if between:
+        shows(made, origin_text(2, 4, ranges=TURNS, times=made_times), 0, window("/ s2 / x0 / s4", 2, 1, times=outside), ranges=TURNS[:1])
+    made.decide(fallback(["y0"]))
+    shows(made, origin_text(2, 5, ranges=TURNS, times=made_times), 1, window(f"/ s2 / x0 / s4 / {last}", 2, 1, times=outside))
+
+made = case("a fallback fills a break whose own pod was withdrawn").withdraw("b1").decide(fallback(["x0"]))
+shows(made, origin_text(0, 4, ranges=[B1], ended=True), 5, window("s0 / x0 / s4"), ended=True)
+
+made = bare_channel("a pod that doesn't fit is not replaced by the fallback").decide(decisions(("b1", ["w0"]))).decide(fallback(["x0"]))
+shows(made, origin_text(0, 4, ranges=[B1]), 5, window("s0 s1 s2 s3 s4"), ranges=[B1]).why("b1", "DoesNotFit")
+
+made = bare_channel("a fallback that doesn't fit").decide(fallback(["a0", "a1"]))
+made.refresh(origin_text(0, 0, ranges=[daterange("b1", 100)], header=['#EXT-X-MAP:URI="init.mp4"']), "ok 0 1 1").known("b1 DoesNotFit")
+
+made = bare_channel("a fallback that is taken away while a break plays it").decide(fallback(["x0"]))
+shows(made, origin_text(0, 2, ranges=[B1]), 3, window("s0 / x0"))
+made.decide(fallback(None))
+shows(made, origin_text(1, 3, ranges=[B1]), 1, window("/ x0", 1))
+made.decide(AB, "J9 Used").withdraw("b1", "J9 Used").why("b1", "Filled")
+
+made = bare_channel("a copy of the fallback takes no place of a decided break").decide(fallback(["x0"]))
+shows(made, origin_text(0, 2, ranges=[B1]), 3, window("s0 / x0"))
+made.decide(decisions(*((f"break {n}", ["x0"]) for n in range(256)))).decide(decisions(("more", ["x0"])), "J10 Full")
+
+made = bare_channel("a refused refresh leaves no copy").decide(fallback(["a0", "a1"]))
+made.refresh(origin_text(0, 1, sequence=2**64 - 2, ranges=[B1]), "N10 NumberRange").withdraw("b1", "J11 Unknown")
+shows(made, origin_text(0, 0), 1, window("s0"))
+made.refresh(origin_text(0, 1, ranges=[B1], target=11), "N2 TargetChanged").withdraw("b1", "J11 Unknown").why("b1", "NotKnown")
+
+made = bare("files that give a fallback in vain").channel()
+made.decide('{"fallback":{"ads":[]}}', "J6 EmptyPod").decide('{"fallback":null,"withdraw":"b1"}', "J2 Shape").decide('{"fallback":7}', "J2 Shape")
+made.decide('{"fallback":{"ads":7}}', "J2 Shape").decide('{"fallback":{"ads":[{"segments":[]}]}}', "J6 EmptyPod ad 0")
 
 # ---- which playlist may follow
 

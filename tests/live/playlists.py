@@ -7,7 +7,9 @@ OUT = "0xFC302000000000000000FFF00F05000000017FFFFE002932E000010000000000000000"
 NOT_OUT = "0xFC301B00000000000000FFF00A05000000017F5F00010000000000000000"  # returns
 IN = NOT_OUT
 AD = "http://ads.example/"
-DURATIONS = {"a0": "8", "a1": "9.5", "x0": "10", "y0": "10"}  # of advertisements
+# the durations of advertisements: n0 and n1 are a nanosecond off 10 s, z0 and z1 last nothing, and w0 fits no target of 10 s
+DURATIONS = {"a0": "8", "a1": "9.5", "x0": "10", "x1": "10", "x2": "10", "y0": "10", "n0": "9.999999999", "n1": "10.000000001",
+             "z0": "0", "z1": "0", "w0": "20"}
 
 # A segment that is written: the instant at which it begins, if it states one; its media and its discontinuity number;
 # how many discontinuities come before it.
@@ -27,12 +29,19 @@ def daterange(break_id, start, more="", out=OUT):
     return f'ID="{break_id}",START-DATE="{instant(start)}"{"," if more else ""}{more}{signal}'
 
 
+def ad(names):
+    """An ad of these segments."""
+    return {"segments": [{"uri": f"{AD}{name}.ts", "duration": DURATIONS[name]} for name in names]}
+
+
 def decisions(*breaks):
     """A decision file: for each break its ID and the names of its pod's segments, all in one ad."""
-    def ad(names):
-        return {"segments": [{"uri": f"{AD}{name}.ts", "duration": DURATIONS[name]} for name in names]}
-
     return json.dumps({"breaks": [{"id": break_id, "ads": [ad(names)]} for break_id, names in breaks]})
+
+
+def fallback(names):
+    """A decision file that gives this fallback, of one ad, or takes it away."""
+    return json.dumps({"fallback": names and {"ads": [ad(names)]}})
 
 
 def origin_text(first, last, *, ranges=(), times=None, header=(), before=None, durations=None, names=None, titles=None,

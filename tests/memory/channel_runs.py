@@ -8,7 +8,7 @@ import os
 import subprocess
 from collections import namedtuple
 
-from live_requests import AB, RANGES, X, Y
+from live_requests import AB, FALLBACK, FOUR, NO_FALLBACK, OTHER_FALLBACK, RANGES, X, Y
 from playlists import decisions, origin_text
 from events import TOLERANCE, escaped
 
@@ -42,6 +42,8 @@ def later(first):
 DECIDED = [NEW, decide(AB)]
 SHOWN = [*DECIDED, refresh(0, 2)]
 PASSED = [*SHOWN, refresh(1, 3)]
+OPENED = [NEW, decide(FOUR), refresh(0, 1)]
+LEFT = [*OPENED, refresh(1, 3), refresh(4, 5)]
 
 
 def refreshes():
@@ -50,6 +52,11 @@ def refreshes():
             ("a refresh of a filled break", SHOWN, refresh(1, 3), b"ok 1 2 1\n", later(1)),
             ("a third refresh, past a filled break", PASSED, refresh(4, 5), b"ok 3 2 2\n", later(4)),
             ("a refresh that enters a second break", [*PASSED, decide(Y)], refresh(3, 6), b"ok 1 5 3\n", later(3)),
+            ("a refresh that opens a run", [*OPENED[:-1], refresh(0, 0)], refresh(0, 1), b"ok 0 2 1\n", later(0)),
+            ("a refresh within an open run", OPENED, refresh(0, 2), b"ok 0 3 1\n", later(0)),
+            ("a refresh that leaves the rest of a pod", LEFT[:-1], LEFT[-1], b"ok 4 3 2\n", later(4)),
+            ("a refresh that keeps the rest of a pod", LEFT, refresh(4, 6), b"ok 4 4 1\n", later(4)),
+            ("a first refresh with the fallback", [NEW, decide(FALLBACK)], refresh(0, 2), b"ok 0 2 3\n", [decide(NO_FALLBACK), *later(0)]),
             ("a refresh that goes back", PASSED, refresh(0, 3), b"N5 Back\n", later(1))):
         yield Event(name, before, asked, owed, (b"P25 OutOfMemory\n", b"N11 OutOfMemory\n"), after)
 
@@ -59,6 +66,7 @@ def decision_files():
     for name, before, body, owed in (
             ("a first decision", [NEW], AB, b"ok\n"), ("a decision that replaces", DECIDED, X, b"ok\n"),
             ("decisions that replace and add", DECIDED, three, b"ok\n"), ("a decision on a used break", SHOWN, X, b"J9 Used\n"),
+            ("a fallback", [NEW], FALLBACK, b"ok\n"), ("a fallback in place of another", [NEW, decide(FALLBACK)], OTHER_FALLBACK, b"ok\n"),
             ("a withdrawal by a file", DECIDED, '{"withdraw":"b1"}', b"ok\n")):
         yield Event(name, before, decide(body), owed, (b"J8 OutOfMemory\n",), later(0))
 

@@ -7,7 +7,7 @@ from collections import namedtuple
 
 sys.path.insert(0, os.path.join(os.path.dirname(os.path.dirname(os.path.abspath(__file__))), "live"))
 
-from playlists import daterange, decisions, origin_text, owed_text, window  # noqa: E402
+from playlists import daterange, decisions, fallback, origin_text, owed_text, window  # noqa: E402
 
 # A request (`asked`) after others (`before`), with its reply (`owed`) and the fault that is printed (`fault`); `reads`: the
 # paths whose replies tell all that can be seen; `after`: requests whose replies tell what can't be seen at once. A
@@ -61,8 +61,8 @@ def reads_of(*names):
 AB = decisions(("b1", ["a0", "a1"]))
 X = decisions(("b1", ["x0"]))
 Y = decisions(("b2", ["y0"]))
-FALLBACK, LONG_FALLBACK, OTHER_FALLBACK = (json.dumps({"fallback": {"ads": json.loads(it)["breaks"][0]["ads"]}}) for it in (X, AB, Y))
-NO_FALLBACK = json.dumps({"fallback": None})
+FOUR = decisions(("b1", ["x0", "x1", "x2", "y0"]))  # 40 s, for a break of 30 s
+FALLBACK, LONG_FALLBACK, OTHER_FALLBACK, NO_FALLBACK = fallback(["x0"]), fallback(["a0", "a1"]), fallback(["y0"]), fallback(None)
 # b1 has the segments 1 to 3, and b2 the segment 6
 RANGES = [daterange("b1", 10), daterange("b2", 60, "DURATION=10")]
 OTHER = [make("other"), decide(X, "other"), show(origin_text(0, 2, ranges=RANGES), "other")]
@@ -83,6 +83,8 @@ def later(first):
 LENT = [*OTHER, make(), decide(FALLBACK)]
 SHOWN = [*DECIDED, origin(0, 2)]  # s0 and then the pod of b1
 PASSED = [*SHOWN, origin(1, 3)]  # the pod of b1
+OPENED = [*OTHER, make(), decide(FOUR), origin(0, 1)]  # s0 and then the first segment of the pod of b1
+LEFT = [*OPENED, origin(1, 3), origin(4, 5)]  # the last segment of that pod, which came due behind the window, and then s4 and s5
 
 
 def case(name, before, asked, owed, after=(), reads=READS, **how):
@@ -133,6 +135,11 @@ def refreshes():
     yield case("a refresh that ends", SHOWN, origin(0, 3, ended=True), reply(DONE), later(0))
     rich = [*OTHER, make(), decide(rich_pod())]
     yield case("a refresh of keys, sections and ranges", rich, show(rich_origin()), reply(DONE), [show(rich_origin()), *later(0)])
+    yield case("a refresh that opens a run", [*OPENED[:-1], origin(0, 0)], origin(0, 1), reply(DONE), later(0))
+    yield case("a refresh within an open run", OPENED, origin(0, 2), reply(DONE), later(0))
+    yield case("a refresh that leaves the rest of a pod", LEFT[:-1], LEFT[-1], reply(DONE), later(4))
+    yield case("a refresh that keeps the rest of a pod", LEFT, origin(4, 6), reply(DONE), later(4))
+    yield case("a refresh that is past the rest of a pod", LEFT, origin(5, 6), reply(DONE), later(5))
     yield case("a first refresh with the fallback", LENT, origin(0, 2), reply(DONE), [decide(NO_FALLBACK), *later(0)])
     yield case("a refresh that enters both breaks with the fallback", LENT, origin(0, 6), reply(DONE), [decide(NO_FALLBACK), *later(0)])
     yield case("a refresh that enters a second break with the fallback", [*LENT, origin(0, 3)], origin(1, 6), reply(DONE), [decide(NO_FALLBACK), *later(1)])

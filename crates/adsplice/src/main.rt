@@ -1,8 +1,13 @@
 //! `adsplice`: puts advertisements into live HLS channels.
 #![tactic(auto)]
 
+mod client;
+mod decisions;
+mod faults;
 mod live;
+mod server;
 
+use crate::decisions::{DecisionsFault, decided};
 use crate::live::live;
 use devices::Counted;
 use live_edge::{LiveWords, read_live_words};
@@ -30,13 +35,11 @@ fn cannot_read_decisions(rt: &HostRuntime) -> ExitCode {
 
 // One playlist from standard input to standard output; the decision file, where there is one, is read first.
 fn vod(rt: &HostRuntime, base: &str, decisions: Option<&str>) -> ExitCode {
-    let Some(path) = decisions else {
-        return vod_with(rt, base, None);
-    };
-    match fs::read(rt, path) {
-        Ok(file) => vod_with(rt, base, Some(file.as_slice())),
-        Err(e) if e.kind() == ErrorKind::OutOfMemory => out_of_memory(rt),
-        Err(_) => cannot_read_decisions(rt),
+    match decided(decisions.map(|path| fs::read(rt, path))) {
+        Ok(None) => vod_with(rt, base, None),
+        Ok(Some(file)) => vod_with(rt, base, Some(file.as_slice())),
+        Err(DecisionsFault::OutOfMemory) => out_of_memory(rt),
+        Err(DecisionsFault::CannotRead) => cannot_read_decisions(rt),
     }
 }
 

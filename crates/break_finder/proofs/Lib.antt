@@ -5,4 +5,4 @@ pub mod Walked
 pub mod OnLiterals
 pub mod TagIds
 pub mod FirstEntered
-pub mod Quiet
+pub mod SpanLaws

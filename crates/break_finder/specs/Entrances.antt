@@ -1,5 +1,6 @@
 -- The breaks that can be entered while the store, the target and the sections of segments stay as they are.
-use Rattle.std.specs.Prelude.{ℕ, Bool, not, ◌&&◌, ◌||◌, List, [], ◌∷◌, ◌++◌, find, ℤ, pos, ◌+ℤ◌, int_le, int_lt, Option, Some, None, option_map, if◌then◌else◌}
+use Rattle.std.specs.Prelude.{◌≡◌, ℕ, Bool, true, false, not, ◌&&◌, List, [], ◌∷◌, find, ℤ, int_le, int_lt, Option, Some, None, option_map, if◌then◌else◌}
+use Rattle.std.specs.Option.{option_or}
 use Rattle.playlist_meaning.specs.Pods.{Pod}
 use Rattle.pod_store.specs.Pods.{total, pod_fits}
 use Rattle.pod_store.specs.Store.{Store, pod_for}
@@ -50,19 +51,45 @@ is_entered tolerance last instant e =
 abbrev pub taken : ℕ → Option (List ℕ) → ℤ → List Entrance → Option (List ℕ)
 taken tolerance last instant found = option_map entrance_id (find (is_entered tolerance last instant) found)
 
--- ---- quiet times
+-- ---- spans
 
--- the one instant is at or after the third, or the other at or before it
-abbrev pub is_outside : ℤ → ℤ → ℤ → Bool
-is_outside after before start = int_le start after || int_le before start
+-- a segment at this instant enters the break, whichever was entered last
+abbrev pub is_enterable : ℕ → ℤ → Entrance → Bool
+is_enterable tolerance instant e = is_near instant tolerance (Some e.start) && is_not_past instant tolerance e.end
 
-abbrev pub starts_outside : ℤ → ℤ → Entrance → Bool
-starts_outside after before e = is_outside after before e.start
+-- time from an instant up to another, with the first break that is entered in it, and the first that is another
+pub record Span : Type 0 where
+  pub from : ℤ
+  pub to : ℤ
+  pub first : Option (List ℕ)
+  pub second : Option (List ℕ)
 
--- one instant is more than the tolerance before another
-abbrev pub is_far_before : ℤ → ℕ → ℤ → Bool
-is_far_before earlier tolerance later = int_lt (earlier +ℤ pos tolerance) later
+abbrev pub is_within : ℤ → ℤ → ℤ → Bool
+is_within from to instant = int_le from instant && int_lt instant to
 
--- an instant lies between two others, more than the tolerance from each
-abbrev pub is_between : ℤ → ℤ → ℕ → ℤ → Bool
-is_between after before tolerance instant = is_far_before after tolerance instant && is_far_before instant tolerance before
+abbrev pub is_in : Span → ℤ → Bool
+is_in span instant = is_within span.from span.to instant
+
+abbrev pub is_last : Option (List ℕ) → Option (List ℕ) → Bool
+is_last None last = false
+is_last (Some id) last = is_this id last
+
+-- the first, or where it is the last one entered the second
+abbrev pub but : Option (List ℕ) → Option (List ℕ) → Option (List ℕ) → Option (List ℕ)
+but first second last = if is_last first last then second else first
+
+-- of breaks with this first and first other, and later ones with those, the first other
+abbrev pub second_of : Option (List ℕ) → Option (List ℕ) → Option (List ℕ) → Option (List ℕ) → Option (List ℕ)
+second_of None second later_first later_second = later_second
+second_of (Some id) second later_first later_second = option_or second (but later_first later_second (Some id))
+
+-- at each instant in the span it tells which of these is entered, after whichever was entered last
+abbrev pub Tells : ℕ → List Entrance → Span → Type 0
+Tells tolerance found span =
+    (instant : ℤ) (last : Option (List ℕ)) → is_in span instant ≡ true → taken tolerance last instant found ≡ but span.first span.second last
+
+-- ---- the breaks that can be entered, with the tolerance by which they are
+
+pub record Entrances : Type 0 where
+  pub tolerance : ℕ
+  pub found : List Entrance

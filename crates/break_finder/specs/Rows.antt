@@ -1,5 +1,5 @@
 -- What the worked values of breaks are given.
-use Rattle.std.specs.Prelude.{ℕ, ◌*◌, Bool, true, false, List, [], ◌∷◌, map, codes, ℤ, pos, ◌+ℤ◌, Option, Some, None, option_map}
+use Rattle.std.specs.Prelude.{ℕ, ◌*◌, Bool, true, false, List, [], ◌∷◌, map, fold, codes, ℤ, pos, ◌+ℤ◌, Option, Some, None, option_map}
 use Rattle.playlist_meaning.specs.declared.DateRange.{DateRange}
 use Rattle.playlist_meaning.specs.declared.Playlist.{Playlist}
 use Rattle.playlist_meaning.specs.Pods.{Ad, Pod}
@@ -7,7 +7,9 @@ use Rattle.playlist_meaning.specs.Marks.{Mark}
 use Rattle.pod_store.specs.Rows.{pod_ab, clear, segment, without_fallback}
 use Rattle.pod_store.specs.Store.{Store}
 use Rattle.break_finder.specs.declared.why.Why.{Why}
-use Rattle.break_finder.specs.Breaks.{Break}
+use Rattle.break_finder.specs.declared.said.Said.{Said}
+use Rattle.break_finder.specs.declared.signal.Signal.TheVariants.{Leaves, Returns}
+use Rattle.break_finder.specs.Breaks.{Break, End, nothing_said, end_of, is_before_end}
 use Rattle.break_finder.specs.Known.{known}
 use Rattle.break_finder.specs.Entering.{Moment, entered, is_inside, next_mark, why}
 
@@ -74,6 +76,43 @@ mapped_ab = record { ads = map (λ (ad : Ad). record ad { section = Some (record
 
 abbrev pub own_beside : Store
 own_beside = record { entries = store.entries; fallback = Some mapped_ab }
+
+-- ---- where a break ends
+
+-- what a break can say of its end
+pub data SaysEnd : Type 0 where
+  -- END-DATE, at T+10
+  end_date : SaysEnd
+  -- DURATION, 20 s
+  duration : SaysEnd
+  -- a valid SCTE35-IN
+  returns : SaysEnd
+  -- PLANNED-DURATION, 30 s
+  planned : SaysEnd
+  -- the duration of its splice section, 40 s in ticks of 90 kHz
+  section : SaysEnd
+
+abbrev pub saying : Said → SaysEnd → Said
+saying said end_date = record said { end = Some (at_seconds 10) }
+saying said duration = record said { duration = Some 20000000000 }
+saying said returns = record said { back = Some (Returns None) }
+saying said planned = record said { planned = Some 30000000000 }
+saying said section = record said { out = Some (Leaves (Some 3600000)) }
+
+abbrev pub starting : Said
+starting = record nothing_said { start = Some (at_seconds 0); out = Some (Leaves None) }
+
+-- where a break ends that starts at T+0 and says these of its end, with a pod of 50 s
+abbrev pub end_saying : List SaysEnd → Option End
+end_saying words = end_of (fold saying starting words) 50000000000
+
+-- the same of a break without START-DATE
+abbrev pub end_without_start : List SaysEnd → Option End
+end_without_start words = end_of (fold saying (record starting { start = None }) words) 50000000000
+
+-- whether a segment that begins at T+n is before this end, with 100 ms of tolerance
+abbrev pub before_end_at : ℕ → Option End → Bool
+before_end_at nanos end = is_before_end (at_nanos nanos) 100000000 end
 
 -- ---- two breaks
 

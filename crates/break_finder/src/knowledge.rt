@@ -117,18 +117,29 @@ impl Knowledge {
         }
     }
 
-    /// The breaks that can be entered, in the order of the IDs: each is signalled and decided, and its pod fits. Fails
-    /// only where memory is refused.
+    /// The breaks that can be entered, in the order of the IDs, by this tolerance: each is signalled and decided, and its
+    /// pod fits. They are made for about so many segments, which changes what they take and nothing else. Fails only
+    /// where memory is refused.
     pub fn entrances(
         &self,
         alloc: Global,
+        tolerance: Nanos,
         target: u64,
         mapped: bool,
         store: &PodStore,
+        segments: usize,
     ) -> Result<Entrances<'_>, AllocError>
-        ensures { IfOk result (λ found. found ≡ entrances_in target mapped store.now self.now) }
+        ensures { IfOk result (λ entrances. entrances ≡ record { tolerance = tolerance; found = entrances_in target mapped store.now self.now }) }
     {
-        entrances_of(alloc, target, mapped, store, &self.breaks)
+        entrances_of(
+            alloc,
+            tolerance,
+            target,
+            mapped,
+            store,
+            &self.breaks,
+            segments,
+        )
     }
 
     /// What is known after a refresh, where this is known before it, and the newest segment of the refresh before

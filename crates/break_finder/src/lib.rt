@@ -5,6 +5,7 @@
 mod carry;
 mod end;
 mod entering;
+mod entrance;
 mod fault;
 mod kept;
 mod knowledge;
@@ -12,6 +13,7 @@ pub mod laws;
 mod rows;
 mod said;
 mod signal;
+mod spans;
 mod why;
 
 pub use entering::Entrances;

@@ -14,11 +14,11 @@ use Rattle.connections.specs.Runs.{visits, said, taken, Service, InTurn, AreOf, 
 
 -- ---- places
 
-same : (key : ℕ) → (key == key) ≡ true
-same key = eq-eqb key key refl
+same : (place : ℕ) → (place == place) ≡ true
+same place = eq-eqb place place refl
 
-other_of : (k key : ℕ) → (k == key) ≡ false → key ≢ k
-other_of k key e h = eqb-false k key e (sym h)
+other_of : (k place : ℕ) → (k == place) ≡ false → place ≢ k
+other_of k place e h = eqb-false k place e (sym h)
 
 chosen : {A : Type 0} (b : Bool) (x y : A) → b ≡ true → cond b x y ≡ x
 chosen b x y e = ap (λ c. cond c x y) e
@@ -26,22 +26,22 @@ chosen b x y e = ap (λ c. cond c x y) e
 left : {A : Type 0} (b : Bool) (x y : A) → b ≡ false → cond b x y ≡ y
 left b x y e = ap (λ c. cond c x y) e
 
-by_place : (P : ℕ → Type 0) (k : ℕ) → P k → ((key : ℕ) → (k == key) ≡ false → P key) → (key : ℕ) → P key
-by_place P k here there key = split (k == key) refl where
-  split : (b : Bool) → (k == key) ≡ b → P key
-  split true e = subst P (eqb-true k key e) here
-  split false e = there key e
+by_place : (P : ℕ → Type 0) (k : ℕ) → P k → ((place : ℕ) → (k == place) ≡ false → P place) → (place : ℕ) → P place
+by_place P k here there place = split (k == place) refl where
+  split : (b : Bool) → (k == place) ≡ b → P place
+  split true e = subst P (eqb-true k place e) here
+  split false e = there place e
 
 -- ---- what doesn't concern a place
 
-more_services : (key : ℕ) (events : List Event) (s : Service) (services : List Service) (c : Option Conversation) → StandsAt key events services c
-    → StandsAt key events (s ∷ services) c
-more_services key events s services None h = tt
-more_services key events s services (Some (Asking bytes pieces)) h = h
-more_services key events s services (Some (Answering rest status)) h = record {
+more_services : (place : ℕ) (events : List Event) (s : Service) (services : List Service) (c : Option Conversation) → StandsAt place events services c
+    → StandsAt place events (s ∷ services) c
+more_services place events s services None h = tt
+more_services place events s services (Some (Asking bytes pieces)) h = h
+more_services place events s services (Some (Answering rest status)) h = record {
   service = h.service;
   one = inr h.one;
-  key_is = h.key_is;
+  place_is = h.place_is;
   visit_is = h.visit_is;
   more = h.more;
   said_is = h.said_is;
@@ -50,15 +50,15 @@ more_services key events s services (Some (Answering rest status)) h = record {
 }
 
 -- where an event leaves what was said, taken and visited
-carried : (key : ℕ) (now before : List Event) (services : List Service) (c : Option Conversation) → visits key now ≡ visits key before
-    → said key now ≡ said key before → taken key now ≡ taken key before → StandsAt key before services c → StandsAt key now services c
-carried key now before services None v s t h = tt
-carried key now before services (Some (Asking bytes pieces)) v s t h =
+carried : (place : ℕ) (now before : List Event) (services : List Service) (c : Option Conversation) → visits place now ≡ visits place before
+    → said place now ≡ said place before → taken place now ≡ taken place before → StandsAt place before services c → StandsAt place now services c
+carried place now before services None v s t h = tt
+carried place now before services (Some (Asking bytes pieces)) v s t h =
     record { all = h.all ∙ sym s; unfinished = h.unfinished; untaken = t ∙ h.untaken }
-carried key now before services (Some (Answering rest status)) v s t h = record {
+carried place now before services (Some (Answering rest status)) v s t h = record {
   service = h.service;
   one = h.one;
-  key_is = h.key_is;
+  place_is = h.place_is;
   visit_is = h.visit_is ∙ sym v;
   more = h.more;
   said_is = s ∙ h.said_is;
@@ -66,9 +66,9 @@ carried key now before services (Some (Answering rest status)) v s t h = record 
   rest_is = h.rest_is ∙ ap (λ n. drop n h.service.text) (sym t);
 }
 
-moved : (key : ℕ) (events : List Event) (services : List Service) (old new : Option Conversation) → new ≡ old → StandsAt key events services old
-    → StandsAt key events services new
-moved key events services old new e h = subst (StandsAt key events services) (sym e) h
+moved : (place : ℕ) (events : List Event) (services : List Service) (old new : Option Conversation) → new ≡ old → StandsAt place events services old
+    → StandsAt place events services new
+moved place events services old new e h = subst (StandsAt place events services) (sym e) h
 
 -- ---- a client comes
 
@@ -80,11 +80,11 @@ on_came first middle last k before run h =
       turns = subst (InTurn first.edge run.services) (sym h.1) run.turns;
       pieces = run.pieces;
       each =
-          by_place (λ key. StandsAt key events run.services (at last key)) k
+          by_place (λ place. StandsAt place events run.services (at last place)) k
           (moved k events run.services (Some (Asking [] 0)) (at last k) h.0.here
           (record { all = sym (chosen (k == k) [] (said k before) (same k)); unfinished = nothing_yet; untaken = chosen (k == k) 0 (taken k before) (same k) }))
-          (λ key e. moved key events run.services (at middle key) (at last key) (h.0.others key (other_of k key e))
-          (carried key events before run.services (at middle key) (left (k == key) (visits key before + 1) (visits key before) e) (left (k == key) [] (said key before) e) (left (k == key) 0 (taken key before) e) (run.each key)));
+          (λ place e. moved place events run.services (at middle place) (at last place) (h.0.others place (other_of k place e))
+          (carried place events before run.services (at middle place) (left (k == place) (visits place before + 1) (visits place before) e) (left (k == place) [] (said place before) e) (left (k == place) 0 (taken place before) e) (run.each place)));
     }
 
 -- ---- a client goes
@@ -97,10 +97,10 @@ on_went first middle last k before run h =
       turns = subst (InTurn first.edge run.services) (sym h.1) run.turns;
       pieces = run.pieces;
       each =
-          by_place (λ key. StandsAt key events run.services (at last key)) k
+          by_place (λ place. StandsAt place events run.services (at last place)) k
           (moved k events run.services None (at last k) h.0.here tt)
-          (λ key e. moved key events run.services (at middle key) (at last key) (h.0.others key (other_of k key e))
-          (carried key events before run.services (at middle key) refl refl refl (run.each key)));
+          (λ place e. moved place events run.services (at middle place) (at last place) (h.0.others place (other_of k place e))
+          (carried place events before run.services (at middle place) refl refl refl (run.each place)));
     }
 
 -- ---- a client takes
@@ -116,7 +116,7 @@ took_here k count before services (Some (Asking bytes pieces)) le h = record {
 took_here k count before services (Some (Answering rest status)) le h = record {
   service = h.service;
   one = h.one;
-  key_is = h.key_is;
+  place_is = h.place_is;
   visit_is = h.visit_is;
   more = h.more;
   said_is = h.said_is;
@@ -134,10 +134,10 @@ on_took first middle last k count before run h =
       turns = subst (InTurn first.edge run.services) (sym h.2) run.turns;
       pieces = run.pieces;
       each =
-          by_place (λ key. StandsAt key events run.services (at last key)) k
+          by_place (λ place. StandsAt place events run.services (at last place)) k
           (moved k events run.services (taken_of count (at middle k)) (at last k) h.1.here (took_here k count before run.services (at middle k) h.0 (run.each k)))
-          (λ key e. moved key events run.services (at middle key) (at last key) (h.1.others key (other_of k key e))
-          (carried key events before run.services (at middle key) refl refl (left (k == key) (taken key before + count) (taken key before) e) (run.each key)));
+          (λ place e. moved place events run.services (at middle place) (at last place) (h.1.others place (other_of k place e))
+          (carried place events before run.services (at middle place) refl refl (left (k == place) (taken place before + count) (taken place before) e) (run.each place)));
     }
 
 -- ---- a client gives
@@ -151,11 +151,11 @@ still_of k piece before (s ∷ earlier) a = inl a
 
 -- another place
 given_there : (k : ℕ) (piece : List ℕ) (before : List Event) (services : List Service) (middle last : State) (it : Option Conversation) → Puts middle last k it
-    → ((key : ℕ) → StandsAt key before services (at middle key)) → (key : ℕ) → (k == key) ≡ false
-    → StandsAt key (gave k piece ∷ before) services (at last key)
-given_there k piece before services middle last it puts each key e =
-    moved key (gave k piece ∷ before) services (at middle key) (at last key) (puts.others key (other_of k key e))
-    (carried key (gave k piece ∷ before) before services (at middle key) refl (left (k == key) (said key before ++ piece) (said key before) e) refl (each key))
+    → ((place : ℕ) → StandsAt place before services (at middle place)) → (place : ℕ) → (k == place) ≡ false
+    → StandsAt place (gave k piece ∷ before) services (at last place)
+given_there k piece before services middle last it puts each place e =
+    moved place (gave k piece ∷ before) services (at middle place) (at last place) (puts.others place (other_of k place e))
+    (carried place (gave k piece ∷ before) before services (at middle place) refl (left (k == place) (said place before ++ piece) (said place before) e) refl (each place))
 
 -- nothing is served by it
 unserved : (first middle last : State) (k : ℕ) (piece : List ℕ) (before : List Event) (it : Option Conversation) (run : IsServedRun first before middle)
@@ -166,7 +166,7 @@ unserved first middle last k piece before it run puts edge here = record {
   turns = subst (InTurn first.edge run.services) (sym edge) run.turns;
   pieces = still_of k piece before run.services run.pieces;
   each =
-      by_place (λ key. StandsAt key (gave k piece ∷ before) run.services (at last key)) k
+      by_place (λ place. StandsAt place (gave k piece ∷ before) run.services (at last place)) k
       (moved k (gave k piece ∷ before) run.services it (at last k) puts.here here)
       (given_there k piece before run.services middle last it puts run.each);
 }
@@ -176,30 +176,30 @@ newly : (first middle last : State) (k : ℕ) (piece : List ℕ) (before : List 
     → IsAsking k before bytes → IsServed (bytes ++ piece) middle.edge last.edge rest status → Puts middle last k (Some (Answering rest status))
     → IsServedRun first (gave k piece ∷ before) last
 newly first middle last k piece before bytes rest status run asks served puts =
-    let service : Service = record { key = k; visit = visits k before; bytes = bytes ++ piece; text = rest; status = status } in
+    let service : Service = record { place = k; visit = visits k before; bytes = bytes ++ piece; text = rest; status = status } in
     let events = gave k piece ∷ before in record {
       services = service ∷ run.services;
       turns = (middle.edge, run.turns, served);
       pieces =
           inr (
-            record { key = refl; visit = refl; bytes = ap (λ l. l ++ piece) asks.all; unfinished = subst IsUnfinished asks.all asks.unfinished },
+            record { place = refl; visit = refl; bytes = ap (λ l. l ++ piece) asks.all; unfinished = subst IsUnfinished asks.all asks.unfinished },
             run.pieces,
           );
       each =
-          by_place (λ key. StandsAt key events (service ∷ run.services) (at last key)) k
+          by_place (λ place. StandsAt place events (service ∷ run.services) (at last place)) k
           (moved k events (service ∷ run.services) (Some (Answering rest status)) (at last k) puts.here
           (record {
             service = service;
             one = inl refl;
-            key_is = refl;
+            place_is = refl;
             visit_is = refl;
             more = [];
             said_is = said_here k piece before ∙ ap (λ l. l ++ piece) (sym asks.all) ∙ sym (append-nil (bytes ++ piece));
             status_is = refl;
             rest_is = ap (λ n. drop n rest) (sym asks.untaken);
           }))
-          (λ key e. more_services key events service run.services (at last key)
-          (given_there k piece before run.services middle last (Some (Answering rest status)) puts run.each key e));
+          (λ place e. more_services place events service run.services (at last place)
+          (given_there k piece before run.services middle last (Some (Answering rest status)) puts run.each place e));
     }
 
 to_asking : (first middle last : State) (k : ℕ) (piece : List ℕ) (before : List Event) (bytes : List ℕ) (pieces : ℕ) (run : IsServedRun first before middle)
@@ -219,7 +219,7 @@ to_answering : (k : ℕ) (piece : List ℕ) (before : List Event) (services : Li
 to_answering k piece before services rest status h = record {
   service = h.service;
   one = h.one;
-  key_is = h.key_is;
+  place_is = h.place_is;
   visit_is = h.visit_is;
   more = h.more ++ piece;
   said_is = said_here k piece before ∙ ap (λ l. l ++ piece) h.said_is ∙ append_assoc h.service.bytes h.more piece;
@@ -246,11 +246,11 @@ on_event first middle last (gave k piece) before run h = on_gave_at first middle
 on_event first middle last (took k count) before run h = on_took first middle last k count before run h
 on_event first middle last (went k) before run h = on_went first middle last k before run h
 
-pub served : (first last : State) (events : List Event) → ((key : ℕ) → at first key ≡ None) → IsRun first events last → IsServedRun first events last
+pub served : (first last : State) (events : List Event) → ((place : ℕ) → at first place ≡ None) → IsRun first events last → IsServedRun first events last
 served first last [] vacant h = record {
   services = [];
   turns = ap (λ (s : State). s.edge) h;
   pieces = refl;
-  each = λ key. moved key [] [] None (at last key) (ap (λ s. at s key) h ∙ vacant key) tt;
+  each = λ place. moved place [] [] None (at last place) (ap (λ s. at s place) h ∙ vacant place) tt;
 }
 served first last (e ∷ before) vacant h = on_event first h.0 last e before (served first h.0 before vacant h.1) h.2

@@ -1,7 +1,9 @@
 -- What a client's next bytes do.
-use Rattle.std.specs.Prelude.{◌≡◌, ℕ, ◌+◌, ◌≤◌, List, ◌++◌}
+use Rattle.std.specs.Prelude.{◌≡◌, ℕ, ◌+◌, ◌≤◌, ◌⊎◌, List, ◌++◌}
 use Rattle.http_messages.specs.Requests.{IsUnfinished}
-use Rattle.http_messages.specs.declared.receiving.TheConstants.{MOST_READS}
+use Rattle.http_messages.specs.Limits.{most_reads}
+use Rattle.live_edge.specs.declared.serving.EdgeFault.{EdgeFault}
+use Rattle.live_edge.specs.declared.serving.EdgeFault.TheVariants.{TooManyReads, OutOfMemory}
 use Rattle.live_edge.specs.Edges.{Kept}
 use Rattle.live_edge.specs.Served.{IsServed}
 use Rattle.connections.specs.declared.conversation.Conversation.{Conversation}
@@ -17,5 +19,9 @@ Goes (Answering rest status) piece old new after = (after ≡ Answering rest sta
 
 -- this piece is the last of the most, and the request isn't whole
 abbrev pub HasTooMany : Conversation → List ℕ → Type 0
-HasTooMany (Asking bytes pieces) piece = IsUnfinished (bytes ++ piece) × (MOST_READS ≤ pieces + 1)
+HasTooMany (Asking bytes pieces) piece = IsUnfinished (bytes ++ piece) × (most_reads ≤ pieces + 1)
 HasTooMany (Answering rest status) piece = ⊥
+
+-- no fault of a socket: as many pieces came as may, or memory was refused
+abbrev pub IsFaultOfGiving : EdgeFault → Type 0
+IsFaultOfGiving fault = (fault ≡ TooManyReads) ⊎ (fault ≡ OutOfMemory)

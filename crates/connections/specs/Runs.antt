@@ -11,33 +11,33 @@ use Rattle.connections.specs.Table.{State, at, Event, came, gave, took, went, Ha
 
 -- how many clients came there
 abbrev pub visits : ℕ → List Event → ℕ
-visits key [] = 0
-visits key (came k ∷ before) = if k == key then visits key before + 1 else visits key before
-visits key (gave k piece ∷ before) = visits key before
-visits key (took k count ∷ before) = visits key before
-visits key (went k ∷ before) = visits key before
+visits place [] = 0
+visits place (came k ∷ before) = if k == place then visits place before + 1 else visits place before
+visits place (gave k piece ∷ before) = visits place before
+visits place (took k count ∷ before) = visits place before
+visits place (went k ∷ before) = visits place before
 
 -- what the last of them said since it came
 abbrev pub said : ℕ → List Event → List ℕ
-said key [] = []
-said key (came k ∷ before) = if k == key then [] else said key before
-said key (gave k piece ∷ before) = if k == key then said key before ++ piece else said key before
-said key (took k count ∷ before) = said key before
-said key (went k ∷ before) = said key before
+said place [] = []
+said place (came k ∷ before) = if k == place then [] else said place before
+said place (gave k piece ∷ before) = if k == place then said place before ++ piece else said place before
+said place (took k count ∷ before) = said place before
+said place (went k ∷ before) = said place before
 
 -- how many bytes it took of its reply
 abbrev pub taken : ℕ → List Event → ℕ
-taken key [] = 0
-taken key (came k ∷ before) = if k == key then 0 else taken key before
-taken key (gave k piece ∷ before) = taken key before
-taken key (took k count ∷ before) = if k == key then taken key before + count else taken key before
-taken key (went k ∷ before) = taken key before
+taken place [] = 0
+taken place (came k ∷ before) = if k == place then 0 else taken place before
+taken place (gave k piece ∷ before) = taken place before
+taken place (took k count ∷ before) = if k == place then taken place before + count else taken place before
+taken place (went k ∷ before) = taken place before
 
 -- ---- what is served
 
 -- a connection that was served: its place, which client there it was, what it had said, and the text of its reply
 pub record Service : Type 0 where
-  pub key : ℕ
+  pub place : ℕ
   pub visit : ℕ
   pub bytes : List ℕ
   pub text : List ℕ
@@ -50,7 +50,7 @@ InTurn first (s ∷ before) last = (middle : List Kept) × InTurn first before m
 
 -- it is what this client has said with this piece, which was no whole request before
 pub record IsNewly (k : ℕ) (piece : List ℕ) (before : List Event) (s : Service) : Type 0 where
-  pub key : s.key ≡ k
+  pub place : s.place ≡ k
   pub visit : s.visit ≡ visits k before
   pub bytes : s.bytes ≡ said k before ++ piece
   pub unfinished : IsUnfinished (said k before)
@@ -71,26 +71,26 @@ IsOneOf s (one ∷ more) = (s ≡ one) ⊎ IsOneOf s more
 -- ---- how a connection stands
 
 -- it said nothing that isn't a part of a request, and was sent nothing
-pub record IsAsking (key : ℕ) (events : List Event) (bytes : List ℕ) : Type 0 where
-  pub all : bytes ≡ said key events
+pub record IsAsking (place : ℕ) (events : List Event) (bytes : List ℕ) : Type 0 where
+  pub all : bytes ≡ said place events
   pub unfinished : IsUnfinished bytes
-  pub untaken : taken key events ≡ 0
+  pub untaken : taken place events ≡ 0
 
 -- it was served by what it said first itself, and is still owed all of that reply that it didn't take
-pub record HasReply (key : ℕ) (events : List Event) (services : List Service) (rest : List ℕ) (status : ℕ) : Type 0 where
+pub record HasReply (place : ℕ) (events : List Event) (services : List Service) (rest : List ℕ) (status : ℕ) : Type 0 where
   pub service : Service
   pub one : IsOneOf service services
-  pub key_is : service.key ≡ key
-  pub visit_is : service.visit ≡ visits key events
+  pub place_is : service.place ≡ place
+  pub visit_is : service.visit ≡ visits place events
   pub more : List ℕ
-  pub said_is : said key events ≡ service.bytes ++ more
+  pub said_is : said place events ≡ service.bytes ++ more
   pub status_is : status ≡ service.status
-  pub rest_is : rest ≡ drop (taken key events) service.text
+  pub rest_is : rest ≡ drop (taken place events) service.text
 
 abbrev pub StandsAt : ℕ → List Event → List Service → Option Conversation → Type 0
-StandsAt key events services None = Unit {0}
-StandsAt key events services (Some (Asking bytes pieces)) = IsAsking key events bytes
-StandsAt key events services (Some (Answering rest status)) = HasReply key events services rest status
+StandsAt place events services None = Unit {0}
+StandsAt place events services (Some (Asking bytes pieces)) = IsAsking place events bytes
+StandsAt place events services (Some (Answering rest status)) = HasReply place events services rest status
 
 -- ---- runs
 
@@ -98,14 +98,19 @@ abbrev pub IsRun : State → List Event → State → Type 0
 IsRun first [] last = last ≡ first
 IsRun first (e ∷ before) last = (middle : State) × IsRun first before middle × Happens middle e last
 
+-- things that happen at places lead from one to the other
+pub record HasRun (old new : State) : Type 0 where
+  pub events : List Event
+  pub run : IsRun old events new
+
 -- all that was served, in the order in which it became whole, and each connection by itself
 pub record IsServedRun (first : State) (events : List Event) (last : State) : Type 0 where
   pub services : List Service
   pub turns : InTurn first.edge services last.edge
   pub pieces : AreOf events services
-  pub each : (key : ℕ) → StandsAt key events services (at last key)
+  pub each : (place : ℕ) → StandsAt place events services (at last place)
 
 -- whatever happens, from no connections on
 abbrev pub ConnectionsAreServed : Type 0
 ConnectionsAreServed =
-    (first last : State) (events : List Event) → ((key : ℕ) → at first key ≡ None) → IsRun first events last → IsServedRun first events last
+    (first last : State) (events : List Event) → ((place : ℕ) → at first place ≡ None) → IsRun first events last → IsServedRun first events last

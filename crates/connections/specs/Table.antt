@@ -14,7 +14,7 @@ pub record State : Type 0 where
   pub places : List (Option Conversation)
 
 abbrev pub at : State → ℕ → Option Conversation
-at s key = slice_index_or s.places key None
+at s place = slice_index_or s.places place None
 
 -- ---- what is held
 
@@ -51,16 +51,16 @@ pub data Event : Type 0 where
   went : ℕ → Event
 
 -- only this place is another, and it is this
-pub record Puts (old new : State) (key : ℕ) (it : Option Conversation) : Type 0 where
-  pub here : at new key ≡ it
-  pub others : (other : ℕ) → other ≢ key → at new other ≡ at old other
+pub record Puts (old new : State) (place : ℕ) (it : Option Conversation) : Type 0 where
+  pub here : at new place ≡ it
+  pub others : (other : ℕ) → other ≢ place → at new other ≡ at old other
   pub count : length new.places ≡ length old.places
 
 -- where there is a connection it goes on
 abbrev pub GoesOn : Option Conversation → State → ℕ → List ℕ → State → Type 0
-GoesOn None old key piece new = Puts old new key None × (new.edge ≡ old.edge)
-GoesOn (Some conversation) old key piece new =
-    (after : Conversation) × Goes conversation piece old.edge new.edge after × Puts old new key (Some after)
+GoesOn None old place piece new = Puts old new place None × (new.edge ≡ old.edge)
+GoesOn (Some conversation) old place piece new =
+    (after : Conversation) × Goes conversation piece old.edge new.edge after × Puts old new place (Some after)
 
 -- so many bytes of the reply are gone
 abbrev pub taken_of : ℕ → Option Conversation → Option Conversation
@@ -69,8 +69,8 @@ taken_of count None = None
 taken_of count (Some (Asking bytes pieces)) = Some (Asking bytes pieces)
 
 abbrev pub Happens : State → Event → State → Type 0
-Happens old (came key) new = Puts old new key (Some (Asking [] 0)) × (new.edge ≡ old.edge)
-Happens old (gave key piece) new = GoesOn (at old key) old key piece new
-Happens old (took key count) new =
-    (count ≤ length (left_of (at old key))) × Puts old new key (taken_of count (at old key)) × (new.edge ≡ old.edge)
-Happens old (went key) new = Puts old new key None × (new.edge ≡ old.edge)
+Happens old (came place) new = Puts old new place (Some (Asking [] 0)) × (new.edge ≡ old.edge)
+Happens old (gave place piece) new = GoesOn (at old place) old place piece new
+Happens old (took place count) new =
+    (count ≤ length (left_of (at old place))) × Puts old new place (taken_of count (at old place)) × (new.edge ≡ old.edge)
+Happens old (went place) new = Puts old new place None × (new.edge ≡ old.edge)

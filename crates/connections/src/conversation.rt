@@ -1,7 +1,7 @@
 //! One connection: what its client said so far, and then what is left of the reply.
-ghost use Rattle.std.specs.Prelude.{◌≡◌, OnErr, IfOk, IsErrOf};
+ghost use Rattle.std.specs.Prelude.{◌≡◌, OnErr, IfOk, IfErr, IsErrOf};
 ghost use Rattle.live_edge.specs.declared.serving.EdgeFault.TheVariants.{TooManyReads};
-ghost use Rattle.connections.specs.Conversing.{Goes, HasTooMany};
+ghost use Rattle.connections.specs.Conversing.{Goes, HasTooMany, IsFaultOfGiving};
 
 use http_messages::{Arrived, Arriving, Asked, Leaving, MOST_READS, refusal_reply, sends_body};
 use live_edge::{Edge, EdgeFault};
@@ -26,6 +26,7 @@ pub fn give(
 ) -> Result<Conversation, EdgeFault>
     ensures goes { IfOk result (λ after. Goes conversation piece.now edge.old edge.new after) }
     ensures kept { OnErr result (edge.new ≡ edge.old) }
+    ensures kind { IfErr result IsFaultOfGiving }
     ensures many { IsErrOf result EdgeFault.TooManyReads → HasTooMany conversation piece.now }
 {
     let (arriving, pieces) = match conversation {

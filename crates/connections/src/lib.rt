@@ -2,11 +2,17 @@
 //! as a whole once it is there.
 #![tactic(auto)]
 
+mod admission;
+mod arrivals;
 mod conversation;
+mod deadlines;
 pub mod laws;
 mod table;
 mod wire;
 
+pub use admission::Admission;
+pub use arrivals::{Arrival, Arrivals, has_come};
 pub use conversation::{Conversation, give};
-pub use table::{Connections, MOST_HELD, Phase};
+pub use deadlines::{ending_deadline, serving_deadline};
+pub use table::{Connections, MOST_HELD, PLACES, Phase};
 pub use wire::{Moved, hear, say};

@@ -1,5 +1,9 @@
 //! The connections by their places.
-ghost use Rattle.std.specs.Prelude.{◌≡◌, ◌<◌, ◌≤◌, ◌+◌, ◌++◌, None, Some, true, length, replicate, is_none, IfOk, OnOk, OnErr};
+ghost use Rattle.std.specs.Prelude.{◌≡◌, ◌<◌, ◌≤◌, ◌+◌, ◌++◌, [], None, Some, true, length, replicate, is_none, IfOk, IfErr, OnOk, OnErr};
+ghost use Rattle.live_edge.specs.Edges.{StandsFor};
+ghost use Rattle.connections.specs.Conversing.{IsFaultOfGiving};
+ghost use Rattle.connections.specs.Limits.{most_held, place_count};
+ghost use Rattle.connections.specs.Arrivals.{is_asking};
 ghost use Rattle.connections.specs.Table.{at, held_of, held_in, left_of, taken_of, phase_of, Puts, Happens};
 ghost use Rattle.connections.specs.Table.{came, gave, took, went};
 
@@ -11,6 +15,9 @@ use std::marker::Model;
 
 /// The most bytes of requests that aren't whole, over all connections.
 pub const MOST_HELD: usize = 67_108_864;
+
+/// The places for connections. A process may have 1,024 files open, where nobody says otherwise.
+pub const PLACES: usize = 512;
 
 /// The edge, and a fixed number of places for connections.
 #[derive(Drop)]
@@ -24,13 +31,13 @@ pub struct Connections {
 impl Model for Connections {
     ghost use Rattle.std.specs.Prelude.{◌≡◌, ◌≤◌};
     ghost use Rattle.connections.specs.Table.{State, held_in};
-    ghost use Rattle.connections.specs.declared.table.TheConstants.{MOST_HELD};
+    ghost use Rattle.connections.specs.Limits.{most_held};
 
     ghost Value = { State };
 
     ghost view = { λ c. record { edge = c.edge; places = c.places.items } };
 
-    ghost invariant = { λ c. (c.held ≡ held_in c.places.items) × (c.held ≤ MOST_HELD) };
+    ghost invariant = { λ c. (c.held ≡ held_in c.places.items) × (c.held ≤ most_held) };
 }
 
 /// What stands at a place.
@@ -51,29 +58,39 @@ fn held_by(it: &Option<Conversation>) -> usize
     }
 }
 
-// So many vacant places.
-fn vacant(alloc: Global, most: usize) -> Result<Vec<Option<Conversation>>, AllocError>
-    ensures { IfOk result (λ places. places.items ≡ replicate most None) }
+// The places, all of them vacant.
+fn vacant(alloc: Global) -> Result<Vec<Option<Conversation>>, AllocError>
+    ensures { IfOk result (λ places. places.items ≡ replicate place_count None) }
 {
-    let mut places = Vec::with_capacity(alloc, most)?;
-    for _ in 0..most {
+    let mut places = Vec::with_capacity(alloc, PLACES)?;
+    for _ in 0..PLACES {
         places.push(None)?;
     }
     Ok(places)
 }
 
 impl Connections {
-    /// So many places, none of them taken. Fails only where memory is refused.
-    pub fn new(alloc: Global, edge: Edge, most: usize) -> Result<Connections, AllocError>
+    /// The edge, with no connection yet. Fails only where memory is refused.
+    pub fn new(alloc: Global, edge: Edge) -> Result<Connections, AllocError>
         ensures edge { IfOk result (λ new. new.edge ≡ edge) }
-        ensures vacant { IfOk result (λ new. new.places ≡ replicate most None) }
+        ensures vacant { IfOk result (λ new. new.places ≡ replicate place_count None) }
     {
         Ok(Connections {
             alloc,
             edge,
-            places: vacant(alloc, most)?,
+            places: vacant(alloc)?,
             held: 0,
         })
+    }
+
+    /// A new edge, which stands for no request, with no connection yet: all that come are served over this one. Fails only
+    /// where memory is refused.
+    pub fn over_new_edge(alloc: Global) -> Result<Connections, AllocError>
+        ensures edge { IfOk result (λ new. StandsFor new.edge []) }
+        ensures vacant { IfOk result (λ new. new.places ≡ replicate place_count None) }
+    {
+        let edge = Edge::new(alloc)?;
+        Connections::new(alloc, edge)
     }
 
     /// How many places there are.
@@ -86,103 +103,121 @@ impl Connections {
     /// The bytes of requests that aren't whole.
     pub fn held(&self) -> usize
         ensures sum { result ≡ held_in self.now.places }
-        ensures bound { result ≤ MOST_HELD }
+        ensures bound { result ≤ most_held }
     {
         self.held
     }
 
     /// What stands at a place.
-    pub fn phase(&self, key: usize) -> Phase
-        ensures { result ≡ phase_of (at self.now key) }
+    pub fn phase(&self, place: usize) -> Phase
+        ensures { result ≡ phase_of (at self.now place) }
     {
-        match self.places.get(key) {
+        match self.places.get(place) {
             Some(Some(Conversation::Asking(_, _))) => Phase::Asking,
             Some(Some(Conversation::Answering(_, status))) => Phase::Answering(*status),
             _ => Phase::Vacant,
         }
     }
 
+    /// Whether somebody stands there whose request isn't whole.
+    pub fn is_asking(&self, place: usize) -> bool
+        ensures { result ≡ is_asking (at self.now place) }
+    {
+        self.phase(place) == Phase::Asking
+    }
+
+    /// The bytes of the request of who stands there, where it isn't whole.
+    pub fn held_at(&self, place: usize) -> usize
+        ensures { result ≡ held_of (at self.now place) }
+    {
+        match self.places.get(place) {
+            Some(it) => held_by(it),
+            None => 0,
+        }
+    }
+
     // Takes away what is at a place.
-    fn take_out(&mut self, key: usize) -> Option<Conversation>
-        requires { key < length self.old.places }
-        ensures it { result ≡ at self.old key }
-        ensures puts { Puts self.old self.new key None }
+    fn take_out(&mut self, place: usize) -> Option<Conversation>
+        requires { place < length self.old.places }
+        ensures it { result ≡ at self.old place }
+        ensures puts { Puts self.old self.new place None }
         ensures edge { self.new.edge ≡ self.old.edge }
         ensures held { held_in self.new.places + held_of result ≡ held_in self.old.places }
-        ensures bound { held_in self.old.places ≤ MOST_HELD }
+        ensures bound { held_in self.old.places ≤ most_held }
     {
-        let it = self.places[key].take();
+        let it = self.places[place].take();
         self.held -= held_by(&it);
         it
     }
 
     // Puts a connection where nobody is.
-    fn put_back(&mut self, key: usize, conversation: Conversation)
-        requires within { key < length self.old.places }
-        requires vacant { at self.old key ≡ None }
-        requires room { held_in self.old.places + held_of (Some conversation) ≤ MOST_HELD }
-        ensures puts { Puts self.old self.new key (Some conversation) }
+    fn put_back(&mut self, place: usize, conversation: Conversation)
+        requires within { place < length self.old.places }
+        requires vacant { at self.old place ≡ None }
+        requires room { held_in self.old.places + held_of (Some conversation) ≤ most_held }
+        ensures puts { Puts self.old self.new place (Some conversation) }
         ensures edge { self.new.edge ≡ self.old.edge }
     {
         let it = Some(conversation);
         self.held += held_by(&it);
-        self.places[key] = it;
+        self.places[place] = it;
     }
 
     /// A client came, to a place where nobody is.
-    pub fn came(&mut self, key: usize)
-        requires within { key < length self.old.places }
-        requires vacant { at self.old key ≡ None }
-        ensures { Happens self.old (came key) self.new }
+    pub fn came(&mut self, place: usize)
+        requires within { place < length self.old.places }
+        requires vacant { at self.old place ≡ None }
+        ensures { Happens self.old (came place) self.new }
     {
         let conversation = Conversation::Asking(Arriving::new(self.alloc), 0);
-        self.put_back(key, conversation);
+        self.put_back(place, conversation);
     }
 
     /// A client gave its next bytes. After a fault the connection is gone, and the edge is as it was.
-    pub fn give(&mut self, key: usize, piece: &[u8]) -> Result<(), EdgeFault>
-        requires within { key < length self.old.places }
-        requires room { held_in self.old.places + length piece.now ≤ MOST_HELD }
-        ensures ok { OnOk result (Happens self.old (gave key piece.now) self.new) }
-        ensures err { OnErr result (Happens self.old (went key) self.new) }
+    pub fn give(&mut self, place: usize, piece: &[u8]) -> Result<(), EdgeFault>
+        requires within { place < length self.old.places }
+        requires room { held_in self.old.places + length piece.now ≤ most_held }
+        ensures ok { OnOk result (Happens self.old (gave place piece.now) self.new) }
+        ensures err { OnErr result (Happens self.old (went place) self.new) }
+        ensures kind { IfErr result IsFaultOfGiving }
     {
-        let Some(conversation) = self.take_out(key) else {
+        let Some(conversation) = self.take_out(place) else {
             return Ok(());
         };
         let after = give(conversation, self.alloc, &mut self.edge, piece)?;
-        self.put_back(key, after);
+        self.put_back(place, after);
         Ok(())
     }
 
     /// What is left of the reply to a client, in two parts.
-    pub fn parts(&self, key: usize) -> (&[u8], &[u8])
-        ensures { result.0.now ++ result.1.now ≡ left_of (at self.now key) }
+    pub fn parts(&self, place: usize) -> (&[u8], &[u8])
+        ensures { result.0.now ++ result.1.now ≡ left_of (at self.now place) }
     {
-        match self.places.get(key) {
+        match self.places.get(place) {
             Some(Some(Conversation::Answering(leaving, _))) => leaving.parts(),
             _ => (&[], &[]),
         }
     }
 
     /// A client took so many bytes of its reply.
-    pub fn took(&mut self, key: usize, count: usize)
-        requires within { key < length self.old.places }
-        requires left { count ≤ length (left_of (at self.old key)) }
-        ensures { Happens self.old (took key count) self.new }
+    pub fn took(&mut self, place: usize, count: usize)
+        requires within { place < length self.old.places }
+        requires left { count ≤ length (left_of (at self.old place)) }
+        ensures { Happens self.old (took place count) self.new }
     {
-        let Some(conversation) = self.take_out(key) else {
+        let Some(conversation) = self.take_out(place) else {
             return;
         };
         let after = taken(conversation, count);
-        self.put_back(key, after);
+        self.put_back(place, after);
     }
 
     /// A client went, or is given up.
-    pub fn went(&mut self, key: usize)
-        requires { key < length self.old.places }
-        ensures { Happens self.old (went key) self.new }
+    pub fn went(&mut self, place: usize)
+        requires { place < length self.old.places }
+        ensures { Happens self.old (went place) self.new }
     {
-        let _ = self.take_out(key);
+        let _ = self.take_out(place);
     }
 }
 

@@ -1,6 +1,8 @@
 //! What goes through a client's socket: over any reader and any writer that answer `WouldBlock` where they would wait.
-ghost use Rattle.std.specs.Prelude.{◌≡◌, ◌<◌, ◌≤◌, ◌++◌, [], length, take, true};
-ghost use Rattle.connections.specs.Table.{Happens, at, left_of, went};
+ghost use Rattle.std.specs.Prelude.{◌≡◌, ◌<◌, ◌≤◌, ◌+◌, ◌++◌, [], length, take, true};
+ghost use Rattle.connections.specs.Limits.{most_held};
+ghost use Rattle.connections.specs.Table.{Happens, at, left_of, held_in, went};
+ghost use Rattle.connections.specs.Runs.{HasRun};
 ghost use Rattle.connections.specs.Wires.{HasHeard, HasSaid, IsFailed};
 
 use crate::table::{Connections, MOST_HELD};
@@ -23,46 +25,52 @@ pub enum Moved {
     Waits,
     /// There is nothing to move.
     Nothing,
+    /// There is no room for what would be moved.
+    Full,
     /// The connection is gone.
     Failed(EdgeFault),
 }
 
 // The fault of a client that goes.
-fn gone(connections: &mut Connections, key: usize, fault: EdgeFault) -> Moved
-    requires { key < length connections.old.places }
-    ensures went { Happens connections.old (went key) connections.new }
+fn gone(connections: &mut Connections, place: usize, fault: EdgeFault) -> Moved
+    requires { place < length connections.old.places }
+    ensures went { Happens connections.old (went place) connections.new }
     ensures fault { result ≡ Moved.Failed fault }
 {
-    connections.went(key);
+    connections.went(place);
     Moved::Failed(fault)
 }
 
+#[tactic(auto, using(crate::proofs::Leading::stays))]
 /// Reads once from a client: what it gave is what it said at its own place.
 pub fn hear<R: Read>(
     reader: &mut R,
     connections: &mut Connections,
-    key: usize,
+    place: usize,
     block: &mut [u8],
 ) -> Moved
-    requires within { key < length connections.old.places }
+    requires within { place < length connections.old.places }
     requires room { 0 < length block.old }
-    ensures some { result ≡ Moved.Some → HasHeard (R.remaining reader.old) (R.remaining reader.new) key connections.old connections.new }
+    ensures some { result ≡ Moved.Some → HasHeard (R.remaining reader.old) (R.remaining reader.new) place connections.old connections.new }
     ensures waits { result ≡ Moved.Waits → connections.new ≡ connections.old }
-    ensures failed { IsFailed result → Happens connections.old (went key) connections.new }
+    ensures failed { IsFailed result → Happens connections.old (went place) connections.new }
+    ensures full { result ≡ Moved.Full → (most_held < held_in connections.old.places + length block.old) × (connections.new ≡ connections.old) }
+    ensures unread { result ≡ Moved.Full → reader.new ≡ reader.old }
     ensures moves { result ≡ Moved.Nothing → ⊥ }
+    ensures run { HasRun connections.old connections.new }
 {
+    if block.len() > MOST_HELD - connections.held() {
+        return Moved::Full;
+    }
     let count = match reader.read(block) {
         Ok(count) => count,
         Err(e) if e.kind() == ErrorKind::WouldBlock => return Moved::Waits,
-        Err(_) => return gone(connections, key, EdgeFault::Read),
+        Err(_) => return gone(connections, place, EdgeFault::Read),
     };
     if count == 0 {
-        return gone(connections, key, EdgeFault::Ended);
+        return gone(connections, place, EdgeFault::Ended);
     }
-    if count > MOST_HELD - connections.held() {
-        return gone(connections, key, EdgeFault::Read);
-    }
-    match connections.give(key, &block[..count]) {
+    match connections.give(place, &block[..count]) {
         Ok(()) => Moved::Some,
         Err(fault) => Moved::Failed(fault),
     }
@@ -102,27 +110,30 @@ fn front<'a>(block: &'a mut ArrayVec<u8, BLOCK>, head: &'a [u8], body: &'a [u8])
     head
 }
 
+#[tactic(auto, using(crate::proofs::Leading::stays))]
 /// Writes once to a client, of what is left of the reply at its own place.
-pub fn say<W: Write>(writer: &mut W, connections: &mut Connections, key: usize) -> Moved
-    requires within { key < length connections.old.places }
-    ensures some { result ≡ Moved.Some → HasSaid (W.contents writer.old) (W.contents writer.new) key connections.old connections.new }
+pub fn say<W: Write>(writer: &mut W, connections: &mut Connections, place: usize) -> Moved
+    requires within { place < length connections.old.places }
+    ensures some { result ≡ Moved.Some → HasSaid (W.contents writer.old) (W.contents writer.new) place connections.old connections.new }
     ensures waits { result ≡ Moved.Waits → connections.new ≡ connections.old }
-    ensures nothing { result ≡ Moved.Nothing → (left_of (at connections.old key) ≡ []) × (connections.new ≡ connections.old) }
-    ensures failed { IsFailed result → Happens connections.old (went key) connections.new }
+    ensures nothing { result ≡ Moved.Nothing → (left_of (at connections.old place) ≡ []) × (connections.new ≡ connections.old) }
+    ensures failed { IsFailed result → Happens connections.old (went place) connections.new }
+    ensures room { result ≡ Moved.Full → ⊥ }
+    ensures run { HasRun connections.old connections.new }
 {
     let mut block = ArrayVec::<u8, BLOCK>::new();
-    let (head, body) = connections.parts(key);
+    let (head, body) = connections.parts(place);
     let bytes = front(&mut block, head, body);
     if bytes.is_empty() {
         return Moved::Nothing;
     }
     match writer.write(bytes) {
-        Ok(0) => gone(connections, key, EdgeFault::Write),
+        Ok(0) => gone(connections, place, EdgeFault::Write),
         Ok(count) => {
-            connections.took(key, count);
+            connections.took(place, count);
             Moved::Some
         }
         Err(e) if e.kind() == ErrorKind::WouldBlock => Moved::Waits,
-        Err(_) => gone(connections, key, EdgeFault::Write),
+        Err(_) => gone(connections, place, EdgeFault::Write),
     }
 }

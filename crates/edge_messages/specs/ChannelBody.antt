@@ -8,7 +8,6 @@ use Rattle.fixed_duration.specs.Duration.{duration_of}
 use Rattle.fixed_duration.specs.declared.DurationFault.{DurationFault}
 use Rattle.edge_messages.specs.declared.channel_body.BodyFault.{BodyFault}
 use Rattle.edge_messages.specs.declared.channel_body.BodyFault.TheVariants.{NotJson, Shape, OutOfMemory}
-use Rattle.edge_messages.specs.declared.channel_body.TheConstants.{USUAL_TOLERANCE}
 
 -- the JSON value of a body, as `serde_json` reads it
 abbrev pub json_said : List ℕ → Option Data
@@ -25,7 +24,7 @@ tolerance_text (Some text) = Some (nanos_or_most (duration_of text))
 
 -- 0.1 seconds where there is no member of this name
 abbrev pub tolerance_said : Option Data → Option ℕ
-tolerance_said None = Some USUAL_TOLERANCE
+tolerance_said None = Some 100000000
 tolerance_said (Some d) = tolerance_text (as_str d)
 
 abbrev pub both_said : Option (List ℕ) → Option ℕ → Result (List ℕ × ℕ) BodyFault

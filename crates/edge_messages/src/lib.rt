@@ -6,7 +6,6 @@ mod fault_texts;
 mod named;
 mod replies;
 mod routes;
-mod timed;
 mod words;
 
 pub use channel_body::{BodyFault, Wanted, read_body};
@@ -17,5 +16,4 @@ pub use replies::{
     text_reply,
 };
 pub use routes::{Resource, Routes};
-pub use timed::Timed;
 pub use words::{LiveWords, read_live_words};

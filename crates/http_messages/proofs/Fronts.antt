@@ -1,18 +1,21 @@
 -- The head at the front of some bytes, and of more bytes.
-use Rattle.std.proofs.Common.{◌≡◌, ℕ, ◌+◌, ◌-◌, ◌≤◌, ◌<◌, Bool, true, false, List, [], ◌++◌, length, take, drop, refl, sym, ap, subst, ◌∙◌, arith, length-append, drop_at, true≢false, append_assoc}
-use Rattle.std.specs.Prelude.{Option, Some, None, IfSome}
-use Rattle.std.proofs.lemmas.List.{take-append-drop, take-append-le}
+use Rattle.std.proofs.Common.{◌≡◌, ℕ, ◌+◌, ◌-◌, ◌≤◌, ◌<◌, Bool, true, false, List, [], ◌++◌, length, take, drop, codes, refl, sym, ap, subst, ◌∙◌, inl, inr, arith, rules, length-append, drop_at, true≢false, append_assoc}
+use Rattle.std.specs.Prelude.{zero, suc, IsTrue, Option, Some, None, IfSome, Result, Ok, Err, IfOk}
+use Rattle.std.proofs.lemmas.List.{take-append-drop, take-append-le, append-nil}
+use Rattle.std.proofs.lemmas.List.Elements.{All-cons, All-nil}
+use Rattle.std.specs.Str.{IsAscii}
+use Rattle.std.proofs.lemmas.Str.{IsUtf8-from_ascii}
 use Rattle.std.proofs.Math.Seq.{take-append-add}
-use Rattle.httparse.specs.Grammar.{RequestHead, print_request, print_blank, HasNoRequest}
+use Rattle.httparse.specs.Grammar.{RequestHead, IsRequestHead, ReadsRequest, print_request, print_blank, is_token_byte, is_uri_byte, lf, HasNoRequest}
 use Rattle.httparse.proofs.GrammarLemmas.{request_unique, ReadsRequest-append, print_request-append}
 use Rattle.http_messages.specs.declared.head.Framing.{Framing}
 use Rattle.http_messages.specs.declared.head.Framing.TheVariants.{Body, Refused}
 use Rattle.http_messages.specs.declared.head.Head.{Head}
 use Rattle.http_messages.specs.declared.head.HeadRead.{HeadRead}
 use Rattle.http_messages.specs.declared.head.HeadRead.TheVariants.{Whole, Partial, Bad}
-use Rattle.http_messages.specs.declared.head.TheConstants.{HEAD_LIMIT}
-use Rattle.http_messages.specs.Requests.{BeginsWith, HasNoHead, NeverHasHead, IsUnfinished, framing_said}
-use Rattle.http_messages.specs.Received.{IsHeadAt, IsReadAs}
+use Rattle.http_messages.specs.Limits.{head_limit}
+use Rattle.http_messages.specs.Requests.{BeginsWith, HasNoHead, NeverHasHead, MayBecomeHead, IsUnfinished, framing_said}
+use Rattle.http_messages.specs.Received.{IsHeadAt, IsReadAs, IsJudgedAs}
 
 -- ---- more bytes
 
@@ -55,24 +58,32 @@ take_front n front rest h =
     ap (λ k. take k (front ++ rest)) e ∙ take-append-add front rest (n - length front)
 
 -- a head that keeps its limit stands in the front
-pub never_in_limit : (bytes : List ℕ) → HEAD_LIMIT ≤ length bytes → HasNoRequest (take HEAD_LIMIT bytes) → NeverHasHead bytes
+pub never_in_limit : (bytes : List ℕ) → head_limit ≤ length bytes → HasNoRequest (take head_limit bytes) → NeverHasHead bytes
 never_in_limit bytes long none more h rest b =
-    none h (take (HEAD_LIMIT - length (print_request h)) rest) (
+    none h (take (head_limit - length (print_request h)) rest) (
       b.reads.0,
-      sym (take-append-le HEAD_LIMIT bytes more long) ∙ ap (take HEAD_LIMIT) b.reads.1 ∙ take_front HEAD_LIMIT (print_request h) rest b.short,
+      sym (take-append-le head_limit bytes more long) ∙ ap (take head_limit) b.reads.1 ∙ take_front head_limit (print_request h) rest b.short,
     )
 
-pub read_by_front : (n : ℕ) (bytes : List ℕ) (read : HeadRead) → (read ≡ Partial → ⊥) → IsReadAs (take n bytes) read → IsReadAs bytes read
+pub read_by_front : (n : ℕ) (bytes : List ℕ) (read : HeadRead) → (read ≡ Partial → ⊥) → IsReadAs (take n bytes) read → IsJudgedAs bytes read
 read_by_front n bytes (Whole head) h r = head_of_front n bytes head r
 read_by_front n bytes Partial h r = absurd (h refl)
 read_by_front n bytes Bad h r = never_of_front n bytes r
 
+-- fewer bytes than the longest head has are judged as they are read
+pub judged_short : {E : Type 0} (bytes : List ℕ) (read : Result HeadRead E) → length bytes < head_limit → IfOk read (IsReadAs bytes) → IfOk read (IsJudgedAs bytes)
+judged_short bytes (Ok (Whole head)) short r = r
+judged_short bytes (Ok Partial) short r = (r.0, (short, r.1))
+judged_short bytes (Ok Bad) short r = r
+judged_short bytes (Err e) short r = tt
+
 -- ---- what is not whole
 
-pub no_head_yet : (bytes : List ℕ) → HasNoRequest bytes → IsUnfinished bytes
-no_head_yet bytes none = record {
+pub no_head_yet : (bytes : List ℕ) → HasNoRequest bytes → MayBecomeHead bytes → IsUnfinished bytes
+no_head_yet bytes none may = record {
   no_request = λ r a. none a.h a.rest a.begins.reads;
   no_refusal = λ s a. none a.h a.rest a.begins.reads;
+  may_go_on = inr may;
 }
 
 no_empty_head : HasNoRequest []
@@ -84,8 +95,29 @@ no_empty_head h rest r =
     empty : (a b c : List ℕ) → 0 < length b → [] ≡ a ++ (b ++ c) → ⊥
     empty a b c h e = omega (arith, h, ap length e, length-append a (b ++ c), length-append b c)
 
+-- the shortest head that there is
+abbrev least_head : RequestHead
+least_head = record { blank = []; method = codes "A"; target = codes "/"; minor = 1; line_end = lf; fields = []; last = lf }
+
+slash_is_ascii : IsAscii (codes "/")
+slash_is_ascii zero = omega arith
+slash_is_ascii (suc i) = omega arith
+
+least_is_head : IsRequestHead least_head
+unfolding is_token_byte
+least_is_head = record {
+  method = (omega arith, All-cons (λ b. IsTrue (is_token_byte b)) 65 [] (search rules) (All-nil _));
+  target = (omega arith, All-cons (λ b. IsTrue (is_uri_byte b)) 47 [] (search rules) (All-nil _));
+  target_text = IsUtf8-from_ascii (codes "/") slash_is_ascii;
+  minor = omega arith;
+  fields = All-nil _;
+}
+
+least_is_read : ReadsRequest ([] ++ print_request least_head) least_head []
+least_is_read = (least_is_head, sym (append-nil (print_request least_head)))
+
 pub nothing_yet : IsUnfinished []
-nothing_yet = no_head_yet [] no_empty_head
+nothing_yet = no_head_yet [] no_empty_head (omega arith, inl (print_request least_head, least_head, least_is_read))
 
 -- the number of a body
 abbrev pub count_in : Framing → ℕ
@@ -109,4 +141,5 @@ no_body_yet bytes head count a f short = record {
       let framing = sym f ∙ a.framing ∙ ap framing_said same.0 ∙ b.framing in
       absurd (true≢false (ap is_body framing))
       );
+  may_go_on = inl (a.h, drop head.len bytes, a.begins);
 }

@@ -9,7 +9,7 @@ use Rattle.httparse.specs.Borrowed.{HoldsSomeRequest, header_parts, AreFields}
 use Rattle.httparse.specs.Spans.{name_and_value}
 use Rattle.httparse.proofs.GrammarLemmas.{request_prefix_free}
 use Rattle.http_messages.specs.declared.head.Head.{Head}
-use Rattle.http_messages.specs.declared.head.TheConstants.{HEAD_LIMIT, FIELD_LIMIT}
+use Rattle.http_messages.specs.Limits.{head_limit, field_limit}
 use Rattle.http_messages.specs.Requests.{NeverHasHead, framing_of}
 use Rattle.http_messages.specs.Received.{IsHeadAt}
 
@@ -32,7 +32,7 @@ few_fields headers fields e = sym (length_map header_parts headers) ∙ ap lengt
 front_fits : (bytes front rest : List ℕ) → bytes ≡ front ++ rest → length front ≤ length bytes
 front_fits bytes front rest e = omega (arith, ap length e, length-append front rest)
 
-pub head_is_at : (bytes : List ℕ) (r : Request) (head : Head) → length bytes ≤ HEAD_LIMIT → length r.headers.now ≤ FIELD_LIMIT
+pub head_is_at : (bytes : List ℕ) (r : Request) (head : Head) → length bytes ≤ head_limit → length r.headers.now ≤ field_limit
     → HoldsSomeRequest bytes r head.len → IsMade r head → IsHeadAt bytes head
 head_is_at bytes r head short few p made =
     let h = p.0 in
@@ -49,7 +49,7 @@ head_is_at bytes r head short few p made =
     }
 
 -- more headers than are taken
-pub too_many : (bytes : List ℕ) (r : Request) (len : ℕ) → FIELD_LIMIT < length r.headers.now → HoldsSomeRequest bytes r len
+pub too_many : (bytes : List ℕ) (r : Request) (len : ℕ) → field_limit < length r.headers.now → HoldsSomeRequest bytes r len
     → NeverHasHead bytes
 too_many bytes r len many p more h rest b =
     let same = request_prefix_free bytes more p.0 h _ rest p.1.reads b.reads in

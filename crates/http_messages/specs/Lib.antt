@@ -1,3 +1,4 @@
+pub mod Limits
 pub mod Replies
 pub mod Requests
 pub mod Received

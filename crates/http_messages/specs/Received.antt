@@ -1,7 +1,8 @@
 -- What was read of a request.
 use Rattle.std.specs.Prelude.{◌≡◌, ℕ, ◌+◌, ◌≤◌, List, drop, length, Option, Some, None}
 use Rattle.std.specs.Io.KnownBytes.{Consumes, IsAtEnd}
-use Rattle.httparse.specs.Grammar.{RequestHead, print_request, HasNoRequest}
+use Rattle.devices.specs.Devices.{next_count}
+use Rattle.httparse.specs.Grammar.{RequestHead, print_request, HasNoRequest, MayBecomeRequest}
 use Rattle.http_messages.specs.declared.head.Framing.TheVariants.{Body}
 use Rattle.http_messages.specs.declared.head.Head.{Head}
 use Rattle.http_messages.specs.declared.head.HeadRead.{HeadRead}
@@ -10,7 +11,7 @@ use Rattle.http_messages.specs.declared.receiving.Asked.{Asked}
 use Rattle.http_messages.specs.declared.receiving.Asked.TheVariants as asked
 use Rattle.http_messages.specs.declared.receiving.Step.{Step}
 use Rattle.http_messages.specs.declared.receiving.Step.TheVariants as step
-use Rattle.http_messages.specs.Requests.{BeginsWith, NeverHasHead, Asks, IsRefusedFor, IsUnfinished, framing_said}
+use Rattle.http_messages.specs.Requests.{BeginsWith, NeverHasHead, MayBecomeHead, Asks, IsRefusedFor, IsUnfinished, framing_said}
 
 abbrev pub IsAsked : List ℕ → Asked → Type 0
 IsAsked bytes (asked.Request request) = Asks bytes request
@@ -38,6 +39,12 @@ pub record HasEnded (old new : Option (List ℕ)) : Type 0 where
   pub part : HasGivenPart old new
   pub ended : IsAtEnd new
 
+-- the last read alone made it whole: what had been read before is a front of what may still be a request
+pub record IsWholeAtLastRead {S : Type 0} (remaining : S → Option (List ℕ)) (called : S → ℕ) (old new : S) : Type 0 where
+  pub before_last : S
+  pub part : HasGivenPart (remaining old) (remaining before_last)
+  pub last : called new ≡ next_count (called before_last)
+
 -- ---- on the way
 
 -- the bytes begin with this head, as it is kept
@@ -49,11 +56,17 @@ pub record IsHeadAt (bytes : List ℕ) (head : Head) : Type 0 where
   pub target : head.target ≡ h.target
   pub framing : head.framing ≡ framing_said h
 
--- what the front of some bytes is
+-- what some bytes are, of which a head may have all
 abbrev pub IsReadAs : List ℕ → HeadRead → Type 0
 IsReadAs bytes (Whole head) = IsHeadAt bytes head
-IsReadAs bytes Partial = HasNoRequest bytes
+IsReadAs bytes Partial = HasNoRequest bytes × MayBecomeRequest bytes
 IsReadAs bytes Bad = NeverHasHead bytes
+
+-- what some bytes are, of which a head may have a front
+abbrev pub IsJudgedAs : List ℕ → HeadRead → Type 0
+IsJudgedAs bytes (Whole head) = IsHeadAt bytes head
+IsJudgedAs bytes Partial = HasNoRequest bytes × MayBecomeHead bytes
+IsJudgedAs bytes Bad = NeverHasHead bytes
 
 -- what is known after a look at the bytes
 abbrev pub IsStep : List ℕ → Step → Type 0

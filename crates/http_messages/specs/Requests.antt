@@ -1,8 +1,8 @@
 -- The request at the front of some bytes (RFC 9112, 2.1, 3, 5 and 6).
-use Rattle.std.specs.Prelude.{◌≡◌, ℕ, ◌≤◌, nat_lt, Bool, List, [], ◌∷◌, ◌++◌, codes, map, filter, length, take, bytes_eq, Option, Some, None, if◌then◌else◌, ◌⊎◌}
+use Rattle.std.specs.Prelude.{◌≡◌, ℕ, ◌≤◌, ◌<◌, nat_lt, Bool, List, [], ◌∷◌, ◌++◌, codes, map, filter, length, take, bytes_eq, Option, Some, None, if◌then◌else◌, ◌⊎◌}
 use Rattle.std.specs.List.{list_any}
 use Rattle.std.specs.Str.{str_eq_ignore_ascii_case}
-use Rattle.httparse.specs.Grammar.{RequestHead, print_request, ReadsRequest}
+use Rattle.httparse.specs.Grammar.{RequestHead, print_request, ReadsRequest, MayBecomeRequest}
 use Rattle.httparse.specs.Spans.{name_and_value}
 use Rattle.attr_list.specs.Numbers.{decimal_of}
 use Rattle.http_messages.specs.declared.message.Request.{Request}
@@ -10,7 +10,7 @@ use Rattle.http_messages.specs.declared.refusal.Refusal.{Refusal}
 use Rattle.http_messages.specs.declared.refusal.Refusal.TheVariants.{BadRequest, LengthRequired, TooLarge}
 use Rattle.http_messages.specs.declared.head.Framing.{Framing}
 use Rattle.http_messages.specs.declared.head.Framing.TheVariants.{Body, Refused}
-use Rattle.http_messages.specs.declared.head.TheConstants.{HEAD_LIMIT, FIELD_LIMIT, BODY_LIMIT}
+use Rattle.http_messages.specs.Limits.{head_limit, field_limit, body_limit}
 
 -- ---- what the fields of a head say of the body
 
@@ -25,7 +25,7 @@ is_named name field = str_eq_ignore_ascii_case field.0 name
 -- a body of the stated length, where that is a number
 abbrev pub body_of_length : Option ℕ → Framing
 body_of_length None = Refused BadRequest
-body_of_length (Some n) = if nat_lt BODY_LIMIT n then Refused TooLarge else Body n
+body_of_length (Some n) = if nat_lt body_limit n then Refused TooLarge else Body n
 
 -- the length has to be stated, and once
 abbrev pub stated_by : List Field → Framing
@@ -51,16 +51,25 @@ framing_said h = framing_of h.method (map name_and_value h.fields)
 -- the bytes are this head and the rest, and the head keeps the limits
 pub record BeginsWith (bytes : List ℕ) (h : RequestHead) (rest : List ℕ) : Type 0 where
   pub reads : ReadsRequest bytes h rest
-  pub short : length (print_request h) ≤ HEAD_LIMIT
-  pub few : length h.fields ≤ FIELD_LIMIT
+  pub short : length (print_request h) ≤ head_limit
+  pub few : length h.fields ≤ field_limit
 
--- there is no such head
+-- there is such a head
+abbrev pub HasHead : List ℕ → Type 0
+HasHead bytes = (h : RequestHead) × (rest : List ℕ) × BeginsWith bytes h rest
+
+-- there is none
 abbrev pub HasNoHead : List ℕ → Type 0
 HasNoHead bytes = (h : RequestHead) (rest : List ℕ) → ¬ (BeginsWith bytes h rest)
 
 -- nor will there be one, whatever follows
 abbrev pub NeverHasHead : List ℕ → Type 0
 NeverHasHead bytes = (more : List ℕ) → HasNoHead (bytes ++ more)
+
+-- a head may still come of them: they are fewer than the longest has, and some bytes can follow that make them a head, or
+-- they end inside a target, of which it is seen at its end alone whether it is UTF-8
+abbrev pub MayBecomeHead : List ℕ → Type 0
+MayBecomeHead bytes = (length bytes < head_limit) × MayBecomeRequest bytes
 
 -- ---- what is asked
 
@@ -85,7 +94,8 @@ pub record HasRefusedHead (bytes : List ℕ) (refusal : Refusal) : Type 0 where
 abbrev pub IsRefusedFor : List ℕ → Refusal → Type 0
 IsRefusedFor bytes refusal = HasRefusedHead bytes refusal ⊎ (NeverHasHead bytes × (refusal ≡ BadRequest))
 
--- they are a front of what may still be a request
+-- they are a front of what may still be a request: a head whose body isn't whole, or what a head may still come of
 pub record IsUnfinished (bytes : List ℕ) : Type 0 where
   pub no_request : (request : Request) → ¬ (Asks bytes request)
   pub no_refusal : (refusal : Refusal) → ¬ (HasRefusedHead bytes refusal)
+  pub may_go_on : HasHead bytes ⊎ MayBecomeHead bytes

@@ -5,6 +5,7 @@ ghost use Rattle.std.specs.Str.{str_eq_ignore_ascii_case};
 ghost use Rattle.attr_list.specs.Numbers.{decimal_of};
 ghost use Rattle.httparse.specs.Borrowed.{header_parts};
 ghost use Rattle.http_messages.specs.Requests.{is_named, stated_by, body_of_length, framing_of_put, framing_of};
+ghost use Rattle.http_messages.specs.Limits.{head_limit};
 ghost use Rattle.http_messages.specs.Received.{IsHeadAt, IsReadAs};
 
 use crate::refusal::Refusal;
@@ -127,7 +128,7 @@ fn framing_of(method: &str, fields: &[Header<'_>]) -> Framing
 
 /// Reads a head at the front of these bytes, which are at most as many as a head may have.
 pub fn read_head(alloc: Global, bytes: &[u8]) -> Result<HeadRead, AllocError>
-    requires { length bytes.now ≤ HEAD_LIMIT }
+    requires { length bytes.now ≤ head_limit }
     ensures { IfOk result (IsReadAs bytes.now) }
 {
     let mut fields = [EMPTY_HEADER; FIELD_LIMIT];

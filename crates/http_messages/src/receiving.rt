@@ -3,9 +3,11 @@ ghost use Rattle.std.specs.Prelude.{◌≡◌, ◌≤◌, ◌+◌, List, ℕ, le
 ghost use Rattle.devices.specs.Stands.{source_stand};
 ghost use Rattle.http_messages.specs.declared.receiving.Asked.{Asked as Question};
 ghost use Rattle.http_messages.specs.Requests.{IsUnfinished};
-ghost use Rattle.http_messages.specs.Received.{IsReadAs, IsHeadAt, IsStep, Holds, HasAsked, HasEnded, HasGivenPart};
+ghost use Rattle.http_messages.specs.Limits.{most_reads};
+ghost use Rattle.http_messages.specs.Received.{IsJudgedAs, IsHeadAt, IsStep, Holds, HasAsked, HasEnded, HasGivenPart, IsWholeAtLastRead};
 ghost use Rattle.http_messages.specs.Runs.{IsFairToSource};
 
+use crate::arriving::{Arrived, Arriving};
 use crate::head::{Framing, HEAD_LIMIT, Head, HeadRead, read_head};
 use crate::message::{Body, Request};
 use crate::refusal::Refusal;
@@ -58,7 +60,7 @@ impl<T: Drop> From<AllocFailed<T>> for ReceiveFault {
 
 // What stands at the front of the bytes read so far, of which a head may have only the first.
 fn judged(alloc: Global, bytes: &[u8]) -> Result<HeadRead, AllocError>
-    ensures { IfOk result (IsReadAs bytes.now) }
+    ensures { IfOk result (IsJudgedAs bytes.now) }
 {
     let Some(front) = bytes.get(..HEAD_LIMIT) else {
         return read_head(alloc, bytes);
@@ -134,11 +136,13 @@ pub fn receive<S: Source>(alloc: Global, source: &mut S) -> Result<Asked, Receiv
     ensures whole { (it : Question) → Holds (S.remaining source.old) it → IfOk result (λ asked. asked ≡ it) }
     ensures held { IsErrOf result ReceiveFault.Ended → IfSome (S.remaining source.old) IsUnfinished }
 
+    // Nothing is read past it: no read follows the one that makes the request whole, or shows that it is refused.
+    ensures nothing_past { IfOk result (λ _. IsWholeAtLastRead S.remaining S.called source.old source.new) }
+
     // A source is blamed exactly where it failed, and is left alone then.
-    ensures source { IsFairToSource ReceiveFault.Read ReceiveFault.TooManyReads MOST_READS result (source_stand S.remaining S.called S.failed source.old) (source_stand S.remaining S.called S.failed source.new) }
+    ensures source { IsFairToSource ReceiveFault.Read ReceiveFault.TooManyReads most_reads result (source_stand S.remaining S.called S.failed source.old) (source_stand S.remaining S.called S.failed source.new) }
 {
-    let mut bytes = Vec::new(alloc);
-    let mut head = None;
+    let mut arriving = Arriving::new(alloc);
     let mut block = [0u8; READ_ROOM];
     for _ in 0..MOST_READS {
         let Ok(count) = source.read(&mut block) else {
@@ -147,11 +151,9 @@ pub fn receive<S: Source>(alloc: Global, source: &mut S) -> Result<Asked, Receiv
         if count == 0 {
             return Err(ReceiveFault::Ended);
         }
-        bytes.extend_from_slice(&block[..count])?;
-        match look(alloc, bytes.as_slice(), head)? {
-            Step::Whole(head, count) => return Ok(Asked::Request(request_of(bytes, head, count))),
-            Step::Refused(refusal) => return Ok(Asked::Refused(refusal)),
-            Step::More(known) => head = known,
+        match arriving.take(alloc, &block[..count])? {
+            Arrived::Whole(asked) => return Ok(asked),
+            Arrived::More(more) => arriving = more,
         }
     }
     Err(ReceiveFault::TooManyReads)

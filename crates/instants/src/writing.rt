@@ -241,15 +241,6 @@ fn put_after_date(text: &mut [u8; LONGEST], nanos: u64) -> usize
     end + 1
 }
 
-// Writes the instant so many nanoseconds after 1900, and returns where it ends.
-fn put_time(text: &mut [u8; LONGEST], nanos: u64) -> usize
-    ensures text { take result text.new ≡ text_at nanos }
-    ensures room { result ≤ 30 }
-{
-    put_date(text, nanos / NANOS_PER_DAY);
-    put_after_date(text, nanos)
-}
-
 /// Appends an instant in UTC with `Z`, with three decimals of a second, or nine where three would
 /// lose something. Where memory was refused the text is as it was.
 #[tactic(auto, using(crate::proofs::TimeLaws::time_reads))]
@@ -260,15 +251,10 @@ pub fn write_instant(instant: Instant, out: &mut String) -> Result<(), AllocErro
     // What is written of an instant in range is read as the same instant.
     ensures again { in_range instant ≡ true → instant_of (time_text instant) ≡ Some instant }
 {
-    let nanos = from_1900(instant);
-    let mut bytes = [b'0'; LONGEST];
-    let end = put_time(&mut bytes, nanos);
-    // What is written is ASCII.
-    let text = unsafe { str::from_utf8_unchecked(&bytes[..end]) };
-    out.push_str(text)
+    TimeWriter::new().write(instant, out)
 }
 
-/// Writes instants one after the other, of which most lie on the day of the one before: its date is kept.
+/// Writes instants one after the other, of which most lie on the day of the one before: the date of that day is kept.
 #[derive(Drop)]
 pub struct TimeWriter {
     days: u64,
@@ -294,7 +280,7 @@ impl TimeWriter {
         TimeWriter { days: 0, date }
     }
 
-    // The date of a day, with room for what stands after it.
+    // The date of a day so many days after the first of 1900, with room for what stands after it.
     fn date_of(&mut self, days: u64) -> [u8; LONGEST]
         requires { days < 2 ^ 40 }
         ensures { take 10 result ≡ date_at days }
@@ -307,7 +293,8 @@ impl TimeWriter {
         self.date
     }
 
-    /// Appends an instant, as `write_instant` does.
+    /// Appends an instant in UTC with `Z`, with three decimals of a second, or nine where three would lose something (RFC 8216,
+    /// 4.3.2.6). Where memory was refused the text is as it was.
     pub fn write(&mut self, instant: Instant, out: &mut String) -> Result<(), AllocError>
         ensures text { Appends result out.old out.new (time_text instant) }
         ensures err { OnErr result (string_bytes out.new ≡ string_bytes out.old) }

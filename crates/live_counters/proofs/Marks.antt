@@ -10,7 +10,7 @@ use Rattle.pod_store.specs.Store.{Store, pod_for}
 use Rattle.stitcher.specs.declared.marked.Marked.{Marked as Held}
 use Rattle.stitcher.specs.StitchedSegments.{meant, mark_in, mark_with, rest_from, rest_in, IsDecided, AreDecided}
 use Rattle.live_meaning.specs.Marking.{mark_id}
-use Rattle.live_meaning.specs.Live.{ids_in, marks_from, marks_in_use, ids_in_use, rest_id}
+use Rattle.live_meaning.specs.Live.{ids_in, marks_from, in_use_with, rest_id}
 use Rattle.live_meaning.specs.Kept.{Kept, rest_after}
 use Rattle.live_meaning.specs.Successor.{first_number}
 use Rattle.playlist_meaning.specs.declared.Playlist.{Playlist}
@@ -19,7 +19,7 @@ use Rattle.live_window.specs.Listed.{IsRestDecided}
 use Rattle.live_window.specs.declared.state.State.{State}
 use Rattle.live_counters.specs.Accepting.{IsLeft}
 use Rattle.live_window.specs.Marking.{so_far}
-use Rattle.live_counters.specs.Marks.{mark_held, marks_held, marks_and_last, rest_held, held_in_use}
+use Rattle.live_counters.specs.Marks.{mark_held, marks_held, marks_and_last, rest_held, breaks_held}
 
 id_with : (id : List ℕ) (pod : Option Pod) → IsSome pod → option_map mark_id (mark_with id pod) ≡ Some id
 id_with id None d = absurd (cc)
@@ -38,7 +38,7 @@ marks_onto store number (m ∷ later) before d =
     ∙ append_assoc (marks_from number before) (cond (nat_le number m.segment.number) (ids_in m.mark) []) (marks_held number later))
 
 marks_seen : (store : Store) (number : ℕ) (held : List Held) (last other : Option (List ℕ)) → AreDecided store held → last ≡ other
-    → marks_and_last number held last ≡ marks_in_use number (so_far store held) other
+    → marks_and_last number held last ≡ marks_from number (so_far store held) ++ ids_in other
 marks_seen store number held last other d e = ap (λ ids. ids ++ ids_in last) (sym (marks_onto store number held [] d)) ∙ ap (λ o. marks_from number (so_far store held) ++ ids_in o) e
 
 rest_seen : (store : Store) (rest : Option Rest) → IsRestDecided store rest → rest_held rest ≡ ids_in (rest_id (rest_in store rest))
@@ -49,12 +49,14 @@ rest_seen store (Some rest) d = by (pod_for store rest.id) d
     by None h = absurd (cc)
     by (Some pod) h = refl
 
-pub ids_seen : (state : State) (kept : Kept) (p : Playlist) (held : List Held) (last other : Option (List ℕ)) (rest : Option Rest) → AreDecided state.store held → last ≡ other → IsLeft state.store kept p (so_far state.store held) rest
-    → held_in_use (first_number p.segments) held last rest ≡ ids_in_use (first_number p.segments) (so_far state.store held) other (rest_after kept p (so_far state.store held))
-ids_seen state kept p held last other rest d e l =
+pub breaks_seen : (state : State) (kept : Kept) (p : Playlist) (held : List Held) (last other : Option (List ℕ)) (rest : Option Rest) → AreDecided state.store held → last ≡ other → IsLeft state.store kept p (so_far state.store held) rest
+    → breaks_held (first_number p.segments) held last rest ≡ in_use_with (first_number p.segments) (so_far state.store held) other (rest_after kept p (so_far state.store held))
+breaks_seen state kept p held last other rest d e l =
     let number = first_number p.segments in
+    let marks = marks_from number (so_far state.store held) in
     ap (λ ids. ids ++ rest_held rest) (marks_seen state.store number held last other d e)
-    ∙ ap (λ ids. marks_in_use number (so_far state.store held) other ++ ids) (rest_seen state.store rest l.decided ∙ ap (λ o. ids_in (rest_id o)) l.rest)
+    ∙ (ap (λ ids. (marks ++ ids_in other) ++ ids) (rest_seen state.store rest l.decided ∙ ap (λ o. ids_in (rest_id o)) l.rest)
+    ∙ append_assoc marks (ids_in other) (ids_in (rest_id (rest_after kept p (so_far state.store held)))))
 
 -- a segment before the number adds no break
 pub none_before : (marks : List (List ℕ)) (number : ℕ) (m : Held) → m.segment.number < number → marks ≡ marks ++ mark_held number m

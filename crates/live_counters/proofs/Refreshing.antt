@@ -15,7 +15,7 @@ use Rattle.playlist_meaning.specs.Pods.{Pod}
 use Rattle.reading_laws.specs.Read.{uris_are_text}
 use Rattle.reading_laws.proofs.Whole.{can_be_written}
 use Rattle.pod_store.specs.Store.{Entry, Store, has_id, pod_of, pod_for, is_one_of, with_copies, kept_in_use}
-use Rattle.pod_store.proofs.Copies.{pod_stays}
+use Rattle.pod_store.proofs.Copies.{pod_stays, fallback_stands}
 use Rattle.break_finder.specs.Breaks.{Break}
 use Rattle.stitcher.specs.declared.marked.Marked.{Marked as Held}
 use Rattle.stitcher.specs.declared.ends.Rest.{Rest}
@@ -24,10 +24,11 @@ use Rattle.break_finder.specs.Known.{is_this}
 use Rattle.live_meaning.specs.declared.fault.RefreshFault.{RefreshFault}
 use Rattle.live_meaning.specs.declared.fault.RefreshFault.TheVariants.{NumberRange, OutOfMemory}
 use Rattle.live_meaning.specs.Successor.{first_number, fault_if}
-use Rattle.live_meaning.specs.Live.{is_marked, rest_id, entries_after, store_after, succession_fault}
-use Rattle.live_meaning.specs.Kept.{Kept, shown_from, kept_after, kept_items, kept_list, kept_window, kept_refusal, kept_uses, kept_marks}
-use Rattle.live_meaning.proofs.HeldPods.{kept_found, same_id}
-use Rattle.live_meaning.proofs.KeptSteps.{store_same}
+use Rattle.live_meaning.specs.Live.{is_marked, rest_id, succession_fault}
+use Rattle.live_meaning.specs.Marking.{last_entered}
+use Rattle.live_meaning.proofs.StoreAfter.{entries_after}
+use Rattle.live_meaning.specs.Kept.{Kept, shown_from, kept_after, kept_items, kept_list, kept_window, kept_refusal, rest_after}
+use Rattle.live_meaning.proofs.HeldPods.{kept_found, same_id, is_shown_with, in_use_with_is}
 use Rattle.live_laws.proofs.Given.{is_read}
 use Rattle.live_counters.specs.declared.channel.Refreshed.{Refreshed}
 use Rattle.live_counters.specs.declared.refresh.NextKept.{NextKept}
@@ -64,38 +65,36 @@ after_found : (uses : List ℕ → Bool) (store : Store) (id : List ℕ) (o : Op
 after_found uses store id None u e = ap (option_map pod_of) (none_kept uses id store.entries e)
 after_found uses store id (Some x) u e = ap (option_map pod_of) (kept_found uses id store.entries x u e)
 
-abbrev next : (List ℕ → Bool) → Store → List (List ℕ) → Store
-next uses store marks = store_after uses (with_copies store marks)
+pod_stays_on : (ids : List (List ℕ)) (store : Store) (id : List ℕ) → is_one_of ids id ≡ true → pod_for (kept_in_use ids store) id ≡ pod_for store id
+pod_stays_on ids store id u =
+    let copied = with_copies store ids in
+    ap (λ o. or_earlier o store.fallback) (after_found (is_one_of ids) copied id (find (has_id id) copied.entries) u refl)
+    ∙ (ap (λ f. or_earlier (option_map pod_of (find (has_id id) copied.entries)) f) (sym (fallback_stands store ids)) ∙ pod_stays store ids id)
 
-pod_stays_on : (uses : List ℕ → Bool) (store : Store) (marks : List (List ℕ)) (id : List ℕ) → uses id ≡ true → pod_for (next uses store marks) id ≡ pod_for store id
-pod_stays_on uses store marks id u =
-    let copied = with_copies store marks in
-    ap (λ o. or_earlier o copied.fallback) (after_found uses copied id (find (has_id id) copied.entries) u refl) ∙ pod_stays store marks id
-
-mark_stays : (uses : List ℕ → Bool) (store : Store) (marks : List (List ℕ)) (o : Option (List ℕ)) → IsDecided store o → ((id : List ℕ) → is_marked id (mark_in store o) ≡ true → uses id ≡ true)
-    → (mark_in (next uses store marks) o ≡ mark_in store o) × IsDecided (next uses store marks) o
-mark_stays uses store marks None d h = (refl, tt)
-mark_stays uses store marks (Some id) d h =
-    let same = pod_stays_on uses store marks id (h id (marked_too store id (Some id) d ∙ same_id id)) in
+mark_stays : (ids : List (List ℕ)) (store : Store) (o : Option (List ℕ)) → IsDecided store o → ((id : List ℕ) → is_marked id (mark_in store o) ≡ true → is_one_of ids id ≡ true)
+    → (mark_in (kept_in_use ids store) o ≡ mark_in store o) × IsDecided (kept_in_use ids store) o
+mark_stays ids store None d h = (refl, tt)
+mark_stays ids store (Some id) d h =
+    let same = pod_stays_on ids store id (h id (marked_too store id (Some id) d ∙ same_id id)) in
     (ap (mark_with id) same, subst (λ o. IsSome o) (sym same) d)
 
-marks_stay : (uses : List ℕ → Bool) (store : Store) (marks : List (List ℕ)) (held : List Held) → AreDecided store held
-    → AllByRecursion (λ (x : Marked). (id : List ℕ) → is_marked id x.mark ≡ true → uses id ≡ true) (map (meant store) held) → MarksStay store (next uses store marks) held
-marks_stay uses store marks [] d h = record { same = refl; decided = tt }
-marks_stay uses store marks (m ∷ later) d h =
-    let here = mark_stays uses store marks m.mark d.0 h.0 in
-    let rest = marks_stay uses store marks later d.1 h.1 in
+marks_stay : (ids : List (List ℕ)) (store : Store) (held : List Held) → AreDecided store held
+    → AllByRecursion (λ (x : Marked). (id : List ℕ) → is_marked id x.mark ≡ true → is_one_of ids id ≡ true) (map (meant store) held) → MarksStay store (kept_in_use ids store) held
+marks_stay ids store [] d h = record { same = refl; decided = tt }
+marks_stay ids store (m ∷ later) d h =
+    let here = mark_stays ids store m.mark d.0 h.0 in
+    let rest = marks_stay ids store later d.1 h.1 in
     record {
-      same = ap (λ o. record (meant store m) { mark = o } ∷ map (meant (next uses store marks)) later) here.0 ∙ ap (λ xs. meant store m ∷ xs) rest.same;
+      same = ap (λ o. record (meant store m) { mark = o } ∷ map (meant (kept_in_use ids store)) later) here.0 ∙ ap (λ xs. meant store m ∷ xs) rest.same;
       decided = (here.1, rest.decided);
     }
 
 -- the pod of the rest in use stays
-rest_stays : (uses : List ℕ → Bool) (store : Store) (marks : List (List ℕ)) (rest : Option Rest) → IsRestDecided store rest → ((id : List ℕ) → is_this id (rest_id (rest_in store rest)) ≡ true → uses id ≡ true)
-    → RestStays store (next uses store marks) rest
-rest_stays uses store marks None d h = record { same = refl; decided = tt }
-rest_stays uses store marks (Some rest) d h =
-    let same = pod_stays_on uses store marks rest.id (h rest.id (named rest.id rest.place (pod_for store rest.id) d)) in
+rest_stays : (ids : List (List ℕ)) (store : Store) (rest : Option Rest) → IsRestDecided store rest → ((id : List ℕ) → is_this id (rest_id (rest_in store rest)) ≡ true → is_one_of ids id ≡ true)
+    → RestStays store (kept_in_use ids store) rest
+rest_stays ids store None d h = record { same = refl; decided = tt }
+rest_stays ids store (Some rest) d h =
+    let same = pod_stays_on ids store rest.id (h rest.id (named rest.id rest.place (pod_for store rest.id) d)) in
     record { same = ap (λ o. option_map (rest_from rest.place) (mark_with rest.id o)) same; decided = subst (λ o. IsSome o) (sym same) d }
   where
     named : (id : List ℕ) (place : ℕ) (o : Option Pod) → IsSome o → is_this id (rest_id (option_map (rest_from place) (mark_with id o))) ≡ true
@@ -171,25 +170,29 @@ module _ (base : Parts) (tolerance : ℕ) (state : State) (text : Option (List �
     unrefused : kept_refusal tolerance kept p ≡ None
     unrefused = no_fault (succession_fault kept.last p) (fault_if (not (list_all fits (kept_items tolerance kept p))) NumberRange) h.follows.succeeds (ap (λ b. fault_if (not b) NumberRange) accepted.written.fit)
 
-    in_use : AllByRecursion (λ (x : Marked). (id : List ℕ) → is_marked id x.mark ≡ true → is_one_of a.written.ids.items id ≡ true) (so_far state.store a.shown.items)
+    listed : (id : List ℕ) → (is_shown_with (first_number p.segments) (kept_list tolerance kept p) (or_earlier (last_entered (kept_list tolerance kept p)) kept.entered) id || is_this id (rest_id (rest_after kept p (kept_list tolerance kept p)))) ≡ true
+        → is_one_of a.written.in_use.items id ≡ true
+    listed id k = ap (λ ids. is_one_of ids id) accepted.written.in_use ∙ (in_use_with_is (first_number p.segments) (kept_list tolerance kept p) (or_earlier (last_entered (kept_list tolerance kept p)) kept.entered) (rest_after kept p (kept_list tolerance kept p)) id ∙ k)
+
+    in_use : AllByRecursion (λ (x : Marked). (id : List ℕ) → is_marked id x.mark ≡ true → is_one_of a.written.in_use.items id ≡ true) (so_far state.store a.shown.items)
     in_use =
-        subst (λ (xs : List Marked). AllByRecursion (λ (x : Marked). (id : List ℕ) → is_marked id x.mark ≡ true → is_one_of a.written.ids.items id ≡ true) xs) (sym accepted.shown)
-        (used_from (first_number p.segments) (is_one_of a.written.ids.items) (kept_list tolerance kept p) (λ id k. accepted.written.ids id ∙ or_first _ _ (or_first _ _ k)))
+        subst (λ (xs : List Marked). AllByRecursion (λ (x : Marked). (id : List ℕ) → is_marked id x.mark ≡ true → is_one_of a.written.in_use.items id ≡ true) xs) (sym accepted.shown)
+        (used_from (first_number p.segments) (is_one_of a.written.in_use.items) (kept_list tolerance kept p) (λ id k. listed id (or_first _ _ (or_first _ _ k))))
 
-    rest_used : (id : List ℕ) → is_this id (rest_id (rest_in state.store a.written.rest)) ≡ true → is_one_of a.written.ids.items id ≡ true
-    rest_used id k = accepted.written.ids id ∙ or_second _ _ (ap (λ o. is_this id (rest_id o)) (sym accepted.left.rest) ∙ k)
+    rest_used : (id : List ℕ) → is_this id (rest_id (rest_in state.store a.written.rest)) ≡ true → is_one_of a.written.in_use.items id ≡ true
+    rest_used id k = listed id (or_second _ _ (ap (λ o. is_this id (rest_id o)) (sym accepted.left.rest) ∙ k))
 
-    stay : Stay state.store (kept_in_use a.written.ids.items (with_copies state.store a.written.marks.items)) a.shown.items a.written.rest
+    stay : Stay state.store (kept_in_use a.written.in_use.items state.store) a.shown.items a.written.rest
     stay = record {
       marks =
-          marks_stay (is_one_of a.written.ids.items) state.store a.written.marks.items a.shown.items accepted.decided
-          (unturned (λ (x : Marked). (id : List ℕ) → is_marked id x.mark ≡ true → is_one_of a.written.ids.items id ≡ true) (map (meant state.store) a.shown.items) [] in_use).0;
-      rest = rest_stays (is_one_of a.written.ids.items) state.store a.written.marks.items a.written.rest accepted.left.decided rest_used;
+          marks_stay a.written.in_use.items state.store a.shown.items accepted.decided
+          (unturned (λ (x : Marked). (id : List ℕ) → is_marked id x.mark ≡ true → is_one_of a.written.in_use.items id ≡ true) (map (meant state.store) a.shown.items) [] in_use).0;
+      rest = rest_stays a.written.in_use.items state.store a.written.rest accepted.left.decided rest_used;
     }
 
     kept_is : kept_in (accepted_state state p a) ≡ kept_after tolerance kept p
     kept_is =
-        kept_ext (kept_in (accepted_state state p a)) (kept_after tolerance kept p) (store_same (is_one_of a.written.ids.items) (kept_uses tolerance kept p) state.store a.written.marks.items (kept_marks tolerance kept p) accepted.written.ids accepted.written.marks) accepted.breaks refl
+        kept_ext (kept_in (accepted_state state p a)) (kept_after tolerance kept p) (ap (λ ids. kept_in_use ids state.store) accepted.written.in_use) accepted.breaks refl
         (ap (λ (xs : List Marked). reverse xs) stay.marks.same ∙ accepted.shown) accepted.written.entered accepted.written.numbers accepted.lasted (stay.rest.same ∙ accepted.left.rest)
 
     steps : Steps before bytes (Ok done) after

@@ -5,12 +5,12 @@ use Rattle.playlist_meaning.specs.declared.Playlist.{Playlist}
 use Rattle.playlist_meaning.specs.LookBack.{or_earlier}
 use Rattle.playlist_meaning.specs.Marks.{Marked}
 use Rattle.playlist_meaning.specs.Stitched.{Item, fits}
-use Rattle.pod_store.specs.Store.{Store, is_one_of, with_copies, kept_in_use}
+use Rattle.pod_store.specs.Store.{Store, kept_in_use}
 use Rattle.stitcher.specs.declared.OutSegment.{OutSegment}
 use Rattle.stitcher.specs.declared.ends.Rest.{Rest}
 use Rattle.stitcher.specs.StitchedSegments.{AreDecided, rest_in}
 use Rattle.stitcher.specs.Written.{written_item}
-use Rattle.break_finder.specs.Known.{carry, is_this}
+use Rattle.break_finder.specs.Known.{carry}
 use Rattle.playlist_write.specs.declared.OutPlaylist.{OutPlaylist}
 use Rattle.playlist_write.specs.Owed.{text_of}
 use Rattle.live_meaning.specs.declared.fault.RefreshFault.{RefreshFault}
@@ -20,10 +20,10 @@ use Rattle.playlist_meaning.specs.Reading.{reading, limited}
 use Rattle.reading_laws.specs.Read.{uris_are_text}
 use Rattle.url.specs.Parts.{Parts}
 use Rattle.live_meaning.specs.Live.{date_range_text}
-use Rattle.live_meaning.specs.Live.{succession_fault, states_instant, rest_id, ids_in_use}
+use Rattle.live_meaning.specs.Live.{succession_fault, states_instant, in_use_with, date_ranges_left}
 use Rattle.live_meaning.specs.Successor.{first_number}
 use Rattle.live_meaning.specs.Marking.{is_new, last_entered}
-use Rattle.live_meaning.specs.Kept.{Kept, shown_from, head_numbers, is_in_use, items_on, window_on, rest_after, kept_acceptance, kept_list, kept_length, kept_date_ranges}
+use Rattle.live_meaning.specs.Kept.{Kept, shown_from, head_numbers, items_on, window_on, rest_after, kept_acceptance, kept_list, kept_length}
 use Rattle.live_counters.specs.declared.refresh.NextKept.{NextKept}
 use Rattle.live_counters.specs.declared.written.Written.{Written}
 use Rattle.live_window.specs.Marking.{so_far}
@@ -45,25 +45,23 @@ out_with p date_ranges items = record {
   segments = items;
 }
 
--- the break is in use after these segments
-abbrev pub is_used_after : Kept → Playlist → List Marked → List ℕ → Bool
-is_used_after kept p list id =
-    is_in_use (first_number p.segments) list (or_earlier (last_entered list) kept.entered) id || is_this id (rest_id (rest_after kept p list))
+-- the breaks in use after these segments
+abbrev pub breaks_after : Kept → Playlist → List Marked → List (List ℕ)
+breaks_after kept p list = in_use_with (first_number p.segments) list (or_earlier (last_entered list) kept.entered) (rest_after kept p list)
 
 -- the playlist's text with this window in place of its segments, without the date ranges of these breaks
-abbrev pub text_with_window : Playlist → (List ℕ → Bool) → List Item → List ℕ
-text_with_window p uses window = text_of (out_with p (map date_range_text (kept_date_ranges (list_any states_instant window) uses p.date_ranges)) (map written_item window))
+abbrev pub text_with_window : Playlist → List (List ℕ) → List Item → List ℕ
+text_with_window p breaks window = text_of (out_with p (map date_range_text (date_ranges_left (list_any states_instant window) breaks p.date_ranges)) (map written_item window))
 
--- what is written, and which breaks are used, where these segments are shown, the newest run of which has lasted so long: each
+-- what is written, and which breaks are in use, where these segments are shown, the newest run of which has lasted so long: each
 -- number of the stitched list fits
 pub record IsWritten (kept : Kept) (p : Playlist) (list : List Marked) (n : ℕ) (w : Written) : Type 0 where
   pub fit : list_all fits (items_on kept p list n) ≡ true
   pub entered : w.entered ≡ or_earlier (last_entered list) kept.entered
-  pub ids : (id : List ℕ) → is_one_of w.ids.items id ≡ is_used_after kept p list id
-  pub marks : w.marks.items ≡ ids_in_use (first_number p.segments) list (or_earlier (last_entered list) kept.entered) (rest_after kept p list)
+  pub in_use : w.in_use.items ≡ breaks_after kept p list
   pub numbers : w.numbers ≡ head_numbers (window_on kept p list n)
   pub count : w.count ≡ length (window_on kept p list n)
-  pub text : w.text ≡ text_with_window p (is_used_after kept p list) (window_on kept p list n)
+  pub text : w.text ≡ text_with_window p (breaks_after kept p list) (window_on kept p list n)
 
 -- the rest that is then kept
 pub record IsLeft (store : Store) (kept : Kept) (p : Playlist) (list : List Marked) (left : Option Rest) : Type 0 where
@@ -111,7 +109,7 @@ Refused base tolerance state bytes fault =
 -- what is kept then: a break that is in use keeps its pod, or a copy of the fallback
 abbrev pub accepted_state : State → Playlist → NextKept → State
 accepted_state state p a = record {
-  store = kept_in_use a.written.ids.items (with_copies state.store a.written.marks.items);
+  store = kept_in_use a.written.in_use.items state.store;
   knowledge = a.knowledge;
   last = Some p;
   shown = a.shown.items;

@@ -21,6 +21,6 @@ abbrev pub rest_held : Option Rest → List (List ℕ)
 rest_held None = []
 rest_held (Some rest) = rest.id ∷ []
 
--- and the one that a window starts with the rest of
-abbrev pub held_in_use : ℕ → List Marked → Option (List ℕ) → Option Rest → List (List ℕ)
-held_in_use first held last rest = marks_and_last first held last ++ rest_held rest
+-- and the one with the rest of whose pod a window starts
+abbrev pub breaks_held : ℕ → List Marked → Option (List ℕ) → Option Rest → List (List ℕ)
+breaks_held first held last rest = marks_and_last first held last ++ rest_held rest

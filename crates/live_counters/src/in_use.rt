@@ -1,7 +1,7 @@
-//! The breaks that mark the segments that are shown.
+//! The breaks in use.
 ghost use Rattle.std.specs.Prelude.{◌≡◌, ◌++◌, IfOk, OnOk};
 ghost use Rattle.live_meaning.specs.Live.{ids_in};
-ghost use Rattle.live_counters.specs.Marks.{held_in_use, mark_held, marks_and_last, rest_held};
+ghost use Rattle.live_counters.specs.Marks.{breaks_held, mark_held, marks_and_last, rest_held};
 
 use playlist_meaning::{Shared, Text};
 use std::alloc::{AllocError, Global};
@@ -71,14 +71,14 @@ fn push_rest(marks: &mut Vec<Shared<Text>>, rest: &Option<Rest>) -> Result<(), A
 
 /// The breaks in use: those that mark the segments from this number on, one for each segment and in their order, then the last
 /// one entered, and then the one of the rest.
-pub fn marks_in_use(
+pub fn breaks_in_use(
     alloc: Global,
     number: u64,
     list: &[Marked],
     entered: &Option<Shared<Text>>,
     rest: &Option<Rest>,
 ) -> Result<Vec<Shared<Text>>, AllocError>
-    ensures { IfOk result (λ marks. marks.items ≡ held_in_use number list.now entered.now rest.now) }
+    ensures { IfOk result (λ breaks. breaks.items ≡ breaks_held number list.now entered.now rest.now) }
 {
     let mut marks = marks_and_last(alloc, number, list, entered)?;
     push_rest(&mut marks, rest)?;

@@ -166,15 +166,13 @@ pub fn accept(
 {
     let Written {
         entered,
-        ids,
-        marks,
+        in_use,
         numbers,
         count,
         rest,
         text,
     } = next.written;
-    state.store.copy_fallback(marks.as_slice())?;
-    state.store.keep_in_use(ids.as_slice());
+    state.store.keep_in_use(in_use.as_slice())?;
     state.knowledge = next.knowledge;
     state.last = Some(playlist);
     state.shown = Items::from_vec(next.shown);

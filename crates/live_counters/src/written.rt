@@ -3,20 +3,19 @@ ghost use Rattle.std.specs.Prelude.{◌≡◌, IfOk, IfErr, false, map};
 ghost use Rattle.std.specs.List.{list_all, list_any};
 ghost use Rattle.playlist_meaning.specs.Stitched.{fits};
 ghost use Rattle.playlist_write.specs.Owed.{text_of};
-ghost use Rattle.pod_store.specs.Store.{is_one_of};
 ghost use Rattle.stitcher.specs.StitchedSegments.{AreDecided};
-ghost use Rattle.live_meaning.specs.Kept.{items_on, kept_date_ranges};
-ghost use Rattle.live_meaning.specs.Live.{date_range_text};
+ghost use Rattle.live_meaning.specs.Kept.{items_on};
+ghost use Rattle.live_meaning.specs.Live.{date_range_text, date_ranges_left};
 ghost use Rattle.live_window.specs.Marking.{so_far};
 ghost use Rattle.live_window.specs.Showing.{kept_in};
 ghost use Rattle.live_window.specs.Listed.{IsFront, IsRestDecided, RefusesList, states_time};
 ghost use Rattle.live_counters.specs.Accepting.{IsLeft, IsWritten, out_with};
 
-use crate::in_use::marks_in_use;
+use crate::in_use::breaks_in_use;
 use fixed_duration::Nanos;
 use live_meaning::RefreshFault;
 use live_window::{
-    State, Window, date_ranges_left, first_number, head_of, last_entered, used_ids, window_of,
+    State, Window, date_ranges_left, first_number, head_of, last_entered, window_of,
 };
 use playlist_meaning::{Items, Playlist, Shared, Text};
 use playlist_write::{OutPlaylist, written};
@@ -29,9 +28,7 @@ pub struct Written {
     /// The last break entered.
     pub entered: Option<Shared<Text>>,
     /// The breaks in use.
-    pub ids: Vec<Text>,
-    /// The same, one for each segment that they mark: each of them that has no pod of its own keeps a copy of the fallback.
-    pub marks: Vec<Shared<Text>>,
+    pub in_use: Vec<Shared<Text>>,
     /// The numbers of the window's first item.
     pub numbers: Numbers,
     /// How many items are written.
@@ -67,15 +64,15 @@ fn text_with<'a>(
 fn text_without(
     alloc: Global,
     playlist: &Playlist,
-    ids: &[Text],
+    in_use: &[Shared<Text>],
     items: Vec<OutSegment<'_>>,
 ) -> Result<Shared<Text>, AllocError>
-    ensures { IfOk result (λ text. text ≡ text_of (out_with playlist.now (map date_range_text (kept_date_ranges (list_any states_time items.entry.items) (is_one_of ids.now) playlist.now.date_ranges)) items.entry.items)) }
+    ensures { IfOk result (λ text. text ≡ text_of (out_with playlist.now (map date_range_text (date_ranges_left (list_any states_time items.entry.items) in_use.now playlist.now.date_ranges)) items.entry.items)) }
 {
     let date_ranges = date_ranges_left(
         alloc,
         items.as_slice(),
-        ids,
+        in_use,
         playlist.date_ranges.as_slice(),
     )?;
     text_with(alloc, playlist, date_ranges, items)
@@ -100,15 +97,13 @@ pub fn written_of(
     let number = first_number(playlist.segments.as_slice());
     let Window { items, rest } = window_of(alloc, state, playlist, list, length)?;
     let entered = last_entered(list, &state.entered)?;
-    let ids = used_ids(alloc, number, list, &entered, &rest)?;
-    let marks = marks_in_use(alloc, number, list, &entered, &rest)?;
+    let in_use = breaks_in_use(alloc, number, list, &entered, &rest)?;
     let numbers = head_of(items.as_slice());
     let count = items.len();
-    let text = text_without(alloc, playlist, ids.as_slice(), items)?;
+    let text = text_without(alloc, playlist, in_use.as_slice(), items)?;
     Ok(Written {
         entered,
-        ids,
-        marks,
+        in_use,
         numbers,
         count,
         rest,

@@ -16,7 +16,7 @@ use Rattle.live_edge.specs.declared.serving.Served.{Served}
 use Rattle.live_edge.specs.Edges.{Kept, Answers}
 use Rattle.live_edge.specs.Served.{IsServed, HasServed, HasServedFront, HasReplied, HasRepliedWhole, HasRepliedFront}
 
-turned_away : (bytes : List ℕ) (edge : List Kept) (refusal : Refusal) (reply : Reply) (t : ℕ) → IsRefusedFor bytes refusal → reply ≡ refusal_reply refusal
+pub turned_away : (bytes : List ℕ) (edge : List Kept) (refusal : Refusal) (reply : Reply) (t : ℕ) → IsRefusedFor bytes refusal → reply ≡ refusal_reply refusal
     → t ≡ reply.status → IsServed bytes edge edge (text_sent true reply) t
 turned_away bytes edge refusal reply t a e f =
     inr (record { refusal = refusal; refused = a; kept = refl; text_is = ap (text_sent true) e; status_is = f ∙ ap (λ (r : Reply). r.status) e })

@@ -11,7 +11,6 @@ use Rattle.http_messages.specs.Replies.{bare}
 use Rattle.edge_messages.specs.declared.channel_body.BodyFault.{BodyFault}
 use Rattle.edge_messages.specs.declared.routes.Resource.{Resource}
 use Rattle.edge_messages.specs.declared.routes.Resource.TheVariants.{Channel, Origin, Decisions, Live, Why}
-use Rattle.live_edge.specs.declared.edge.TheConstants.{CHANNEL_LIMIT}
 use Rattle.live_edge.specs.Channels.{Given, with_event}
 use Rattle.edge_messages.specs.ChannelBody.{body_said}
 use Rattle.edge_messages.specs.Replies.{not_found, not_allowed, body_fault_reply, bad_base, bad_tolerance, exists}
@@ -76,7 +75,7 @@ fresh name base tolerance = record { name = name; given = record { base = base; 
 abbrev pub added : Table → List ℕ → Parts → ℕ → Turn
 added table name base tolerance =
     if is_some (given_at name table) then unmoved table exists
-    else (if nat_le CHANNEL_LIMIT (length table) then unmoved table (bare 503)
+    else (if nat_le 64 (length table) then unmoved table (bare 503)
     else record { reply = bare 201; table = table ++ fresh name base tolerance ∷ [] })
 
 abbrev pub tried : Table → List ℕ → ℕ → Option Parts → Turn

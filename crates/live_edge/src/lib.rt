@@ -8,7 +8,5 @@ mod replies;
 mod serving;
 
 pub use edge::{CHANNEL_LIMIT, Edge};
-pub use edge_messages::{
-    FaultText, LiveWords, Timed, read_live_words, refresh_fault_text, why_word,
-};
+pub use edge_messages::{FaultText, LiveWords, read_live_words, refresh_fault_text, why_word};
 pub use serving::{EdgeFault, Served, serve};

@@ -5,7 +5,8 @@ ghost use Rattle.devices.specs.Handed.{TookFront};
 ghost use Rattle.devices.specs.Stands.{source_stand, sink_stand};
 ghost use Rattle.http_messages.specs.declared.receiving.Asked.{Asked as Question};
 ghost use Rattle.http_messages.specs.Requests.{IsUnfinished};
-ghost use Rattle.http_messages.specs.Received.{Holds, HasEnded, HasGivenPart};
+ghost use Rattle.http_messages.specs.Limits.{most_reads};
+ghost use Rattle.http_messages.specs.Received.{Holds, HasEnded, HasGivenPart, IsWholeAtLastRead};
 ghost use Rattle.http_messages.specs.Replies.{text_sent};
 ghost use Rattle.http_messages.specs.Runs.{IsFairToSource, IsFairToSink};
 ghost use Rattle.live_edge.specs.FaultTexts.{edge_fault_text};
@@ -13,9 +14,7 @@ ghost use Rattle.live_edge.specs.Served.{HasServed, HasServedFront, HasRepliedWh
 
 use crate::edge::Edge;
 use devices::{Sink, Source};
-use http_messages::{
-    Asked, MOST_READS, ReceiveFault, Reply, receive, refusal_reply, send, sends_body,
-};
+use http_messages::{Asked, ReceiveFault, Reply, receive, refusal_reply, send, sends_body};
 use std::alloc::{AllocError, Global};
 use std::error::Error;
 use std::fmt;
@@ -131,8 +130,12 @@ pub fn serve<S: Source, K: Sink>(
     ensures ended { IsErrOf result EdgeFault.Ended → HasEnded (S.remaining source.old) (S.remaining source.new) }
     ensures unfinished { IsErrOf result EdgeFault.TooManyReads → HasGivenPart (S.remaining source.old) (S.remaining source.new) }
 
+    // Nothing is read past it: no read follows the one that makes the request whole, or shows that it is refused.
+    ensures nothing_past { IfOk result (λ _. IsWholeAtLastRead S.remaining S.called source.old source.new) }
+    ensures nothing_past_front { IsErrOf result EdgeFault.Write → IsWholeAtLastRead S.remaining S.called source.old source.new }
+
     // A device is blamed exactly where it failed, and is left alone then.
-    ensures source { IsFairToSource EdgeFault.Read EdgeFault.TooManyReads MOST_READS result (source_stand S.remaining S.called S.failed source.old) (source_stand S.remaining S.called S.failed source.new) }
+    ensures source { IsFairToSource EdgeFault.Read EdgeFault.TooManyReads most_reads result (source_stand S.remaining S.called S.failed source.old) (source_stand S.remaining S.called S.failed source.new) }
     ensures sink { IsFairToSink EdgeFault.Write result (sink_stand K.contents K.failed sink.old) (sink_stand K.contents K.failed sink.new) }
 {
     match receive(alloc, source)? {

@@ -5,7 +5,7 @@ use Rattle.std.specs.List.{AllByRecursion, list_any}
 use Rattle.playlist_meaning.specs.LookBack.{or_earlier}
 use Rattle.playlist_meaning.specs.Pods.{Pod}
 use Rattle.playlist_meaning.specs.Marks.{Mark, Marked, newest_mark}
-use Rattle.pod_store.specs.Store.{Entry, Store, with_entries, has_id, pod_of, pod_for, put, without, names_used, count_with, has_own, is_used, copied_last, with_copy, with_copies}
+use Rattle.pod_store.specs.Store.{Entry, Store, with_entries, has_id, pod_of, pod_for, put, without, names_used, count_with, has_own, is_used, copied_last, with_copy, with_copies, is_one_of, is_held, kept_in_use}
 use Rattle.pod_store.specs.Outcome.{refuse_if, fault_at, nowhere}
 use Rattle.pod_store.specs.declared.fault.DecisionFault.{DecisionFault}
 use Rattle.pod_store.specs.declared.Decisions.{Decisions}
@@ -14,7 +14,7 @@ use Rattle.pod_store.specs.declared.fault.DecisionKind.TheVariants.{Used, Full, 
 use Rattle.live_meaning.specs.Marking.{Moment, last_entered, continued, is_inside, entered, mark_of}
 use Rattle.live_meaning.specs.Sound.{AllPods}
 use Rattle.live_meaning.proofs.Entries.{IsEntered, entered_is}
-use Rattle.live_meaning.specs.Live.{taken, decide, store_after}
+use Rattle.live_meaning.specs.Live.{taken, decide}
 
 pub filter_step : {A : Type 0} (P : A → Type 0) (x : A) (xs : List A) (b : Bool) → P x → AllByRecursion P xs → AllByRecursion P (cond b (x ∷ xs) xs)
 filter_step P x xs true p h = (p, h)
@@ -94,7 +94,7 @@ module _ (Q : Pod → Type 0) where
       by true = h
       by false = record { entries = copy_pod id store.entries store.fallback h.entries h.fallback; fallback = h.fallback }
 
-  pub copies_pods : (store : Store) (ids : List (List ℕ)) → Pods store → Pods (with_copies store ids)
+  copies_pods : (store : Store) (ids : List (List ℕ)) → Pods store → Pods (with_copies store ids)
   copies_pods store [] h = h
   copies_pods store (id ∷ ids) h = copies_pods (with_copy store id) ids (copied_pods store id h)
 
@@ -102,11 +102,13 @@ module _ (Q : Pod → Type 0) where
   used_pods used [] h = tt
   used_pods used (e ∷ store) h = (h.0, used_pods used store h.1)
 
-  pub after_pods : (used : List ℕ → Bool) (store : Store) → Pods store → Pods (store_after used store)
-  after_pods used store h = record {
-    entries = used_pods used (filter (λ (e : Entry). not e.used || used e.id) store.entries) (all_filter (λ (e : Entry). Q e.pod) (λ (e : Entry). not e.used || used e.id) store.entries h.entries);
-    fallback = h.fallback;
-  }
+  pub kept_pods : (ids : List (List ℕ)) (store : Store) → Pods store → Pods (kept_in_use ids store)
+  kept_pods ids store h =
+      let copied = with_copies store ids in
+      record {
+        entries = used_pods (is_one_of ids) (filter (is_held ids) copied.entries) (all_filter (λ (e : Entry). Q e.pod) (is_held ids) copied.entries (copies_pods store ids h).entries);
+        fallback = h.fallback;
+      }
 
   -- ---- marks
 

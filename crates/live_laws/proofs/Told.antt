@@ -18,13 +18,12 @@ use Rattle.reading_laws.specs.Read.{segment_reads, uris_are_text, segment_can_be
 use Rattle.reading_laws.proofs.Texts.{segment_is_written}
 use Rattle.live_meaning.specs.Marking.{Moment, instant_of, newest_end, next_shown, show_all, is_new, history_after, last_entered}
 use Rattle.live_meaning.specs.Successor.{first_number}
-use Rattle.live_meaning.specs.Live.{Event, decided, refreshed, Told, told, happens, refusal, after_refresh, moment, in_use, ids_in_use, rest_before, start_after, last_playlist}
-use Rattle.pod_store.specs.Store.{with_copies}
+use Rattle.live_meaning.specs.Live.{Event, decided, refreshed, Told, told, happens, refusal, after_refresh, moment, breaks_in_use, start_after, last_playlist}
 use Rattle.live_meaning.proofs.Growth.{history_grows, first_numbers_stay}
 use Rattle.live_laws.proofs.Writable.{pod_can_be_written, kept_is_written}
 use Rattle.live_laws.specs.Laws.{CanBeRead, KeepsRules, CanBeGiven}
 use Rattle.live_laws.proofs.Given.{all_of}
-use Rattle.live_laws.proofs.AllPods.{Pods, OfMark, all_filter, decide_pods, copies_pods, after_pods, marks_of}
+use Rattle.live_laws.proofs.AllPods.{Pods, OfMark, all_filter, decide_pods, kept_pods, marks_of}
 use Rattle.live_laws.proofs.Pieces.{can_stand, Stands}
 
 abbrev IsWritten : Pod → Type 0
@@ -108,10 +107,8 @@ refresh_good tolerance t p g r =
     let m = moment tolerance t p in
     let history = history_after m t.history p in
     let start = start_after (last_playlist t.accepted) t.start t.history p history in
-    let number = first_number p.segments in
-    let ids = ids_in_use number history (last_entered history) (rest_before start number history) in
     record {
-      pods = after_pods IsWritten (in_use start number history) (with_copies t.store ids) (copies_pods IsWritten t.store ids g.pods);
+      pods = kept_pods IsWritten (breaks_in_use start (first_number p.segments) history) t.store g.pods;
       stands = show_stands m t.history (filter (is_new t.history) p.segments) g.pods g.stands (all_filter IsFine (is_new t.history) p.segments (fine_segments p.segments r.limits.segments r.text));
       first = first_after m t.history p g.first r.limits.numbers;
     }

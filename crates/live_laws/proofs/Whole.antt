@@ -24,7 +24,7 @@ use Rattle.reading_laws.specs.Read.{version_reads, IsSaid, text_is_clean}
 use Rattle.live_meaning.specs.declared.fault.RefreshFault.TheVariants.{NumberRange}
 use Rattle.live_meaning.specs.Successor.{first_number, fault_if}
 use Rattle.live_meaning.specs.Successor as successor
-use Rattle.live_meaning.specs.Live.{refreshed, Told, told, refusal, succession_fault, last_playlist, after_refresh, in_use, item_segment, states_instant, window_after, written_date_ranges, owed_for}
+use Rattle.live_meaning.specs.Live.{refreshed, Told, told, refusal, succession_fault, last_playlist, after_refresh, breaks_in_use, item_segment, states_instant, window_after, written_date_ranges, owed_for}
 use Rattle.live_meaning.proofs.Windows.{In}
 use Rattle.live_meaning.proofs.Fills.{Mapped}
 use Rattle.live_meaning.proofs.Due.{list_rest}
@@ -33,6 +33,7 @@ use Rattle.live_laws.specs.Owed.{owed_playlist}
 use Rattle.live_meaning.specs.Live.{date_range_text}
 use Rattle.live_meaning.proofs.Reversed.{list_all-reverse}
 use Rattle.live_laws.specs.Laws.{CanBeRead, OwedIsWellFormed, OwedIsDenoted, TextDenotesOwed}
+use Rattle.pod_store.specs.Store.{is_one_of}
 use Rattle.live_laws.proofs.AllPods.{all_filter}
 use Rattle.live_laws.proofs.Pieces.{all_taken, piece_stands, pieces_stand, item_fits, items_fit, all_written, window_numbers, is_mapped_item, agree}
 use Rattle.live_laws.proofs.Told.{Good, refresh_good, good_told}
@@ -99,7 +100,7 @@ module _ (t : Told) (p : Playlist) where
   stated = list_any states_instant (window_after t p)
 
   abbrev others : DateRange → Bool
-  others r = not (in_use t.start (first_number p.segments) t.history r.id)
+  others r = not (is_one_of (breaks_in_use t.start (first_number p.segments) t.history) r.id)
 
   written_said : (reader : Reader) → AllByRecursion (IsSaid reader) p.date_ranges → AllByRecursion (IsSaid reader) (written_date_ranges t p)
   written_said reader h = some_said (IsSaid reader) stated (filter others p.date_ranges) (all_filter (IsSaid reader) others p.date_ranges h)

@@ -11,6 +11,7 @@ use Rattle.playlist_meaning.specs.Stitched.{Piece, ad_piece, ad_pieces, pieces_o
 use Rattle.pod_store.specs.Pods.{ad_total, total}
 use Rattle.live_meaning.specs.Marking.{Moment, last_entered, instant_of, next_mark, next_shown, show_all}
 use Rattle.live_meaning.specs.LiveLaws.{Linked}
+use Rattle.live_meaning.specs.BreakLaws.{lasts}
 use Rattle.live_meaning.specs.Kept.{marked_on, entered_with}
 use Rattle.playlist_meaning.specs.Paced.{first_of_run, older, run_length, due, newest_pieces, due_with}
 use Rattle.live_meaning.specs.Kept.{capped, length_on}
@@ -21,12 +22,7 @@ use Rattle.live_meaning.proofs.ShownAlone.{rest_of, run_fill, cut_list}
 
 -- ---- as many pieces are due after one nanosecond more than all of them last
 
-unfoldable lasts : List Piece → ℕ
-lasts [] = 0
-lasts (p ∷ pieces) = p.segment.duration + lasts pieces
-
 lasts-append : (xs ys : List Piece) → lasts (xs ++ ys) ≡ lasts xs + lasts ys
-unfolding lasts
 lasts-append [] ys = omega arith
 lasts-append (x ∷ xs) ys = omega (arith, lasts-append xs ys)
 
@@ -38,22 +34,18 @@ sum_more : (x : ℕ) (xs : List ℕ) → sum (x ∷ xs) ≡ x + sum xs
 sum_more x xs = sum_on (0 + x) xs ∙ omega arith
 
 later_lasts : (mark : Mark) (ad : Ad) (segments : List PodSegment) → lasts (map (ad_piece mark false ad) segments) ≡ sum (map (λ (s : PodSegment). s.duration) segments)
-unfolding lasts
 later_lasts mark ad [] = refl
 later_lasts mark ad (s ∷ segments) = ap (λ n. s.duration + n) (later_lasts mark ad segments) ∙ sym (sum_more s.duration (map (λ (x : PodSegment). x.duration) segments))
 
 ad_lasts : (mark : Mark) (ad : Ad) (segments : List PodSegment) → lasts (ad_pieces mark ad segments) ≡ sum (map (λ (s : PodSegment). s.duration) segments)
-unfolding lasts
 ad_lasts mark ad [] = refl
 ad_lasts mark ad (s ∷ segments) = ap (λ n. s.duration + n) (later_lasts mark ad segments) ∙ sym (sum_more s.duration (map (λ (x : PodSegment). x.duration) segments))
 
 ads_last : (mark : Mark) (ads : List Ad) → lasts (pieces_of_ads mark ads) ≡ sum (map ad_total ads)
-unfolding lasts
 ads_last mark [] = refl
 ads_last mark (ad ∷ ads) = omega (arith, lasts-append (ad_pieces mark ad ad.segments) (pieces_of_ads mark ads), ad_lasts mark ad ad.segments, ads_last mark ads, sum_more (ad_total ad) (map ad_total ads))
 
 due_all : (n : ℕ) (pieces : List Piece) → lasts pieces < n → due n pieces ≡ pieces
-unfolding lasts
 due_all n [] h = refl
 due_all n (p ∷ pieces) h = step (nat_le n p.segment.duration) refl (λ k. due_all (n - p.segment.duration) pieces k)
   where

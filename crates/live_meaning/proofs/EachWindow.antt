@@ -9,11 +9,10 @@ use Rattle.playlist_meaning.specs.LookBack.{or_earlier}
 use Rattle.live_meaning.specs.declared.fault.RefreshFault.{RefreshFault}
 use Rattle.break_finder.specs.Known.{Accepted}
 use Rattle.playlist_meaning.specs.Marks.{Mark, Marked, continues}
-use Rattle.pod_store.specs.Store.{with_copies}
-use Rattle.live_meaning.specs.Marking.{Moment, history_after, last_entered, is_new, next_shown, show_all}
+use Rattle.live_meaning.specs.Marking.{Moment, history_after, is_new, next_shown, show_all}
 use Rattle.playlist_meaning.specs.Stitched.{Piece, Numbers, is_kept, pod_pieces, run_pieces, stitched, newest_place, first_numbers, numbered, steps_between, up_to}
 use Rattle.live_meaning.specs.Successor.{first_number, end_number, first_discontinuity, is_mapped, Succeeds}
-use Rattle.live_meaning.specs.Live.{Event, decided, refreshed, succession_fault, last_playlist, moment, list_of, Told, start_after, place_of, in_use, ids_in_use, rest_before, after_refresh, refusal, happens, told, owed_for, owed, has_ended}
+use Rattle.live_meaning.specs.Live.{Event, decided, refreshed, succession_fault, last_playlist, moment, list_of, Told, start_after, place_of, breaks_in_use, after_refresh, refusal, happens, told, owed_for, owed, has_ended}
 use Rattle.live_meaning.specs.Sound.{IsSoundPlaylist, IsSoundEvent}
 use Rattle.playlist_meaning.specs.Paced.{first_of_run, run_length, older, due, newest_pieces, due_stitched, due_list}
 use Rattle.live_meaning.specs.LiveLaws.{GoesOn, OnlyGrows, EachSucceeds}
@@ -25,7 +24,7 @@ use Rattle.live_meaning.proofs.Risen.{FallFrom, newest_discontinuity, past, all_
 use Rattle.live_meaning.proofs.Places.{length_grows, place_grows, up_to_within, up_to_grows, up_to_some, Begins, stays, next, begins}
 use Rattle.live_meaning.proofs.Succession.{cut, cut_is, Above, Follows, follows}
 use Rattle.live_meaning.proofs.Passed.{Passed, passed}
-use Rattle.live_meaning.proofs.LiveState.{Standing, StandingOf, new_standing, decide_pods, copies_pods, store_pods}
+use Rattle.live_meaning.proofs.LiveState.{Standing, StandingOf, new_standing, decide_pods, kept_pods}
 use Rattle.live_meaning.proofs.Tops.{run_first}
 use Rattle.live_meaning.proofs.Runs.{place_is}
 use Rattle.live_meaning.proofs.Due.{list_rest, due_grows, due_prefix}
@@ -123,7 +122,7 @@ in_due n s (Some f) q h =
     let k = due_prefix n (pod_pieces f) in
     into_reverse q (pod_pieces f) (subst (λ xs. In q xs) k.is (in_front q (due n (pod_pieces f)) k.rest (in_reverse q (due n (pod_pieces f)) h)))
 
-fresh : (x : Marked) (history : List Marked) → continues x history ≡ false → due_stitched false (x ∷ history) ≡ newest_pieces false (x.segment.duration + 0) x x.mark ++ stitched history
+pub fresh : (x : Marked) (history : List Marked) → continues x history ≡ false → due_stitched false (x ∷ history) ≡ newest_pieces false (x.segment.duration + 0) x x.mark ++ stitched history
 fresh x [] e = rw e refl
 fresh x (t ∷ before) e = rw e refl
 
@@ -319,10 +318,8 @@ refresh_holds tolerance p playlist h r f =
     let new = history_after m p.history playlist in
     let t = new_standing m p.accepted p.history playlist (plain_standing p.accepted p.history p.start h.standing) r refl h.store f in
     let start = start_after (last_playlist p.accepted) p.start p.history playlist new in
-    let first = first_number playlist.segments in
-    let ids = ids_in_use first new (last_entered new) (rest_before start first new) in
     record {
-      store = store_pods (in_use start first new) (with_copies p.store ids) (copies_pods p.store ids h.store);
+      store = kept_pods (breaks_in_use start (first_number playlist.segments) new) p.store h.store;
       standing = record { standing = t; begins_by = start_step m p.accepted p.history p.start playlist h.standing f t };
     }
 

@@ -1,13 +1,10 @@
 -- The stitched list only grows.
-use Rattle.std.proofs.Common.{◌≡◌, ℕ, Bool, true, false, cond, List, [], ◌∷◌, ◌++◌, refl, ap, sym, ◌∙◌, subst, append_assoc}
-use Rattle.std.proofs.lemmas.List.{append-nil}
-use Rattle.std.specs.Prelude.{is_none, filter}
+use Rattle.std.proofs.Common.{◌≡◌, cond, List, [], ◌∷◌, ◌++◌, refl, ap, sym, ◌∙◌, append_assoc}
 use Rattle.playlist_meaning.specs.declared.Segment.{Segment}
 use Rattle.playlist_meaning.specs.Marks.{Marked, continues}
-use Rattle.live_meaning.specs.Marking.{Moment, next_shown, show_all, is_new}
-use Rattle.playlist_meaning.specs.Stitched.{Piece, Numbers, stitched, stitched_list, run_pieces, numbers_at, first_numbers, numbered}
-use Rattle.live_meaning.specs.Live.{Event, decided, refreshed, Told, told, happens, refusal, after_refresh, moment}
-use Rattle.live_meaning.specs.LiveLaws.{GoesOn, OnlyGrows}
+use Rattle.live_meaning.specs.Marking.{Moment, next_shown, show_all}
+use Rattle.playlist_meaning.specs.Stitched.{Piece, Numbers, stitched, run_pieces, numbers_at, first_numbers, numbered}
+use Rattle.live_meaning.specs.LiveLaws.{GoesOn}
 
 pub goes_nowhere : {A : Type 0} (xs : List A) → GoesOn xs xs
 goes_nowhere xs = ([], refl)

@@ -2,27 +2,27 @@
 use Rattle.std.proofs.Common.{◌≡◌, inl, inr, ℕ, ◌≤◌, Bool, true, false, cond, ◌&&◌, ◌||◌, not, List, [], ◌∷◌, ◌++◌, map, refl, ap, sym, ◌∙◌, arith}
 use Rattle.std.proofs.lemmas.Bool.{le-leb, and_from, or_parts}
 use Rattle.std.proofs.lemmas.Slice.Eq.{bytes_eq-Decides}
-use Rattle.std.specs.Prelude.{Option, Some, None, Ok, fold, is_none, option_map, ℤ, nat_le, nat_lt, bytes_eq, find, filter}
+use Rattle.std.specs.Prelude.{Option, Some, None, Ok, fold, option_map, ℤ, nat_le, nat_lt, bytes_eq, find, filter}
 use Rattle.std.specs.List.{AllByRecursion, list_any}
 use Rattle.playlist_meaning.specs.declared.Segment.{Segment}
 use Rattle.playlist_meaning.specs.declared.Playlist.{Playlist}
 use Rattle.playlist_meaning.specs.LookBack.{or_earlier}
 use Rattle.playlist_meaning.specs.Pods.{Pod}
 use Rattle.playlist_meaning.specs.Marks.{Mark, Marked, newest_mark}
-use Rattle.live_meaning.specs.declared.fault.RefreshFault.{RefreshFault}
-use Rattle.pod_store.specs.Store.{Entry, Store, with_entries, with_copies, has_id, pod_of, entry_for, pod_for, has_own, is_used, is_used_entry, is_one_of, put, without, names_used, count_with}
+use Rattle.pod_store.specs.Store.{Entry, Store, with_entries, with_copies, has_id, pod_of, entry_for, pod_for, has_own, is_used, is_used_entry, is_one_of, put, without, names_used, count_with, kept_in_use}
 use Rattle.pod_store.proofs.Copies.{all_own}
 use Rattle.pod_store.specs.Outcome.{refuse_if, fault_at, nowhere}
 use Rattle.pod_store.specs.declared.Decisions.{Decisions}
 use Rattle.pod_store.specs.declared.Decisions.TheVariants.{Breaks, Withdraw, Fallback, NoFallback}
 use Rattle.pod_store.specs.declared.fault.DecisionKind.TheVariants.{Used, Full, Unknown}
 use Rattle.break_finder.specs.Known.{Accepted, is_this}
-use Rattle.live_meaning.specs.Marking.{Moment, last_mark, last_entered, mark_id, continued, is_inside, entered, mark_of, instant_of, next_shown, show_all, is_new, history_after}
+use Rattle.live_meaning.specs.Marking.{Moment, last_mark, last_entered, mark_id, continued, is_inside, entered, mark_of, instant_of, next_shown, show_all}
 use Rattle.live_meaning.specs.Successor.{first_number}
-use Rattle.live_meaning.specs.Live.{Event, decided, refreshed, Told, told, happens, refusal, after_refresh, moment, succession_fault, last_playlist, taken, decide, is_marked, is_shown, in_use, ids_in, marks_from, marks_in_use, ids_in_use, rest_before, rest_id, entries_after, store_after}
-use Rattle.live_meaning.specs.LiveLaws.{HasPod, ShownHavePods, first_shown, MarksHavePods}
-use Rattle.live_meaning.proofs.Windows.{In, all_from}
-use Rattle.live_meaning.proofs.Decided.{from_all}
+use Rattle.live_meaning.specs.Live.{succession_fault, last_playlist, taken, decide, is_marked, in_use, in_use_with, ids_in, marks_from, rest_before, rest_id}
+use Rattle.live_meaning.proofs.StoreAfter.{entries_after}
+use Rattle.playlist_meaning.specs.Paced.{Rest}
+use Rattle.live_meaning.specs.LiveLaws.{HasPod, first_shown}
+use Rattle.live_meaning.proofs.Windows.{In}
 use Rattle.live_meaning.proofs.Passed.{passed}
 use Rattle.live_meaning.proofs.Entries.{IsEntered, entered_is}
 
@@ -197,15 +197,14 @@ entry_is used e f i p u =
     ∙ (ap (λ (pod : Pod). Some (record { id = f.id; pod = pod; used = used f.id; copied = e.copied })) p
     ∙ ap (λ b. Some (record { id = f.id; pod = f.pod; used = b; copied = e.copied })) u)
 
-pub after_has : (used : List ℕ → Bool) (store : Store) (ids : List (List ℕ)) (mark : Option Mark) → Has store mark
-    → ((f : Mark) → mark ≡ Some f → (used f.id ≡ true) × (is_one_of ids f.id ≡ true)) → HasPod (store_after used (with_copies store ids)) mark
+pub after_has : (store : Store) (ids : List (List ℕ)) (mark : Option Mark) → Has store mark → ((f : Mark) → mark ≡ Some f → is_one_of ids f.id ≡ true) → HasPod (kept_in_use ids store) mark
 unfolding Has
-after_has used store ids None h u = tt
-after_has used store ids (Some f) h u =
+after_has store ids None h u = tt
+after_has store ids (Some f) h u =
     let entries = (with_copies store ids).entries in
-    let own = all_own store ids f.id f.pod (u f refl).1 h in
+    let own = all_own store ids f.id f.pod (u f refl) h in
     let e = own.0 in
-    (e.copied, kept_found used f.id entries e (u f refl).0 own.1.0 ∙ entry_is used e f (found_id f.id entries e own.1.0) own.1.1 (u f refl).0)
+    (e.copied, kept_found (is_one_of ids) f.id entries e (u f refl) own.1.0 ∙ entry_is (is_one_of ids) e f (found_id f.id entries e own.1.0) own.1.1 (u f refl))
 
 -- ---- which breaks are used
 
@@ -227,6 +226,14 @@ pub or_back : (a b : Bool) → b ≡ true → (a || b) ≡ true
 or_back true b e = refl
 or_back false b e = e
 
+-- it marks a shown segment of the origin, or is this one, which was entered last
+abbrev pub is_shown_with : ℕ → List Marked → Option (List ℕ) → List ℕ → Bool
+is_shown_with first history last id =
+    list_any (λ (s : Marked). nat_le first s.segment.number && is_marked id s.mark) history || is_this id last
+
+abbrev pub is_shown : ℕ → List Marked → List ℕ → Bool
+is_shown first history id = is_shown_with first history (last_entered history) id
+
 pub shown_used : (first : ℕ) (history : List Marked) (s : Marked) (f : Mark) → In s history → first ≤ s.segment.number → s.mark ≡ Some f → is_shown first history f.id ≡ true
 shown_used first history s f h n e =
     or_front _ _ (any_in (λ (x : Marked). nat_le first x.segment.number && is_marked f.id x.mark) history s h
@@ -245,13 +252,13 @@ or_alone : (b : Bool) → (b || false) ≡ b
 or_alone true = refl
 or_alone false = refl
 
+grouped : (a b c : Bool) → (a || (b || c)) ≡ ((a || b) || c)
+grouped true b c = refl
+grouped false b c = refl
+
 one_of_append : (xs ys : List (List ℕ)) (id : List ℕ) → is_one_of (xs ++ ys) id ≡ (is_one_of xs id || is_one_of ys id)
 one_of_append [] ys id = refl
 one_of_append (x ∷ xs) ys id = ap (λ b. bytes_eq id x || b) (one_of_append xs ys id) ∙ grouped (bytes_eq id x) (is_one_of xs id) (is_one_of ys id)
-  where
-    grouped : (a b c : Bool) → (a || (b || c)) ≡ ((a || b) || c)
-    grouped true b c = refl
-    grouped false b c = refl
 
 one_id : (o : Option (List ℕ)) (id : List ℕ) → is_one_of (ids_in o) id ≡ is_this id o
 one_id None id = refl
@@ -270,20 +277,19 @@ marks_listed first (s ∷ before) id =
     here true = one_id (option_map mark_id s.mark) id
     here false = refl
 
-shown_listed : (first : ℕ) (history : List Marked) (id : List ℕ) → is_shown first history id ≡ is_one_of (marks_in_use first history (last_entered history)) id
-shown_listed first history id =
-    sym (one_of_append (marks_from first history) (ids_in (last_entered history)) id
-    ∙ (ap (λ b. b || is_one_of (ids_in (last_entered history)) id) (marks_listed first history id)
-    ∙ ap (λ b. list_any (λ (s : Marked). nat_le first s.segment.number && is_marked id s.mark) history || b) (one_id (last_entered history) id)))
+-- the breaks in use are those that are shown, and that of the rest
+pub in_use_with_is : (first : ℕ) (history : List Marked) (last : Option (List ℕ)) (rest : Option Rest) (id : List ℕ)
+    → is_one_of (in_use_with first history last rest) id ≡ (is_shown_with first history last id || is_this id (rest_id rest))
+in_use_with_is first history last rest id =
+    let marked = list_any (λ (s : Marked). nat_le first s.segment.number && is_marked id s.mark) history in
+    one_of_append (marks_from first history) (ids_in last ++ ids_in (rest_id rest)) id
+    ∙ (ap (λ b. is_one_of (marks_from first history) id || b) (one_of_append (ids_in last) (ids_in (rest_id rest)) id)
+    ∙ (ap (λ b. b || (is_one_of (ids_in last) id || is_one_of (ids_in (rest_id rest)) id)) (marks_listed first history id)
+    ∙ (ap (λ b. marked || (b || is_one_of (ids_in (rest_id rest)) id)) (one_id last id)
+    ∙ (ap (λ b. marked || (is_this id last || b)) (one_id (rest_id rest) id) ∙ grouped marked (is_this id last) (is_this id (rest_id rest))))))
 
--- the breaks that are listed as used are those that are
-pub used_listed : (start first : ℕ) (history : List Marked) (id : List ℕ)
-    → in_use start first history id ≡ is_one_of (ids_in_use first history (last_entered history) (rest_before start first history)) id
-used_listed start first history id =
-    let rest = rest_id (rest_before start first history) in
-    sym (one_of_append (marks_in_use first history (last_entered history)) (ids_in rest) id
-    ∙ (ap (λ b. b || is_one_of (ids_in rest) id) (sym (shown_listed first history id))
-    ∙ ap (λ b. is_shown first history id || b) (one_id rest id)))
+pub in_use_is : (start first : ℕ) (history : List Marked) (id : List ℕ) → in_use start first history id ≡ (is_shown first history id || is_this id (rest_id (rest_before start first history)))
+in_use_is start first history id = in_use_with_is first history (last_entered history) (rest_before start first history) id
 
 -- ---- the last refresh
 

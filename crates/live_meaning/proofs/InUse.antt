@@ -16,7 +16,9 @@ use Rattle.pod_store.specs.declared.fault.DecisionKind.TheVariants.{Used, Full, 
 use Rattle.break_finder.specs.Known.{Accepted, is_this}
 use Rattle.live_meaning.specs.Marking.{last_mark, last_entered, history_after}
 use Rattle.live_meaning.specs.Successor.{first_number}
-use Rattle.live_meaning.specs.Live.{Event, decided, refreshed, Told, told, happens, refusal, after_refresh, taken, decide, moment, start_after, is_marked, is_shown, in_use, entries_after, ids_in_use, rest_before, rest_by, rest_id, last_playlist}
+use Rattle.live_meaning.specs.Live.{Event, decided, refreshed, Told, told, happens, refusal, after_refresh, taken, decide, moment, start_after, is_marked, in_use, breaks_in_use, rest_before, rest_by, rest_id, last_playlist}
+use Rattle.live_meaning.proofs.StoreAfter.{entries_after}
+use Rattle.live_meaning.proofs.HeldPods.{is_shown, in_use_is}
 use Rattle.live_meaning.specs.LiveLaws.{HasPod, ShownHavePods, first_shown, rest_mark, UsedAreInUse}
 use Rattle.playlist_meaning.specs.Paced.{Rest}
 use Rattle.live_meaning.proofs.UsedPods.{marks_have_pods}
@@ -83,7 +85,7 @@ refusal_step tolerance t playlist h None =
     let history = history_after (moment tolerance t playlist) t.history playlist in
     let start = start_after (last_playlist t.accepted) t.start t.history playlist history in
     let first = first_number playlist.segments in
-    after_in_use (in_use start first history) (with_copies t.store (ids_in_use first history (last_entered history) (rest_before start first history))).entries
+    after_in_use (in_use start first history) (with_copies t.store (breaks_in_use start first history)).entries
 refusal_step tolerance t playlist h (Some x) = h
 
 event_in_use : (tolerance : ℕ) (t : Told) (event : Event) → InUse (uses_then t) t.store.entries → InUse (uses_then (happens tolerance t event)) (happens tolerance t event).store.entries
@@ -157,7 +159,7 @@ used_are_in_use tolerance events id sound =
     let first = first_shown t.accepted in
     let rest = rest_before t.start first t.history in
     both (is_used t.store id) (uses_then t id) (used_uses (uses_then t) id t.store.entries (all_in_use tolerance events))
-    (either t.store id (is_shown first t.history id) (is_this id (rest_id rest))
+    (λ k. either t.store id (is_shown first t.history id) (is_this id (rest_id rest))
     (either t.store id (list_any (λ (s : Marked). nat_le first s.segment.number && is_marked id s.mark) t.history) (is_this id (last_entered t.history))
     (shown_used t.store first id t.history pods.0) (mark_used t.store id (last_mark t.history) pods.1.0))
-    (rest_used t.store id rest (rest_there t.store t.accepted t.history t.start (holds tolerance events sound).standing pods.1.1)))
+    (rest_used t.store id rest (rest_there t.store t.accepted t.history t.start (holds tolerance events sound).standing pods.1.1)) (sym (in_use_is t.start first t.history id) ∙ k))

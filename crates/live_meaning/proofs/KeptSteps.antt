@@ -1,16 +1,13 @@
 -- What is kept follows the whole history.
-use Rattle.std.proofs.Common.{◌≡◌, ℕ, ◌+◌, ◌<◌, ◌≤◌, Bool, true, false, cond, ◌&&◌, ◌||◌, not, List, [], ◌∷◌, ◌++◌, map, length, refl, ap, sym, ◌∙◌, subst, append_assoc, arith}
+use Rattle.std.proofs.Common.{◌≡◌, ℕ, ◌+◌, ◌<◌, ◌≤◌, Bool, true, false, cond, List, [], ◌∷◌, ◌++◌, length, refl, ap, sym, ◌∙◌, subst, append_assoc, arith}
 use Rattle.std.proofs.lemmas.Bool.{ltb-true, ltb-false, lt-leb, le-leb}
 use Rattle.std.proofs.lemmas.List.{append-nil}
 use Rattle.std.specs.Prelude.{Option, Some, None, option_map, nat_le, nat_lt, filter}
-use Rattle.std.specs.List.{list_any}
 use Rattle.playlist_meaning.specs.declared.Segment.{Segment}
-use Rattle.playlist_meaning.specs.declared.DateRange.{DateRange}
 use Rattle.playlist_meaning.specs.LookBack.{or_earlier}
 use Rattle.playlist_meaning.specs.Marks.{Mark, Marked, newest_mark}
-use Rattle.pod_store.specs.Store.{Entry, Store, with_entries, with_copies}
 use Rattle.live_meaning.specs.Marking.{Moment, mark_id, last_mark, last_entered, next_mark, instant_of, next_shown, show_all, is_new}
-use Rattle.live_meaning.specs.Live.{is_marked, ids_in, marks_from, marks_in_use, entries_after, store_after}
+use Rattle.live_meaning.specs.Live.{ids_in, marks_from}
 use Rattle.live_meaning.specs.LiveLaws.{GoesOn}
 use Rattle.live_meaning.specs.Kept.{shown_from, marked_on, entered_with, show_on}
 use Rattle.live_meaning.proofs.Growth.{goes_nowhere, goes_on_through}
@@ -116,19 +113,6 @@ pub shown_apart : (first : ℕ) (list gone : List Marked) → shown_from first g
 shown_apart first [] gone e = e
 shown_apart first (x ∷ list) gone e = from_step first x (shown_from first (list ++ gone)) (shown_from first list) (shown_apart first list gone e) (nat_le first x.segment.number)
 
-pub any_append : {A : Type 0} (test : A → Bool) (xs ys : List A) → list_any test ys ≡ false → list_any test (xs ++ ys) ≡ list_any test xs
-any_append test [] ys e = e
-any_append test (x ∷ xs) ys e = ap (λ b. test x || b) (any_append test xs ys e)
-
-abbrev uses : ℕ → List ℕ → Marked → Bool
-uses first id s = nat_le first s.segment.number && is_marked id s.mark
-
-pub none_used : (first end : ℕ) (id : List ℕ) (gone : List Marked) → FallFrom end gone → end ≤ first → list_any (uses first id) gone ≡ false
-none_used first end id [] f h = refl
-none_used first end id (g ∷ gone) f h =
-    ap (λ b. (b && is_marked id g.mark) || list_any (uses first id) gone) (lt-leb first g.segment.number (omega (arith, f.0, h)))
-    ∙ none_used first g.segment.number id gone f.1 (omega (arith, f.0, h))
-
 entered_append : (list gone : List Marked) → last_entered (list ++ gone) ≡ or_earlier (last_entered list) (last_entered gone)
 entered_append [] gone = refl
 entered_append (x ∷ list) gone = entered_cons x.mark (list ++ gone) ∙ (ap (entered_with x.mark) (entered_append list gone) ∙ step x.mark)
@@ -150,20 +134,6 @@ entered_on more front gone =
     ∙ (or_twice (last_entered more) (last_entered front) (last_entered gone)
     ∙ (ap (λ o. or_earlier o (last_entered gone)) (sym (entered_append more front)) ∙ sym (entered_append (more ++ front) gone))))
 
--- ---- the store, by any two words of what is used that agree
-
-pub entries_same : (f g : List ℕ → Bool) (store : List Entry) → ((id : List ℕ) → f id ≡ g id) → entries_after f store ≡ entries_after g store
-entries_same f g [] h = refl
-entries_same f g (e ∷ store) h =
-    ap (λ b. map (λ (x : Entry). record x { used = f x.id }) (cond (not e.used || b) (e ∷ filter (λ (x : Entry). not x.used || f x.id) store) (filter (λ (x : Entry). not x.used || f x.id) store))) (h e.id)
-    ∙ step (not e.used || g e.id) (entries_same f g store h)
-  where
-    step : (b : Bool) → entries_after f store ≡ entries_after g store
-        → map (λ (x : Entry). record x { used = f x.id }) (cond b (e ∷ filter (λ (x : Entry). not x.used || f x.id) store) (filter (λ (x : Entry). not x.used || f x.id) store))
-        ≡ map (λ (x : Entry). record x { used = g x.id }) (cond b (e ∷ filter (λ (x : Entry). not x.used || g x.id) store) (filter (λ (x : Entry). not x.used || g x.id) store))
-    step true k = ap (λ u. record e { used = u } ∷ entries_after f store) (h e.id) ∙ ap (λ es. record e { used = g e.id } ∷ es) k
-    step false k = k
-
 -- the marks of the segments that are gone are no part
 pub none_marked : (first end : ℕ) (gone : List Marked) → FallFrom end gone → end ≤ first → marks_from first gone ≡ []
 none_marked first end [] f h = refl
@@ -174,14 +144,3 @@ none_marked first end (g ∷ gone) f h =
 pub marks_append : (first : ℕ) (list gone : List Marked) → marks_from first gone ≡ [] → marks_from first (list ++ gone) ≡ marks_from first list
 marks_append first [] gone e = e
 marks_append first (x ∷ list) gone e = ap (λ ids. ids ++ cond (nat_le first x.segment.number) (ids_in (option_map mark_id x.mark)) []) (marks_append first list gone e)
-
-pub store_same : (f g : List ℕ → Bool) (store : Store) (ids other : List (List ℕ)) → ((id : List ℕ) → f id ≡ g id) → ids ≡ other
-    → store_after f (with_copies store ids) ≡ store_after g (with_copies store other)
-store_same f g store ids other h e =
-    ap (λ is. store_after f (with_copies store is)) e ∙ ap (with_entries (with_copies store other)) (entries_same f g (with_copies store other).entries h)
-
-pub date_ranges_same : (f g : List ℕ → Bool) (date_ranges : List DateRange) → ((id : List ℕ) → f id ≡ g id) → filter (λ (r : DateRange). not (f r.id)) date_ranges ≡ filter (λ (r : DateRange). not (g r.id)) date_ranges
-date_ranges_same f g [] h = refl
-date_ranges_same f g (r ∷ date_ranges) h =
-    ap (λ b. cond (not b) (r ∷ filter (λ (x : DateRange). not (f x.id)) date_ranges) (filter (λ (x : DateRange). not (f x.id)) date_ranges)) (h r.id)
-    ∙ ap (λ rs. cond (not (g r.id)) (r ∷ rs) rs) (date_ranges_same f g date_ranges h)

@@ -27,7 +27,7 @@ unfolding NotLast
 apart None g h e = cc
 apart (Some f) g h e = cc
 
-last_is : (before : List Marked) (g : Mark) → newest_mark before ≡ Some g → last_entered before ≡ Some g.id
+pub last_is : (before : List Marked) (g : Mark) → newest_mark before ≡ Some g → last_entered before ≡ Some g.id
 last_is [] g e = absurd (cc)
 last_is (s ∷ before) g e = rw e refl
 

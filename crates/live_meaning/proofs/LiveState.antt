@@ -1,25 +1,24 @@
 -- What holds of all that a list of events tells, and that each window succeeds the one before.
 use Rattle.std.proofs.Common.{◌≡◌, ℕ, ◌+◌, ◌<◌, ◌≤◌, Bool, true, false, cond, not, ◌||◌, List, [], ◌∷◌, ◌++◌, map, length, refl, ap, sym, ◌∙◌, subst, arith}
-use Rattle.std.specs.Prelude.{Option, Some, None, Ok, fold, is_some, is_none, filter, nat_lt, bytes_eq}
+use Rattle.std.specs.Prelude.{Option, Some, None, Ok, fold, is_some, filter, nat_lt, bytes_eq}
 use Rattle.std.specs.List.{AllByRecursion}
 use Rattle.playlist_meaning.specs.declared.Segment.{Segment}
 use Rattle.playlist_meaning.specs.declared.Playlist.{Playlist}
-use Rattle.playlist_meaning.specs.LookBack.{or_earlier}
 use Rattle.playlist_meaning.specs.Pods.{Pod}
 use Rattle.std.specs.List.{list_any}
 use Rattle.pod_store.specs.declared.fault.DecisionKind.TheVariants.{Used, Full, Unknown}
-use Rattle.pod_store.specs.Store.{Entry, Store, with_entries, has_id, put, without, names_used, count_with, has_own, is_used, copied_last, with_copy, with_copies}
+use Rattle.pod_store.specs.Store.{Entry, Store, with_entries, has_id, put, without, names_used, count_with, has_own, is_used, copied_last, with_copy, with_copies, is_one_of, kept_in_use}
 use Rattle.pod_store.specs.Outcome.{refuse_if, fault_at, nowhere}
 use Rattle.pod_store.specs.declared.fault.DecisionFault.{DecisionFault}
 use Rattle.pod_store.specs.declared.Decisions.{Decisions}
 use Rattle.pod_store.specs.declared.Decisions.TheVariants.{Breaks, Withdraw, Fallback, NoFallback}
 use Rattle.playlist_meaning.specs.Marks.{Marked, newest_mark}
-use Rattle.live_meaning.specs.Marking.{Moment, next_shown, show_all, is_new, instant_of, history_after, last_entered}
-use Rattle.live_meaning.specs.Live.{Event, decided, refreshed, Told, told, happens, refusal, succession_fault, after_refresh, moment, last_playlist, taken, decide, entries_after, store_after, in_use, marks_in_use}
+use Rattle.live_meaning.specs.Marking.{Moment, next_shown, show_all, is_new, instant_of, history_after}
+use Rattle.live_meaning.specs.Live.{succession_fault, last_playlist, taken, decide}
+use Rattle.live_meaning.proofs.StoreAfter.{entries_after}
 use Rattle.break_finder.specs.Known.{Accepted}
-use Rattle.live_meaning.specs.declared.fault.RefreshFault.{RefreshFault}
 use Rattle.live_meaning.specs.Successor.{first_number, end_number, last_discontinuity, is_mapped}
-use Rattle.live_meaning.specs.Sound.{IsSoundPlaylist, IsSoundPod, AllPods, IsSoundEvent}
+use Rattle.live_meaning.specs.Sound.{IsSoundPlaylist, IsSoundPod, AllPods}
 use Rattle.live_meaning.proofs.Fills.{IsGood, IsPodOrNone, HavePods, IsStore, IsAlike, fill_good}
 use Rattle.live_meaning.proofs.Risen.{FallFrom, newest_discontinuity, fall_on, length_on, newest_on, past, are_past, last_same}
 use Rattle.live_meaning.proofs.Passed.{Passed, passed}
@@ -49,7 +48,7 @@ all_filter : {A : Type 0} (P : A → Type 0) (test : A → Bool) (xs : List A) �
 all_filter P test [] h = tt
 all_filter P test (x ∷ xs) h = filter_step P x (filter test xs) (test x) h.0 (all_filter P test xs h.1)
 
-all_new : (segments : List Segment) → filter (is_new []) segments ≡ segments
+pub all_new : (segments : List Segment) → filter (is_new []) segments ≡ segments
 all_new [] = refl
 all_new (s ∷ later) = ap (λ xs. s ∷ xs) (all_new later)
 
@@ -172,7 +171,7 @@ copied_pods store id h = by (has_own store id)
     by true = h
     by false = record { entries = copy_pods id store.entries store.fallback h.entries h.fallback; fallback = h.fallback }
 
-pub copies_pods : (store : Store) (ids : List (List ℕ)) → IsStore store → IsStore (with_copies store ids)
+copies_pods : (store : Store) (ids : List (List ℕ)) → IsStore store → IsStore (with_copies store ids)
 copies_pods store [] h = h
 copies_pods store (id ∷ ids) h = copies_pods (with_copy store id) ids (copied_pods store id h)
 
@@ -185,8 +184,8 @@ entries_pods : (used : List ℕ → Bool) (store : List Entry) → HavePods stor
 unfolding HavePods
 entries_pods used store h = marked_pods used (filter (λ (e : Entry). not e.used || used e.id) store) (all_filter (λ (e : Entry). IsSoundPod e.pod) (λ (e : Entry). not e.used || used e.id) store h)
 
-pub store_pods : (used : List ℕ → Bool) (store : Store) → IsStore store → IsStore (store_after used store)
-store_pods used store h = record { entries = entries_pods used store.entries h.entries; fallback = h.fallback }
+pub kept_pods : (ids : List (List ℕ)) (store : Store) → IsStore store → IsStore (kept_in_use ids store)
+kept_pods ids store h = record { entries = entries_pods (is_one_of ids) (with_copies store ids).entries (copies_pods store ids h).entries; fallback = h.fallback }
 
 -- ---- what holds after every list of events
 

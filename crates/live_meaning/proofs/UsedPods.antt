@@ -1,5 +1,5 @@
 -- The store has the pods of the marks that are shown, of the last break entered and of the rest.
-use Rattle.std.proofs.Common.{◌≡◌, ℕ, ◌+◌, ◌-◌, ◌<◌, ◌≤◌, Bool, true, false, cond, List, [], ◌∷◌, min, length, refl, ap, sym, ◌∙◌, subst, arith}
+use Rattle.std.proofs.Common.{◌≡◌, ℕ, ◌+◌, ◌-◌, ◌<◌, ◌≤◌, Bool, true, false, cond, ◌||◌, List, [], ◌∷◌, min, length, refl, ap, sym, ◌∙◌, subst, arith}
 use Rattle.std.proofs.lemmas.Bool.{leb-true, eqb-true, eqb-false}
 use Rattle.std.proofs.Math.Decide.{dec_lt}
 use Rattle.std.specs.Prelude.{Option, Some, None, is_none, option_map, nat_le, nat_lt, filter, ◌==◌}
@@ -8,16 +8,15 @@ use Rattle.playlist_meaning.specs.declared.Playlist.{Playlist}
 use Rattle.live_meaning.specs.declared.fault.RefreshFault.{RefreshFault}
 use Rattle.playlist_meaning.specs.Marks.{Mark, Marked, newest_mark}
 use Rattle.playlist_meaning.specs.Stitched.{newest_place, up_to}
-use Rattle.pod_store.specs.Store.{Store, with_copies, is_one_of}
+use Rattle.pod_store.specs.Store.{Store, kept_in_use, is_one_of}
 use Rattle.break_finder.specs.Known.{Accepted, is_this}
-use Rattle.live_meaning.specs.Marking.{Moment, last_mark, is_new, history_after, last_entered}
+use Rattle.live_meaning.specs.Marking.{Moment, last_mark, is_new, history_after}
 use Rattle.live_meaning.specs.Successor.{first_number, end_number}
-use Rattle.live_meaning.specs.Live.{Event, decided, refreshed, moment, succession_fault, last_playlist, store_after, ids_in_use, rest_before, decide}
-use Rattle.live_meaning.specs.Live.{is_shown}
+use Rattle.live_meaning.specs.Live.{Event, decided, refreshed, moment, succession_fault, last_playlist, breaks_in_use, rest_before, decide}
 use Rattle.live_meaning.specs.LiveLaws.{HasPod, ShownHavePods, first_shown}
 use Rattle.live_meaning.specs.Sound.{IsSoundPlaylist, IsSoundEvent}
 use Rattle.playlist_meaning.specs.Paced.{Rest, due_stitched}
-use Rattle.live_meaning.specs.Live.{Told, place_of, gone_before, rest_over, rest_id, in_use, start_after, after_refresh, refusal, happens, told}
+use Rattle.live_meaning.specs.Live.{Told, place_of, gone_before, rest_over, rest_id, start_after, after_refresh, refusal, happens, told}
 use Rattle.live_meaning.specs.Live.{rest_by}
 use Rattle.live_meaning.specs.LiveLaws.{rest_mark, MarksHavePods}
 use Rattle.live_meaning.proofs.Windows.{all_from}
@@ -25,7 +24,7 @@ use Rattle.live_meaning.proofs.Growth.{history_grows}
 use Rattle.live_meaning.proofs.Decided.{from_all}
 use Rattle.live_meaning.proofs.Risen.{FallFrom}
 use Rattle.live_meaning.proofs.LiveState.{Standing, new_standing}
-use Rattle.live_meaning.proofs.HeldPods.{Has, has_some, after_has, show_has, all_more, not_back, shown_used, last_used, used_listed, or_front, or_back, same_id, decide_keeps}
+use Rattle.live_meaning.proofs.HeldPods.{Has, has_some, after_has, show_has, all_more, not_back, is_shown, shown_used, last_used, in_use_is, or_front, or_back, same_id, decide_keeps}
 use Rattle.live_meaning.proofs.EachWindow.{WindowOf, Holds, holds, plain_standing, first_none}
 use Rattle.live_meaning.proofs.Starts.{same_there, none_before, rest_with}
 
@@ -105,9 +104,8 @@ refresh_held tolerance p playlist ph r h e =
     let first = first_number playlist.segments in
     let history = history_after m t.history playlist in
     let start = start_after (last_playlist t.accepted) p.start t.history playlist history in
-    let used = in_use start first history in
-    let ids = ids_in_use first history (last_entered history) (rest_before start first history) in
-    let both : (id : List ℕ) → used id ≡ true → (used id ≡ true) × (is_one_of ids id ≡ true) = λ id u. (u, sym (used_listed start first history id) ∙ u) in
+    let ids = breaks_in_use start first history in
+    let listed : (id : List ℕ) → (is_shown first history id || is_this id (rest_id (rest_before start first history))) ≡ true → is_one_of ids id ≡ true = λ id u. in_use_is start first history id ∙ u in
     let back = not_back t.accepted playlist e in
     let standing = new_standing m t.accepted t.history playlist (plain_standing t.accepted t.history p.start ph.standing) r refl ph.store e in
     let a = show_has m (first_shown t.accepted) t.history (filter (is_new t.history) playlist.segments) (record {
@@ -116,13 +114,13 @@ refresh_held tolerance p playlist ph r h e =
       last = has_some t.store (last_mark t.history) h.1.0;
     }) in
     let rest = rest_over 0 start first history in (
-      all_from (λ (s : Marked). first ≤ s.segment.number → HasPod (store_after used (with_copies t.store ids)) s.mark) history
-          (λ s inside n. after_has used t.store ids s.mark (from_all (λ (x : Marked). first_shown t.accepted ≤ x.segment.number → Has t.store x.mark) history s a.shown inside (omega (arith, back, n)))
-          (λ f same. both f.id (or_front (is_shown first history f.id) (is_this f.id (rest_id rest)) (shown_used first history s f inside n same)))),
+      all_from (λ (s : Marked). first ≤ s.segment.number → HasPod (kept_in_use ids t.store) s.mark) history
+          (λ s inside n. after_has t.store ids s.mark (from_all (λ (x : Marked). first_shown t.accepted ≤ x.segment.number → Has t.store x.mark) history s a.shown inside (omega (arith, back, n)))
+          (λ f same. listed f.id (or_front (is_shown first history f.id) (is_this f.id (rest_id rest)) (shown_used first history s f inside n same)))),
       (
-        after_has used t.store ids (last_mark history) a.last (λ f same. both f.id (or_front (is_shown first history f.id) (is_this f.id (rest_id rest)) (last_used first history f same))),
-        after_has used t.store ids (rest_mark rest) (rest_has m t.accepted t.history p.start t.store playlist ph.standing e standing h.1.1 a.shown)
-            (λ f same. both f.id (or_back (is_shown first history f.id) (is_this f.id (rest_id rest)) (rest_used rest f same))),
+        after_has t.store ids (last_mark history) a.last (λ f same. listed f.id (or_front (is_shown first history f.id) (is_this f.id (rest_id rest)) (last_used first history f same))),
+        after_has t.store ids (rest_mark rest) (rest_has m t.accepted t.history p.start t.store playlist ph.standing e standing h.1.1 a.shown)
+            (λ f same. listed f.id (or_back (is_shown first history f.id) (is_this f.id (rest_id rest)) (rest_used rest f same))),
       ),
     )
 

@@ -6,4 +6,6 @@ pub mod LiveLaws
 pub mod Rows
 pub mod Kept
 pub mod KeptLaws
+pub mod BreakLaws
+pub mod OwedLaws
 pub mod FallbackRows

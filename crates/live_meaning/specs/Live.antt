@@ -1,12 +1,12 @@
 -- What is owed after the decisions and refreshes so far, the newest of these events first. One playlist that is
 -- rewritten is the case of one refresh.
-use Rattle.std.specs.Prelude.{ℕ, ◌+◌, ◌-◌, ◌==◌, max, min, Bool, false, not, ◌&&◌, ◌||◌, nat_le, nat_lt, List, [], ◌∷◌, ◌++◌, map, filter, reverse, length, Option, Some, None, Ok, Err, is_none, is_some, option_map, if◌then◌else◌}
+use Rattle.std.specs.Prelude.{ℕ, ◌+◌, ◌-◌, ◌==◌, max, min, Bool, false, not, nat_le, nat_lt, List, [], ◌∷◌, ◌++◌, map, filter, reverse, length, Option, Some, None, Ok, Err, is_none, is_some, option_map, if◌then◌else◌}
 use Rattle.std.specs.List.{list_all, list_any}
 use Rattle.playlist_meaning.specs.declared.Segment.{Segment}
 use Rattle.playlist_meaning.specs.declared.Playlist.{Playlist}
 use Rattle.playlist_meaning.specs.declared.DateRange.{DateRange}
 use Rattle.playlist_meaning.specs.LookBack.{or_earlier}
-use Rattle.pod_store.specs.Store.{Entry, Store, nothing_decided, with_entries, with_copies}
+use Rattle.pod_store.specs.Store.{Store, nothing_decided, is_one_of, kept_in_use}
 use Rattle.pod_store.specs.Store.{decided as after_decisions}
 use Rattle.pod_store.specs.Outcome.{Outcome}
 use Rattle.pod_store.specs.declared.Decisions.{Decisions}
@@ -42,15 +42,10 @@ taken store (Err fault) = store
 abbrev pub decide : Decisions → Store → Store
 decide decisions store = taken store (after_decisions store decisions)
 
--- ---- the breaks that are used
+-- ---- the breaks in use
 
 abbrev pub is_marked : List ℕ → Option Mark → Bool
 is_marked id mark = is_this id (option_map mark_id mark)
-
--- it marks a shown segment of the origin, or is the last one entered
-abbrev pub is_shown : ℕ → List Marked → List ℕ → Bool
-is_shown first history id =
-    list_any (λ (s : Marked). nat_le first s.segment.number && is_marked id s.mark) history || is_this id (last_entered history)
 
 -- the segments before this number
 abbrev pub gone_before : ℕ → List Marked → List Marked
@@ -76,11 +71,6 @@ abbrev pub rest_id : Option Rest → Option (List ℕ)
 rest_id None = None
 rest_id (Some rest) = Some rest.mark.id
 
--- a break is used while a segment of its pod is written, so where it marks a shown segment of the origin or the window starts
--- with the rest of its pod, or it is the last one entered
-abbrev pub in_use : ℕ → ℕ → List Marked → List ℕ → Bool
-in_use start first history id = is_shown first history id || is_this id (rest_id (rest_before start first history))
-
 abbrev pub ids_in : Option (List ℕ) → List (List ℕ)
 ids_in None = []
 ids_in (Some id) = id ∷ []
@@ -91,21 +81,17 @@ marks_from first [] = []
 marks_from first (s ∷ before) =
     marks_from first before ++ (if nat_le first s.segment.number then ids_in (option_map mark_id s.mark) else [])
 
--- and then this one, which was entered last
-abbrev pub marks_in_use : ℕ → List Marked → Option (List ℕ) → List (List ℕ)
-marks_in_use first history last = marks_from first history ++ ids_in last
+-- with the one that was entered last, and the one with the rest of whose pod the window starts
+abbrev pub in_use_with : ℕ → List Marked → Option (List ℕ) → Option Rest → List (List ℕ)
+in_use_with first history last rest = marks_from first history ++ (ids_in last ++ ids_in (rest_id rest))
 
--- the breaks that are used, where a window starts with this rest
-abbrev pub ids_in_use : ℕ → List Marked → Option (List ℕ) → Option Rest → List (List ℕ)
-ids_in_use first history last rest = marks_in_use first history last ++ ids_in (rest_id rest)
+-- the breaks in use, where the window starts at this place and its first shown segment has this number: each of which a
+-- segment of the pod is written, and the last one entered
+abbrev pub breaks_in_use : ℕ → ℕ → List Marked → List (List ℕ)
+breaks_in_use start first history = in_use_with first history (last_entered history) (rest_before start first history)
 
--- pods that were entered and are used no more are dropped
-abbrev pub entries_after : (List ℕ → Bool) → List Entry → List Entry
-entries_after used entries =
-    map (λ (e : Entry). record e { used = used e.id }) (filter (λ (e : Entry). not e.used || used e.id) entries)
-
-abbrev pub store_after : (List ℕ → Bool) → Store → Store
-store_after used store = with_entries store (entries_after used store.entries)
+abbrev pub in_use : ℕ → ℕ → List Marked → List ℕ → Bool
+in_use start first history id = is_one_of (breaks_in_use start first history) id
 
 -- ---- refreshes
 
@@ -138,17 +124,16 @@ start_after (Some last) start before playlist history =
     if first_number playlist.segments == first_number last.segments then start
     else min (place_of (first_number playlist.segments) history) (length (due_stitched last.ended before))
 
--- a break that is used has its pod from then on: one that was entered with the fallback keeps a copy of it
+-- a break in use has its pod from then on, one that was entered with the fallback a copy of it; that of any other break that was
+-- used goes
 abbrev pub after_refresh : ℕ → Told → Playlist → Told
 after_refresh tolerance told playlist =
     let history = history_after (moment tolerance told playlist) told.history playlist in
     let start = start_after (last_playlist told.accepted) told.start told.history playlist history in
-    let first = first_number playlist.segments in
-    let ids = ids_in_use first history (last_entered history) (rest_before start first history) in
     record {
       accepted = acceptance told playlist ∷ told.accepted;
       history = history;
-      store = store_after (in_use start first history) (with_copies told.store ids);
+      store = kept_in_use (breaks_in_use start (first_number playlist.segments) history) told.store;
       start = start;
     }
 
@@ -208,13 +193,14 @@ window_from start history playlist = reverse (from_place start (due_list playlis
 abbrev pub window_after : Told → Playlist → List Item
 window_after told playlist = window_from told.start told.history playlist
 
--- the origin's date ranges but those of used breaks; none where no written segment states a time, since a date range
+-- the origin's date ranges but those of the breaks in use; none where no written segment states a time, since a date range
 -- has its place by the segments' times alone (4.3.2.7)
+abbrev pub date_ranges_left : Bool → List (List ℕ) → List DateRange → List DateRange
+date_ranges_left stated ids date_ranges = if stated then filter (λ (r : DateRange). not (is_one_of ids r.id)) date_ranges else []
+
 abbrev pub written_date_ranges : Told → Playlist → List DateRange
 written_date_ranges told playlist =
-    if list_any states_instant (window_after told playlist)
-    then filter (λ (r : DateRange). not (in_use told.start (first_number playlist.segments) told.history r.id)) playlist.date_ranges
-    else []
+    date_ranges_left (list_any states_instant (window_after told playlist)) (breaks_in_use told.start (first_number playlist.segments) told.history) playlist.date_ranges
 
 -- a date range is written as its line was read
 abbrev pub date_range_text : DateRange → List ℕ

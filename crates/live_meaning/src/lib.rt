@@ -3,7 +3,9 @@
 //! function's contract is its law; calling it does nothing.
 #![tactic(auto)]
 
+ghost use Rattle.live_meaning.specs.BreakLaws.{InUseIsWritten, RunsKeepTheirPods, FallbackFills, WrittenEndIsNear, WindowsFollow};
 ghost use Rattle.live_meaning.specs.KeptLaws.{KeptFollows, KeptHavePods};
+ghost use Rattle.live_meaning.specs.OwedLaws.{HeaderIsTheLast, DateRangesAreTheOrigins, WindowIsStitched, UnmarkedStandOnce, SegmentsPlayTheWindow, NothingDecidedNothingChanged, PodsAreKept, StoreStaysSmall};
 ghost use Rattle.live_meaning.specs.LiveLaws.{OnlyGrows, EachSucceeds, MarksFollow, HistoriesAreLinked, MarksAreKnown, NoFaultSucceeds, NewestFits, MarksHavePods, UsedAreInUse};
 
 pub mod fallback_rows;
@@ -58,6 +60,74 @@ pub fn marks_have_pods()
 /// rest of its pod.
 pub fn used_are_in_use()
     ensures { UsedAreInUse }
+{}
+
+/// A break is in use exactly where a segment of its pod is written, or where it is the last one entered.
+pub fn in_use_is_written()
+    ensures { InUseIsWritten }
+{}
+
+/// A run keeps the pod that it was entered with, whatever comes later.
+pub fn runs_keep_their_pods()
+    ensures { RunsKeepTheirPods }
+{}
+
+/// A signalled break that has no pod of its own is filled with the fallback, where that fits.
+pub fn fallback_fills()
+    ensures { FallbackFills }
+{}
+
+/// While a run is open, the written end is later than the end of the run's own segments by at most one segment of its pod.
+pub fn written_end_is_near()
+    ensures { WrittenEndIsNear }
+{}
+
+/// A window follows from the window before, the store, what is known of breaks, the shown segments with their marks, the break
+/// that was entered last, the length of the newest run, the rest of a pod, and the refresh.
+pub fn windows_follow()
+    ensures { WindowsFollow }
+{}
+
+/// The header of the owed playlist is that of the one that was accepted last, of version 6 at least.
+pub fn header_is_the_last()
+    ensures { HeaderIsTheLast }
+{}
+
+/// A date range of the origin is written word for word exactly where its break isn't played and a written segment states a time.
+pub fn date_ranges_are_the_origins()
+    ensures { DateRangesAreTheOrigins }
+{}
+
+/// The window is what stands for the shown segments, of the pod of an open run as much as is due, after the rest of one pod.
+pub fn window_is_stitched()
+    ensures { WindowIsStitched }
+{}
+
+/// The origin's segments in the window are the unmarked ones of those that are shown, each once and in their order.
+pub fn unmarked_stand_once()
+    ensures { UnmarkedStandOnce }
+{}
+
+/// The owed segments play what the window's pieces play, one for one.
+pub fn segments_play_the_window()
+    ensures { SegmentsPlayTheWindow }
+{}
+
+/// Without decisions a first refresh is owed as it was read, but that each segment states the instant at which it begins, where
+/// it has one.
+pub fn nothing_decided_nothing_changed()
+    ensures { NothingDecidedNothingChanged }
+{}
+
+/// After an accepted refresh a break has a pod of its own exactly where it is in use and was filled, or where a decision gave it
+/// one and it wasn't entered.
+pub fn pods_are_kept()
+    ensures { PodsAreKept }
+{}
+
+/// No break stands twice in the store, and at most 256 have pods that decisions gave them.
+pub fn store_stays_small()
+    ensures { StoreStaysSmall }
 {}
 
 /// What is kept of all events, and what is owed, follow from what was kept before.

@@ -22,19 +22,6 @@ use Rattle.live_meaning.specs.declared.fault.RefreshFault.TheVariants.{NumberRan
 abbrev pub is_after : ℕ → Segment → Bool
 is_after number s = nat_lt number s.number
 
--- a segment from a number on is marked with this break
-abbrev pub is_marked_from : ℕ → List ℕ → Held → Bool
-is_marked_from first id m = nat_le first m.segment.number && is_this id m.mark
-
--- the break marks a segment from a number on, or is the last one entered
-abbrev pub is_used_from : ℕ → List Held → Option (List ℕ) → List ℕ → Bool
-is_used_from first held entered id = list_any (is_marked_from first id) held || is_this id entered
-
--- the rest is of this break's pod
-abbrev pub is_rest_of : List ℕ → Option Rest → Bool
-is_rest_of id None = false
-is_rest_of id (Some rest) = bytes_eq id rest.id
-
 -- the store has the pod of the rest, if there is one
 abbrev pub IsRestDecided : Store → Option Rest → Type 0
 IsRestDecided store None = Unit {0}

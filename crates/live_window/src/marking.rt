@@ -65,14 +65,16 @@ impl<'a> Model for Marker<'a> {
 
     ghost view = { λ a. record { tolerance = a.limits.tolerance; target = a.limits.target; mapped = a.limits.mapped; breaks = a.knowledge.now; store = a.store.now } };
 
-    ghost invariant = { λ a. a.entrances ≡ entrances_in a.limits.target a.limits.mapped a.store.now a.knowledge.now };
+    ghost invariant = { λ a. a.entrances ≡ record { tolerance = a.limits.tolerance; found = entrances_in a.limits.target a.limits.mapped a.store.now a.knowledge.now } };
 }
 
+// What decides them for about so many segments.
 fn marker_of<'a>(
     alloc: Global,
     limits: &Limits,
     knowledge: &'a Knowledge,
     store: &'a PodStore,
+    segments: usize,
 ) -> Result<Marker<'a>, AllocError>
     ensures { IfOk result (λ marker. marker ≡ record { tolerance = limits.now.tolerance; target = limits.now.target; mapped = limits.now.mapped; breaks = knowledge.now; store = store.now }) }
 {
@@ -80,7 +82,14 @@ fn marker_of<'a>(
         limits: *limits,
         knowledge,
         store,
-        entrances: knowledge.entrances(alloc, limits.target, limits.mapped, store)?,
+        entrances: knowledge.entrances(
+            alloc,
+            limits.tolerance,
+            limits.target,
+            limits.mapped,
+            store,
+            segments,
+        )?,
     })
 }
 
@@ -120,7 +129,7 @@ impl<'a> Marker<'a> {
         if self.store.is_empty() {
             return Ok(None);
         }
-        match self.entrances.entered(instant, self.limits.tolerance, last) {
+        match self.entrances.entered(instant, last) {
             Some(id) => Ok(Some(Shared::copy_of(alloc, id)?)),
             None => Ok(None),
         }
@@ -312,7 +321,7 @@ pub fn mark_on(
 ) -> Result<Vec<Marked>, AllocError>
     ensures { IfOk result (λ v. v.items ≡ mark_on (record { tolerance = limits.now.tolerance; target = limits.now.target; mapped = limits.now.mapped; breaks = knowledge.now; store = store.now }) newest.now last.now segments.now instants.entry) }
 {
-    let mut marker = marker_of(alloc, limits, knowledge, store)?;
+    let mut marker = marker_of(alloc, limits, knowledge, store, segments.len())?;
     let mut run = run_of(newest, last)?;
     marker.marked(alloc, &mut run, segments, instants)
 }

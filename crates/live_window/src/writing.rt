@@ -5,14 +5,13 @@ ghost use Rattle.playlist_meaning.specs.Stitched.{fits};
 ghost use Rattle.pod_store.specs.Store.{Store, is_one_of, pod_for};
 ghost use Rattle.playlist_meaning.specs.declared.DateRange.{DateRange};
 ghost use Rattle.break_finder.specs.Kept.{has_text};
-ghost use Rattle.break_finder.specs.Known.{is_this};
 ghost use Rattle.stitcher.specs.StitchedSegments.{AreDecided, ends_in, item_fits, rest_in, stitched_segments};
 ghost use Rattle.stitcher.specs.Written.{written_item};
-ghost use Rattle.live_meaning.specs.Kept.{ends_of, items_on, kept_date_ranges, numbers_on, rest_after, rest_on, start_on, stitched_on, window_on};
-ghost use Rattle.live_meaning.specs.Live.{date_range_text, rest_over};
+ghost use Rattle.live_meaning.specs.Kept.{ends_of, items_on, numbers_on, rest_after, rest_on, start_on, stitched_on, window_on};
+ghost use Rattle.live_meaning.specs.Live.{date_range_text, date_ranges_left, rest_over};
 ghost use Rattle.live_meaning.specs.Successor.{first_number};
 ghost use Rattle.live_window.specs.Marking.{place_on, so_far};
-ghost use Rattle.live_window.specs.Listed.{IsFront, IsRestDecided, RefusesList, first_alone, first_numbers_of, pod_keeps, head_of, is_rest_of, is_used_from, is_marked_from, states_time, texts_left};
+ghost use Rattle.live_window.specs.Listed.{IsFront, IsRestDecided, RefusesList, first_alone, first_numbers_of, pod_keeps, head_of, states_time, texts_left};
 ghost use Rattle.live_window.specs.Placing.{HasRoom, IsWithin, rest_count};
 ghost use Rattle.live_window.specs.Showing.{kept_in};
 
@@ -300,7 +299,7 @@ fn add_id<'a>(set: &mut IndexSet<&'a str>, id: &'a Text) -> Result<(), AllocErro
 }
 
 // These IDs as a set.
-fn set_of<'a>(alloc: Global, ids: &'a [Text]) -> Result<IndexSet<&'a str>, AllocError>
+fn set_of<'a>(alloc: Global, ids: &'a [Shared<Text>]) -> Result<IndexSet<&'a str>, AllocError>
     ensures { IfOk result (λ set. (id : List ℕ) → has_text set.keys id ≡ is_one_of ids.now id) }
 {
     let mut set: IndexSet<&str> = IndexSet::new(alloc);
@@ -342,98 +341,14 @@ fn texts_left<'a>(
 pub fn date_ranges_left<'a>(
     alloc: Global,
     items: &[OutSegment<'_>],
-    ids: &[Text],
+    ids: &[Shared<Text>],
     date_ranges: &'a [DateRange],
 ) -> Result<Vec<OriginText<'a>>, AllocError>
-    ensures { IfOk result (λ v. v.items ≡ map date_range_text (kept_date_ranges (list_any states_time items.now) (is_one_of ids.now) date_ranges.now)) }
+    ensures { IfOk result (λ v. v.items ≡ map date_range_text (date_ranges_left (list_any states_time items.now) ids.now date_ranges.now)) }
 {
     if !is_any_timed(items) {
         return Ok(Vec::new(alloc));
     }
     let set = set_of(alloc, ids)?;
     texts_left(alloc, &set, date_ranges)
-}
-
-#[tactic(auto, using(crate::proofs::Ranges::or_false))]
-// Notes a break, where there is one, in a set.
-fn note<'a>(set: &mut IndexSet<&'a str>, id: &'a Option<Shared<Text>>) -> Result<(), AllocError>
-    ensures { OnOk result ((other : List ℕ) → has_text set.new.keys other ≡ (has_text set.old.keys other || is_this other id.now)) }
-{
-    match id {
-        Some(id) => add_id(set, id),
-        None => Ok(()),
-    }
-}
-
-#[tactic(auto, using(crate::proofs::Ranges::before_it, crate::proofs::Ranges::marked_it))]
-// Notes the break that a segment is marked with, where it is numbered from this number on.
-fn note_mark<'a>(
-    set: &mut IndexSet<&'a str>,
-    number: u64,
-    marked: &'a Marked,
-) -> Result<(), AllocError>
-    ensures { OnOk result ((id : List ℕ) → has_text set.new.keys id ≡ (has_text set.old.keys id || is_marked_from number id marked.now)) }
-{
-    if marked.segment.number < number {
-        return Ok(());
-    }
-    note(set, &marked.mark)
-}
-
-#[tactic(auto, using(crate::proofs::Ranges::or_false))]
-// Notes the break of a rest, where there is one, in a set.
-fn note_rest<'a>(set: &mut IndexSet<&'a str>, rest: &'a Option<Rest>) -> Result<(), AllocError>
-    ensures { OnOk result ((other : List ℕ) → has_text set.new.keys other ≡ (has_text set.old.keys other || is_rest_of other rest.now)) }
-{
-    match rest {
-        Some(rest) => add_id(set, &rest.id),
-        None => Ok(()),
-    }
-}
-
-#[tactic(auto, using(crate::proofs::Ranges::one_noted))]
-// The breaks that mark segments from this number on, and the last one entered, as a set.
-fn set_in_use<'a>(
-    alloc: Global,
-    number: u64,
-    list: &'a [Marked],
-    entered: &'a Option<Shared<Text>>,
-) -> Result<IndexSet<&'a str>, AllocError>
-    ensures { IfOk result (λ set. (id : List ℕ) → has_text set.keys id ≡ is_used_from number list.now entered.now id) }
-{
-    let mut set: IndexSet<&str> = IndexSet::new(alloc);
-    let mut rest = list;
-    while let Some((marked, later)) = rest.split_first() {
-        note_mark(&mut set, number, marked)?;
-        rest = later;
-    }
-    note(&mut set, entered)?;
-    Ok(set)
-}
-
-// Copies of the texts of a set.
-fn copies_of(alloc: Global, set: &IndexSet<&str>) -> Result<Vec<Text>, AllocError>
-    ensures { IfOk result (λ ids. ids.items ≡ map (λ id. id.now) set.now.keys) }
-{
-    let mut ids = Vec::with_capacity(alloc, set.len())?;
-    for id in set.as_slice() {
-        ids.push(Text::copy_of(alloc, id)?)?;
-    }
-    Ok(ids)
-}
-
-/// The breaks in use: those that mark segments from this number on, the last one entered, and the one of the rest.
-pub fn used_ids(
-    alloc: Global,
-    number: u64,
-    list: &[Marked],
-    entered: &Option<Shared<Text>>,
-    rest: &Option<Rest>,
-) -> Result<Vec<Text>, AllocError>
-    ensures { IfOk result (λ ids. (id : List ℕ) → is_one_of ids.items id ≡ (is_used_from number list.now entered.now id || is_rest_of id rest.now)) }
-{
-    let mut set = set_in_use(alloc, number, list, entered)?;
-    note_rest(&mut set, rest)?;
-    let ids = copies_of(alloc, &set)?;
-    Ok(ids)
 }

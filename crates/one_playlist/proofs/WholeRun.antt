@@ -16,12 +16,12 @@ use Rattle.live_laws.specs.Owed.{owed_text}
 use Rattle.live_counters.specs.Channel as channel
 use Rattle.live_counters.specs.Channel.{Channel, Given, readable, refreshed, told_by, WritesOwed}
 use Rattle.live_counters.proofs.Steps.{channel_writes}
-use Rattle.one_playlist.specs.declared.run.TheConstants.{TOLERANCE}
+use Rattle.one_playlist.specs.Vod.{run_tolerance}
 use Rattle.one_playlist.specs.declared.fault.VodFault.{VodFault}
-use Rattle.one_playlist.specs.declared.fault.VodFault.TheVariants.{Playlist as PlaylistOf, NumberRange, Read, TooManyReads, Write, OutOfMemory}
+use Rattle.one_playlist.specs.declared.fault.VodFault.TheVariants.{BadBase, Decision, Playlist as PlaylistOf, NumberRange, Read, TooManyReads, Write, OutOfMemory}
 use Rattle.one_playlist.specs.Given.{given_by, IsDecided, IsGivenAll, IsRefreshed, PassesItsRange, RefreshesFrom, RefusesInput, RefusesFrom}
 use Rattle.one_playlist.specs.Events.{events_of}
-use Rattle.one_playlist.specs.Runs.{IsFairToSource, IsFairToSink}
+use Rattle.one_playlist.specs.Runs.{GaveAtEachButLast, IfAtEnd, IsFairToSource, IsFairToSink}
 use Rattle.one_playlist.specs.Vod.{told_with, IsInOrder, IsOfVod, HasRead, HasJudged, Writes, WritesFront}
 
 -- what a channel writes where this playlist was accepted last
@@ -64,14 +64,14 @@ module _ (base : List ℕ) (file : Option (List ℕ)) (c : Channel) (d : IsDecid
       told_then =
           ap (λ x. told_by x then.tolerance (refreshed input ∷ given_by file)) r.base
           ∙ (ap (λ x. told_by c.base x (refreshed input ∷ given_by file)) (r.tolerance ∙ d.tolerance)
-          ∙ ap (λ x. told TOLERANCE (readable x ++ events)) r.read)
+          ∙ ap (λ x. told run_tolerance (readable x ++ events)) r.read)
 
       accepted : HasJudged base file old new None
       accepted = judged p r.read None r.accepted
 
       last_is : last_playlist (told_with events p).accepted ≡ Some p
       unfolding accepted judged
-      last_is = ap (λ o. last_playlist (cond (is_none o) (after_refresh TOLERANCE (told TOLERANCE events) p) (told TOLERANCE events)).accepted) accepted.judged
+      last_is = ap (λ o. last_playlist (cond (is_none o) (after_refresh run_tolerance (told run_tolerance events) p) (told run_tolerance events)).accepted) accepted.judged
 
       owes : (unwrap_or then.text [] ≡ owed_text (told_with events p) p) × ((other : Parts) → Denotes other (owed_text (told_with events p) p) (owed_for (told_with events p) p))
       owes = owed_so (told_with events p) p then.text last_is (subst (λ t. WritesOwed t then.text) told_then (channel_writes then (refreshed input ∷ given_by file) r.stands))
@@ -162,6 +162,7 @@ still_fair e old new f = record {
   told = f.told;
   too_many = λ is. f.too_many (still e TooManyReads is);
   calls = f.calls;
+  to_end = f.to_end;
 }
 
 pub still_fair_sink : {A B : Type 0} (e : VodFault) (old new : SinkStand) → IsFairToSink {A = A} (Err e) old new → IsFairToSink {A = B} (Err e) old new
@@ -183,15 +184,26 @@ write_is_no_read = (λ same. absurd (cc), λ same. absurd (cc))
 pub write_is_no_playlist : {A : Type 0} (fault : Fault) → Write ≡ PlaylistOf fault → A
 write_is_no_playlist fault same = absurd (cc)
 
+at_end : (e : VodFault) (P : Type 0) → P → IfAtEnd e P
+at_end (PlaylistOf fault) P p = p
+at_end NumberRange P p = p
+at_end Write P p = p
+at_end (Decision fault) P p = tt
+at_end BadBase P p = tt
+at_end Read P p = tt
+at_end TooManyReads P p = tt
+at_end OutOfMemory P p = tt
+
 -- the source was read to its end, and isn't to blame for what comes after
 pub fair_source : {A B : Type 0} (r : Result A VodFault) (x : B) (old new : SourceStand) → IsFairToSource (Ok x) old new → IfErr r (λ e. (e ≢ Read) × (e ≢ TooManyReads)) → IsFairToSource r old new
-fair_source (Ok y) x old new f h = record { blamed = λ is. absurd (cc); unfailed = f.unfailed; told = tt; too_many = λ is. absurd (cc); calls = f.calls }
+fair_source (Ok y) x old new f h = record { blamed = λ is. absurd (cc); unfailed = f.unfailed; told = tt; too_many = λ is. absurd (cc); calls = f.calls; to_end = f.to_end }
 fair_source (Err e) x old new f h = record {
   blamed = λ is. let same : e ≡ Read = cc in absurd (h.0 same);
   unfailed = tt;
   told = λ other. f.unfailed;
   too_many = λ is. let same : e ≡ TooManyReads = cc in absurd (h.1 same);
   calls = f.calls;
+  to_end = at_end e (GaveAtEachButLast old new) f.to_end;
 }
 
 pub unused_sink : {A : Type 0} (r : Result A VodFault) (s : SinkStand) → IfErr r (λ e. e ≢ Write) → IsFairToSink r s s

@@ -10,16 +10,15 @@ use Rattle.live_meaning.specs.declared.fault.RefreshFault.TheVariants.{Playlist 
 use Rattle.live_meaning.specs.Live.{refusal}
 use Rattle.live_counters.specs.Channel as channel
 use Rattle.live_counters.specs.Channel.{Channel, Given, decided, refreshed, StandsFor, told_by, is_memory_kind}
-use Rattle.one_playlist.specs.declared.run.TheConstants.{TOLERANCE}
 use Rattle.one_playlist.specs.declared.fault.VodFault.{VodFault}
 use Rattle.one_playlist.specs.declared.fault.VodFault.TheVariants.{BadBase, Decision, Playlist as PlaylistOf, NumberRange, OutOfMemory}
 use Rattle.one_playlist.specs.Events.{events_of}
-use Rattle.one_playlist.specs.Vod.{IsOfReading}
+use Rattle.one_playlist.specs.Vod.{IsOfReading, run_tolerance}
 
 -- the channel was given nothing
 pub record IsNew (text : List ℕ) (c : Channel) : Type 0 where
   pub base : base_of text ≡ Some c.base
-  pub tolerance : c.tolerance ≡ TOLERANCE
+  pub tolerance : c.tolerance ≡ run_tolerance
   pub stands : StandsFor c []
 
 -- ---- the decision file
@@ -38,7 +37,7 @@ pub record HasDecided (file : Option (List ℕ)) (old new : Channel) : Type 0 wh
 -- the channel of a base, which was given the decision file, if there is one
 pub record IsDecided (text : List ℕ) (file : Option (List ℕ)) (c : Channel) : Type 0 where
   pub base : base_of text ≡ Some c.base
-  pub tolerance : c.tolerance ≡ TOLERANCE
+  pub tolerance : c.tolerance ≡ run_tolerance
   pub said : events_of file ≡ Ok (channel.events_of c.base (given_by file))
   pub stands : StandsFor c (given_by file)
 
@@ -119,7 +118,7 @@ RefusesFrom e source_old source_new old = IsOfReading e
 -- the channel of a base, which was given the decision file, if there is one, and then the input that a source gave, to its end
 pub record IsGivenAll (text : List ℕ) (file source_old source_new : Option (List ℕ)) (c : Channel) : Type 0 where
   pub base : base_of text ≡ Some c.base
-  pub tolerance : c.tolerance ≡ TOLERANCE
+  pub tolerance : c.tolerance ≡ run_tolerance
   pub input : List ℕ
   pub given : GaveAll source_old source_new input
   pub stands : StandsFor c (refreshed input ∷ given_by file)

@@ -4,8 +4,6 @@ use Rattle.std.specs.List.{list_any, list_all, find}
 use Rattle.std.specs.Str.{is_utf8}
 use Rattle.std.specs.Str.Lines.{lines}
 use Rattle.url.specs.Parts.{Parts}
-use Rattle.attr_list.specs.declared.list.TheConstants.{MOST_ATTRIBUTES}
-use Rattle.playlist_meaning.specs.declared.limits.TheConstants.{MOST_BYTES, MOST_FORMATS, MOST_SEGMENTS}
 use Rattle.playlist_meaning.specs.declared.FaultKind.{FaultKind}
 use Rattle.playlist_meaning.specs.declared.FaultKind.TheVariants as fault
 use Rattle.playlist_meaning.specs.declared.PlaylistFault.{PlaylistFault}
@@ -189,10 +187,10 @@ unlimited = record { bytes = None; attributes = None; formats = None; segments =
 -- the limits of this reader
 abbrev pub limited : Reader
 limited = record {
-  bytes = Some MOST_BYTES;
-  attributes = Some MOST_ATTRIBUTES;
-  formats = Some MOST_FORMATS;
-  segments = Some MOST_SEGMENTS;
+  bytes = Some 4194304;
+  attributes = Some 64;
+  formats = Some 16;
+  segments = Some 10000;
 }
 
 -- the bytes denote this playlist under the base

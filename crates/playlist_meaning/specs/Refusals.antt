@@ -1,5 +1,5 @@
 -- What a fault says. Want of memory says nothing of the rest.
-use Rattle.std.specs.Prelude.{◌≡◌, ◌≢◌, ℕ, List, Option, None, Result, Ok, Err, MatchResult}
+use Rattle.std.specs.Prelude.{◌≡◌, ◌≢◌, Result, Ok, Err, MatchResult}
 use Rattle.playlist_meaning.specs.declared.FaultKind.{FaultKind}
 use Rattle.playlist_meaning.specs.declared.FaultKind.TheVariants as fault
 use Rattle.playlist_meaning.specs.Said.{Outcome}

@@ -1,5 +1,10 @@
 //! Laws of the definitions. Each function's contract is its law; calling it does nothing.
+ghost use Rattle.std.specs.Prelude.{◌≡◌, Some};
 ghost use Rattle.playlist_meaning.specs.Laws.{KeysAreTheLast, KeysAreSorted, ReadsWhatIsDenoted, LinesAreSlices};
+ghost use Rattle.playlist_meaning.specs.Reading.{limited};
+
+use crate::limits::{MOST_BYTES, MOST_FORMATS, MOST_SEGMENTS};
+use attr_list::MOST_ATTRIBUTES;
 
 /// The key in force of a format is the last one since METHOD=NONE.
 pub fn keys_in_force_are_the_last()
@@ -19,4 +24,12 @@ pub fn what_is_read_is_denoted()
 /// The lines of a text are slices of it.
 pub fn lines_are_slices()
     ensures { LinesAreSlices }
+{}
+
+/// The reader's limits are these constants.
+pub fn limits_are_the_readers()
+    ensures bytes { limited.bytes ≡ Some MOST_BYTES }
+    ensures attributes { limited.attributes ≡ Some MOST_ATTRIBUTES }
+    ensures formats { limited.formats ≡ Some MOST_FORMATS }
+    ensures segments { limited.segments ≡ Some MOST_SEGMENTS }
 {}

@@ -1,7 +1,8 @@
 //! Calls of a store of pods that no program makes.
 use decision_files::read_decisions;
+use playlist_meaning::{Shared, Text};
 use pod_store::{DecisionFault, PodStore};
-use std::alloc::Global;
+use std::alloc::{AllocError, Global};
 
 const POD: &[u8] =
     b"{\"breaks\":[{\"id\":\"b1\",\"ads\":[{\"segments\":[{\"uri\":\"http://ads.example/a0.ts\",\"duration\":\"8\"}]}]}]}";
@@ -12,22 +13,31 @@ fn store_of(alloc: Global, file: &[u8]) -> Result<PodStore, DecisionFault> {
     Ok(store)
 }
 
-fn is_marked(store: &mut PodStore) -> bool {
-    !store.release("b1") && store.mark_used("b1") && !store.mark_used("b2")
+fn one_id(alloc: Global, id: &str) -> Result<Vec<Shared<Text>>, AllocError> {
+    let mut ids = Vec::new(alloc);
+    ids.push(Shared::new(alloc, Text::copy_of(alloc, id)?)?)?;
+    Ok(ids)
 }
 
-fn is_released(store: &mut PodStore) -> bool {
-    store.release("b1") && store.get("b1").is_none()
+fn is_kept_in_use(store: &mut PodStore, ids: &[Shared<Text>]) -> Result<bool, DecisionFault> {
+    store.keep_in_use(ids)?;
+    Ok(store.is_used("b1") && !store.is_used("b2"))
 }
 
-fn is_used_and_released(alloc: Global) -> Result<bool, DecisionFault> {
+fn is_dropped_then(store: &mut PodStore) -> Result<bool, DecisionFault> {
+    store.keep_in_use(&[])?;
+    Ok(store.get("b1").is_none())
+}
+
+fn is_used_and_dropped(alloc: Global) -> Result<bool, DecisionFault> {
     let mut store = store_of(alloc, POD)?;
-    Ok(is_marked(&mut store) && is_released(&mut store))
+    let ids = one_id(alloc, "b1")?;
+    Ok(is_kept_in_use(&mut store, ids.as_slice())? && is_dropped_then(&mut store)?)
 }
 
 #[test]
-fn a_used_pod_is_released(rt: HostRuntime) {
-    assert!(rt; matches!(is_used_and_released(rt.alloc()), Ok(true)));
+fn a_pod_goes_with_the_use_of_its_break(rt: HostRuntime) {
+    assert!(rt; matches!(is_used_and_dropped(rt.alloc()), Ok(true)));
 }
 
 const FALLBACK: &[u8] =

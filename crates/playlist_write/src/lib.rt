@@ -82,6 +82,9 @@ impl From<SinkFailed> for WriteFault {
 // So many segments are looked at to reckon how much room all of them take.
 const FEW: usize = 16;
 
+// No segment is given more room than this at first, so that one long text claims none for all the others.
+const MOST_ROOM: usize = 1024;
+
 // The room that a segment takes, generously.
 fn room_of(next: &OutSegment<'_>) -> usize {
     let segment = &next.segment;
@@ -94,13 +97,13 @@ fn room_of(next: &OutSegment<'_>) -> usize {
     texts.saturating_add(keys).saturating_add(88)
 }
 
-// The most room that one of the first segments takes.
+// The room that a segment is given: the most that one of the first ones takes, as far as that goes.
 fn most_room(segments: &[OutSegment<'_>]) -> usize {
     let mut most: usize = 0;
     for next in segments.iter().take(FEW) {
         most = most.max(room_of(next));
     }
-    most
+    most.min(MOST_ROOM)
 }
 
 // At least as much room as most texts take: a text that grows is held twice while it is moved, and room that isn't used takes

@@ -2,6 +2,7 @@
 use Rattle.std.proofs.Common.{◌≡◌, ℕ, Bool, true, false, cond, ◌||◌, List, [], ◌∷◌, ◌++◌, map, length, take, refl, ap, sym, ◌∙◌, append_assoc, Some, None}
 use Rattle.std.specs.Prelude.{Option, is_some, find, option_map, bytes_eq}
 use Rattle.std.proofs.lemmas.Slice.Eq.{bytes_eq-Decides}
+use Rattle.std.proofs.lemmas.Bool.{or_parts}
 use Rattle.std.proofs.lemmas.List.{take-map, append-nil, length-map}
 use Rattle.std.proofs.Math.Seq.{take-append_seam}
 use Rattle.playlist_meaning.specs.LookBack.{or_earlier}
@@ -133,6 +134,45 @@ all_own store (x ∷ ids) id pod h p = by (bytes_eq id x) refl (λ k. all_own (w
         let own = own_entry (entry_for (with_copy store x) id) pod (ap (λ i. own_pod (with_copy store i) id) (sym same) ∙ (own_copy store id ∙ p)) in
         (own.0, (entry_stays (with_copy store x) ids id own.0 own.1.0, own.1.1))
     by false k rec h = rec h
+
+-- the fallback stays what it is
+pub fallback_stands : (store : Store) (ids : List (List ℕ)) → (with_copies store ids).fallback ≡ store.fallback
+fallback_stands store [] = refl
+fallback_stands store (x ∷ ids) = fallback_stands (with_copy store x) ids ∙ fallback_stays store x
+
+-- a break has the pod then that it is filled with, where it is one of these, and else what it had
+copy_pod : (id other : List ℕ) (store : Store) → own_pod (with_copy store other) id ≡ cond (bytes_eq id other) (pod_for store id) (own_pod store id)
+copy_pod id other store = by (bytes_eq id other) refl
+  where
+    apart : bytes_eq id other ≡ false → (b : Bool) → own_pod (cond b store (with_entries store (copied_last store.entries other store.fallback))) id ≡ own_pod store id
+    apart e true = refl
+    apart e false = ap pod_if (copy_other id other store.entries store.fallback e)
+
+    by : (t : Bool) → bytes_eq id other ≡ t → own_pod (with_copy store other) id ≡ cond t (pod_for store id) (own_pod store id)
+    by true e = ap (λ i. own_pod (with_copy store i) id) (sym ((bytes_eq-Decides id other).0 e)) ∙ own_copy store id
+    by false e = apart e (has_own store other)
+
+pub copies_pod : (store : Store) (ids : List (List ℕ)) (id : List ℕ) → own_pod (with_copies store ids) id ≡ cond (is_one_of ids id) (pod_for store id) (own_pod store id)
+copies_pod store [] id = refl
+copies_pod store (x ∷ ids) id =
+    copies_pod (with_copy store x) ids id
+    ∙ (ap (λ p. cond (is_one_of ids id) p (own_pod (with_copy store x) id)) (pod_stays_copy store x id)
+    ∙ (ap (λ p. cond (is_one_of ids id) (pod_for store id) p) (copy_pod id x store) ∙ by (bytes_eq id x) (is_one_of ids id)))
+  where
+    by : (t u : Bool) → cond u (pod_for store id) (cond t (pod_for store id) (own_pod store id)) ≡ cond (t || u) (pod_for store id) (own_pod store id)
+    by true true = refl
+    by true false = refl
+    by false true = refl
+    by false false = refl
+
+-- one that is none of these stands as it did
+pub other_stands : (store : Store) (ids : List (List ℕ)) (id : List ℕ) → is_one_of ids id ≡ false → entry_for (with_copies store ids) id ≡ entry_for store id
+other_stands store [] id h = refl
+other_stands store (x ∷ ids) id h = let p = or_parts _ _ h in other_stands (with_copy store x) ids id p.1 ∙ apart p.0 (has_own store x)
+  where
+    apart : bytes_eq id x ≡ false → (b : Bool) → entry_for (cond b store (with_entries store (copied_last store.entries x store.fallback))) id ≡ entry_for store id
+    apart e true = refl
+    apart e false = copy_other id x store.entries store.fallback e
 
 -- ---- adopting
 

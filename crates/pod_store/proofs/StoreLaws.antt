@@ -1,7 +1,7 @@
 -- The laws of the store.
-use Rattle.std.proofs.Common.{◌≡◌, ℕ, zero, suc, ◌+◌, ◌≤◌, Bool, true, false, cond, not, ◌&&◌, ◌||◌, List, [], ◌∷◌, ◌++◌, length, filter, refl, ap, sym, ◌∙◌, subst, arith, Some, None}
-use Rattle.std.specs.Prelude.{Option, Ok, Err, fold, find, is_some, option_map, nat_lt, bytes_eq}
-use Rattle.std.specs.List.{list_any}
+use Rattle.std.proofs.Common.{◌≡◌, ℕ, zero, suc, ◌+◌, ◌≤◌, Bool, true, false, cond, not, ◌||◌, List, [], ◌∷◌, ◌++◌, length, map, filter, refl, ap, sym, ◌∙◌, subst, append_assoc, arith, Some, None}
+use Rattle.std.specs.Prelude.{Option, Ok, Err, fold, is_some, nat_lt, bytes_eq}
+use Rattle.std.specs.List.{list_any, list_all}
 use Rattle.std.proofs.lemmas.Bool.{and_parts, and_from, or_parts, ltb-false}
 use Rattle.std.proofs.lemmas.Slice.Eq.{bytes_eq-Decides}
 use Rattle.playlist_meaning.specs.LookBack.{or_earlier}
@@ -10,9 +10,9 @@ use Rattle.pod_store.specs.declared.Decisions.TheVariants.{Breaks, Withdraw, Fal
 use Rattle.pod_store.specs.declared.fault.DecisionKind.TheVariants.{Used, Full, Unknown}
 use Rattle.pod_store.specs.Outcome.{Outcome, refuse_if, fault_at, nowhere}
 use Rattle.pod_store.specs.Pods.{Decision}
-use Rattle.pod_store.specs.Store.{Entry, Store, with_entries, has_id, entry_for, pod_of, own_pod, is_used, has_own, is_named, is_named_if_any, is_new, names_used, count_with, put, without, marked_used, with_used, with_all, withdrawn, copied_last, adopted}
-use Rattle.pod_store.proofs.Copies.{none_there, entry_in, pod_if, pod_at, copy_other, copy_own}
-use Rattle.pod_store.specs.Laws.{Call, decide, mark_used, release, adopt, accepted, after_call, after_calls, are_distinct, StaysSmall, UsedPodsStay, LastPodStands, pod_in, pod_given, pod_left, pod_after}
+use Rattle.pod_store.specs.Store.{Entry, Store, with_entries, has_id, entry_for, own_pod, pod_for, is_used, is_used_entry, has_own, is_named, is_named_if_any, names_used, count_with, put, without, marked_used, with_used, with_all, withdrawn, copied_last, with_copy, with_copies, adopted, is_one_of, is_held, held_in_use, kept_in_use}
+use Rattle.pod_store.proofs.Copies.{none_there, entry_in, pod_if, pod_at, copies_pod, other_stands, entry_stays}
+use Rattle.pod_store.specs.Laws.{Call, decide, keep_in_use, accepted, after_call, after_calls, are_distinct, StaysSmall, UsedPodsStay, LastPodStands, KeepingIsAdopting, pod_in, pod_given, pod_left, pod_after}
 
 -- ---- tests
 
@@ -98,23 +98,6 @@ distinct_without id (e ∷ store) h = by (has_id id e) (and_parts _ _ h) (distin
     by true p rec = p.1
     by false p rec = and_from _ _ (ap not (none_without (has_id e.id) id store (not_true _ p.0))) (rec p.1)
 
-stands_used : (other id : List ℕ) (store : List Entry) → stands other (marked_used id store) ≡ stands other store
-stands_used other id [] = refl
-stands_used other id (e ∷ store) = by (has_id id e) (stands_used other id store)
-  where
-    by : (b : Bool) → stands other (marked_used id store) ≡ stands other store → stands other (cond b (record e { used = true } ∷ store) (e ∷ marked_used id store)) ≡ stands other (e ∷ store)
-    by true rec = refl
-    by false rec = ap (λ b. bytes_eq other e.id || b) rec
-
-distinct_used : (id : List ℕ) (store : List Entry) → are_distinct store ≡ true → are_distinct (marked_used id store) ≡ true
-distinct_used id [] h = refl
-distinct_used id (e ∷ store) h = by (has_id id e) (and_parts _ _ h) (distinct_used id store)
-  where
-    by : (b : Bool) → (not (stands e.id store) ≡ true) × (are_distinct store ≡ true) → (are_distinct store ≡ true → are_distinct (marked_used id store) ≡ true)
-        → are_distinct (cond b (record e { used = true } ∷ store) (e ∷ marked_used id store)) ≡ true
-    by true p rec = h
-    by false p rec = and_from _ _ (ap not (stands_used e.id id store) ∙ p.0) (rec p.1)
-
 -- a break that stands last
 stands_last : (id : List ℕ) (store : List Entry) (x : Entry) → stands id (store ++ (x ∷ [])) ≡ (stands id store || bytes_eq id x.id)
 stands_last id [] x = or_false _
@@ -166,14 +149,6 @@ count_without id (e ∷ store) = by (has_id id e) (count_without id store)
     by false h =
         subst (λ n. n ≤ count (e ∷ store)) (sym (counted e (without id store)))
         (subst (λ n. plus (is_named e) (count (without id store)) ≤ n) (sym (counted e store)) (as_many (is_named e) (count (without id store)) (count store) h))
-
-count_used : (id : List ℕ) (store : List Entry) → count (marked_used id store) ≡ count store
-count_used id [] = refl
-count_used id (e ∷ store) = by (has_id id e) (count_used id store)
-  where
-    by : (b : Bool) → count (marked_used id store) ≡ count store → count (cond b (record e { used = true } ∷ store) (e ∷ marked_used id store)) ≡ count (e ∷ store)
-    by true rec = counted (record e { used = true }) store ∙ sym (counted e store)
-    by false rec = counted e (marked_used id store) ∙ (ap (plus (is_named e)) rec ∙ sym (counted e store))
 
 count_last : (store : List Entry) (x : Entry) → is_named x ≡ false → count (store ++ (x ∷ [])) ≡ count store
 count_last [] x h = counted x [] ∙ ap (λ b. plus b zero) h
@@ -297,9 +272,6 @@ small_withdrawn id store h = by (not (has_own store id)) (is_used store id)
     by false true = h
     by false false = small_without id store.entries h
 
-small_used : (id : List ℕ) (store : List Entry) → IsSmall store → IsSmall (marked_used id store)
-small_used id store h = let e : count (marked_used id store) ≡ count store = count_used id store in (distinct_used id store h.0, omega (arith, e, h.1))
-
 small_copied : (id : List ℕ) (store : List Entry) (pod : Option Pod) → stands id store ≡ false → IsSmall store → IsSmall (copied_last store id pod)
 small_copied id store None n h = h
 small_copied id store (Some pod) n h =
@@ -307,25 +279,69 @@ small_copied id store (Some pod) n h =
     let e : count (store ++ (x ∷ [])) ≡ count store = count_last store x refl in
     (distinct_last store x h.0 n, omega (arith, e, h.1))
 
-small_adopted : (id : List ℕ) (store : Store) → IsSmall store.entries → IsSmall (adopted store id).entries
-small_adopted id store h = by (has_own store id) refl
+-- copies keep it small
+small_copy : (id : List ℕ) (store : Store) → IsSmall store.entries → IsSmall (with_copy store id).entries
+small_copy id store h = by (has_own store id) refl
   where
-    by : (b : Bool) → has_own store id ≡ b → IsSmall (cond b (with_used id store) (cond b store (with_entries store (copied_last store.entries id store.fallback)))).entries
-    by true e = small_used id store.entries h
+    by : (b : Bool) → has_own store id ≡ b → IsSmall (cond b store (with_entries store (copied_last store.entries id store.fallback))).entries
+    by true e = h
     by false e = small_copied id store.entries store.fallback (sym (found_stands id store.entries) ∙ e) h
+
+small_copies : (ids : List (List ℕ)) (store : Store) → IsSmall store.entries → IsSmall (with_copies store ids).entries
+small_copies [] store h = h
+small_copies (x ∷ ids) store h = small_copies ids (with_copy store x) (small_copy x store h)
+
+distinct_copies : (ids : List (List ℕ)) (store : Store) → are_distinct store.entries ≡ true → are_distinct (with_copies store ids).entries ≡ true
+distinct_copies [] store h = h
+distinct_copies (x ∷ ids) store h = distinct_copies ids (with_copy store x) (by (has_own store x) refl)
+  where
+    by : (b : Bool) → has_own store x ≡ b → are_distinct (cond b store (with_entries store (copied_last store.entries x store.fallback))).entries ≡ true
+    by true e = h
+    by false e = last (sym (found_stands x store.entries) ∙ e) store.fallback
+      where
+        last : stands x store.entries ≡ false → (pod : Option Pod) → are_distinct (copied_last store.entries x pod) ≡ true
+        last n None = h
+        last n (Some pod) = distinct_last store.entries (record { id = x; pod = pod; used = true; copied = true }) h n
+
+-- and so does what is dropped
+abbrev now_used : List (List ℕ) → Entry → Entry
+now_used ids e = record e { used = is_one_of ids e.id }
+
+stands_held : (ids : List (List ℕ)) (id : List ℕ) (store : List Entry) → stands id store ≡ false → stands id (held_in_use ids store) ≡ false
+stands_held ids id [] h = refl
+stands_held ids id (e ∷ store) h = by (is_held ids e) (or_parts _ _ h) (stands_held ids id store)
+  where
+    by : (b : Bool) → (has_id id e ≡ false) × (stands id store ≡ false) → (stands id store ≡ false → stands id (held_in_use ids store) ≡ false)
+        → stands id (map (now_used ids) (cond b (e ∷ filter (is_held ids) store) (filter (is_held ids) store))) ≡ false
+    by true p rec = ap (λ b. b || stands id (held_in_use ids store)) p.0 ∙ rec p.1
+    by false p rec = rec p.1
+
+distinct_held : (ids : List (List ℕ)) (store : List Entry) → are_distinct store ≡ true → are_distinct (held_in_use ids store) ≡ true
+distinct_held ids [] h = refl
+distinct_held ids (e ∷ store) h = by (is_held ids e) (and_parts _ _ h) (distinct_held ids store)
+  where
+    by : (b : Bool) → (not (stands e.id store) ≡ true) × (are_distinct store ≡ true) → (are_distinct store ≡ true → are_distinct (held_in_use ids store) ≡ true)
+        → are_distinct (map (now_used ids) (cond b (e ∷ filter (is_held ids) store) (filter (is_held ids) store))) ≡ true
+    by true p rec = and_from _ _ (ap not (stands_held ids e.id store (not_true _ p.0))) (rec p.1)
+    by false p rec = rec p.1
+
+count_held : (ids : List (List ℕ)) (store : List Entry) → count (held_in_use ids store) ≤ count store
+count_held ids [] = omega arith
+count_held ids (e ∷ store) = subst (λ n. count (held_in_use ids (e ∷ store)) ≤ n) (sym (counted e store)) (by (is_held ids e) (count_held ids store))
+  where
+    by : (b : Bool) → count (held_in_use ids store) ≤ count store → count (map (now_used ids) (cond b (e ∷ filter (is_held ids) store) (filter (is_held ids) store))) ≤ plus (is_named e) (count store)
+    by true h = subst (λ n. n ≤ plus (is_named e) (count store)) (sym (counted (now_used ids e) (held_in_use ids store))) (as_many (is_named e) (count (held_in_use ids store)) (count store) h)
+    by false h = omega (arith, h, no_more (is_named e) (count store))
+
+small_held : (ids : List (List ℕ)) (store : List Entry) → IsSmall store → IsSmall (held_in_use ids store)
+small_held ids store h = (distinct_held ids store h.0, omega (arith, count_held ids store, h.1))
 
 small_after : (call : Call) (store : Store) → IsSmall store.entries → IsSmall (after_call call store).entries
 small_after (decide (Breaks ds)) store h = small_all ds store h
 small_after (decide (Withdraw id)) store h = small_withdrawn id store h
 small_after (decide (Fallback pod)) store h = h
 small_after (decide NoFallback) store h = h
-small_after (mark_used id) store h = small_used id store.entries h
-small_after (release id) store h = by (is_used store id)
-  where
-    by : (b : Bool) → IsSmall (cond b (with_entries store (without id store.entries)) store).entries
-    by true = small_without id store.entries h
-    by false = h
-small_after (adopt id) store h = small_adopted id store h
+small_after (keep_in_use ids) store h = small_held ids (with_copies store ids).entries (small_copies ids store h)
 
 pub stays_small : StaysSmall
 stays_small [] = (refl, omega arith)
@@ -429,44 +445,61 @@ dropped id other store h = by (bytes_eq id other) refl
     by true e = ap (λ i. pod_at (without i store) id) (sym ((bytes_eq-Decides id other).0 e)) ∙ ap pod_if (own_dropped id store h)
     by false e = ap pod_if (drop_other id other store e)
 
-used_pod : (id other : List ℕ) (store : List Entry) → pod_at (marked_used other store) id ≡ pod_at store id
-used_pod id other [] = refl
-used_pod id other (e ∷ store) = split (has_id other e) ∙ by (has_id other e) (has_id id e) (used_pod id other store)
+-- ---- which breaks are in use
+
+-- of a break's pods only that of one that is used, and that is none of these, goes
+held_pod : (ids : List (List ℕ)) (id : List ℕ) (store : List Entry) → are_distinct store ≡ true
+    → pod_at (held_in_use ids store) id ≡ cond (is_one_of ids id) (pod_at store id) (cond (is_used_entry (entry_in store id)) None (pod_at store id))
+held_pod ids id [] h = by (is_one_of ids id)
   where
-    split : (b : Bool) → pod_at (cond b (record e { used = true } ∷ store) (e ∷ marked_used other store)) id
-        ≡ pod_if (cond b (cond (has_id id e) (Some (record e { used = true })) (entry_in store id)) (cond (has_id id e) (Some e) (entry_in (marked_used other store) id)))
-    split true = refl
-    split false = refl
-
-    by : (b t : Bool) → pod_at (marked_used other store) id ≡ pod_at store id
-        → pod_if (cond b (cond t (Some (record e { used = true })) (entry_in store id)) (cond t (Some e) (entry_in (marked_used other store) id))) ≡ pod_if (cond t (Some e) (entry_in store id))
-    by true true rec = refl
-    by true false rec = refl
-    by false true rec = refl
-    by false false rec = rec
-
--- ---- copies
-
-some_pod : (o : Option Entry) (pod : Option Pod) → is_some o ≡ true → pod_if o ≡ or_earlier (pod_if o) pod
-some_pod None pod h = absurd (cc)
-some_pod (Some e) pod h = refl
-
-adopted_pod : (id other : List ℕ) (store : Store) → own_pod (adopted store other) id ≡ cond (bytes_eq id other) (or_earlier (own_pod store id) store.fallback) (own_pod store id)
-adopted_pod id other store = by (has_own store other) refl (bytes_eq id other) refl
+    by : (b : Bool) → ◌≡◌ {A = Option Pod} None (cond b None None)
+    by true = refl
+    by false = refl
+held_pod ids id (e ∷ store) h = by (bytes_eq id e.id) refl (and_parts _ _ h) (held_pod ids id store)
   where
-    by : (b : Bool) → has_own store other ≡ b → (t : Bool) → bytes_eq id other ≡ t
-        → own_pod (cond b (with_used other store) (cond b store (with_entries store (copied_last store.entries other store.fallback)))) id
-        ≡ cond t (or_earlier (own_pod store id) store.fallback) (own_pod store id)
-    by true h true e =
-        used_pod id other store.entries ∙ some_pod (entry_in store.entries id) store.fallback (ap (has_own store) ((bytes_eq-Decides id other).0 e) ∙ h)
-    by true h false e = used_pod id other store.entries
-    by false h true e =
-        let same = (bytes_eq-Decides id other).0 e in
-        let none : entry_in store.entries other ≡ None = none_there _ h in
-        ap (pod_at (copied_last store.entries other store.fallback)) same
-        ∙ (copy_own other store.entries store.fallback none
-        ∙ sym (ap (λ i. or_earlier (own_pod store i) store.fallback) same ∙ ap (λ o. or_earlier (pod_if o) store.fallback) none))
-    by false h false e = ap pod_if (copy_other id other store.entries store.fallback e)
+    found : (b u : Bool) → is_one_of ids id ≡ b → e.used ≡ u → bytes_eq id e.id ≡ true → pod_at (held_in_use ids store) id ≡ None
+        → pod_at (map (now_used ids) (cond (is_held ids e) (e ∷ filter (is_held ids) store) (filter (is_held ids) store))) id ≡ cond b (Some e.pod) (cond u None (Some e.pod))
+    found b u f g same none =
+        let one : is_one_of ids e.id ≡ b = ap (is_one_of ids) (sym ((bytes_eq-Decides id e.id).0 same)) ∙ f in
+        ap (λ (k : Bool). pod_at (map (now_used ids) (cond (not k || is_one_of ids e.id) (e ∷ filter (is_held ids) store) (filter (is_held ids) store))) id) g
+        ∙ (ap (λ (k : Bool). pod_at (map (now_used ids) (cond (not u || k) (e ∷ filter (is_held ids) store) (filter (is_held ids) store))) id) one ∙ at b u)
+      where
+        here : pod_at (now_used ids e ∷ held_in_use ids store) id ≡ Some e.pod
+        here = ap (λ t. pod_if (cond t (Some (now_used ids e)) (entry_in (held_in_use ids store) id))) same
+
+        at : (b u : Bool) → pod_at (map (now_used ids) (cond (not u || b) (e ∷ filter (is_held ids) store) (filter (is_held ids) store))) id ≡ cond b (Some e.pod) (cond u None (Some e.pod))
+        at true true = here
+        at true false = here
+        at false true = none
+        at false false = here
+
+    other : (b : Bool) → bytes_eq id e.id ≡ false → pod_at (map (now_used ids) (cond b (e ∷ filter (is_held ids) store) (filter (is_held ids) store))) id ≡ pod_at (held_in_use ids store) id
+    other true apart = ap (λ t. pod_if (cond t (Some (now_used ids e)) (entry_in (held_in_use ids store) id))) apart
+    other false apart = refl
+
+    by : (t : Bool) → bytes_eq id e.id ≡ t → (not (stands e.id store) ≡ true) × (are_distinct store ≡ true)
+        → (are_distinct store ≡ true → pod_at (held_in_use ids store) id ≡ cond (is_one_of ids id) (pod_at store id) (cond (is_used_entry (entry_in store id)) None (pod_at store id)))
+        → pod_at (held_in_use ids (e ∷ store)) id
+        ≡ cond (is_one_of ids id) (pod_if (cond t (Some e) (entry_in store id))) (cond (is_used_entry (cond t (Some e) (entry_in store id))) None (pod_if (cond t (Some e) (entry_in store id))))
+    by true same p rec =
+        let gone : stands id store ≡ false = ap (λ i. stands i store) ((bytes_eq-Decides id e.id).0 same) ∙ not_true _ p.0 in
+        let none : entry_in (held_in_use ids store) id ≡ None = none_there _ (found_stands id (held_in_use ids store) ∙ stands_held ids id store gone) in
+        found (is_one_of ids id) e.used refl refl same (ap pod_if none)
+    by false apart p rec = other (is_held ids e) apart ∙ rec p.1
+
+kept_pod : (ids : List (List ℕ)) (id : List ℕ) (store : Store) → are_distinct (with_copies store ids).entries ≡ true
+    → own_pod (kept_in_use ids store) id ≡ cond (is_one_of ids id) (pod_for store id) (cond (is_used store id) None (own_pod store id))
+kept_pod ids id store h =
+    held_pod ids id (with_copies store ids).entries h ∙ by (is_one_of ids id) refl
+  where
+    by : (b : Bool) → is_one_of ids id ≡ b
+        → cond b (own_pod (with_copies store ids) id) (cond (is_used (with_copies store ids) id) None (own_pod (with_copies store ids) id)) ≡ cond b (pod_for store id) (cond (is_used store id) None (own_pod store id))
+    by true e = copies_pod store ids id ∙ ap (λ b. cond b (pod_for store id) (own_pod store id)) e
+    by false e = ap (λ o. cond (is_used_entry o) None (pod_if o)) (other_stands store ids id e)
+
+pub pods_in_use : (ids : List (List ℕ)) (id : List ℕ) (store : Store) → are_distinct store.entries ≡ true
+    → own_pod (kept_in_use ids store) id ≡ cond (is_one_of ids id) (pod_for store id) (cond (is_used store id) None (own_pod store id))
+pods_in_use ids id store h = kept_pod ids id store (distinct_copies ids store h)
 
 pods_after : (id : List ℕ) (call : Call) (store : Store) → are_distinct store.entries ≡ true → own_pod (after_call call store) id ≡ pod_after id call store (own_pod store id)
 pods_after id (decide (Breaks ds)) store h = by (with_all store ds) (list_any (names_used store) ds) (nat_lt 256 (count_with store ds)) refl
@@ -487,17 +520,98 @@ pods_after id (decide (Withdraw other)) store h = by (withdrawn store other) (no
     by (Err f) unknown used e = refl
 pods_after id (decide (Fallback pod)) store h = refl
 pods_after id (decide NoFallback) store h = refl
-pods_after id (mark_used other) store h = used_pod id other store.entries
-pods_after id (release other) store h = by (bytes_eq id other) (is_used store other) refl
-  where
-    by : (t u : Bool) → bytes_eq id other ≡ t → own_pod (cond u (with_entries store (without other store.entries)) store) id ≡ cond (t && u) None (own_pod store id)
-    by true true e = dropped id other store.entries h ∙ ap (λ b. cond b None (own_pod store id)) e
-    by true false e = refl
-    by false true e = dropped id other store.entries h ∙ ap (λ b. cond b None (own_pod store id)) e
-    by false false e = refl
-pods_after id (adopt other) store h = adopted_pod id other store
+pods_after id (keep_in_use ids) store h = pods_in_use ids id store h
 
 pub last_pod_stands : LastPodStands
 last_pod_stands [] id = refl
 last_pod_stands (call ∷ earlier) id =
     pods_after id call (after_calls earlier) (stays_small earlier).0 ∙ ap (pod_after id call (after_calls earlier)) (last_pod_stands earlier id)
+
+-- ---- adopting
+
+stands_used : (other id : List ℕ) (store : List Entry) → stands other (marked_used id store) ≡ stands other store
+stands_used other id [] = refl
+stands_used other id (e ∷ store) = by (has_id id e) (stands_used other id store)
+  where
+    by : (b : Bool) → stands other (marked_used id store) ≡ stands other store → stands other (cond b (record e { used = true } ∷ store) (e ∷ marked_used id store)) ≡ stands other (e ∷ store)
+    by true rec = refl
+    by false rec = ap (λ b. bytes_eq other e.id || b) rec
+
+own_used : (store : Store) (id other : List ℕ) → has_own (with_used id store) other ≡ has_own store other
+own_used store id other = found_stands other (marked_used id store.entries) ∙ (stands_used other id store.entries ∙ sym (found_stands other store.entries))
+
+used_before : (id : List ℕ) (store later : List Entry) → stands id store ≡ true → marked_used id (store ++ later) ≡ marked_used id store ++ later
+used_before id [] later h = absurd (cc)
+used_before id (e ∷ store) later h = by (has_id id e) h (used_before id store later)
+  where
+    by : (b : Bool) → (b || stands id store) ≡ true → (stands id store ≡ true → marked_used id (store ++ later) ≡ marked_used id store ++ later)
+        → cond b (record e { used = true } ∷ (store ++ later)) (e ∷ marked_used id (store ++ later)) ≡ cond b (record e { used = true } ∷ store) (e ∷ marked_used id store) ++ later
+    by true k rec = refl
+    by false k rec = ap (λ xs. e ∷ xs) (rec k)
+
+-- a break that is marked as used and one that gets a copy
+used_copy : (store : Store) (id other : List ℕ) → has_own store id ≡ true → with_copy (with_used id store) other ≡ with_used id (with_copy store other)
+used_copy store id other h = ap (λ b. cond b (with_used id store) (with_entries (with_used id store) (copied_last (marked_used id store.entries) other store.fallback))) (own_used store id other) ∙ by (has_own store other)
+  where
+    last : (pod : Option Pod) → copied_last (marked_used id store.entries) other pod ≡ marked_used id (copied_last store.entries other pod)
+    last None = refl
+    last (Some pod) = sym (used_before id store.entries (record { id = other; pod = pod; used = true; copied = true } ∷ []) (sym (found_stands id store.entries) ∙ h))
+
+    by : (b : Bool) → cond b (with_used id store) (with_entries (with_used id store) (copied_last (marked_used id store.entries) other store.fallback)) ≡ with_used id (cond b store (with_entries store (copied_last store.entries other store.fallback)))
+    by true = refl
+    by false = ap (with_entries store) (last store.fallback)
+
+own_stays_copy : (store : Store) (id other : List ℕ) → has_own store id ≡ true → has_own (with_copy store other) id ≡ true
+own_stays_copy store id other h = by (entry_for store id) refl h
+  where
+    by : (o : Option Entry) → entry_for store id ≡ o → is_some o ≡ true → has_own (with_copy store other) id ≡ true
+    by None e k = absurd (cc)
+    by (Some e) f k = ap is_some (entry_stays store (other ∷ []) id e f)
+
+used_copies : (store : Store) (id : List ℕ) (ids : List (List ℕ)) → has_own store id ≡ true → with_copies (with_used id store) ids ≡ with_used id (with_copies store ids)
+used_copies store id [] h = refl
+used_copies store id (x ∷ ids) h = ap (λ (s : Store). with_copies s ids) (used_copy store id x h) ∙ used_copies (with_copy store x) id ids (own_stays_copy store id x h)
+
+-- which of these breaks were marked before makes no difference
+held_used : (all : List (List ℕ)) (id : List ℕ) (store : List Entry) → is_one_of all id ≡ true → held_in_use all (marked_used id store) ≡ held_in_use all store
+held_used all id [] h = refl
+held_used all id (e ∷ store) h = by (has_id id e) refl (held_used all id store h)
+  where
+    both : is_one_of all e.id ≡ true → (b : Bool) → held_in_use all (record e { used = b } ∷ store) ≡ now_used all e ∷ held_in_use all store
+    both one b = ap (λ k. map (now_used all) (cond (not b || k) (record e { used = b } ∷ filter (is_held all) store) (filter (is_held all) store))) one ∙ ap (λ k. map (now_used all) (cond k (record e { used = b } ∷ filter (is_held all) store) (filter (is_held all) store))) (or_true (not b))
+
+    on : (b : Bool) → held_in_use all (marked_used id store) ≡ held_in_use all store
+        → map (now_used all) (cond b (e ∷ filter (is_held all) (marked_used id store)) (filter (is_held all) (marked_used id store))) ≡ map (now_used all) (cond b (e ∷ filter (is_held all) store) (filter (is_held all) store))
+    on true rec = ap (λ xs. now_used all e ∷ xs) rec
+    on false rec = rec
+
+    by : (b : Bool) → has_id id e ≡ b → held_in_use all (marked_used id store) ≡ held_in_use all store → held_in_use all (cond b (record e { used = true } ∷ store) (e ∷ marked_used id store)) ≡ held_in_use all (e ∷ store)
+    by true same rec =
+        let one : is_one_of all e.id ≡ true = ap (is_one_of all) (sym ((bytes_eq-Decides id e.id).0 same)) ∙ h in
+        both one true ∙ sym (both one e.used)
+    by false same rec = on (is_held all e) rec
+
+adopting : (all ids : List (List ℕ)) (store : Store) → list_all (is_one_of all) ids ≡ true → held_in_use all (with_copies store ids).entries ≡ held_in_use all (fold adopted store ids).entries
+adopting all [] store h = refl
+adopting all (x ∷ ids) store h = by (has_own store x) refl (and_parts _ _ h) (λ s k. adopting all ids s k)
+  where
+    by : (b : Bool) → has_own store x ≡ b → (is_one_of all x ≡ true) × (list_all (is_one_of all) ids ≡ true)
+        → ((s : Store) → list_all (is_one_of all) ids ≡ true → held_in_use all (with_copies s ids).entries ≡ held_in_use all (fold adopted s ids).entries)
+        → held_in_use all (with_copies (cond b store (with_entries store (copied_last store.entries x store.fallback))) ids).entries
+        ≡ held_in_use all (fold adopted (cond b (with_used x store) (cond b store (with_entries store (copied_last store.entries x store.fallback)))) ids).entries
+    by true own p rec =
+        sym (ap (λ (s : Store). held_in_use all s.entries) (used_copies store x ids own) ∙ held_used all x (with_copies store ids).entries p.0)
+        ∙ rec (with_used x store) p.1
+    by false none p rec = rec (with_entries store (copied_last store.entries x store.fallback)) p.1
+
+each_in : (front ids : List (List ℕ)) → list_all (is_one_of (front ++ ids)) ids ≡ true
+each_in front [] = refl
+each_in front (x ∷ ids) =
+    and_from _ _ (there front) (subst (λ l. list_all (is_one_of l) ids ≡ true) (append_assoc front (x ∷ []) ids) (each_in (front ++ (x ∷ [])) ids))
+  where
+    there : (front : List (List ℕ)) → is_one_of (front ++ (x ∷ ids)) x ≡ true
+    there [] = ap (λ b. b || is_one_of ids x) (same_id x)
+    there (y ∷ front) = ap (λ b. bytes_eq x y || b) (there front) ∙ or_true (bytes_eq x y)
+
+pub keeping_is_adopting : KeepingIsAdopting
+keeping_is_adopting store ids = ap (with_entries store) (adopting ids ids store (each_in [] ids))

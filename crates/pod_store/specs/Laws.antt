@@ -1,5 +1,5 @@
 -- What holds of pods that keep the rules, and of the store, whatever was called.
-use Rattle.std.specs.Prelude.{◌≡◌, ℕ, ◌≤◌, Bool, true, not, ◌&&◌, List, [], ◌∷◌, length, filter, Option, Some, None, Ok, Err, bytes_eq, if◌then◌else◌}
+use Rattle.std.specs.Prelude.{◌≡◌, ℕ, ◌≤◌, Bool, true, not, ◌&&◌, List, [], ◌∷◌, length, filter, fold, Option, Some, None, Ok, Err, bytes_eq, if◌then◌else◌}
 use Rattle.std.specs.List.{list_any, list_all}
 use Rattle.playlist_meaning.specs.LookBack.{or_earlier}
 use Rattle.playlist_meaning.specs.Pods.{PodSegment, Ad, Pod}
@@ -9,16 +9,15 @@ use Rattle.pod_store.specs.declared.Decisions.TheVariants.{Breaks, Withdraw, Fal
 use Rattle.pod_store.specs.Outcome.{Outcome}
 use Rattle.pod_store.specs.Pods.{Decision}
 use Rattle.pod_store.specs.Rules.{ads_keep}
-use Rattle.pod_store.specs.Store.{Entry, Store, nothing_decided, has_id, is_named, entry_for, own_pod, is_used, with_all, withdrawn, decided, with_used, released, adopted}
+use Rattle.pod_store.specs.Store.{Entry, Store, nothing_decided, has_id, is_named, entry_for, own_pod, is_used, with_all, withdrawn, decided, is_one_of, held_in_use, kept_in_use, adopted, with_entries}
 
 -- ---- calls
 
--- what is asked of a store, withdrawals among the decisions
+-- what a channel asks of its store: it takes decisions, withdrawals among them, and at each refresh it says which breaks are
+-- in use
 pub data Call : Type 0 where
   decide : Decisions → Call
-  mark_used : List ℕ → Call
-  release : List ℕ → Call
-  adopt : List ℕ → Call
+  keep_in_use : List (List ℕ) → Call
 
 -- a refused call leaves the store as it was
 abbrev pub accepted : Store → Outcome Store → Store
@@ -27,9 +26,7 @@ accepted store (Err e) = store
 
 abbrev pub after_call : Call → Store → Store
 after_call (decide decisions) store = accepted store (decided store decisions)
-after_call (mark_used id) store = with_used id store
-after_call (release id) store = released store id
-after_call (adopt id) store = adopted store id
+after_call (keep_in_use ids) store = kept_in_use ids store
 
 -- the store after these calls, the newest first
 abbrev pub after_calls : List Call → Store
@@ -43,8 +40,8 @@ abbrev pub are_distinct : List Entry → Bool
 are_distinct [] = true
 are_distinct (e ∷ later) = not (list_any (has_id e.id) later) && are_distinct later
 
--- after any calls no break stands twice, and at most 256 have pods that decisions gave them; each of the others was adopted
--- with the fallback
+-- after any calls no break stands twice, and at most 256 have pods that decisions gave them; each of the others keeps a copy of
+-- the fallback
 abbrev pub StaysSmall : Type 0
 StaysSmall = (calls : List Call) → (are_distinct (after_calls calls).entries ≡ true) × (length (filter is_named (after_calls calls).entries) ≤ 256)
 
@@ -78,19 +75,23 @@ pod_after id (decide (Breaks decisions)) store before = pod_given id decisions b
 pod_after id (decide (Withdraw other)) store before = pod_left (bytes_eq id other) before (withdrawn store other)
 pod_after id (decide (Fallback pod)) store before = before
 pod_after id (decide NoFallback) store before = before
-pod_after id (mark_used other) store before = before
-pod_after id (release other) store before = if bytes_eq id other && is_used store other then None else before
-pod_after id (adopt other) store before = if bytes_eq id other then or_earlier before store.fallback else before
+pod_after id (keep_in_use ids) store before = if is_one_of ids id then or_earlier before store.fallback else (if is_used store id then None else before)
 
 -- the pod of its own that the calls gave the break last, and that none took away since
 abbrev pub pod_by : List ℕ → List Call → Option Pod
 pod_by id [] = None
 pod_by id (call ∷ earlier) = pod_after id call (after_calls earlier) (pod_by id earlier)
 
--- after any calls each break has the pod that the last decision on it gave it, or else the fallback with which it was
--- adopted, where none took it away since
+-- after any calls each break has the pod that the last decision on it gave it, or else the fallback that there was when it
+-- came into use, where none took it away since: a pod goes with its withdrawal, or where its break is in use no more
 abbrev pub LastPodStands : Type 0
 LastPodStands = (calls : List Call) (id : List ℕ) → own_pod (after_calls calls) id ≡ pod_by id calls
+
+-- ---- adopting
+
+-- to say which breaks are in use comes to adopting each of them, after which the other used ones go
+abbrev pub KeepingIsAdopting : Type 0
+KeepingIsAdopting = (store : Store) (ids : List (List ℕ)) → kept_in_use ids store ≡ with_entries store (held_in_use ids (fold adopted store ids).entries)
 
 -- ---- writing
 

@@ -125,10 +125,6 @@ decided store (Withdraw id) = withdrawn store id
 decided store (Fallback pod) = Ok (record { entries = store.entries; fallback = Some pod })
 decided store NoFallback = Ok (record { entries = store.entries; fallback = None })
 
--- a used break goes; any other stays
-abbrev pub released : Store → List ℕ → Store
-released store id = if is_used store id then with_entries store (without id store.entries) else store
-
 -- ---- copies
 
 abbrev pub copied_last : List Entry → List ℕ → Option Pod → List Entry
@@ -159,12 +155,14 @@ is_one_of ids id = list_any (bytes_eq id) ids
 abbrev pub is_held : List (List ℕ) → Entry → Bool
 is_held ids e = not e.used || is_one_of ids e.id
 
--- these breaks are in use: a used one that is none of them goes, and of the others these are used
+-- of the breaks that have pods of their own these are in use: a used one that is none of them goes, and of the others these
+-- are used
 abbrev pub held_in_use : List (List ℕ) → List Entry → List Entry
 held_in_use ids entries = map (λ (e : Entry). record e { used = is_one_of ids e.id }) (filter (is_held ids) entries)
 
+-- these breaks are in use: each of them that has no pod of its own keeps a copy of the fallback, and no other break is used
 abbrev pub kept_in_use : List (List ℕ) → Store → Store
-kept_in_use ids store = with_entries store (held_in_use ids store.entries)
+kept_in_use ids store = with_entries store (held_in_use ids (with_copies store ids).entries)
 
 -- the store is the one owed; or the fault is, want of memory apart, and the store is as it was
 abbrev pub Changes : Store → Store → Result (Unit {0}) DecisionFault → Outcome Store → Type 0

@@ -1,5 +1,5 @@
 //! Laws of pods and of the store. Each function's contract is its law; calling it does nothing.
-ghost use Rattle.pod_store.specs.Laws.{PodsCanBeWritten, StaysSmall, UsedPodsStay, LastPodStands};
+ghost use Rattle.pod_store.specs.Laws.{PodsCanBeWritten, StaysSmall, UsedPodsStay, LastPodStands, KeepingIsAdopting};
 
 /// After any calls no break stands twice in the store, and at most 256 are decided.
 pub fn stays_small()
@@ -11,10 +11,15 @@ pub fn used_pods_stay()
     ensures { UsedPodsStay }
 {}
 
-/// After any calls each break has the pod that the last decision on it gave it, unless it was withdrawn or
-/// released since.
+/// After any calls each break has the pod that the last decision on it gave it, or else the fallback with which it came into
+/// use, unless it was withdrawn or fell out of use since.
 pub fn last_pod_stands()
     ensures { LastPodStands }
+{}
+
+/// To say which breaks are in use comes to adopting each of them, after which the other used ones go.
+pub fn keeping_is_adopting()
+    ensures { KeepingIsAdopting }
 {}
 
 /// Each segment of a pod can be written, with the keys and the initialisation section of its ad.

@@ -3,7 +3,7 @@ ghost use Rattle.std.specs.Prelude.{◌≡◌, ℕ, ◌+◌, ◌==◌, ◌≤◌
 ghost use Rattle.std.specs.List.{list_all, list_any};
 ghost use Rattle.std.specs.Option.{option_copied};
 ghost use Rattle.pod_store.specs.Pods.{section_fits, segment_fits, ad_fits, pod_fits};
-ghost use Rattle.pod_store.specs.Store.{nothing_decided, with_entries, names_used, put, without, entry_for, has_own, own_pod, pod_for, fits, is_empty, is_used, is_named, is_named_if_any, with_all, withdrawn, decided, released, with_used, with_copy, with_copies, adopted, GrowsBy, kept_in_use, count_with, is_new, Changes, ChangesExactly};
+ghost use Rattle.pod_store.specs.Store.{nothing_decided, with_entries, names_used, put, without, entry_for, has_own, own_pod, pod_for, fits, is_empty, is_used, is_named, is_named_if_any, with_all, withdrawn, decided, held_in_use, with_used, with_copy, with_copies, adopted, GrowsBy, kept_in_use, count_with, is_new, Changes, ChangesExactly};
 ghost use Rattle.pod_store.specs.Outcome.{no_memory};
 
 use crate::fault::{DecisionFault, DecisionKind, Place};
@@ -278,20 +278,8 @@ impl PodStore {
         Ok(())
     }
 
-    /// Drops the pod of a used break. False where there is no used one. Takes no memory.
-    pub fn release(&mut self, id: &str) -> bool
-        ensures value { result ≡ is_used self.old id.now }
-        ensures store { self.new ≡ released self.old id.now }
-    {
-        if !self.is_used(id) {
-            return false;
-        }
-        self.remove(id);
-        true
-    }
-
-    /// Marks a break that has a pod of its own as used. False where it has none. Takes no memory.
-    pub fn mark_used(&mut self, id: &str) -> bool
+    // Marks a break that has a pod of its own as used. False where it has none.
+    fn mark_used(&mut self, id: &str) -> bool
         ensures value { result ≡ has_own self.old id.now }
         ensures store { self.new ≡ with_used id.now self.old }
     {
@@ -339,9 +327,8 @@ impl PodStore {
         Ok(())
     }
 
-    /// Each of these breaks that has no pod of its own keeps a copy of the fallback, where there is one, and is used. Where
-    /// memory is refused the store is as it was.
-    pub fn copy_fallback(&mut self, ids: &[Shared<Text>]) -> Result<(), AllocError>
+    // Each of these breaks that has no pod of its own keeps a copy of the fallback, where there is one, and is used.
+    fn copy_fallback(&mut self, ids: &[Shared<Text>]) -> Result<(), AllocError>
         ensures ok { OnOk result (self.new ≡ with_copies self.old ids.now) }
         ensures err { OnErr result (self.new ≡ self.old) }
     {
@@ -356,11 +343,23 @@ impl PodStore {
     }
 
     #[tactic(auto, using(crate::proofs::InUse::seen_in_use))]
-    /// Drops the pods of the used breaks that are none of these, and marks those of the others that are these as
-    /// used. Takes no memory.
-    pub fn keep_in_use(&mut self, ids: &[Text])
-        ensures { self.new ≡ kept_in_use ids.now self.old }
+    // Drops the pods of the used breaks that are none of these, and marks those of the others that are these as used.
+    fn drop_others(&mut self, ids: &[Shared<Text>])
+        ensures { self.new ≡ with_entries self.old (held_in_use ids.now self.old.entries) }
     {
         keep_in_use(&mut self.kept, ids);
+    }
+
+    #[tactic(auto, using(crate::proofs::Copies::fallback_stands))]
+    /// These breaks are in use from now on: each of them that has no pod of its own keeps a copy of the fallback, where there
+    /// is one, and the pods of the used breaks that are none of these are dropped. Where memory is refused the store is as it
+    /// was.
+    pub fn keep_in_use(&mut self, ids: &[Shared<Text>]) -> Result<(), AllocError>
+        ensures ok { OnOk result (self.new ≡ kept_in_use ids.now self.old) }
+        ensures err { OnErr result (self.new ≡ self.old) }
+    {
+        self.copy_fallback(ids)?;
+        self.drop_others(ids);
+        Ok(())
     }
 }

@@ -4,7 +4,6 @@ use Rattle.std.specs.List.{list_all}
 use Rattle.std.specs.Result.{result_unwrap_or}
 use Rattle.std.specs.Str.Lines.{lines}
 use Rattle.url.specs.Parts.{Parts}
-use Rattle.attr_list.specs.declared.list.TheConstants.{MOST_ATTRIBUTES}
 use Rattle.attr_list.specs.Attributes.{pieces}
 use Rattle.playlist_meaning.specs.Lines.{Kind, tag, kind_of}
 use Rattle.playlist_meaning.specs.Said.{Name, key_tag, map_tag, date_range_tag, Said, nothing}
@@ -20,7 +19,7 @@ takes_attributes date_range_tag = true
 takes_attributes _ = false
 
 abbrev pub has_few : List ℕ → Bool
-has_few attributes = nat_le (length (pieces attributes)) MOST_ATTRIBUTES
+has_few attributes = nat_le (length (pieces attributes)) 64
 
 abbrev pub tag_keeps : Name → List ℕ → Bool
 tag_keeps name rest = if takes_attributes name then has_few rest else true

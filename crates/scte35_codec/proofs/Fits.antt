@@ -1,9 +1,8 @@
 -- What a value that fits has.
-use Rattle.std.proofs.Common.{◌≡◌, ℕ, ◌^◌, ◌<◌, ◌≤◌, Bool, true, List, [], ◌∷◌, length, get_or, Option, Some, None, refl}
+use Rattle.std.proofs.Common.{◌≡◌, ℕ, ◌^◌, ◌<◌, ◌≤◌, Bool, true, List, [], ◌∷◌, length, Option, Some, None, refl}
 use Rattle.std.specs.Prelude.{IsTrue, ◌&&◌, nat_le}
 use Rattle.std.specs.List.{list_all}
-use Rattle.std.proofs.lemmas.Bool.{and_parts, and_from, leb-true, ltb-true, eqb-false, not-true, true_from_ne_false, both_ways}
-use Rattle.std.proofs.lemmas.List.Folds.{list_all_at}
+use Rattle.std.proofs.lemmas.Bool.{and_parts, and_from, leb-true, ltb-true, eqb-false, not-true}
 use Rattle.scte35_codec.specs.declared.info.SpliceTime.{SpliceTime}
 use Rattle.scte35_codec.specs.Section.{Target, Program, Components, Body, Command, Insert, Other, Section, is_timed, target_is_timed, BodyIsTimed, IsProper}
 use Rattle.scte35_codec.specs.Writing.{time_fits, place_fits, target_fits, TargetFits, duration_fits, body_fits, command_fits, fits, section_length, has_section}

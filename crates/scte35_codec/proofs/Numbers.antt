@@ -1,9 +1,9 @@
 -- The number of some bytes, the first byte the highest.
-use Rattle.std.proofs.Common.{◌≡◌, ℕ, suc, ◌+◌, ◌*◌, ◌^◌, ◌<◌, ◌≤◌, List, [], ◌∷◌, ◌++◌, length, get_or, take, drop, ap, ◌∙◌, inl, inr, arith}
+use Rattle.std.proofs.Common.{◌≡◌, ℕ, suc, ◌+◌, ◌*◌, ◌^◌, ◌<◌, ◌≤◌, List, [], ◌∷◌, ◌++◌, length, take, drop, ap, ◌∙◌, inl, inr, arith}
 use Rattle.std.proofs.Math.Nat.{pow-suc, pow-le-pow_right}
 use Rattle.std.proofs.lemmas.Bool.{cases_lt}
 use Rattle.std.proofs.lemmas.Nat.{pow-add, mul-le}
-use Rattle.std.proofs.lemmas.List.{length-append, length-take, take_all, take_more, get_or-drop, get_or-take, get_or_past}
+use Rattle.std.proofs.lemmas.List.{length-append, length-take, take_all, get_or-drop, get_or-take, get_or_past}
 use Rattle.scte35_codec.specs.Layout.{IsBytes, number}
 
 pub IsBytes-drop : (n : ℕ) (bytes : List ℕ) → IsBytes bytes → IsBytes (drop n bytes)

@@ -1,5 +1,5 @@
 -- The part of a pod that is shown.
-use Rattle.std.proofs.Common.{◌≡◌, ℕ, ◌-◌, Bool, true, false, cond, zero, suc, List, [], ◌∷◌, ◌++◌, refl, ap, sym, ◌∙◌, append_assoc, drop, arith}
+use Rattle.std.proofs.Common.{◌≡◌, ℕ, ◌-◌, Bool, true, false, cond, not, ◌&&◌, ◌||◌, zero, suc, List, [], ◌∷◌, ◌++◌, refl, ap, sym, ◌∙◌, append_assoc, drop, arith}
 use Rattle.std.specs.Prelude.{nat_le}
 use Rattle.std.proofs.lemmas.Bool.{eqb-true}
 use Rattle.playlist_meaning.specs.Stitched.{Piece}
@@ -24,6 +24,22 @@ with_parts skip whole left done = record { skip = skip; whole = whole; left = le
 none_of : (whole : Bool) (left : ℕ) (pieces : List Piece) → part_of (with_parts 0 whole left true) pieces ≡ []
 none_of whole left [] = refl
 none_of whole left (p ∷ pieces) = none_of whole (left - p.segment.duration) pieces
+
+-- once no more is shown, nothing is
+pub done_of : (part : Part) (pieces : List Piece) → part.done ≡ true → part_of part pieces ≡ []
+done_of part [] e = refl
+done_of part (p ∷ pieces) e =
+    ap (λ t. t ++ part_of (part_after_one part p.segment.duration) pieces) (ap (λ b. cond (is_nothing part.skip && not b) (p ∷ []) []) e ∙ hidden (is_nothing part.skip))
+    ∙ done_of (part_after_one part p.segment.duration) pieces (stays (is_nothing part.skip))
+  where
+    hidden : (b : Bool) → ◌≡◌ {A = List Piece} (cond (b && false) (p ∷ []) []) []
+    hidden true = refl
+    hidden false = refl
+
+    stays : (b : Bool)
+        → (cond b (with_parts 0 part.whole (part.left - p.segment.duration) (part.done || (not part.whole && nat_le part.left p.segment.duration))) (with_parts (part.skip - 1) part.whole part.left part.done)).done ≡ true
+    stays true = ap (λ d. d || (not part.whole && nat_le part.left p.segment.duration)) e
+    stays false = e
 
 -- all of them
 all_of : (left : ℕ) (pieces : List Piece) → part_of (with_parts 0 true left false) pieces ≡ pieces

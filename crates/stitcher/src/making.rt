@@ -304,6 +304,9 @@ impl<'a> Stitching<'a> {
         let mut left = part;
         let mut rest = pod.ads();
         while let Some((ad, later)) = rest.split_first() {
+            if left.done {
+                return Ok(());
+            }
             left = self.put_ad(alloc, ad, left)?;
             rest = later;
         }

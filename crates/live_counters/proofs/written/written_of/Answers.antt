@@ -1,17 +1,15 @@
-use Rattle.std.proofs.Common.{rules, ◌≡◌, ℕ, ◌||◌, ◌∙◌, List, map}
+use Rattle.std.proofs.Common.{rules, ◌≡◌, ◌∙◌, map}
 use Rattle.playlist_meaning.specs.LookBack.{or_earlier}
-use Rattle.pod_store.specs.Store.{is_one_of}
 use Rattle.stitcher.specs.Written.{written_item}
 use Rattle.live_meaning.specs.Kept.{window_on}
 use Rattle.live_meaning.specs.Marking.{last_entered}
 use Rattle.live_meaning.specs.Successor.{first_number}
-use Rattle.live_window.specs.Listed.{is_rest_of, is_used_from}
 use Rattle.live_window.specs.Marking.{so_far}
 use Rattle.live_window.specs.Showing.{kept_in}
-use Rattle.live_counters.specs.Accepting.{IsLeft, is_used_after}
-use Rattle.live_counters.proofs.Accepting.{uses_seen, text_seen, numbers_seen, count_seen}
-use Rattle.live_counters.specs.Marks.{held_in_use}
-use Rattle.live_counters.proofs.Marks.{ids_seen}
+use Rattle.live_counters.specs.Accepting.{IsLeft, breaks_after}
+use Rattle.live_counters.proofs.Accepting.{text_seen, numbers_seen, count_seen}
+use Rattle.live_counters.specs.Marks.{breaks_held}
+use Rattle.live_counters.proofs.Marks.{breaks_seen}
 use Rattle.live_counters.proofs.written.written_of.Goals as goal
 
 pub returns-clause-left : goal.returns-clause-left
@@ -29,15 +27,14 @@ returns-clause-ok c =
     let window : items ≡ map written_item (window_on (kept_in s) p seen n) = c.in_ok-items.ensures.ok in
     let left : IsLeft s.store (kept_in s) p seen rest = record { rest = c.in_ok-items.ensures.rest; decided = c.in_ok-items.ensures.left } in
     let entered_is : c.in_ok-entered.entered ≡ or_earlier (last_entered seen) s.entered = search rules in
-    let noted : (id : List ℕ) → is_one_of c.in_ok-ids.ids.items id ≡ (is_used_from (first_number p.segments) held c.in_ok-entered.entered id || is_rest_of id rest) = search rules in
-    let uses : (id : List ℕ) → is_one_of c.in_ok-ids.ids.items id ≡ is_used_after (kept_in s) p seen id = uses_seen s p held n c.in_ok-entered.entered c.in_ok-ids.ids.items rest c.requires.decided entered_is left noted in
-    let marks_is : c.in_ok-marks.marks.items ≡ held_in_use (first_number p.segments) held c.in_ok-entered.entered rest = search rules in
+    let breaks_are : c.in_ok-in_use.in_use.items ≡ breaks_held (first_number p.segments) held c.in_ok-entered.entered rest = search rules in
+    let breaks : c.in_ok-in_use.in_use.items ≡ breaks_after (kept_in s) p seen =
+    breaks_are ∙ breaks_seen s (kept_in s) p held c.in_ok-entered.entered (or_earlier (last_entered seen) s.entered) rest c.requires.decided entered_is left in
     record {
       fit = c.in_ok-items.ensures.fit;
       entered = entered_is;
-      ids = uses;
-      marks = marks_is ∙ ids_seen s (kept_in s) p held c.in_ok-entered.entered (or_earlier (last_entered seen) s.entered) rest c.requires.decided entered_is left;
+      in_use = breaks;
       numbers = numbers_seen s p held n items c.head_of-numbers.result window (search rules);
       count = count_seen s p held n items c.len-count.result window (search rules);
-      text = text_seen s p held n items c.in_ok-ids.ids.items c.in_ok-text.text window uses (search rules);
+      text = text_seen s p held n items c.in_ok-in_use.in_use.items c.in_ok-text.text window breaks (search rules);
     }

@@ -11,6 +11,23 @@ returns-then-count-eq0-clause-ok g c =
     let room : 0 < length c.read.new.buf = omega arith in
     record { given = subst (Consumes _ _) (append-nil _) (Consumes-trans _ _ _ _ [] given read.0); ended = read.1 refl room }
 
+pub returns-then-count-eq0-clause-source : goal.returns-then-count-eq0-clause-source
+returns-then-count-eq0-clause-source g c =
+    let given = c.loop.invariant.given in
+    let read = rw c.if-count-eq0.true at c.in-Ok.ensures.bytes in
+    record {
+      blamed = λ is. absurd (cc);
+      unfailed = ap (λ (f : Failures). f.count) c.in-Ok.ensures.failures ∙ c.loop.invariant.failed;
+      told = tt;
+      too_many = λ is. absurd (cc);
+      calls = omega (arith, c.in-Ok.ensures.calls, c.loop.invariant.calls);
+      to_end = record {
+        count = c.loop.counter;
+        reads = λ h. omega (arith, c.in-Ok.ensures.calls, c.loop.invariant.called);
+        bytes = record { input = c.loop.input.items; given = subst (Consumes _ _) (append-nil _) (Consumes-trans _ _ _ _ [] given read.0); many = c.loop.invariant.many };
+      };
+    }
+
 pub loop-preserved : goal.loop-preserved
 loop-preserved g c =
     let block = take c.in-Ok.count c.read.new.buf in

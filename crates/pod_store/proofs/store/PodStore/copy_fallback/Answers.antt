@@ -1,6 +1,4 @@
 use Rattle.std.proofs.Common.{ap, ◌∙◌}
-use Rattle.std.specs.Prelude.{Option}
-use Rattle.playlist_meaning.specs.Pods.{Pod}
 use Rattle.pod_store.specs.Kept.{Pairs}
 use Rattle.pod_store.proofs.KeptLaws.{store_of}
 use Rattle.pod_store.proofs.Copies.{truncated}

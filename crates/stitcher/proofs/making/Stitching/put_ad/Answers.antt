@@ -1,4 +1,4 @@
-use Rattle.std.proofs.Common.{[], ◌∷◌, ◌++◌, List, map, sym, subst, ap, ◌∙◌, true, false}
+use Rattle.std.proofs.Common.{[], ◌∷◌, List, map, sym, subst, ap, ◌∙◌, true, false}
 use Rattle.playlist_meaning.specs.Marks.{Mark}
 use Rattle.playlist_meaning.specs.Pods.{Ad, PodSegment}
 use Rattle.playlist_meaning.specs.Stitched.{ad_piece, ad_pieces}

@@ -5,7 +5,7 @@ use Rattle.playlist_meaning.specs.Stitched.{Piece, ad_pieces, pieces_of_ads}
 use Rattle.stitcher.specs.declared.making.Part.{Part}
 use Rattle.stitcher.specs.Making.{numbers_fit, part_of, part_after}
 use Rattle.stitcher.proofs.Outcomes.{handed_on}
-use Rattle.stitcher.proofs.Parts.{part_append}
+use Rattle.stitcher.proofs.Parts.{part_append, done_of}
 use Rattle.stitcher.proofs.Putting.{Walks, walks_none, walks_on, walked, passes_there, none_left}
 use Rattle.stitcher.proofs.making.Stitching.put_pod.Goals as goal
 
@@ -19,6 +19,12 @@ loop-ad-init c =
       walks = λ mark. subst (λ (ads : List Ad). Walks c.args.self.now c.args.self.now (part_of c.args.part (pieces_of_ads mark c.args.pod.now.ads)) (part_of c.args.part (pieces_of_ads mark ads))) (sym c.ads-rest.ensures.value)
           (walks_none c.args.self.now (part_of c.args.part (pieces_of_ads mark c.args.pod.now.ads)));
     }
+
+pub returns-then-left-clause-ok : goal.returns-then-left-clause-ok
+returns-then-left-clause-ok c mark =
+    let all = part_of c.args.part (pieces_of_ads mark c.args.pod.now.ads) in
+    walked c.args.self.now c.loop-ad.self all
+    (subst (λ (ps : List Piece). Walks c.args.self.now c.loop-ad.self all ps) (done_of c.loop-ad.left (pieces_of_ads mark c.loop-ad.rest.now) c.if-left.true) (c.loop-ad.invariant.walks mark))
 
 pub returns-in_err-left-clause-err : goal.returns-in_err-left-clause-err
 returns-in_err-left-clause-err c =

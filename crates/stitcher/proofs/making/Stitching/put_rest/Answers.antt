@@ -1,9 +1,7 @@
-use Rattle.std.proofs.Common.{List, sym, subst, ap, ◌∙◌}
-use Rattle.std.specs.Prelude.{Option}
+use Rattle.std.proofs.Common.{sym, subst, ap, ◌∙◌}
 use Rattle.std.specs.Option.{option_copied}
-use Rattle.playlist_meaning.specs.Stitched.{Piece, pod_pieces}
+use Rattle.playlist_meaning.specs.Stitched.{pod_pieces}
 use Rattle.pod_store.specs.Store.{pod_for}
-use Rattle.stitcher.specs.declared.ends.Rest.{Rest}
 use Rattle.stitcher.specs.declared.making.Part.{Part}
 use Rattle.stitcher.specs.Making.{Puts, part_of, pod_with, rest_on, whole_from}
 use Rattle.stitcher.proofs.Outcomes.{on_ok}

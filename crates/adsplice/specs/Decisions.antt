@@ -1,0 +1,18 @@
+-- What `vod` decides by.
+use Rattle.std.specs.Prelude.{Option, Some, None, Result, Ok, Err}
+use Rattle.std.specs.IoError.{error_kind}
+use Rattle.std.specs.declared.io.Error.{Error}
+use Rattle.std.specs.declared.io.ErrorKind.{ErrorKind}
+use Rattle.std.specs.declared.io.ErrorKind.TheVariants as kind
+use Rattle.adsplice.specs.declared.decisions.DecisionsFault.{DecisionsFault}
+use Rattle.adsplice.specs.declared.decisions.DecisionsFault.TheVariants.{CannotRead, OutOfMemory}
+
+abbrev pub fault_of : ErrorKind → DecisionsFault
+fault_of kind.OutOfMemory = OutOfMemory
+fault_of _ = CannotRead
+
+-- no file where none is named; else its bytes, or why they can't be read
+abbrev pub decided : {A : Type 0} → Option (Result A Error) → Result (Option A) DecisionsFault
+decided None = Ok None
+decided (Some (Ok bytes)) = Ok (Some bytes)
+decided (Some (Err e)) = Err (fault_of (error_kind e))

@@ -1,0 +1,523 @@
+//! The sockets of all clients: who is let in, whose turn it is, and whose time is up.
+#![tactic(auto, using(connections::proofs::Leading::stays, connections::proofs::Leading::by_one, connections::proofs::Leading::and_then))]
+
+ghost use Rattle.connections.specs.Runs.{HasRun};
+
+use crate::client::{Client, Turn, fault_at, was_granted};
+use crate::faults::Faults;
+use connections::{
+    Admission, Arrivals, Connections, PLACES, Phase, ending_deadline, has_come, serving_deadline,
+};
+use live_edge::EdgeFault;
+use mio::net::{TcpListener, TcpStream};
+use mio::{Events, Interest, Poll, Token};
+use std::alloc::{AllocError, Global};
+use std::io;
+use std::io::ErrorKind;
+use std::time::{Duration, Instant};
+
+/// The listener's token: those of the clients are their places.
+pub const LISTENER: Token = Token(PLACES);
+
+// How many clients are let in before the others have their turn again.
+const LET_IN: u32 = 64;
+
+// How often it is looked whose time is up, and whether clients can be let in that could not be, in milliseconds.
+const TICK_MILLIS: u64 = 50;
+
+// The system's numbers for a process, and a machine, that has as many files open as it may.
+const NO_FILE_IN_PROCESS: i32 = 24;
+
+const NO_FILE_IN_SYSTEM: i32 = 23;
+
+// What is known of clients that come.
+#[derive(Clone, Copy, PartialEq, Eq)]
+enum Door {
+    // They may wait.
+    Open,
+    // None waits, and the system tells when one does.
+    Quiet,
+    // There is no file left for one, and the system tells whether one waits.
+    NoFile,
+    // They can't be let in. It is tried again at the next tick.
+    Shut,
+}
+
+/// The sockets of the clients, by place, with the order in which they came.
+#[derive(Drop)]
+pub struct Server {
+    faults: Faults,
+    poll: Poll,
+    listener: TcpListener,
+    clients: Vec<Option<Client>>,
+    vacant: Vec<usize>,
+    // Those that ask or are answered, and those whose reply is gone.
+    served: Arrivals,
+    ending: Arrivals,
+    admission: Admission,
+    door: Door,
+    now: Instant,
+    next_tick: Instant,
+}
+
+/// The memory of a server, beside what clients ask.
+#[derive(Drop)]
+pub struct Memory {
+    clients: Vec<Option<Client>>,
+    vacant: Vec<usize>,
+    served: Arrivals,
+    ending: Arrivals,
+}
+
+impl Memory {
+    pub fn new(alloc: Global) -> Result<Memory, AllocError> {
+        Ok(Memory {
+            clients: nobody(alloc)?,
+            vacant: all_places(alloc)?,
+            served: Arrivals::new(alloc, PLACES)?,
+            ending: Arrivals::new(alloc, PLACES)?,
+        })
+    }
+}
+
+fn nobody(alloc: Global) -> Result<Vec<Option<Client>>, AllocError> {
+    let mut clients = Vec::with_capacity(alloc, PLACES)?;
+    for _ in 0..PLACES {
+        clients.push(None)?;
+    }
+    Ok(clients)
+}
+
+// The last is taken first.
+fn all_places(alloc: Global) -> Result<Vec<usize>, AllocError> {
+    let mut places = Vec::with_capacity(alloc, PLACES)?;
+    for place in 0..PLACES {
+        places.push(PLACES - 1 - place)?;
+    }
+    Ok(places)
+}
+
+fn tick_after(now: Instant) -> Instant {
+    match now.checked_add(Duration::from_millis(TICK_MILLIS)) {
+        Some(then) => then,
+        None => now,
+    }
+}
+
+fn is_no_file(error: &io::Error) -> bool {
+    match error.raw_os_error() {
+        Some(number) => number == NO_FILE_IN_PROCESS || number == NO_FILE_IN_SYSTEM,
+        None => false,
+    }
+}
+
+// Who stands at a place goes.
+fn leave(connections: &mut Connections, place: usize)
+    ensures { HasRun connections.old connections.new }
+{
+    if place >= connections.len() {
+        return;
+    }
+    connections.went(place);
+}
+
+impl Server {
+    /// A server that has nobody yet, over what was opened at this instant.
+    pub fn new(
+        memory: Memory,
+        faults: Faults,
+        poll: Poll,
+        listener: TcpListener,
+        count: u32,
+        now: Instant,
+    ) -> Server {
+        Server {
+            faults,
+            poll,
+            listener,
+            clients: memory.clients,
+            vacant: memory.vacant,
+            served: memory.served,
+            ending: memory.ending,
+            admission: Admission::new(count),
+            door: Door::Open,
+            now,
+            next_tick: now,
+        }
+    }
+
+    /// How many clients there are.
+    fn present(&self) -> usize {
+        PLACES.saturating_sub(self.vacant.len())
+    }
+
+    /// Whether all came that are let in, and none of them is there any more.
+    pub fn is_over(&self) -> bool {
+        self.admission.is_over(self.present())
+    }
+
+    /// Tells a text on standard error, where that doesn't wait.
+    pub fn tell(&mut self, rt: &HostRuntime, text: &str) {
+        self.faults.tell(rt, text);
+    }
+
+    // How long may be waited for the next event.
+    fn patience(&self) -> Option<Duration> {
+        match self.door {
+            Door::Open => Some(Duration::from_millis(0)),
+            Door::Quiet if self.present() == 0 => None,
+            _ => Some(Duration::from_millis(TICK_MILLIS)),
+        }
+    }
+
+    /// Waits until somebody is ready, or a tick has passed.
+    pub fn wait(&mut self, rt: &HostRuntime, events: &mut Events) -> io::Result<()> {
+        let patience = self.patience();
+        self.poll.poll(events, patience)?;
+        if let Ok(now) = Instant::now(rt) {
+            self.now = now;
+        }
+        Ok(())
+    }
+
+    // Closes a connection, and has its place for another.
+    fn close(&mut self, connections: &mut Connections, place: usize)
+        ensures { HasRun connections.old connections.new }
+    {
+        leave(connections, place);
+        self.served.went(place);
+        self.ending.went(place);
+        if let Some(client) = self.clients.get_mut(place) {
+            if client.take().is_some() {
+                let _ = self.vacant.push(place);
+            }
+        }
+    }
+
+    // Waits for a client, or closes its connection where the system can't tell of it.
+    fn watch(&mut self, connections: &mut Connections, place: usize, again: bool)
+        ensures { HasRun connections.old connections.new }
+    {
+        let Some(Some(client)) = self.clients.get_mut(place) else {
+            return;
+        };
+        let registry = self.poll.registry();
+        let watched = if again {
+            client.watch(registry, place)
+        } else {
+            client.keep_watched(registry, place)
+        };
+        if watched {
+            return;
+        }
+        self.close(connections, place);
+    }
+
+    // Ends a connection whose reply is gone, or that is given up: what its client still sends is awaited for a while.
+    fn finish(&mut self, connections: &mut Connections, place: usize, was_granted: bool)
+        ensures { HasRun connections.old connections.new }
+    {
+        leave(connections, place);
+        self.served.went(place);
+        let Some(Some(client)) = self.clients.get_mut(place) else {
+            return;
+        };
+        let turn = client.end(was_granted);
+        let is_late = self.ending.came(place, ending_deadline(self.now)).is_err();
+        match turn {
+            Turn::Waits if !is_late => self.watch(connections, place, false),
+            Turn::Goes if !is_late => self.watch(connections, place, true),
+            _ => self.close(connections, place),
+        }
+    }
+
+    // Tells the fault of a connection that is given up.
+    fn tell_given_up(&mut self, rt: &HostRuntime, connections: &Connections, place: usize) {
+        if let Some(fault) = fault_at(connections, place) {
+            self.faults.tell(rt, fault.text());
+        }
+    }
+
+    fn give_up(&mut self, rt: &HostRuntime, connections: &mut Connections, place: usize)
+        ensures { HasRun connections.old connections.new }
+    {
+        self.tell_given_up(rt, connections, place);
+        self.finish(connections, place, false);
+    }
+
+    // Gives up a connection whose place, or whose file, another one needs.
+    fn evict(&mut self, rt: &HostRuntime, connections: &mut Connections, place: usize)
+        ensures { HasRun connections.old connections.new }
+    {
+        self.tell_given_up(rt, connections, place);
+        self.close(connections, place);
+    }
+
+    // What becomes of a connection after its turn.
+    fn settle(
+        &mut self,
+        rt: &HostRuntime,
+        connections: &mut Connections,
+        place: usize,
+        turn: Turn,
+        was_ending: bool,
+    )
+        ensures { HasRun connections.old connections.new }
+    {
+        match turn {
+            Turn::Waits => self.watch(connections, place, false),
+            Turn::Goes => self.watch(connections, place, true),
+            Turn::Done if was_ending => self.close(connections, place),
+            Turn::Done => {
+                let granted = was_granted(connections, place);
+                self.finish(connections, place, granted);
+            }
+            Turn::Failed(fault) => {
+                self.faults.tell(rt, fault.text());
+                self.finish(connections, place, false);
+            }
+            Turn::Full => self.close(connections, place),
+        }
+    }
+
+    // Has room for the bytes of who stands at a place: the client is given up that has asked longest, of those whose bytes
+    // are held.
+    fn make_room(&mut self, rt: &HostRuntime, connections: &mut Connections, place: usize)
+        ensures { HasRun connections.old connections.new }
+    {
+        let Some(other) = self.served.for_bytes(connections) else {
+            self.close(connections, place);
+            return;
+        };
+        self.give_up(rt, connections, other);
+    }
+
+    // Gives a client its turn.
+    fn serve_place(
+        &mut self,
+        rt: &HostRuntime,
+        connections: &mut Connections,
+        place: usize,
+        block: &mut [u8],
+    )
+        ensures { HasRun connections.old connections.new }
+    {
+        for _ in 0..PLACES {
+            let Some(Some(client)) = self.clients.get_mut(place) else {
+                return;
+            };
+            let was_ending = client.is_ending();
+            let turn = client.take_turn(connections, place, block);
+            if !matches!(turn, Turn::Full) {
+                self.settle(rt, connections, place, turn, was_ending);
+                return;
+            }
+            self.make_room(rt, connections, place);
+        }
+    }
+
+    fn on_event(
+        &mut self,
+        rt: &HostRuntime,
+        connections: &mut Connections,
+        place: usize,
+        block: &mut [u8],
+    )
+        ensures { HasRun connections.old connections.new }
+    {
+        if place == PLACES {
+            self.on_somebody(rt, connections);
+            return;
+        }
+        self.serve_place(rt, connections, place, block);
+    }
+
+    // Gives each client its turn of which something was told.
+    fn serve_events(
+        &mut self,
+        rt: &HostRuntime,
+        connections: &mut Connections,
+        events: &Events,
+        block: &mut [u8],
+    )
+        ensures { HasRun connections.old connections.new }
+    {
+        for event in events.iter() {
+            let Token(place) = event.token();
+            self.on_event(rt, connections, place, block);
+        }
+    }
+
+    // Somebody waits to be let in. Where there was no file, the client gives up its own that has asked longest.
+    fn on_somebody(&mut self, rt: &HostRuntime, connections: &mut Connections)
+        ensures { HasRun connections.old connections.new }
+    {
+        if self.door != Door::NoFile {
+            self.door = Door::Open;
+            return;
+        }
+        match self.served.asked_longest(connections) {
+            Some(place) => {
+                self.evict(rt, connections, place);
+                self.door = Door::Open;
+            }
+            None => self.door = Door::Shut,
+        }
+    }
+
+    // A vacant place, for which a connection is given up where there is none.
+    fn place_for_one(&mut self, rt: &HostRuntime, connections: &mut Connections) -> Option<usize>
+        ensures { HasRun connections.old connections.new }
+    {
+        if self.vacant.is_empty() {
+            let place = self.served.for_place(&self.ending, connections)?;
+            self.evict(rt, connections, place);
+        }
+        self.vacant.pop()
+    }
+
+    fn seat(
+        &mut self,
+        rt: &HostRuntime,
+        connections: &mut Connections,
+        stream: TcpStream,
+    ) -> Option<usize>
+        ensures { HasRun connections.old connections.new }
+    {
+        let place = self.place_for_one(rt, connections)?;
+        if place >= connections.len() || connections.phase(place) != Phase::Vacant {
+            return None;
+        }
+        let seat = self.clients.get_mut(place)?;
+        *seat = Some(Client::new(stream));
+        connections.came(place);
+        if self.served.came(place, serving_deadline(self.now)).is_err() {
+            self.faults.tell(rt, EdgeFault::OutOfMemory.text());
+            self.close(connections, place);
+        }
+        Some(place)
+    }
+
+    // The next client that waits, if one does.
+    fn next_client(&mut self) -> Option<TcpStream> {
+        match self.listener.accept() {
+            Ok((stream, _)) => Some(stream),
+            Err(e) => {
+                self.door = self.door_after(&e);
+                None
+            }
+        }
+    }
+
+    // What is known of who comes after nobody could be let in. No error ends the server.
+    fn door_after(&mut self, error: &io::Error) -> Door {
+        if error.kind() == ErrorKind::WouldBlock {
+            return Door::Quiet;
+        }
+        if !is_no_file(error) {
+            return Door::Shut;
+        }
+        // (a new interest has the system tell whether somebody waits at all)
+        let asked = self
+            .poll
+            .registry()
+            .reregister(&mut self.listener, LISTENER, Interest::READABLE);
+        match asked {
+            Ok(()) => Door::NoFile,
+            Err(_) => Door::Shut,
+        }
+    }
+
+    // Lets a client in, and gives it its first turn.
+    fn admit(
+        &mut self,
+        rt: &HostRuntime,
+        connections: &mut Connections,
+        stream: TcpStream,
+        block: &mut [u8],
+    )
+        ensures { HasRun connections.old connections.new }
+    {
+        if self.admission.is_open() {
+            self.admission.let_in();
+        }
+        let Some(place) = self.seat(rt, connections, stream) else {
+            return;
+        };
+        self.serve_place(rt, connections, place, block);
+    }
+
+    // Lets in those who wait, up to so many.
+    fn let_in(&mut self, rt: &HostRuntime, connections: &mut Connections, block: &mut [u8])
+        ensures { HasRun connections.old connections.new }
+    {
+        for _ in 0..LET_IN {
+            if self.door != Door::Open {
+                return;
+            }
+            if !self.admission.is_open() {
+                self.door = Door::Quiet;
+                return;
+            }
+            let Some(stream) = self.next_client() else {
+                return;
+            };
+            self.admit(rt, connections, stream, block);
+        }
+    }
+
+    // Closes those that had time to end.
+    fn close_late(&mut self, connections: &mut Connections)
+        ensures { HasRun connections.old connections.new }
+    {
+        for _ in 0..PLACES {
+            let Some(place) = self.ending.late(self.now) else {
+                return;
+            };
+            self.close(connections, place);
+        }
+    }
+
+    // Gives up those whose time is up.
+    fn give_up_late(&mut self, rt: &HostRuntime, connections: &mut Connections)
+        ensures { HasRun connections.old connections.new }
+    {
+        for _ in 0..PLACES {
+            let Some(place) = self.served.late(self.now) else {
+                return;
+            };
+            self.give_up(rt, connections, place);
+        }
+    }
+
+    // Looks whose time is up, and has it tried again to let in who could not be.
+    fn tick(&mut self, rt: &HostRuntime, connections: &mut Connections)
+        ensures { HasRun connections.old connections.new }
+    {
+        if !has_come(self.next_tick, self.now) {
+            return;
+        }
+        self.next_tick = tick_after(self.now);
+        if self.door == Door::Shut {
+            self.door = Door::Open;
+        }
+        self.close_late(connections);
+        self.give_up_late(rt, connections);
+    }
+
+    /// A round: those have their turn of whom something was told, then those are let in who wait, and then it is looked whose
+    /// time is up.
+    pub fn round(
+        &mut self,
+        rt: &HostRuntime,
+        connections: &mut Connections,
+        events: &Events,
+        block: &mut [u8],
+    )
+        ensures { HasRun connections.old connections.new }
+    {
+        self.serve_events(rt, connections, events, block);
+        self.let_in(rt, connections, block);
+        self.tick(rt, connections);
+    }
+}

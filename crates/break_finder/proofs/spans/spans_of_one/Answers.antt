@@ -1,0 +1,18 @@
+use Rattle.std.proofs.Common.{◌≡◌, ◌∷◌, [], None, arith}
+use Rattle.std.proofs.lemmas.Int.{to_z-of_z}
+use Rattle.std.proofs.lemmas.Grind.{common_steps}
+use Rattle.break_finder.proofs.SpanLaws.{three_tell}
+use Rattle.break_finder.proofs.spans.spans_of_one.Goals as goal
+
+pub returns : goal.returns
+returns c =
+    let before = c.closed_span-before.result in
+    let within = c.open_span-within.result in
+    let after = c.closed_span-after.result in
+    let spans : c.push-3.new.self.items ≡ before ∷ within ∷ after ∷ [] = grind (arith, common_steps) in
+    let low : before.to ≡ within.from = grind (arith, to_z-of_z) in
+    let high : after.from ≡ within.to = grind (arith, to_z-of_z) in
+    let before_none : before.first ≡ None = grind arith in
+    let after_none : after.first ≡ None = grind arith in
+    let is = c.open_span-within.ensures in
+    three_tell c.args.tolerance c.args.entrance.now before within after c.push-3.new.self.items spans low before_none high after_none is.first is.second is.window

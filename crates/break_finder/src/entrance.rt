@@ -1,0 +1,96 @@
+//! A break that can be entered, and whether a segment enters it.
+ghost use Rattle.std.specs.Prelude.{◌≡◌, Bool, ℕ, List, option_map};
+ghost use Rattle.std.specs.Option.{option_copied};
+ghost use Rattle.pod_store.specs.Store.{pod_for};
+ghost use Rattle.break_finder.specs.Known.{is_this};
+ghost use Rattle.break_finder.specs.Entrances.{entrance_of, is_entered, taken};
+
+use crate::end::{End, end_of, is_near, is_not_past};
+use crate::said::{Said, is_leaving};
+use fixed_duration::Nanos;
+use playlist_meaning::Instant;
+use pod_store::PodStore;
+use std::marker::Model;
+
+/// A break that can be entered: it is signalled and decided, and its pod fits.
+#[derive(Drop)]
+pub struct Entrance<'a> {
+    /// Its ID.
+    pub id: &'a str,
+    /// START-DATE.
+    pub start: Instant,
+    /// Where it ends, by what is said of it or by its pod.
+    pub end: Option<End>,
+}
+
+impl<'a> Model for Entrance<'a> {
+    ghost use Rattle.std.specs.Prelude.{option_map};
+    ghost use Rattle.break_finder.specs.Ends.{end_view};
+    ghost use Rattle.break_finder.specs.Entrances.{Entrance};
+
+    ghost Value = { Entrance };
+
+    ghost view = { λ a. record { id = a.id.now; start = a.start; end = option_map end_view a.end } };
+}
+
+/// Whether this ID is the last one's.
+pub fn is_last(last: Option<&str>, id: &str) -> bool
+    ensures { result ≡ is_this id.now (option_copied last.entry) }
+{
+    match last {
+        Some(last) => id == last,
+        None => false,
+    }
+}
+
+fn is_entered(
+    tolerance: Nanos,
+    last: Option<&str>,
+    instant: Instant,
+    entrance: &Entrance<'_>,
+) -> bool
+    ensures { result ≡ is_entered tolerance (option_copied last.entry) instant entrance.now }
+{
+    is_near(instant, tolerance, Some(entrance.start))
+        && is_not_past(instant, tolerance, entrance.end)
+        && !is_last(last, entrance.id)
+}
+
+/// How a break can be entered.
+pub fn entrance_of<'a>(
+    target: u64,
+    mapped: bool,
+    store: &PodStore,
+    id: &'a str,
+    said: &Said,
+) -> Option<Entrance<'a>>
+    ensures { result ≡ entrance_of target mapped (record { id = id.now; said = said.now }) (pod_for store.now id.now) }
+{
+    let start = said.start?;
+    if !is_leaving(said.out) {
+        return None;
+    }
+    let pod = store.pod_for(id)?;
+    if !pod.fits(target, mapped) {
+        return None;
+    }
+    let end = end_of(said, pod.total());
+    Some(Entrance { id, start, end })
+}
+
+/// The ID of the first of these that is entered.
+pub fn first_entered<'a>(
+    list: &[Entrance<'a>],
+    tolerance: Nanos,
+    last: Option<&str>,
+    instant: Instant,
+) -> Option<&'a str>
+    ensures { option_map (λ id. id.now) result ≡ taken tolerance (option_copied last.entry) instant list.now }
+{
+    for entrance in list {
+        if is_entered(tolerance, last, instant, entrance) {
+            return Some(entrance.id);
+        }
+    }
+    None
+}

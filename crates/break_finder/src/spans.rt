@@ -1,0 +1,264 @@
+//! Time cut into spans, in each of which the same break is entered.
+ghost use Rattle.std.specs.Prelude.{◌≡◌, ◌++◌, ◌∷◌, [], ◌≤ℤ◌, ◌+ℤ◌, ◌-ℤ◌, pos, int_lt, ◌&&◌, ℕ, ℤ, true, List, Some, None, option_map, IfOk, IfSome};
+ghost use Rattle.std.specs.List.{All};
+ghost use Rattle.std.specs.Option.{option_copied, option_or};
+ghost use Rattle.break_finder.specs.Breaks.{is_near, is_not_past};
+ghost use Rattle.break_finder.specs.Ends.{end_view};
+ghost use Rattle.break_finder.specs.Entrances.{Entrance, is_enterable, but, second_of, is_in, is_within, Tells};
+
+use crate::end::End;
+use crate::entrance::{Entrance, is_last};
+use fixed_duration::Nanos;
+use playlist_meaning::Instant;
+use std::alloc::{AllocError, Global};
+use std::marker::Model;
+
+/// Time from an instant up to another, which is no part of it, in nanoseconds from 1970. Of the breaks that can be
+/// entered in it the IDs of the first, and of the first that is another.
+#[derive(Drop)]
+pub struct Span<'a> {
+    from: i128,
+    to: i128,
+    first: Option<&'a str>,
+    second: Option<&'a str>,
+}
+
+impl<'a> Model for Span<'a> {
+    ghost use Rattle.std.specs.Option.{option_copied};
+    ghost use Rattle.break_finder.specs.Entrances.{Span};
+
+    ghost Value = { Span };
+
+    ghost view = { λ a. record { from = a.from; to = a.to; first = option_copied a.first; second = option_copied a.second } };
+}
+
+// The first, or where it is the last one entered the second.
+fn but<'a>(first: Option<&'a str>, second: Option<&'a str>, last: Option<&str>) -> Option<&'a str>
+    ensures { option_copied result ≡ but (option_copied first.entry) (option_copied second.entry) (option_copied last.entry) }
+{
+    let Some(id) = first else {
+        return None;
+    };
+    if is_last(last, id) {
+        return second;
+    }
+    first
+}
+
+// Of two pairs of breaks, each the first and the first other, the first other of all.
+fn second_of<'a>(
+    our_first: Option<&'a str>,
+    our_second: Option<&'a str>,
+    their_first: Option<&'a str>,
+    their_second: Option<&'a str>,
+) -> Option<&'a str>
+    ensures { option_copied result ≡ second_of (option_copied our_first.entry) (option_copied our_second.entry) (option_copied their_first.entry) (option_copied their_second.entry) }
+{
+    if our_first.is_none() {
+        return their_second;
+    }
+    if our_second.is_some() {
+        return our_second;
+    }
+    but(their_first, their_second, our_first)
+}
+
+impl<'a> Span<'a> {
+    // Whether an instant, in nanoseconds from 1970, is in it.
+    fn holds(&self, instant: i128) -> bool
+        ensures { result ≡ is_in self.now instant }
+    {
+        self.from <= instant && instant < self.to
+    }
+
+    /// The ID of the break that is entered in it after this last one.
+    pub fn entered(&self, last: Option<&str>) -> Option<&'a str>
+        ensures { option_copied result ≡ but self.now.first self.now.second (option_copied last.entry) }
+    {
+        but(self.first, self.second, last)
+    }
+}
+
+// What two spans have in common, where the breaks of the one come before those of the other.
+fn met<'a>(ours: &Span<'a>, theirs: &Span<'a>) -> Span<'a>
+    ensures from_ours { ours.now.from ≤ℤ result.from }
+    ensures from_theirs { theirs.now.from ≤ℤ result.from }
+    ensures to_ours { result.to ≤ℤ ours.now.to }
+    ensures to_theirs { result.to ≤ℤ theirs.now.to }
+    ensures first { result.first ≡ option_or ours.now.first theirs.now.first }
+    ensures second { result.second ≡ second_of ours.now.first ours.now.second theirs.now.first theirs.now.second }
+{
+    Span {
+        from: ours.from.max(theirs.from),
+        to: ours.to.min(theirs.to),
+        first: ours.first.or(theirs.first),
+        second: second_of(ours.first, ours.second, theirs.first, theirs.second),
+    }
+}
+
+// These spans, but the first one where it ends here or before.
+fn from_here<'s, 'a>(spans: &'s [Span<'a>], end: i128) -> &'s [Span<'a>]
+    ensures { (tolerance : ℕ) (found : List Entrance) → All (Tells tolerance found) spans.now → All (Tells tolerance found) result.now }
+{
+    match spans.split_first() {
+        Some((span, later)) => {
+            if span.to <= end {
+                return later;
+            }
+            spans
+        }
+        None => spans,
+    }
+}
+
+// The spans of breaks and of others that come after these, of those of each.
+fn joined<'a>(
+    alloc: Global,
+    ours: &[Span<'a>],
+    theirs: &[Span<'a>],
+) -> Result<Vec<Span<'a>>, AllocError>
+    ensures { IfOk result (λ v. (tolerance : ℕ) (before after : List Entrance) → All (Tells tolerance before) ours.now → All (Tells tolerance after) theirs.now → All (Tells tolerance (before ++ after)) v.items) }
+{
+    let most = ours.len().saturating_add(theirs.len());
+    let mut done = Vec::with_capacity(alloc, most)?;
+    let mut ours = ours;
+    let mut theirs = theirs;
+    for _ in 0..most {
+        let Some((our, _)) = ours.split_first() else {
+            return Ok(done);
+        };
+        let Some((their, _)) = theirs.split_first() else {
+            return Ok(done);
+        };
+        let span = met(our, their);
+        let end = span.to;
+        done.push(span)?;
+        ours = from_here(ours, end);
+        theirs = from_here(theirs, end);
+    }
+    Ok(done)
+}
+
+// The first instant at which a break can be entered that starts here.
+fn opening(start: Instant, tolerance: Nanos) -> i128
+    ensures { result ≡ start -ℤ pos tolerance }
+{
+    i128::from(start.0) - i128::from(tolerance.0)
+}
+
+// The first instant that is too late to enter a break which starts here, whatever its end.
+fn late(start: Instant, tolerance: Nanos) -> i128
+    ensures { result ≡ start +ℤ pos tolerance +ℤ pos 1 }
+{
+    i128::from(start.0) + i128::from(tolerance.0) + 1
+}
+
+// The same of one that ends here.
+fn late_before(start: Instant, tolerance: Nanos, end: i128) -> i128
+    ensures { (instant : ℤ) → (is_near instant tolerance (Some start) && int_lt (instant +ℤ pos tolerance) end) ≡ is_within (start -ℤ pos tolerance) result instant }
+{
+    if end <= i128::from(start.0) {
+        return opening(start, tolerance);
+    }
+    late(start, tolerance).min(end - i128::from(tolerance.0))
+}
+
+// The same of one with this end, if any.
+fn closing(start: Instant, tolerance: Nanos, end: Option<End>) -> i128
+    ensures { (instant : ℤ) → (is_near instant tolerance (Some start) && is_not_past instant tolerance (option_map end_view end)) ≡ is_within (start -ℤ pos tolerance) result instant }
+{
+    match end {
+        Some(End::At(end)) => late_before(start, tolerance, end),
+        Some(End::Closed) => late(start, tolerance),
+        None => late(start, tolerance),
+    }
+}
+
+// A span in which none is entered.
+fn closed_span<'a>(from: i128, to: i128) -> Span<'a>
+    ensures { result ≡ record { from = from; to = to; first = None; second = None } }
+{
+    Span {
+        from,
+        to,
+        first: None,
+        second: None,
+    }
+}
+
+// The span in which a break can be entered.
+fn open_span<'a>(tolerance: Nanos, entrance: &Entrance<'a>) -> Span<'a>
+    ensures from { result.from ≡ entrance.now.start -ℤ pos tolerance }
+    ensures window { (instant : ℤ) → is_enterable tolerance instant entrance.now ≡ is_in result instant }
+    ensures first { result.first ≡ Some entrance.now.id }
+    ensures second { result.second ≡ None }
+{
+    Span {
+        from: opening(entrance.start, tolerance),
+        to: closing(entrance.start, tolerance, entrance.end),
+        first: Some(entrance.id),
+        second: None,
+    }
+}
+
+// The spans of one break: before it can be entered, while it can, and after that.
+fn spans_of_one<'a>(
+    alloc: Global,
+    tolerance: Nanos,
+    entrance: &Entrance<'a>,
+) -> Result<Vec<Span<'a>>, AllocError>
+    ensures { IfOk result (λ v. All (Tells tolerance (entrance.now ∷ [])) v.items) }
+{
+    let within = open_span(tolerance, entrance);
+    let before = closed_span(i128::MIN, within.from);
+    let after = closed_span(within.to, i128::MAX);
+    let mut spans = Vec::with_capacity(alloc, 3)?;
+    spans.push(before)?;
+    spans.push(within)?;
+    spans.push(after)?;
+    Ok(spans)
+}
+
+/// The spans of these breaks.
+pub fn spans_of<'a>(
+    alloc: Global,
+    tolerance: Nanos,
+    list: &[Entrance<'a>],
+) -> Result<Vec<Span<'a>>, AllocError>
+    ensures { IfOk result (λ v. All (Tells tolerance list.now) v.items) }
+{
+    let Some(first) = list.first() else {
+        return Ok(Vec::new(alloc));
+    };
+    if list.len() == 1 {
+        return spans_of_one(alloc, tolerance, first);
+    }
+    let (before, after) = list.split_at(list.len() / 2);
+    let ours = spans_of(alloc, tolerance, before)?;
+    let theirs = spans_of(alloc, tolerance, after)?;
+    joined(alloc, ours.as_slice(), theirs.as_slice())
+}
+
+/// The place of the span that an instant is in, which often is this one.
+pub fn place_of(spans: &[Span<'_>], place: usize, instant: Instant) -> usize {
+    let instant = i128::from(instant.0);
+    match spans.get(place) {
+        Some(span) if span.holds(instant) => place,
+        _ => spans.partition_point(|span: &Span<'_>| -> bool { span.to <= instant }),
+    }
+}
+
+/// The span at this place, where the instant is in it.
+pub fn span_at<'s, 'a>(
+    spans: &'s [Span<'a>],
+    place: usize,
+    instant: Instant,
+) -> Option<&'s Span<'a>>
+    ensures inside { IfSome result (λ span. is_in span.now instant ≡ true) }
+    ensures tells { (tolerance : ℕ) (found : List Entrance) → All (Tells tolerance found) spans.now → IfSome result (λ span. Tells tolerance found span.now) }
+{
+    match spans.get(place) {
+        Some(span) if span.holds(i128::from(instant.0)) => Some(span),
+        _ => None,
+    }
+}

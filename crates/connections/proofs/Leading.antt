@@ -1,0 +1,19 @@
+-- What leads from one table to another.
+use Rattle.std.proofs.Common.{◌≡◌, List, [], ◌∷◌, ◌++◌, refl, sym, subst}
+use Rattle.connections.specs.Table.{State, Event, Happens}
+use Rattle.connections.specs.Runs.{IsRun, HasRun}
+
+pub stays : (old new : State) → new ≡ old → HasRun old new
+stays old new e = record { events = []; run = e }
+
+pub by_one : (old new : State) (e : Event) → Happens old e new → HasRun old new
+by_one old new e h = record { events = e ∷ []; run = (old, refl, h) }
+
+joined : (first middle : State) (before : List Event) → IsRun first before middle → (last : State) (events : List Event) → IsRun middle events last
+    → IsRun first (events ++ before) last
+joined first middle before b last [] h = subst (IsRun first before) (sym h) b
+joined first middle before b last (e ∷ events) h = (h.0, joined first middle before b h.0 events h.1, h.2)
+
+pub and_then : (first middle last : State) → HasRun first middle → HasRun middle last → HasRun first last
+and_then first middle last b h =
+    record { events = h.events ++ b.events; run = joined first middle b.events b.run last h.events h.run }

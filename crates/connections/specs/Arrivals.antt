@@ -1,0 +1,61 @@
+-- Who came when, and which connection is given up.
+use Rattle.std.specs.Prelude.{ℕ, ◌==◌, nat_le, nat_lt, not, Bool, true, false, List, [], ◌∷◌, Option, Some, None, option_map}
+use Rattle.std.specs.Option.{option_or}
+use Rattle.std.specs.List.{find}
+use Rattle.std.specs.Time.{instant_nanos}
+use Rattle.std.specs.declared.time.Instant.{Instant}
+use Rattle.connections.specs.declared.arrivals.Arrival.{Arrival}
+use Rattle.connections.specs.declared.conversation.Conversation.{Conversation}
+use Rattle.connections.specs.declared.conversation.Conversation.TheVariants.{Asking, Answering}
+use Rattle.connections.specs.Table.{State, at, held_of}
+
+abbrev pub place_of : Arrival → ℕ
+place_of arrival = arrival.place
+
+-- it is of another place
+abbrev pub is_elsewhere : ℕ → Arrival → Bool
+is_elsewhere place arrival = not (arrival.place == place)
+
+-- ---- time
+
+-- an instant has come
+abbrev pub has_come : Instant → Instant → Bool
+has_come until now = nat_le (instant_nanos until) (instant_nanos now)
+
+-- its time is up
+abbrev pub is_late : Instant → Arrival → Bool
+is_late now arrival = has_come arrival.until now
+
+-- ---- what a connection is at
+
+-- its request isn't whole
+abbrev pub is_asking : Option Conversation → Bool
+is_asking (Some (Asking bytes pieces)) = true
+is_asking (Some (Answering rest status)) = false
+is_asking None = false
+
+abbrev pub asks : State → Arrival → Bool
+asks s arrival = is_asking (at s arrival.place)
+
+-- bytes of its request are held
+abbrev pub holds : State → Arrival → Bool
+holds s arrival = nat_lt 0 (held_of (at s arrival.place))
+
+-- ---- the first of connections in the order in which they came
+
+abbrev pub first : List Arrival → Option ℕ
+first [] = None
+first (arrival ∷ later) = Some arrival.place
+
+-- the first of which this is so: none of which it is so came before
+abbrev pub first_that : (Arrival → Bool) → List Arrival → Option ℕ
+first_that test arrivals = option_map place_of (find test arrivals)
+
+-- for one that comes the client is given up that has asked longest; where none asks, the one that has been ending longest, and
+-- only where all have a reply on its way the one that came first
+abbrev pub gives_place : State → List Arrival → List Arrival → Option ℕ
+gives_place s served ending = option_or (first_that (asks s) served) (option_or (first ending) (first served))
+
+-- for bytes that have no room it is the client that has asked longest, of those whose bytes are held
+abbrev pub gives_room : State → List Arrival → Option ℕ
+gives_room s served = first_that (holds s) served

@@ -1,0 +1,157 @@
+//! The order in which connections came, and which of them is given up where there is no room.
+ghost use Rattle.std.specs.Prelude.{◌≡◌, [], ◌∷◌, ◌++◌, filter, option_map, length, IfOk, OnOk, OnErr};
+ghost use Rattle.std.specs.List.{find};
+ghost use Rattle.connections.specs.Arrivals.{is_elsewhere, has_come, is_late, asks, holds, first, first_that, gives_place, gives_room};
+
+use crate::table::{Connections, Phase};
+use std::alloc::{AllocError, Global};
+use std::marker::Model;
+use std::time::Instant;
+
+/// A connection's place, and when its time is up.
+#[derive(Clone, Copy)]
+pub struct Arrival {
+    pub place: usize,
+    pub until: Instant,
+}
+
+/// Connections in the order in which they came.
+#[derive(Drop)]
+pub struct Arrivals {
+    arrivals: Vec<Arrival>,
+}
+
+impl Model for Arrivals {
+    ghost use Rattle.std.specs.Prelude.{List};
+    ghost use Rattle.connections.specs.declared.arrivals.Arrival.{Arrival as One};
+
+    ghost Value = { List One };
+
+    ghost view = { λ a. a.arrivals.items };
+}
+
+/// Whether an instant has come.
+pub fn has_come(until: Instant, now: Instant) -> bool
+    ensures { result ≡ has_come until now }
+{
+    match now.checked_duration_since(until) {
+        Some(_) => true,
+        None => false,
+    }
+}
+
+fn first_late(arrivals: &[Arrival], now: Instant) -> Option<usize>
+    ensures { result ≡ first_that (is_late now) arrivals.now }
+{
+    for arrival in arrivals {
+        if has_come(arrival.until, now) {
+            return Some(arrival.place);
+        }
+    }
+    None
+}
+
+fn first_asking(arrivals: &[Arrival], connections: &Connections) -> Option<usize>
+    ensures { result ≡ first_that (asks connections.now) arrivals.now }
+{
+    for arrival in arrivals {
+        if connections.is_asking(arrival.place) {
+            return Some(arrival.place);
+        }
+    }
+    None
+}
+
+fn first_holding(arrivals: &[Arrival], connections: &Connections) -> Option<usize>
+    ensures { result ≡ first_that (holds connections.now) arrivals.now }
+{
+    for arrival in arrivals {
+        if connections.held_at(arrival.place) > 0 {
+            return Some(arrival.place);
+        }
+    }
+    None
+}
+
+fn first(arrivals: &[Arrival]) -> Option<usize>
+    ensures { result ≡ first arrivals.now }
+{
+    match arrivals {
+        [arrival, ..] => Some(arrival.place),
+        [] => None,
+    }
+}
+
+fn remove(arrivals: &mut Vec<Arrival>, place: usize)
+    ensures { arrivals.new.items ≡ filter (is_elsewhere place) arrivals.old.items }
+{
+    arrivals.retain(|arrival| arrival.place != place);
+}
+
+impl Arrivals {
+    /// Nobody, and the memory for so many. Fails only where memory is refused.
+    pub fn new(alloc: Global, most: usize) -> Result<Arrivals, AllocError>
+        ensures { IfOk result (λ new. new ≡ []) }
+    {
+        Ok(Arrivals {
+            arrivals: Vec::with_capacity(alloc, most)?,
+        })
+    }
+
+    /// How many there are.
+    pub fn len(&self) -> usize
+        ensures { result ≡ length self.now }
+    {
+        self.arrivals.len()
+    }
+
+    /// One comes after the others. Fails only where memory is refused, and leaves them then.
+    pub fn came(&mut self, place: usize, until: Instant) -> Result<(), AllocError>
+        ensures ok { OnOk result (self.new ≡ self.old ++ record { place = place; until = until } ∷ []) }
+        ensures err { OnErr result (self.new ≡ self.old) }
+    {
+        self.arrivals.push(Arrival { place, until })?;
+        Ok(())
+    }
+
+    /// The one at this place goes, if there is one.
+    pub fn went(&mut self, place: usize)
+        ensures { self.new ≡ filter (is_elsewhere place) self.old }
+    {
+        remove(&mut self.arrivals, place);
+    }
+
+    /// The first whose time is up.
+    pub fn late(&self, now: Instant) -> Option<usize>
+        ensures { result ≡ first_that (is_late now) self.now }
+    {
+        first_late(self.arrivals.as_slice(), now)
+    }
+
+    /// The client that has asked longest without being whole.
+    pub fn asked_longest(&self, connections: &Connections) -> Option<usize>
+        ensures { result ≡ first_that (asks connections.now) self.now }
+    {
+        first_asking(self.arrivals.as_slice(), connections)
+    }
+
+    /// The one that is given up where bytes have no room.
+    pub fn for_bytes(&self, connections: &Connections) -> Option<usize>
+        ensures { result ≡ gives_room connections.now self.now }
+    {
+        first_holding(self.arrivals.as_slice(), connections)
+    }
+
+    /// The one that is given up where another comes and no place is vacant. Those whose reply is gone are `ending`.
+    pub fn for_place(&self, ending: &Arrivals, connections: &Connections) -> Option<usize>
+        ensures { result ≡ gives_place connections.now self.now ending.now }
+    {
+        if let Some(place) = self.asked_longest(connections) {
+            return Some(place);
+        }
+        if let Some(place) = first(ending.arrivals.as_slice()) {
+            return Some(place);
+        }
+        first(self.arrivals.as_slice())
+    }
+}

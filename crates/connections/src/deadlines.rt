@@ -1,0 +1,40 @@
+//! When a connection's time is up.
+ghost use Rattle.std.specs.Prelude.{◌≡◌, ◌+◌};
+ghost use Rattle.std.specs.Time.{instant_nanos, FitsClock};
+ghost use Rattle.std.specs.Duration.{as_nanos};
+ghost use Rattle.connections.specs.Limits.{serving_nanos, ending_nanos};
+
+use std::time::{Duration, Instant};
+
+// How long a request and its reply may take, in milliseconds.
+const SERVING_MILLIS: u64 = 10_000;
+
+// How long a client may take to close after its reply, in milliseconds.
+const ENDING_MILLIS: u64 = 250;
+
+// So much later, or the same instant where the clock has no such one.
+fn later(now: Instant, time: Duration) -> Instant
+    ensures later { FitsClock (instant_nanos now + as_nanos time) → instant_nanos result ≡ instant_nanos now + as_nanos time }
+    ensures last { ¬ (FitsClock (instant_nanos now + as_nanos time)) → result ≡ now }
+{
+    match now.checked_add(time) {
+        Some(then) => then,
+        None => now,
+    }
+}
+
+/// Until when a client that comes now may ask and be answered.
+pub fn serving_deadline(now: Instant) -> Instant
+    ensures later { FitsClock (instant_nanos now + serving_nanos) → instant_nanos result ≡ instant_nanos now + serving_nanos }
+    ensures last { ¬ (FitsClock (instant_nanos now + serving_nanos)) → result ≡ now }
+{
+    later(now, Duration::from_millis(SERVING_MILLIS))
+}
+
+/// Until when a client may close whose reply is gone now.
+pub fn ending_deadline(now: Instant) -> Instant
+    ensures later { FitsClock (instant_nanos now + ending_nanos) → instant_nanos result ≡ instant_nanos now + ending_nanos }
+    ensures last { ¬ (FitsClock (instant_nanos now + ending_nanos)) → result ≡ now }
+{
+    later(now, Duration::from_millis(ENDING_MILLIS))
+}

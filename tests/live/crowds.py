@@ -1,0 +1,213 @@
+#!/usr/bin/env python3
+"""Crowds of clients that hold what they can, and beside each a good client: how long it waits at the most is printed and
+bounded. tests/run_live runs these one after the other.
+
+  tests/live/crowds.py PORT PATH     the good client: it reads PATH again and again until its standard input ends, and prints
+                                     as JSON how often, how many other replies than the first it got, and the longest time
+"""
+import json
+import os
+import resource
+import socket
+import struct
+import subprocess
+import sys
+import threading
+import time
+
+MOST_SECONDS = 1.0  # that a good client waits, on a busy machine
+WHY = b"/channels/a/why"
+EVERYBODY = "4294967295"
+
+
+def reply_to_get(port, path):
+    with socket.create_connection(("127.0.0.1", port), 60) as it:
+        it.sendall(b"GET %s HTTP/1.1\r\n\r\n" % path)
+        found = b""
+        while some := it.recv(1 << 16):
+            found += some
+        return found
+
+
+def be_good(port, path):
+    ended = threading.Event()
+    threading.Thread(target=lambda: (sys.stdin.read(), ended.set()), daemon=True).start()
+    first, count, others, longest = None, 0, 0, 0.0
+    while not ended.is_set():
+        begun = time.monotonic()
+        try:
+            found = reply_to_get(port, path)
+        except OSError:
+            found = b"(no reply)"
+        longest = max(longest, time.monotonic() - begun)
+        first = found if first is None else first
+        count, others = count + 1, others + (found != first or not found.startswith(b"HTTP/1.1 200 OK\r\n"))
+    print(json.dumps({"count": count, "others": others, "longest": longest}))
+
+
+class Beside:
+    """A good client, as a process of its own, for as long as the block takes and half a second at least."""
+
+    def __init__(self, server, path=WHY):
+        self.words = [sys.executable, os.path.abspath(__file__), str(server.port), path.decode()]
+
+    def __enter__(self):
+        self.begun = time.monotonic()
+        self.running = subprocess.Popen(self.words, stdin=subprocess.PIPE, stdout=subprocess.PIPE)
+        time.sleep(0.2)
+        return self
+
+    def __exit__(self, *_):
+        time.sleep(max(0.0, 0.7 - (time.monotonic() - self.begun)))
+        said = json.loads(self.running.communicate(timeout=60)[0])
+        self.count, self.others, self.longest = said["count"], said["others"], said["longest"]
+
+    def differences(self, crowd):
+        """What is wrong with what it got. Prints how long it waited."""
+        print(f"beside {crowd}: {self.count} good requests, the longest {self.longest:.3f} s")
+        found = [f"{self.others} of {self.count} good requests had another reply"] if self.others or not self.count else []
+        return found + ([f"a good client waited {self.longest:.3f} s"] if self.longest > MOST_SECONDS else [])
+
+
+def connected(server, count):
+    return [server.connect() for _ in range(count)]
+
+
+def is_sent(it, text):
+    try:
+        it.sendall(text)
+    except OSError:
+        pass  # (it was given up)
+
+
+def reset(it):
+    it.setsockopt(socket.SOL_SOCKET, socket.SO_LINGER, struct.pack("ii", 1, 0))
+    it.close()
+
+
+# ---- the crowds: each does its worst to a server, and leaves what it holds open until the good client was measured
+
+
+def silent(server):
+    return connected(server, 600)
+
+
+def byte_at_a_time(server):
+    them = connected(server, 200)
+    for byte in b"GET /channels/a/why HTTP/1.1\r\nA: ":
+        for it in them:
+            is_sent(it, bytes([byte]))
+    return them
+
+
+def reading_nothing(server):
+    them = []
+    for _ in range(100):
+        it = server.connect()
+        it.setsockopt(socket.SOL_SOCKET, socket.SO_RCVBUF, 4096)
+        is_sent(it, b"GET /channels/large/live.m3u8 HTTP/1.1\r\n\r\n")
+        them.append(it)
+    return them
+
+
+def resetting(server):
+    put = b"PUT /channels/b HTTP/1.1\r\nContent-Length: 46\r\n\r\n"
+    for said in (b"", b"P", put[:20], put, put + b'{"base":', b"GET /channels/a/why HTTP/1.1\r\n\r\n",
+                 b"GET /channels/large/live.m3u8 HTTP/1.1\r\n\r\n"):
+        for _ in range(50):
+            it = server.connect()
+            is_sent(it, said)
+            reset(it)
+    it = server.connect()  # amid a reply
+    is_sent(it, b"GET /channels/large/live.m3u8 HTTP/1.1\r\n\r\n")
+    it.recv(1000)
+    reset(it)
+    return []
+
+
+def flooding(server):
+    for _ in range(20_000):
+        it = socket.create_connection(("127.0.0.1", server.port), 60)
+        reset(it)
+    return []
+
+
+def large_bodies(server):
+    """40 bodies of which a byte is missing, 160 MiB together."""
+    body = b"PUT /channels/a/origin HTTP/1.1\r\nContent-Length: 4194304\r\n\r\n" + b"x" * 4_194_303
+    them = connected(server, 40)
+    for it in them:
+        it.settimeout(5)
+        is_sent(it, body)
+    return them
+
+
+CROWDS = {"600 silent clients": silent, "200 that send a byte at a time": byte_at_a_time,
+          "100 that read nothing of 4 MB": reading_nothing, "351 that reset at each stage": resetting,
+          "a flood of 20,000": flooding, "40 bodies of 4 MiB less a byte": large_bodies}
+MOST_MEMORY = 192 << 20
+
+
+def begun(run_live, program, **given):
+    server = run_live.Server(program, EVERYBODY, **given)
+    made = server.put(b"/channels/a", run_live.BASE), server.put(b"/channels/large", run_live.BASE)
+    window = b"#EXTM3U\n#EXT-X-TARGETDURATION:10\n" + b"".join(b"#EXTINF:10,\n%s%d.ts\n" % (b"x" * 390, i) for i in range(10_000))
+    if made != (run_live.CREATED, run_live.CREATED) or server.put(b"/channels/large/origin", window) != run_live.NO_CONTENT:
+        raise OSError("the server didn't take its channels")
+    return server
+
+
+def beside(run_live, program, name):
+    server = begun(run_live, program, stderr=subprocess.DEVNULL)
+    try:
+        with Beside(server) as good:
+            them = CROWDS[name](server)
+        found = good.differences(name)
+        memory = server.memory()
+        if memory > MOST_MEMORY:
+            found.append(f"the server has {memory >> 20} MiB")
+        for it in them:
+            it.close()
+        return found
+    finally:
+        server.stop()
+
+
+def no_files(run_live, program):
+    """A server that may have 40 files open, and 100 clients that say nothing."""
+    server = begun(run_live, program, stderr=subprocess.DEVNULL, limit=lambda: resource.setrlimit(resource.RLIMIT_NOFILE, (40, 40)))
+    try:
+        with Beside(server) as good:
+            them = connected(server, 100)
+        found = good.differences("100 silent clients where 40 files may be open")
+        for it in them:
+            it.close()
+        return found
+    finally:
+        server.stop()
+
+
+def unread_faults(run_live, program):
+    """12,000 faults on a standard error that nobody reads, which has room for fewer, and the server goes on."""
+    server = begun(run_live, program)
+    try:
+        with Beside(server) as good:
+            for _ in range(12_000):
+                it = socket.create_connection(("127.0.0.1", server.port), 60)
+                is_sent(it, b"GET")
+                it.close()
+        return good.differences("12,000 faults that nobody reads")
+    finally:
+        server.stop()
+
+
+def cases(run_live, program):
+    """The crowds by name, each a function that gives what is wrong."""
+    found = {f"beside {name}": lambda name=name: beside(run_live, program, name) for name in CROWDS}
+    found["no files left"] = lambda: no_files(run_live, program)
+    found["faults that nobody reads"] = lambda: unread_faults(run_live, program)
+    return found
+
+
+if __name__ == "__main__":
+    be_good(int(sys.argv[1]), sys.argv[2].encode())
