@@ -116,7 +116,9 @@ class Page:
         """Ends the browser, and answers what it showed; `missed` is how many frames it says that it dropped, or didn't tell of."""
         with self.browser as it:
             self.missed = it.value("missed.dropped + missed.unseen") or 0
-            return [(kind, number, milliseconds / 1000) for kind, number, milliseconds in it.value("seen") or []]
+            frames = [(kind, number, milliseconds / 1000) for kind, number, milliseconds in it.value("seen") or []]
+            # (a frame that is told of twice in a row stood still for so long, which is looked at by its time)
+            return frames[:1] + [b for a, b in zip(frames, frames[1:]) if b[:2] != a[:2]]
 
 
 def ffmpeg(name, url):
