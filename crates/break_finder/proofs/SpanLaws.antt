@@ -97,27 +97,6 @@ not_late instant start tolerance near = grind (arith, ints, nat_tests)
 within_near : (instant start : ℤ) (tolerance : ℕ) → is_within (start -ℤ pos tolerance) (start +ℤ pos tolerance +ℤ pos 1) instant ≡ true → is_near instant tolerance (Some start) ≡ true
 within_near instant start tolerance inside = grind (arith, ints, nat_tests)
 
-pub near_window : (instant start : ℤ) (tolerance : ℕ) → is_near instant tolerance (Some start) ≡ is_within (start -ℤ pos tolerance) (start +ℤ pos tolerance +ℤ pos 1) instant
-near_window instant start tolerance =
-    same_tests _ _ (λ near. and_from _ _ (after_opening instant start tolerance near) (not_late instant start tolerance near)) (within_near instant start tolerance)
-
-none_within : (from instant : ℤ) → is_within from from instant ≡ false
-none_within from instant = grind (arith, ints, nat_tests)
-
-past_early : (instant start end : ℤ) (tolerance : ℕ) → end ≤ℤ start → int_le (start -ℤ pos tolerance) instant ≡ true → int_lt (instant +ℤ pos tolerance) end ≡ false
-past_early instant start end tolerance early after = grind (arith, ints, nat_tests)
-
--- one that ends when it starts, or before, can't be entered
-pub past_window : (instant start end : ℤ) (tolerance : ℕ) → end ≤ℤ start
-    → (is_near instant tolerance (Some start) && int_lt (instant +ℤ pos tolerance) end) ≡ is_within (start -ℤ pos tolerance) (start -ℤ pos tolerance) instant
-past_window instant start end tolerance early =
-    never (is_near instant tolerance (Some start)) (int_lt (instant +ℤ pos tolerance) end) (λ near. past_early instant start end tolerance early (after_opening instant start tolerance near))
-    ∙ sym (none_within (start -ℤ pos tolerance) instant)
-  where
-    never : (a b : Bool) → (a ≡ true → b ≡ false) → (a && b) ≡ false
-    never true b h = h refl
-    never false b h = refl
-
 low_end : (instant late end : ℤ) (tolerance : ℕ) → int_lt instant late ≡ true → int_lt (instant +ℤ pos tolerance) end ≡ true → int_lt instant (int_min late (end -ℤ pos tolerance)) ≡ true
 low_end instant late end tolerance one two = grind (arith, ints, clamps, nat_tests)
 

@@ -13,10 +13,6 @@ part_append part (p ∷ xs) ys =
     let next = part_after_one part p.segment.duration in
     ap (λ t. part_here part p ++ t) (part_append next xs ys) ∙ sym (append_assoc (part_here part p) (part_of next xs) (part_of (part_after next xs) ys))
 
-pub after_append : (part : Part) (xs ys : List Piece) → part_after part (xs ++ ys) ≡ part_after (part_after part xs) ys
-after_append part [] ys = refl
-after_append part (p ∷ xs) ys = after_append (part_after_one part p.segment.duration) xs ys
-
 abbrev with_parts : ℕ → Bool → ℕ → Bool → Part
 with_parts skip whole left done = record { skip = skip; whole = whole; left = left; done = done }
 

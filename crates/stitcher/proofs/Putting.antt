@@ -68,6 +68,3 @@ passes_whole old mid all pieces rest w p = ap (λ t. list_all item_fits (comes_t
 pub none_left : {A : Type 0} (xs : List A) → length xs ≡ 0 → xs ≡ []
 none_left [] h = refl
 none_left (x ∷ xs) h = absurd (omega arith)
-
-pub puts_nothing : (made : Made) → Puts made made []
-puts_nothing made = record { first = refl; comes = λ later. refl; fit = λ h. h }
