@@ -1,5 +1,5 @@
 -- What bytes ask, and what they ask with more after them.
-use Rattle.std.proofs.Common.{◌≡◌, ℕ, List, [], ◌++◌, length-drop, take, drop, sym, ap, subst, ◌∙◌, inl, inr, arith, length-append, true≢false, append_assoc}
+use Rattle.std.proofs.Common.{◌≡◌, ℕ, List, [], ◌++◌, take, sym, ap, subst, ◌∙◌, inl, inr, arith, length-append, true≢false, append_assoc}
 use Rattle.std.specs.Prelude.{Option, Some, None}
 use Rattle.std.specs.Io.KnownBytes.{Consumes}
 use Rattle.std.proofs.KnownBytes.{Consumes-trans}
@@ -11,12 +11,10 @@ use Rattle.http_messages.specs.declared.refusal.Refusal.{Refusal}
 use Rattle.http_messages.specs.declared.refusal.Refusal.TheVariants.{BadRequest}
 use Rattle.http_messages.specs.declared.head.Framing.{Framing}
 use Rattle.http_messages.specs.declared.head.Framing.TheVariants.{Body, Refused}
-use Rattle.http_messages.specs.declared.head.Head.{Head}
-use Rattle.http_messages.specs.declared.receiving.Step.TheVariants as step
 use Rattle.http_messages.specs.declared.receiving.Asked.{Asked}
 use Rattle.http_messages.specs.declared.receiving.Asked.TheVariants as asked
 use Rattle.http_messages.specs.Requests.{BeginsWith, HasNoHead, NeverHasHead, Asks, IsRefusedFor, framing_said}
-use Rattle.http_messages.specs.Received.{IsAsked, IsStep, Holds, HasAsked}
+use Rattle.http_messages.specs.Received.{IsAsked, Holds, HasAsked}
 use Rattle.http_messages.proofs.Fronts.{begins_more, count_in, is_body}
 
 -- ---- more bytes
@@ -88,19 +86,6 @@ has_asked old mid new before block bytes seen it first then joined same a = reco
   bytes = bytes;
   given = subst (Consumes old new) (sym joined) (Consumes-trans old mid new before block first then);
   asks = subst (λ l. IsAsked l it) same a;
-}
-
--- a head and its whole body
-pub asks_whole : (seen bytes : List ℕ) (head : Head) (count : ℕ) (request : Request) → seen ≡ bytes → IsStep seen (step.Whole head count)
-    → request ≡ record { method = head.method; target = head.target; body = take count (drop head.len bytes) } → IsAsked seen (asked.Request request)
-asks_whole seen bytes head count request same s is = record {
-  h = s.0.h;
-  rest = drop head.len seen;
-  begins = s.0.begins;
-  count = count;
-  framing = sym s.0.framing ∙ s.1;
-  whole = omega (arith, s.2, length-drop head.len seen);
-  is = is ∙ (λ i. record { method = s.0.method i; target = s.0.target i; body = take count (drop head.len (sym same i)) });
 }
 
 pub held_is_asked : (old new : Option (List ℕ)) (one other : Asked) → HasAsked old new one → Holds old other → one ≡ other

@@ -10,6 +10,7 @@ use Rattle.live_counters.specs.declared.channel.ChannelFault.{ChannelFault}
 use Rattle.live_counters.specs.declared.channel.ChannelFault.TheVariants as fault
 use Rattle.live_counters.specs.Channel.{explained}
 use Rattle.live_counters.specs.Channel as channel
+use Rattle.http_messages.specs.declared.message.Request.{Request}
 use Rattle.http_messages.specs.declared.message.Reply.{Reply}
 use Rattle.http_messages.specs.Replies.{bare}
 use Rattle.edge_messages.specs.declared.channel_body.BodyFault.{BodyFault}
@@ -19,9 +20,9 @@ use Rattle.edge_messages.proofs.Names.{none_is}
 use Rattle.live_edge.specs.Channels.{Given, IsGiven, with_event}
 use Rattle.edge_messages.specs.Replies.{not_found, bad_base, bad_tolerance, exists, live_reply, why_text, text_reply}
 use Rattle.live_edge.specs.Replies.{channel_fault_reply, live_owed, why_owed}
-use Rattle.live_edge.specs.Table.{Table, Entry, Turn, unmoved, event_turn, given_at, put_given, without, removed, read_turn, made, tried, added, most_tolerance, fresh}
+use Rattle.live_edge.specs.Table.{Table, Entry, Turn, turn, table_of, unmoved, event_turn, given_at, put_given, without, removed, read_turn, made, tried, added, most_tolerance, fresh}
 use Rattle.live_edge.specs.Events.{TakesOne, Takes}
-use Rattle.live_edge.specs.Edges.{Kept, kept_of, Stands, TakenTurn}
+use Rattle.live_edge.specs.Edges.{Kept, kept_of, Stands, StandsForSome, TakenTurn}
 use Rattle.live_edge.proofs.Given.{text_is, why_is}
 use Rattle.live_edge.proofs.Tables.{Entries, Agree, none_agrees, some_agrees, found, put, taken_out, added_after, as_many}
 
@@ -203,3 +204,10 @@ module _ (table : Table) (name : List ℕ) (parts : Parts) (tolerance : ℕ) whe
         let t = is_free p.0 ∙ ap (λ c. cond c (unmoved table (bare 503)) grown) (as_room _ _ p.1 (as_many es table s)) in
         subst (λ x. TakenTurn {E = E} x table (Ok y) (map kept_of fs)) (sym t)
         (q, subst (λ l. Stands (map kept_of l) grown.table) (sym p.4) (added_after name es table p.2 k (record { base = parts; tolerance = tolerance; events = [] }) s p.3 h))
+
+-- ---- what an edge stands for
+
+-- after this turn it stands for this request too, or for what it did
+pub stands_for_some : {E : Type 0} (result : Result Reply E) (request : Request) (old new : List Kept) → StandsForSome old → ((table : Table) → Stands old table → TakenTurn (turn table request) table result new) → StandsForSome new
+stands_for_some (Ok reply) request old new some turned = (request ∷ some.0, (turned (table_of some.0) some.1).1)
+stands_for_some (Err e) request old new some turned = (some.0, turned (table_of some.0) some.1)

@@ -26,6 +26,10 @@ Stands (kept ∷ later) [] = ⊥
 abbrev pub StandsFor : List Kept → List Request → Type 0
 StandsFor kept requests = Stands kept (table_of requests)
 
+-- it stands for some list of requests
+abbrev pub StandsForSome : List Kept → Type 0
+StandsForSome kept = (requests : List Request) × StandsFor kept requests
+
 -- the reply of this turn, or 503 for want of memory, which leaves the table
 abbrev pub TakesTurn : Turn → Table → Reply → List Kept → Type 0
 TakesTurn t table reply new = ((reply ≡ t.reply) × Stands new t.table) ⊎ ((reply ≡ bare 503) × Stands new table)

@@ -1,12 +1,14 @@
 //! Many live channels over HTTP: requests on a table of channels, on connections that are served in turn.
 #![tactic(auto)]
 
+mod channels;
 mod edge;
 mod events;
 pub mod laws;
 mod replies;
 mod serving;
 
-pub use edge::{CHANNEL_LIMIT, Edge};
+pub use channels::CHANNEL_LIMIT;
+pub use edge::Edge;
 pub use edge_messages::{FaultText, LiveWords, read_live_words, refresh_fault_text, why_word};
 pub use serving::{EdgeFault, Served, serve};

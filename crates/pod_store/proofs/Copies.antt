@@ -1,13 +1,13 @@
 -- Copies of the fallback stand after what was there.
-use Rattle.std.proofs.Common.{◌≡◌, ℕ, Bool, true, false, cond, ◌||◌, List, [], ◌∷◌, ◌++◌, map, length, take, refl, ap, sym, ◌∙◌, append_assoc, Some, None}
+use Rattle.std.proofs.Common.{◌≡◌, ℕ, Bool, true, false, cond, ◌||◌, List, [], ◌∷◌, ◌++◌, map, length, take, refl, ap, sym, ◌∙◌, Some, None}
 use Rattle.std.specs.Prelude.{Option, is_some, find, option_map, bytes_eq}
 use Rattle.std.proofs.lemmas.Slice.Eq.{bytes_eq-Decides}
 use Rattle.std.proofs.lemmas.Bool.{or_parts}
-use Rattle.std.proofs.lemmas.List.{take-map, append-nil, length-map}
+use Rattle.std.proofs.lemmas.List.{take-map, length-map}
 use Rattle.std.proofs.Math.Seq.{take-append_seam}
 use Rattle.playlist_meaning.specs.LookBack.{or_earlier}
 use Rattle.playlist_meaning.specs.Pods.{Pod}
-use Rattle.pod_store.specs.Store.{Entry, Store, with_entries, has_id, pod_of, entry_for, has_own, own_pod, pod_for, is_one_of, copied_last, with_copy, with_copies, with_used, adopted, GrowsBy}
+use Rattle.pod_store.specs.Store.{Entry, Store, with_entries, has_id, pod_of, entry_for, has_own, own_pod, pod_for, is_one_of, copied_last, with_copy, with_copies, GrowsBy}
 use Rattle.pod_store.specs.Kept.{Pairs, entry_of}
 use Rattle.pod_store.proofs.KeptLaws.{store_of}
 
@@ -174,50 +174,7 @@ other_stands store (x ∷ ids) id h = let p = or_parts _ _ h in other_stands (wi
     apart e true = refl
     apart e false = copy_other id x store.entries store.fallback e
 
--- ---- adopting
-
--- a break without a pod of its own is adopted with the fallback
-pub adopts : (store : Store) (id : List ℕ) (there : Bool) (new : Store) → has_own store id ≡ false → there ≡ is_some store.fallback → new ≡ with_copy store id
-    → (there ≡ is_some (pod_for store id)) × (new ≡ adopted store id)
-adopts store id there new h e f = (
-  e ∙ sym (ap (λ o. is_some (or_earlier (option_map pod_of o) store.fallback)) (none_there (entry_for store id) h)),
-  f ∙ sym (ap (λ b. cond b (with_used id store) (with_copy store id)) h),
-)
-
--- so is one that has its own
-pub adopts_own : (store : Store) (id : List ℕ) (new : Store) → has_own store id ≡ true → new ≡ with_used id store → (true ≡ is_some (pod_for store id)) × (new ≡ adopted store id)
-adopts_own store id new h f = (some (entry_for store id) h, f ∙ sym (ap (λ b. cond b (with_used id store) (with_copy store id)) h))
-  where
-    some : (o : Option Entry) → is_some o ≡ true → true ≡ is_some (or_earlier (option_map pod_of o) store.fallback)
-    some None k = absurd (cc)
-    some (Some e) k = refl
-
-pub own_stays : (store : Store) (id : List ℕ) → has_own store id ≡ true → store ≡ with_copy store id
-own_stays store id h = sym (ap (λ b. cond b store (with_entries store (copied_last store.entries id store.fallback))) h)
-
-pub copy_is : (store : Store) (id : List ℕ) (pod : Option Pod) → has_own store id ≡ false → store.fallback ≡ pod → with_copy store id ≡ with_entries store (copied_last store.entries id pod)
-copy_is store id pod h e =
-    ap (λ b. cond b store (with_entries store (copied_last store.entries id store.fallback))) h ∙ ap (λ p. with_entries store (copied_last store.entries id p)) e
-
 -- ---- what comes after what was there
-
-pub grows_nowhere : (store : Store) → GrowsBy store store
-grows_nowhere store = ([], ap (with_entries store) (sym (append-nil store.entries)))
-
-copy_grows : (store : Store) (id : List ℕ) → GrowsBy store (with_copy store id)
-copy_grows store id = by (has_own store id) store.fallback refl
-  where
-    by : (b : Bool) (pod : Option Pod) → store.fallback ≡ pod → GrowsBy store (cond b store (with_entries store (copied_last store.entries id pod)))
-    by true pod e = grows_nowhere store
-    by false None e = grows_nowhere store
-    by false (Some pod) e = (record { id = id; pod = pod; used = true; copied = true } ∷ [], refl)
-
-pub grows_through : (a b c : Store) → GrowsBy a b → GrowsBy b c → GrowsBy a c
-grows_through a b c (x, p) (y, q) =
-    (x ++ y, q ∙ (ap (λ (s : Store). with_entries s (s.entries ++ y)) p ∙ ap (with_entries a) (append_assoc a.entries x y)))
-
-pub copy_grows_on : (first store : Store) (id : List ℕ) → GrowsBy first store → GrowsBy first (with_copy store id)
-copy_grows_on first store id h = grows_through first store (with_copy store id) h (copy_grows store id)
 
 -- what is left of a store that has grown, up to what was there
 pub truncated : (es new : Pairs) (fallback now_fallback : Option Pod) (store now : Store) (n : ℕ) → store_of es fallback ≡ store → n ≡ length es → store_of new now_fallback ≡ now → GrowsBy store now

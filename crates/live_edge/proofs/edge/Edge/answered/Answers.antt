@@ -1,21 +1,18 @@
 use Rattle.std.proofs.Common.{subst, sym, ap, ◌∙◌}
-use Rattle.std.specs.Prelude.{Some}
 use Rattle.edge_messages.specs.Routes.{path_of, route_of}
 use Rattle.live_edge.specs.Table.{routed}
-use Rattle.live_edge.specs.Edges.{TakenTurn}
+use Rattle.live_edge.specs.Edges.{Stands, TakenTurn}
+use Rattle.live_edge.proofs.Turns.{stands_for_some}
 use Rattle.live_edge.proofs.edge.Edge.answered.Goals as goal
 
-pub returns-in-Origin : goal.returns-in-Origin
-returns-in-Origin c table s =
-    let route = ap (λ x. Some (c.in-Some.name.now, x)) (sym c.in-Origin.is) ∙ c.in-Some.ensures ∙ ap (λ t. route_of (path_of t)) c.as_str.ensures.text in
-    subst (λ o. TakenTurn (routed table c.args.request.now o) table c.on_origin.result c.on_origin.new.self) route (c.on_origin.ensures table s)
+pub invariant_of-self : goal.invariant_of-self
+invariant_of-self c =
+    let route = c.in-Some.ensures ∙ ap (λ t. route_of (path_of t)) c.as_str.ensures.text in
+    stands_for_some c.on_resource.result c.args.request.now c.self.inside.channels c.on_resource.new.self c.self.invariant
+    (λ table s. subst (λ o. TakenTurn (routed table c.args.request.now o) table c.on_resource.result c.on_resource.new.self) route (c.on_resource.ensures table s))
 
-pub returns-in-Live : goal.returns-in-Live
-returns-in-Live c table s =
-    let route = ap (λ x. Some (c.in-Some.name.now, x)) (sym c.in-Live.is) ∙ c.in-Some.ensures ∙ ap (λ t. route_of (path_of t)) c.as_str.ensures.text in
-    subst (λ o. TakenTurn (routed table c.args.request.now o) table c.on_live.result c.args.self.now) route (c.on_live.ensures table s)
-
-pub returns-in-Why : goal.returns-in-Why
-returns-in-Why c table s =
-    let route = ap (λ x. Some (c.in-Some.name.now, x)) (sym c.in-Why.is) ∙ c.in-Some.ensures ∙ ap (λ t. route_of (path_of t)) c.as_str.ensures.text in
-    subst (λ o. TakenTurn (routed table c.args.request.now o) table c.on_why.result c.args.self.now) route (c.on_why.ensures table s)
+pub returns : goal.returns
+returns c table s =
+    let route = c.in-Some.ensures ∙ ap (λ t. route_of (path_of t)) c.as_str.ensures.text in
+    subst (λ o. TakenTurn (routed table c.args.request.now o) table c.on_resource.result c.on_resource.new.self) route
+    (c.on_resource.ensures table (subst (λ k. Stands k table) (sym c.self.view_is) s))

@@ -4,15 +4,15 @@ use Rattle.live_edge.specs.Replies.{live_owed}
 use Rattle.live_edge.specs.Table.{read_turn}
 use Rattle.live_edge.specs.Edges.{Stands}
 use Rattle.live_edge.proofs.Turns.{unmoved_turn, live_turn, none_at}
-use Rattle.live_edge.proofs.edge.Edge.live.Goals as goal
+use Rattle.live_edge.proofs.channels.Channels.live.Goals as goal
 
 pub returns-in_default : goal.returns-in_default
 returns-in_default c table s =
     let seen = subst (λ k. Stands k table) (sym c.self.view_is) s in
-    let none = none_at c.self.inside.channels.entries table c.args.name.now seen c.in_default.ensures.value in
+    let none = none_at c.self.inside.by_name.entries table c.args.name.now seen c.in_default.ensures.value in
     unmoved_turn table not_found _ c.not_found.result _ (ap (read_turn table live_owed) none) c.not_found.ensures s
 
 pub returns : goal.returns
 returns c table s =
     let seen = subst (λ k. Stands k table) (sym c.self.view_is) s in
-    live_turn c.self.inside.channels.entries table c.args.name.now c.in-Some.channel.now c.live.result _ seen c.in-Some.ensures.value c.live.ensures s
+    live_turn c.self.inside.by_name.entries table c.args.name.now c.in-Some.channel.now c.live.result _ seen c.in-Some.ensures.value c.live.ensures s

@@ -6,14 +6,14 @@ use Rattle.edge_messages.specs.declared.named.Naming.TheVariants as naming
 use Rattle.edge_messages.specs.Named.{PutsNamed}
 use Rattle.live_edge.specs.Edges.{Stands}
 use Rattle.live_edge.proofs.Turns.{is_taken, is_full, is_added}
-use Rattle.live_edge.proofs.edge.Edge.add.Goals as goal
-use Rattle.live_edge.proofs.edge.Edge.add.Goals.{in-Done, in-Taken, in-Full}
+use Rattle.live_edge.proofs.channels.Channels.add.Goals as goal
+use Rattle.live_edge.proofs.channels.Channels.add.Goals.{in-Done, in-Taken, in-Full}
 
 pub returns : goal.returns
 returns c table s =
     let name = c.args.name.now in
     let channel = c.args.channel in
-    let before = c.self.inside.channels.entries in
+    let before = c.self.inside.by_name.entries in
     let after = c.put_named.new.values.entries in
     let seen = subst (λ k. Stands k table) (sym c.self.view_is) s in
     let put_as : (n : Naming) → c.in_ok-put_named.field-0 ≡ n → PutsNamed {E = AllocError} 64 name channel before (Ok n) after =
