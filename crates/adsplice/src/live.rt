@@ -11,7 +11,7 @@ use mio::net::TcpListener;
 use mio::{Events, Interest, Poll};
 use std::alloc::{AllocError, Global};
 use std::io;
-use std::io::Write;
+use std::io::{IsTerminal, Write};
 use std::net::{Ipv4Addr, SocketAddr, SocketAddrV4};
 use std::process::ExitCode;
 use std::time::Instant;
@@ -25,6 +25,17 @@ const BLOCK: usize = 65_536;
 fn fails(rt: &HostRuntime, text: &str) -> ExitCode {
     let _ = rt.stderr().write_all(text.as_bytes());
     ExitCode::from(1)
+}
+
+// Tells who sits at a terminal. A file or a pipe has the faults alone.
+fn notice(rt: &HostRuntime, what: &str, port: u16, count: u32) {
+    let mut standard_error = rt.stderr();
+    if standard_error.is_terminal() {
+        let _ = writeln!(
+            standard_error,
+            "{what} {count} connections on 127.0.0.1:{port}"
+        );
+    }
 }
 
 // What the system opened at an instant: the listener, and what tells who is ready.
@@ -68,27 +79,27 @@ fn room_for_all(rt: &HostRuntime, alloc: Global) -> Result<Room, AllocError> {
     })
 }
 
-// Serves until all came that are let in, and none of them is there any more.
+// Serves until all came that are let in, and none of them is there any more. Whether it came to that.
 fn serve_all(
     rt: &HostRuntime,
     server: &mut Server,
     connections: &mut Connections,
     events: &mut Events,
     block: &mut [u8],
-) -> ExitCode
+) -> bool
     ensures { HasRun connections.old connections.new }
 {
     for _ in 0..u64::MAX {
         if server.is_over() {
-            return ExitCode::SUCCESS;
+            return true;
         }
         if server.wait(rt, events).is_err() {
             server.tell(rt, "cannot accept");
-            return ExitCode::from(1);
+            return false;
         }
         server.round(rt, connections, events, block);
     }
-    ExitCode::SUCCESS
+    true
 }
 
 /// Serves so many connections on a port of the loopback address. The memory is taken first, so that a client finds it there.
@@ -112,11 +123,16 @@ pub fn live(rt: &HostRuntime, port: u16, count: u32) -> ExitCode {
         now,
     } = opened;
     let mut server = Server::new(memory, faults, poll, listener, count, now);
-    serve_all(
+    notice(rt, "serving", port, count);
+    if !serve_all(
         rt,
         &mut server,
         &mut connections,
         &mut events,
         block.as_mut_slice(),
-    )
+    ) {
+        return ExitCode::from(1);
+    }
+    notice(rt, "served all", port, count);
+    ExitCode::SUCCESS
 }
