@@ -9,4 +9,4 @@ mod run;
 pub use command::{Command, command_vod, read_args};
 pub use fault::VodFault;
 pub use input::MOST_READS;
-pub use run::{TOLERANCE, vod};
+pub use run::vod;
