@@ -15,9 +15,9 @@ USUAL_SECONDS = 1800
 USUAL_SEED = 20260
 PARTS = 10  # of a run, for what memory is held
 # A process to which channels are added is ended after so many inputs, since the program keeps all that it made.
-LIVES = {"live_lines": 500, "large": 1}
+LIVES = {"channels": 500, "large": 1}
 # These live for the whole run, and keep one channel, or none that isn't asked for.
-STEADY = ("edge", "one_channel", "text_lines")
+STEADY = ("edge", "one_channel", "sections")
 GROWTH = 1 << 20  # bytes by which the last tenth's resident memory may be above the first one's
 LINE = 400  # bytes: what a line costs beside its own bytes and those of its answer
 SLOWEST = 50  # times the median cost of a byte, at most
@@ -35,14 +35,13 @@ class Programs:
     """The processes that inputs are given to, each started when it is wanted."""
 
     def __init__(self, folder):
-        self.paths = {name: built(name, folder) for name in ("live_lines", "text_lines")}
+        self.path = built("test_driver", folder)
         self.running, self.started = {}, 0
         self.shown = None  # by the one channel
 
     def process(self, program):
         if program not in self.running:
-            is_marked = program != "text_lines"
-            self.running[program] = Lines(self.paths["live_lines" if is_marked else program], is_marked)
+            self.running[program] = Lines(self.path)
             self.started += 1
             if program == "one_channel":
                 self.shown = self.running[program].ask([CHANNEL_LINE, b"playlist"])[1]

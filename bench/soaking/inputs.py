@@ -18,7 +18,7 @@ LARGE_EVERY = 5000  # one input of so many is a large one
 
 LENGTH = re.compile(rb"(content-length:[ \t]*)\d+", re.IGNORECASE)
 
-# `asked`: the lines; `at`: the place of the changed one.
+# `program`: which process of the program it goes to; `asked`: the lines; `at`: the place of the changed one.
 Input = namedtuple("Input", "kind program asked at")
 
 ESCAPES = {n: chr(n) if 32 <= n < 127 else f"\\x{n:02x}" for n in range(256)} | {10: "\\n", 13: "\\r", 92: "\\\\"}
@@ -114,7 +114,7 @@ def refreshes(kind, decided, before, text):
     if before is not None:
         asked.append(b"refresh " + escaped(before))
     asked += [b"playlist", b"refresh " + escaped(text), b"playlist", b"known"]
-    return Input(kind, "live_lines", asked, len(asked) - 3)
+    return Input(kind, "channels", asked, len(asked) - 3)
 
 
 def playlist(rng, seeds):
@@ -138,11 +138,11 @@ def one_channel(rng, seeds):
 
 def decisions(rng, seeds):
     body = changed_decisions(rng, seeds, rng.choice(seeds.decisions))
-    return Input("decisions", "live_lines", [CHANNEL_LINE, b"decide " + escaped(body), b"withdraw b1", b"playlist"], 1)
+    return Input("decisions", "channels", [CHANNEL_LINE, b"decide " + escaped(body), b"withdraw b1", b"playlist"], 1)
 
 
 def section(rng, seeds):
-    return Input("section", "text_lines", [b"section " + escaped(changed_section(rng, seeds))], 0)
+    return Input("section", "sections", [b"section " + escaped(changed_section(rng, seeds))], 0)
 
 
 def put(target, body):

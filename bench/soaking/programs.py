@@ -1,4 +1,4 @@
-"""The programs that inputs are given to: lines in, answers out, with the processor time and the memory that they take."""
+"""The test driver, which inputs are given to: lines in, answers out, with the processor time and the memory that they take."""
 import os
 import re
 import select
@@ -29,10 +29,9 @@ def built(name, folder):
 
 
 class Lines:
-    """A process that answers lines. With marks an answer may have any number of lines, without them it is one line."""
+    """A process that answers lines. An answer has any number of lines, up to that of a mark."""
 
-    def __init__(self, program, is_marked=True):
-        self.is_marked = is_marked
+    def __init__(self, program):
         self.running = subprocess.Popen([program], stdin=subprocess.PIPE, stdout=subprocess.PIPE, stderr=subprocess.PIPE)
         self.into, self.out = self.running.stdin.fileno(), self.running.stdout.fileno()
         os.set_blocking(self.into, False)
@@ -41,9 +40,8 @@ class Lines:
 
     def ask(self, lines):
         """The answers to these lines; `took` is the processor time that they took, in nanoseconds."""
-        end = b"\nmark\n" if self.is_marked else b"\n"
         begun = self.time()
-        found = self.converse(b"".join(line + end for line in lines), len(lines))
+        found = self.converse(b"".join(line + b"\nmark\n" for line in lines), len(lines))
         self.took = self.time() - begun
         self.asked += 1
         return found
@@ -77,8 +75,6 @@ class Lines:
 
     def answers(self, found):
         """The whole answers of what was read, or none where the last one isn't whole."""
-        if not self.is_marked:
-            return [bytes(found)] if found.endswith(b"\n") else []
         return [bytes(it) for it in MARKS.split(found)[:-1]] if found.endswith(MARK) else []
 
     def time(self):

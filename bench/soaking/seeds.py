@@ -1,7 +1,10 @@
 """The good ones that inputs are changed from: what the repository's own tests give to the programs."""
 import base64
+import functools
 import json
 import re
+import subprocess
+import tempfile
 from pathlib import Path
 from random import Random
 
@@ -11,7 +14,7 @@ CHANNEL = re.compile(rb"/channels/([a-z0-9-]{1,32})[/ ]")
 
 
 def unescaped(text):
-    """The bytes that a BODY of the program live_lines stands for."""
+    """The bytes that a BODY of the test driver stands for."""
     named = {"n": b"\n", "r": b"\r", "\\": b"\\"}
     found = []
     for part in re.findall(r"\\x[0-9a-f]{2}|\\.|[^\\]+", text):
@@ -37,10 +40,19 @@ def steps_of_vectors():
                 yield (base64.b64decode(decided) if decided else None), None, base64.b64decode(vector["stdin"])
 
 
-def steps_of_channels():
-    """Decisions (or None), a refresh and the one after it, from the stored events of live channels."""
+@functools.cache
+def channel_events():
+    """The lines of each case of channels that tests/run_channels gives."""
+    with tempfile.TemporaryDirectory() as folder:
+        subprocess.run([str(TOP / "tests/driver_lines"), folder], check=True)
+        cases = sorted(it for it in Path(folder).iterdir() if it.suffix != ".stdout")
+        return [line for it in cases for line in it.read_text().splitlines()]
+
+
+def steps_of_channels(events):
+    """Decisions (or None), a refresh and the one after it."""
     decided, before = None, None
-    for line in (TOP / "crates/live_lines/stdin").read_text().splitlines():
+    for line in events:
         word, _, rest = line.partition(" ")
         if word == "channel":
             decided, before = None, None
@@ -73,11 +85,11 @@ class Seeds:
     """All good ones, by kind."""
 
     def __init__(self):
-        vod, live = list(steps_of_vectors()), list(steps_of_channels())
+        events = channel_events()
+        vod, live = list(steps_of_vectors()), list(steps_of_channels(events))
         self.steps = some(vod, 1500) + some(live, 1500)
         self.playlists = [step[2] for step in self.steps]
         decided = {step[0] for step in vod + live if step[0]}
-        events = (TOP / "crates/live_lines/stdin").read_text().splitlines()
         decided.update(unescaped(it.partition(" ")[2]) for it in events if it.startswith("decisions {"))
         decided.add((TOP / "examples/vod/decisions.json").read_bytes())
         self.decisions = some(sorted(decided), 1000)

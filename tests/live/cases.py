@@ -344,7 +344,7 @@ for refused, fault in (
         (origin_text(10, 14, header=["#EXT-X-PLAYLIST-TYPE:EVENT"]), "N3 TypeChanged"),
         (origin_text(10, 14, header=['#EXT-X-MAP:URI="init.mp4"']), "N4 MapsChanged"),
         (origin_text(20, 24, target=11, version=5), "N1 VersionChanged"), ("", "P3 NoHeader line 1")):
-    if not made.answers[1:]:
+    if not made.events[1:]:
         shows(made, body, 5, window("s10 s11 s12 s13 s14", 10))
     made.refresh(refused, fault).playlist(text)
 made.refresh(body, "ok 10 5 0").playlist(text)

@@ -1,4 +1,4 @@
-"""Events of live channels as lines, each with what is owed for it."""
+"""Lines that the test driver (crates/test_driver) is given, each with what is owed for it."""
 
 BASE = "http://origin.example/ch/index.m3u8"
 TOLERANCE = 100_000_000  # nanoseconds
@@ -13,20 +13,19 @@ def escaped(body):
 
 
 class Case:
-    """A list of events with the owed answers."""
+    """A list of events: lines, each with the lines that are owed for it."""
 
     def __init__(self, name):
-        self.name, self.lines, self.answers = name, [], []
+        self.name, self.events = name, []
 
     def given(self):
-        return "".join(line + "\n" for line in self.lines)
+        return "".join(line + "\n" for line, _ in self.events)
 
     def owed(self):
-        return "".join(answer + "\n" for answer in self.answers)
+        return "".join(answer for _, answer in self.events)
 
     def event(self, line, *answers):
-        self.lines.append(line)
-        self.answers += answers
+        self.events.append((line, "".join(answer + "\n" for answer in answers)))
         return self
 
     def channel(self, base=BASE, tolerance=TOLERANCE, owed="ok"):

@@ -1,4 +1,4 @@
-"""Runs of the program of crates/live_lines to which memory is refused while a channel takes a refresh or a decision file.
+"""Runs of the test driver to which memory is refused while a channel takes a refresh or a decision file.
 
 The program reads an event from each line, and prints its answer. It needs memory to read the line, before the channel's
 call, and to print a refused refresh, after it; a line for which it gets none ends it. So one allocation is refused, or

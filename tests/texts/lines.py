@@ -1,4 +1,4 @@
-"""Lines of the program text_lines: how a text stands in a question, and a value in an answer."""
+"""Lines of the test driver (crates/test_driver): how a text stands in a question, and a value in an answer."""
 
 
 def asked(text):

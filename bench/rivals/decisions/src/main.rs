@@ -1,5 +1,5 @@
 //! Reads a decision file with derived types and judges it by the same rules; prints what our program
-//! tells of it: `live_lines`, to the event `decisions`.
+//! tells of it: `test_driver`, to the event `decisions`.
 use serde::Deserialize;
 use std::collections::HashSet;
 use std::io::{self, BufWriter, Read, Write};
