@@ -9,9 +9,9 @@ mod server;
 
 use crate::decisions::{DecisionsFault, decided};
 use crate::live::live;
+use command_line::{Command, read_command};
 use devices::Counted;
-use live_edge::{LiveWords, read_live_words};
-use one_playlist::{Command, command_vod, read_args};
+use one_playlist::command_vod;
 use std::io::{ErrorKind, Write};
 use std::process::ExitCode;
 use std::{env, fs};
@@ -57,13 +57,6 @@ fn vod_with(rt: &HostRuntime, base: &str, decisions: Option<&[u8]>) -> ExitCode 
     ))
 }
 
-fn live_or_usage(rt: &HostRuntime, words: &[String]) -> ExitCode {
-    match read_live_words(words) {
-        Some(LiveWords { port, count }) => live(rt, port, count),
-        None => usage(rt),
-    }
-}
-
 fn main(rt: HostRuntime) -> ExitCode {
     let words = match env::args(&rt) {
         Ok(words) => words,
@@ -73,8 +66,9 @@ fn main(rt: HostRuntime) -> ExitCode {
     let Ok(words) = words.skip(1).collect::<Vec<String>>(rt.alloc()) else {
         return out_of_memory(&rt);
     };
-    match read_args(words.as_slice()) {
+    match read_command(words.as_slice()) {
         Some(Command::Vod { base, decisions }) => vod(&rt, base, decisions),
-        None => live_or_usage(&rt, words.as_slice()),
+        Some(Command::Live { port, count }) => live(&rt, port, count),
+        None => usage(&rt),
     }
 }

@@ -6,12 +6,11 @@ ghost use Rattle.indexmap.specs.IndexMap.{IsUnique};
 ghost use Rattle.break_finder.specs.Kept.{break_at, kept_for, said_or_nothing, has_text, stands_with, is_kept_with};
 ghost use Rattle.break_finder.specs.Known.{break_stands, is_tag_of, is_this, with_tag};
 
-use crate::fault::FindFault;
 use crate::kept::kept_for;
 use crate::said::{Said, and_tag, nothing_said};
 use indexmap::{IndexMap, IndexSet};
 use playlist_meaning::DateRange;
-use std::alloc::Global;
+use std::alloc::{AllocError, Global};
 
 fn is_this(id: &str, other: Option<&str>) -> bool
     ensures { result ≡ is_this id.now (option_copied other.entry) }
@@ -23,7 +22,7 @@ fn is_this(id: &str, other: Option<&str>) -> bool
 }
 
 // Notes the ID of a tag.
-fn add_id<'a>(ids: &mut IndexSet<&'a str>, tag: &'a DateRange) -> Result<(), FindFault>
+fn add_id<'a>(ids: &mut IndexSet<&'a str>, tag: &'a DateRange) -> Result<(), AllocError>
     ensures { OnOk result ((id : List ℕ) → has_text ids.new.keys id ≡ (has_text ids.old.keys id || is_tag_of id tag.now)) }
 {
     ids.insert(tag.id.as_str())?;
@@ -31,7 +30,7 @@ fn add_id<'a>(ids: &mut IndexSet<&'a str>, tag: &'a DateRange) -> Result<(), Fin
 }
 
 // The IDs of these tags.
-fn ids_of<'a>(alloc: Global, date_ranges: &'a [DateRange]) -> Result<IndexSet<&'a str>, FindFault>
+fn ids_of<'a>(alloc: Global, date_ranges: &'a [DateRange]) -> Result<IndexSet<&'a str>, AllocError>
     ensures { IfOk result (λ ids. (id : List ℕ) → has_text ids.keys id ≡ list_any (is_tag_of id) date_ranges.now) }
 {
     let mut ids: IndexSet<&str> = IndexSet::new(alloc);
@@ -82,7 +81,7 @@ fn add_tag(
     alloc: Global,
     breaks: &mut IndexMap<String, Said>,
     tag: &DateRange,
-) -> Result<(), FindFault>
+) -> Result<(), AllocError>
     ensures { OnOk result (map break_at breaks.new.entries ≡ with_tag (map break_at breaks.old.entries) tag.now) }
 {
     let id = tag.id.as_str();
@@ -97,7 +96,7 @@ pub fn add_tags(
     alloc: Global,
     breaks: &mut IndexMap<String, Said>,
     date_ranges: &[DateRange],
-) -> Result<(), FindFault>
+) -> Result<(), AllocError>
     ensures { OnOk result (map break_at breaks.new.entries ≡ fold with_tag (map break_at breaks.old.entries) date_ranges.now) }
 {
     let mut rest = date_ranges;
@@ -114,7 +113,7 @@ pub fn standing(
     breaks: &IndexMap<String, Said>,
     date_ranges: &[DateRange],
     carried: Option<&str>,
-) -> Result<IndexMap<String, Said>, FindFault>
+) -> Result<IndexMap<String, Said>, AllocError>
     ensures standing { IfOk result (λ kept. map break_at kept.entries ≡ filter (break_stands date_ranges.now (option_copied carried.entry)) (map break_at breaks.now.entries)) }
     ensures unique { IfOk result (IsUnique string_eq) }
 {

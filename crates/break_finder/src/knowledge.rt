@@ -12,7 +12,6 @@ ghost use Rattle.break_finder.specs.Signals.{is_leaving};
 use crate::carry::{add_tags, standing};
 use crate::end::{end_of, is_before_end};
 use crate::entering::{Entrances, entrances_of};
-use crate::fault::FindFault;
 use crate::kept::kept_for;
 use crate::said::{Said, is_leaving};
 use crate::why::Why;
@@ -150,7 +149,7 @@ impl Knowledge {
         alloc: Global,
         playlist: &Playlist,
         newest: Option<&str>,
-    ) -> Result<Knowledge, FindFault>
+    ) -> Result<Knowledge, AllocError>
         ensures carried { IfOk result (λ after. after ≡ carry (record { playlist = playlist.now; carried = option_copied newest.entry }) self.now) }
 
         // So it is what looking back over all refreshes gives, wherever that was so before.

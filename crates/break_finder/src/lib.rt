@@ -6,7 +6,6 @@ mod carry;
 mod end;
 mod entering;
 mod entrance;
-mod fault;
 mod kept;
 mod knowledge;
 pub mod laws;
@@ -17,6 +16,5 @@ mod spans;
 mod why;
 
 pub use entering::Entrances;
-pub use fault::FindFault;
 pub use knowledge::Knowledge;
 pub use why::Why;

@@ -6,6 +6,7 @@ use Rattle.serde_json.specs.Read.{read as read_text}
 use Rattle.serde_json.specs.Find.{get, as_str}
 use Rattle.fixed_duration.specs.Duration.{duration_of}
 use Rattle.fixed_duration.specs.declared.DurationFault.{DurationFault}
+use Rattle.live_meaning.specs.Limits.{default_tolerance}
 use Rattle.edge_messages.specs.declared.channel_body.BodyFault.{BodyFault}
 use Rattle.edge_messages.specs.declared.channel_body.BodyFault.TheVariants.{NotJson, Shape, OutOfMemory}
 
@@ -22,9 +23,9 @@ abbrev pub tolerance_text : Option (List ℕ) → Option ℕ
 tolerance_text None = None
 tolerance_text (Some text) = Some (nanos_or_most (duration_of text))
 
--- 0.1 seconds where there is no member of this name
+-- that of the channel's default where there is no member of this name
 abbrev pub tolerance_said : Option Data → Option ℕ
-tolerance_said None = Some 100000000
+tolerance_said None = Some default_tolerance
 tolerance_said (Some d) = tolerance_text (as_str d)
 
 abbrev pub both_said : Option (List ℕ) → Option ℕ → Result (List ℕ × ℕ) BodyFault

@@ -2,5 +2,4 @@ pub mod Routes
 pub mod FaultTexts
 pub mod ChannelBody
 pub mod Replies
-pub mod Words
 pub mod Named

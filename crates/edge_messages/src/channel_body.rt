@@ -6,12 +6,10 @@ ghost use Rattle.fixed_duration.specs.Duration.{duration_of};
 ghost use Rattle.edge_messages.specs.ChannelBody.{json_said, value_said, body_said, tolerance_said, nanos_or_most, RefusesBody};
 
 use fixed_duration::Nanos;
+use live_meaning::DEFAULT_TOLERANCE;
 use playlist_meaning::{Text, text_of};
 use serde_json::Value;
 use std::alloc::Global;
-
-/// The tolerance of a channel whose body states none, in nanoseconds.
-pub const USUAL_TOLERANCE: u64 = 100_000_000;
 
 /// Why a body is none of a channel.
 #[derive(Clone, Copy, Debug, PartialEq, Eq)]
@@ -60,7 +58,7 @@ fn tolerance_said(value: &Value) -> Option<Nanos>
             Some(text) => Some(nanos_of(text)),
             None => None,
         },
-        None => Some(Nanos(USUAL_TOLERANCE)),
+        None => Some(Nanos(DEFAULT_TOLERANCE)),
     }
 }
 

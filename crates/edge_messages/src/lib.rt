@@ -6,7 +6,6 @@ mod fault_texts;
 mod named;
 mod replies;
 mod routes;
-mod words;
 
 pub use channel_body::{BodyFault, Wanted, read_body};
 pub use fault_texts::{FaultText, refresh_fault_text, why_word};
@@ -16,4 +15,3 @@ pub use replies::{
     text_reply,
 };
 pub use routes::{Resource, Routes};
-pub use words::{LiveWords, read_live_words};

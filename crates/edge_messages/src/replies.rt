@@ -1,5 +1,5 @@
 //! The replies of the edge, no channel among them.
-ghost use Rattle.std.specs.Prelude.{◌≡◌, ◌≤◌, [], ◌∷◌, ◌++◌, length, string_bytes, IfOk, IsErr, OnOk, Err};
+ghost use Rattle.std.specs.Prelude.{◌≡◌, ◌≢◌, ◌≤◌, [], ◌∷◌, ◌++◌, length, string_bytes, IfOk, IsErr, OnOk, Err};
 ghost use Rattle.edge_messages.specs.FaultTexts.{why_word};
 ghost use Rattle.edge_messages.specs.Replies.{line, not_found, not_allowed, body_fault_reply, refresh_status, refused_refresh, decision_status, decisions_reply, text_reply};
 
@@ -100,9 +100,10 @@ pub fn push_line(lines: &mut String, id: &str, why: Why) -> Result<(), AllocErro
     lines.push_str("\n")
 }
 
-/// A text, or no content where that is empty.
+/// A text, or no content where that is empty, which takes no memory.
 pub fn text_reply(alloc: Global, text: String) -> Result<Reply, AllocError>
-    ensures { IfOk result (λ reply. reply ≡ text_reply (string_bytes text)) }
+    ensures reply { IfOk result (λ reply. reply ≡ text_reply (string_bytes text)) }
+    ensures memory { IsErr result → string_bytes text ≢ [] }
 {
     if text.is_empty() {
         return Ok(Reply::bare(StatusCode::OK));

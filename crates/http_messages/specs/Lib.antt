@@ -2,5 +2,4 @@ pub mod Limits
 pub mod Replies
 pub mod Requests
 pub mod Received
-pub mod Runs
 pub mod Arriving

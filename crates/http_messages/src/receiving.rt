@@ -5,7 +5,7 @@ ghost use Rattle.http_messages.specs.declared.receiving.Asked.{Asked as Question
 ghost use Rattle.http_messages.specs.Requests.{IsUnfinished};
 ghost use Rattle.http_messages.specs.Limits.{most_reads};
 ghost use Rattle.http_messages.specs.Received.{IsJudgedAs, IsHeadAt, IsStep, Holds, HasAsked, HasEnded, HasGivenPart, IsWholeAtLastRead};
-ghost use Rattle.http_messages.specs.Runs.{IsFairToSource};
+ghost use Rattle.devices.specs.Fair.{IsFairToSource, GaveAtEachButLast};
 
 use crate::arriving::{Arrived, Arriving};
 use crate::head::{Framing, HEAD_LIMIT, Head, HeadRead, read_head};
@@ -139,8 +139,9 @@ pub fn receive<S: Source>(alloc: Global, source: &mut S) -> Result<Asked, Receiv
     // Nothing is read past it: no read follows the one that makes the request whole, or shows that it is refused.
     ensures nothing_past { IfOk result (λ _. IsWholeAtLastRead S.remaining S.called source.old source.new) }
 
-    // A source is blamed exactly where it failed, and is left alone then.
+    // A source is blamed exactly where it failed, and is left alone then, and at its end too.
     ensures source { IsFairToSource ReceiveFault.Read ReceiveFault.TooManyReads most_reads result (source_stand S.remaining S.called S.failed source.old) (source_stand S.remaining S.called S.failed source.new) }
+    ensures to_end { IsErrOf result ReceiveFault.Ended → GaveAtEachButLast (source_stand S.remaining S.called S.failed source.old) (source_stand S.remaining S.called S.failed source.new) }
 {
     let mut arriving = Arriving::new(alloc);
     let mut block = [0u8; READ_ROOM];

@@ -28,7 +28,8 @@ use Rattle.live_window.specs.Marking.{so_far}
 use Rattle.live_window.specs.Showing.{kept_in}
 use Rattle.live_window.specs.declared.state.State.{State}
 use Rattle.live_window.specs.Listed.{head_of, states_time}
-use Rattle.live_counters.specs.Accepting.{breaks_after, text_with_window, out_with}
+use Rattle.live_laws.specs.Owed.{out_playlist}
+use Rattle.live_counters.specs.Accepting.{breaks_after, text_with_window}
 
 -- ---- items
 
@@ -50,14 +51,14 @@ module _ (state : State) (p : Playlist) (held : List Held) (n : ℕ) where
   window = window_on (kept_in state) p seen n
 
   pub text_seen : (items : List OutSegment) (breaks : List (List ℕ)) (text : List ℕ) → items ≡ map written_item window → breaks ≡ breaks_after (kept_in state) p seen
-      → text ≡ text_of (out_with p (map date_range_text (date_ranges_left (list_any states_time items) breaks p.date_ranges)) items)
+      → text ≡ text_of (out_playlist p (map date_range_text (date_ranges_left (list_any states_time items) breaks p.date_ranges)) items)
       → text ≡ text_with_window p (breaks_after (kept_in state) p seen) window
   text_seen items breaks text w u t =
       let stated : list_any states_time items ≡ list_any states_instant window = ap (list_any states_time) w ∙ timed window in
       t
-      ∙ (ap (λ os. text_of (out_with p (map date_range_text (date_ranges_left (list_any states_time items) breaks p.date_ranges)) os)) w
-      ∙ (ap (λ b. text_of (out_with p (map date_range_text (date_ranges_left b breaks p.date_ranges)) (map written_item window))) stated
-      ∙ ap (λ ids. text_of (out_with p (map date_range_text (date_ranges_left (list_any states_instant window) ids p.date_ranges)) (map written_item window))) u))
+      ∙ (ap (λ os. text_of (out_playlist p (map date_range_text (date_ranges_left (list_any states_time items) breaks p.date_ranges)) os)) w
+      ∙ (ap (λ b. text_of (out_playlist p (map date_range_text (date_ranges_left b breaks p.date_ranges)) (map written_item window))) stated
+      ∙ ap (λ ids. text_of (out_playlist p (map date_range_text (date_ranges_left (list_any states_instant window) ids p.date_ranges)) (map written_item window))) u))
 
   pub numbers_seen : (items : List OutSegment) (k : Numbers) → items ≡ map written_item window → k ≡ head_of items → k ≡ head_numbers window
   numbers_seen items k w h = h ∙ (ap head_of w ∙ heads window)

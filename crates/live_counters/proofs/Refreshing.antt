@@ -1,5 +1,5 @@
 -- A channel after a refresh.
-use Rattle.std.proofs.Common.{◌≡◌, ℕ, Bool, true, false, not, cond, ◌&&◌, ◌||◌, List, [], ◌∷◌, map, refl, ap, sym, ◌∙◌, subst}
+use Rattle.std.proofs.Common.{◌≡◌, ◌≢◌, ℕ, Bool, true, false, not, cond, ◌&&◌, ◌||◌, List, [], ◌∷◌, map, refl, ap, sym, ◌∙◌, subst}
 use Rattle.std.specs.Prelude.{Option, Some, None, IsSome, Result, Ok, Err, IsErr, IfErr, option_map, filter, find, nat_le, reverse}
 use Rattle.std.specs.List.{list_all, list_any, AllByRecursion}
 use Rattle.std.proofs.lemmas.Bool.{and_from}
@@ -22,7 +22,9 @@ use Rattle.stitcher.specs.declared.ends.Rest.{Rest}
 use Rattle.stitcher.specs.StitchedSegments.{meant, mark_in, mark_with, rest_from, rest_in, IsDecided, AreDecided}
 use Rattle.break_finder.specs.Known.{is_this}
 use Rattle.live_meaning.specs.declared.fault.RefreshFault.{RefreshFault}
-use Rattle.live_meaning.specs.declared.fault.RefreshFault.TheVariants.{NumberRange, OutOfMemory}
+use Rattle.playlist_meaning.specs.declared.FaultKind.TheVariants.{OutOfMemory as NoMemory}
+use Rattle.live_meaning.specs.Unread.{is_memory_kind, fault_of_reading}
+use Rattle.live_meaning.specs.declared.fault.RefreshFault.TheVariants.{Playlist as Unreadable, NumberRange, OutOfMemory}
 use Rattle.live_meaning.specs.Successor.{first_number, fault_if}
 use Rattle.live_meaning.specs.Live.{is_marked, rest_id, succession_fault}
 use Rattle.live_meaning.specs.Marking.{last_entered}
@@ -37,8 +39,8 @@ use Rattle.live_window.specs.Checked.{AreContiguous}
 use Rattle.live_window.specs.Marking.{so_far}
 use Rattle.live_window.specs.Showing.{AreKept, kept_in}
 use Rattle.live_window.specs.Listed.{IsRestDecided}
-use Rattle.live_counters.specs.Channel.{Channel, Reading, refreshed, IsAsTyped, Stands, IsContiguous, channel_with, judged, refreshed_with, fresh_after, step_judged, step_read, says_read, Steps, Refreshes}
-use Rattle.live_counters.specs.Accepting.{IsAccepted, Accepts, Refused, accepted_state}
+use Rattle.live_counters.specs.Channel.{Channel, Reading, refreshed, IsAsTyped, Stands, IsContiguous, channel_with, judged, refreshed_with, fresh_after, step_judged, step_read, says_read, is_memory, Steps, StepsUnless, Refreshes}
+use Rattle.live_counters.specs.Accepting.{IsAccepted, IsRead, Follows, RefusesNext, Refused, accepted_state}
 use Rattle.live_window.proofs.Shown.{marked_too}
 use Rattle.live_counters.proofs.Stores.{MarksStay, RestStays, Stay, unturned}
 use Rattle.live_counters.proofs.Steps.{steps_refresh}
@@ -154,12 +156,12 @@ module _ (base : Parts) (tolerance : ℕ) (state : State) (text : Option (List �
   typed : (p : Playlist) → reading limited base bytes ≡ Ok p → list_all uris_are_text p.segments ≡ true → IsAsTyped base (refreshed bytes)
   typed p e t q f = subst (λ (x : Playlist). list_all uris_are_text x.segments ≡ true) (same_read p q (sym e ∙ f)) t
 
-  module _ (p : Playlist) (a : NextKept) (h : Accepts base tolerance state bytes p a) where
+  module _ (p : Playlist) (a : NextKept) (h : IsRead base bytes p) (f : Follows tolerance (kept_in state) p a) where
     abbrev kept : Kept
     kept = kept_in state
 
     abbrev accepted : IsAccepted tolerance kept p a
-    accepted = h.follows.accepted
+    accepted = f.accepted
 
     abbrev done : Refreshed
     done = record { media_sequence = a.written.numbers.media; segments = a.written.count; fresh = a.fresh }
@@ -168,7 +170,7 @@ module _ (base : Parts) (tolerance : ℕ) (state : State) (text : Option (List �
     after = channel_with base tolerance (accepted_state state p a) (Some a.written.text)
 
     unrefused : kept_refusal tolerance kept p ≡ None
-    unrefused = no_fault (succession_fault kept.last p) (fault_if (not (list_all fits (kept_items tolerance kept p))) NumberRange) h.follows.succeeds (ap (λ b. fault_if (not b) NumberRange) accepted.written.fit)
+    unrefused = no_fault (succession_fault kept.last p) (fault_if (not (list_all fits (kept_items tolerance kept p))) NumberRange) f.succeeds (ap (λ b. fault_if (not b) NumberRange) accepted.written.fit)
 
     listed : (id : List ℕ) → (is_shown_with (first_number p.segments) (kept_list tolerance kept p) (or_earlier (last_entered (kept_list tolerance kept p)) kept.entered) id || is_this id (rest_id (rest_after kept p (kept_list tolerance kept p)))) ≡ true
         → is_one_of a.written.in_use.items id ≡ true
@@ -220,13 +222,41 @@ module _ (base : Parts) (tolerance : ℕ) (state : State) (text : Option (List �
         record { stands = (refreshed bytes ∷ s.0, (r s.0 s.1).stands); decided = (stay.marks.decided, stay.rest.decided); numbers = h.numbers; refreshes = r }
 
     pub goes : (new : State) (answer : Refreshed × List ℕ) → new ≡ accepted_state state p a → answer ≡ (done, a.written.text) → Stands before → Goes new answer
-    goes new answer e f s = subst (λ (x : State). Goes x answer) (sym e) (subst (Goes (accepted_state state p a)) (sym f) (goes_so s))
+    goes new answer e k s = subst (λ (x : State). Goes x answer) (sym e) (subst (Goes (accepted_state state p a)) (sym k) (goes_so s))
 
   -- ---- a refused refresh
 
   pub stays : (result : Result Refreshed RefreshFault) → IsErr result → IfErr result (λ e. Refused base tolerance state bytes e) → Refreshes before bytes result before
   stays (Ok answer) h k = absurd (cc)
   stays (Err e) h k = steps_refresh before bytes (Err e) before (k text)
+
+  refused_as : (p : Playlist) (e : RefreshFault) → IsRead base bytes p → RefusesNext e (kept_refusal tolerance (kept_in state) p)
+      → (b : Bool) → is_memory (Err e) ≡ b → StepsUnless b before bytes (Err e) before
+  refused_as p e r h true same = refl
+  refused_as p e r h false same =
+      let told : kept_refusal tolerance (kept_in state) p ≡ Some e = h (λ is. let no : is_memory (Err e) ≡ true = ap (λ x. is_memory (Err x)) is in absurd (cc)) in
+      record {
+        says = ap (λ o. judged o (refreshed_with (kept_window tolerance (kept_in state) p) (fresh_after (kept_in state).shown p))) (sym told) ∙ ap (says_read before) (sym r.read);
+        comes = ap (step_judged before p) (sym told) ∙ ap (step_read before) (sym r.read);
+        typed = typed p r.read r.texts;
+      }
+
+  -- one that was read, and may not follow, or passes the range of numbers
+  pub stays_next : (p : Playlist) (result : Result Refreshed RefreshFault) → IsErr result → IsRead base bytes p → IfErr result (λ e. RefusesNext e (kept_refusal tolerance (kept_in state) p))
+      → Refreshes before bytes result before
+  stays_next p (Ok answer) h r k = absurd (cc)
+  stays_next p (Err e) h r k = steps_refresh before bytes (Err e) before (refused_as p e r k (is_memory (Err e)) refl)
+
+  unread_as : (fault : PlaylistFault) → (fault.kind ≢ NoMemory → reading limited base bytes ≡ Err fault) → (b : Bool) → is_memory_kind fault.kind ≡ b
+      → Steps before bytes (Err (cond b OutOfMemory (Unreadable fault))) before
+  unread_as fault h true same = refl
+  unread_as fault h false same =
+      let told : reading limited base bytes ≡ Err fault = h (λ is. let no : is_memory_kind fault.kind ≡ true = ap is_memory_kind is in absurd (cc)) in
+      record { says = ap (says_read before) (sym told); comes = ap (step_read before) (sym told); typed = λ q f. let bad : Says (Ok q) (Err fault) = sym f ∙ told in apart q fault bad }
+
+  -- one that can't be read
+  pub stays_unread : (fault : PlaylistFault) → (fault.kind ≢ NoMemory → reading limited base bytes ≡ Err fault) → Steps before bytes (Err (fault_of_reading fault)) before
+  stays_unread fault h = unread_as fault h (is_memory_kind fault.kind) refl
 
   -- one that finds no memory for its copies
   pub stays_full : (result : Result Refreshed RefreshFault) → IsErr result → IfErr result (λ e. e ≡ OutOfMemory) → Refreshes before bytes result before

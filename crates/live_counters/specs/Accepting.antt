@@ -1,21 +1,19 @@
 -- What an accepted refresh comes to, as a channel holds it.
-use Rattle.std.specs.Prelude.{◌≡◌, ◌≢◌, ℕ, Bool, ◌||◌, List, true, filter, map, length, max, Option, Some, None, Ok, Err}
+use Rattle.std.specs.Prelude.{◌≡◌, ◌≢◌, ℕ, Bool, ◌||◌, List, true, filter, map, length, Option, Some, None, Ok, Err}
 use Rattle.std.specs.List.{list_all, list_any}
 use Rattle.playlist_meaning.specs.declared.Playlist.{Playlist}
 use Rattle.playlist_meaning.specs.LookBack.{or_earlier}
 use Rattle.playlist_meaning.specs.Marks.{Marked}
 use Rattle.playlist_meaning.specs.Stitched.{Item, fits}
 use Rattle.pod_store.specs.Store.{Store, kept_in_use}
-use Rattle.stitcher.specs.declared.OutSegment.{OutSegment}
 use Rattle.stitcher.specs.declared.ends.Rest.{Rest}
 use Rattle.stitcher.specs.StitchedSegments.{AreDecided, rest_in}
 use Rattle.stitcher.specs.Written.{written_item}
 use Rattle.break_finder.specs.Known.{carry}
-use Rattle.playlist_write.specs.declared.OutPlaylist.{OutPlaylist}
 use Rattle.playlist_write.specs.Owed.{text_of}
+use Rattle.live_laws.specs.Owed.{out_playlist}
 use Rattle.live_meaning.specs.declared.fault.RefreshFault.{RefreshFault}
-use Rattle.live_meaning.specs.declared.fault.RefreshFault.TheVariants.{Playlist as Unreadable, OutOfMemory}
-use Rattle.playlist_meaning.specs.declared.FaultKind.TheVariants.{OutOfMemory as NoMemory}
+use Rattle.live_meaning.specs.declared.fault.RefreshFault.TheVariants.{OutOfMemory}
 use Rattle.playlist_meaning.specs.Reading.{reading, limited}
 use Rattle.reading_laws.specs.Read.{uris_are_text}
 use Rattle.url.specs.Parts.{Parts}
@@ -33,25 +31,13 @@ use Rattle.live_window.specs.Showing.{kept_in}
 use Rattle.live_counters.specs.Channel.{Reading, channel_with, Steps}
 use Rattle.live_window.specs.declared.state.State.{State}
 
--- the playlist that is written with these date ranges and items
-abbrev pub out_with : Playlist → List (List ℕ) → List OutSegment → OutPlaylist
-out_with p date_ranges items = record {
-  version = max p.version 6;
-  target = p.target;
-  kind = p.kind;
-  independent = p.independent;
-  ended = p.ended;
-  date_ranges = date_ranges;
-  segments = items;
-}
-
 -- the breaks in use after these segments
 abbrev pub breaks_after : Kept → Playlist → List Marked → List (List ℕ)
 breaks_after kept p list = in_use_with (first_number p.segments) list (or_earlier (last_entered list) kept.entered) (rest_after kept p list)
 
 -- the playlist's text with this window in place of its segments, without the date ranges of these breaks
 abbrev pub text_with_window : Playlist → List (List ℕ) → List Item → List ℕ
-text_with_window p breaks window = text_of (out_with p (map date_range_text (date_ranges_left (list_any states_instant window) breaks p.date_ranges)) (map written_item window))
+text_with_window p breaks window = text_of (out_playlist p (map date_range_text (date_ranges_left (list_any states_instant window) breaks p.date_ranges)) (map written_item window))
 
 -- what is written, and which breaks are in use, where these segments are shown, the newest run of which has lasted so long: each
 -- number of the stitched list fits
@@ -85,21 +71,20 @@ pub record Follows (tolerance : ℕ) (kept : Kept) (p : Playlist) (a : NextKept)
   pub succeeds : succession_fault kept.last p ≡ None
   pub accepted : IsAccepted tolerance kept p a
 
--- the bytes are read as this playlist, and it is accepted
-pub record Accepts (base : Parts) (tolerance : ℕ) (state : State) (bytes : List ℕ) (p : Playlist) (a : NextKept) : Type 0 where
+-- the bytes are read as this playlist
+pub record IsRead (base : Parts) (bytes : List ℕ) (p : Playlist) : Type 0 where
   pub read : reading limited base bytes ≡ Ok p
   pub texts : list_all uris_are_text p.segments ≡ true
   pub numbers : AreContiguous p.segments
-  pub follows : Follows tolerance (kept_in state) p a
+
+-- some bytes are
+pub record WasRead (base : Parts) (p : Playlist) : Type 0 where
+  pub bytes : List ℕ
+  pub is_read : IsRead base bytes p
 
 -- the fault is the one that is owed, want of memory apart
 abbrev pub RefusesNext : RefreshFault → Option RefreshFault → Type 0
 RefusesNext fault outcome = fault ≢ OutOfMemory → outcome ≡ Some fault
-
--- the fault is that of reading, which stands at no line where memory was refused
-abbrev pub RefusesReading : RefreshFault → Reading → Type 0
-RefusesReading (Unreadable fault) outcome = (fault.kind ≢ NoMemory → outcome ≡ Err fault) × (fault.kind ≡ NoMemory → fault.line ≡ 0)
-RefusesReading fault outcome = ⊥
 
 -- the answer is the one that is owed, and nothing changes, whatever was written
 abbrev pub Refused : Parts → ℕ → State → List ℕ → RefreshFault → Type 0

@@ -1,10 +1,8 @@
 -- What a channel stands for, after the list of all that it was given, the newest first.
-use Rattle.std.specs.Prelude.{◌&&◌, ◌==◌, ◌≡◌, ◌≢◌, ℕ, Bool, true, false, List, [], ◌∷◌, ◌++◌, map, max, filter, length, Option, Some, None, option_map, Result, Ok, Err, IsOk, MatchResult, slice_get}
+use Rattle.std.specs.Prelude.{◌≡◌, ◌≢◌, ℕ, Bool, true, false, List, [], ◌∷◌, ◌++◌, map, filter, length, Option, Some, None, option_map, Result, Ok, Err, IsOk, MatchResult, slice_get}
 use Rattle.std.specs.List.{AllByRecursion, list_all}
 use Rattle.url.specs.Parts.{Parts}
 use Rattle.playlist_meaning.specs.declared.Playlist.{Playlist}
-use Rattle.playlist_meaning.specs.declared.FaultKind.{FaultKind}
-use Rattle.playlist_meaning.specs.declared.FaultKind.TheVariants.{OutOfMemory as NoMemory}
 use Rattle.playlist_meaning.specs.declared.PlaylistFault.{PlaylistFault}
 use Rattle.playlist_meaning.specs.Marks.{Marked}
 use Rattle.playlist_meaning.specs.Reading.{reading, limited, Denotes}
@@ -33,7 +31,7 @@ use Rattle.live_meaning.specs.Marking.{is_new}
 use Rattle.live_meaning.specs.Live.{Event, Told, told, refusal, last_playlist, in_use, after_refresh, window_after, owed_for, date_range_text}
 use Rattle.live_meaning.specs.Live as live
 use Rattle.live_meaning.specs.Kept.{Kept, head_numbers, kept_of, kept_refusal, kept_after, kept_window, date_ranges_after}
-use Rattle.live_laws.specs.Owed.{owed_text}
+use Rattle.live_laws.specs.Owed.{out_playlist, owed_text}
 use Rattle.live_laws.specs.Laws.{KeepsRules}
 use Rattle.live_window.specs.Checked.{AreContiguous}
 use Rattle.live_counters.specs.declared.channel.Refreshed.{Refreshed}
@@ -120,18 +118,9 @@ abbrev pub owed_answer : Channel → List Given → List ℕ → Result Refreshe
 owed_answer c given bytes = answer_read c.tolerance (told_by c.base c.tolerance given) (reading limited c.base bytes)
 
 -- whether memory was refused
-abbrev pub is_memory_kind : FaultKind → Bool
-is_memory_kind NoMemory = true
-is_memory_kind _ = false
-
--- want of memory stands at no line
-abbrev pub is_memory_fault : PlaylistFault → Bool
-is_memory_fault fault = is_memory_kind fault.kind && fault.line == 0
-
 abbrev pub is_memory : Result Refreshed RefreshFault → Bool
 is_memory (Ok done) = false
 is_memory (Err OutOfMemory) = true
-is_memory (Err (Unreadable fault)) = is_memory_fault fault
 is_memory (Err _) = false
 
 -- the answer is the one owed, and the channel stands for one event more
@@ -156,15 +145,7 @@ Refreshes old bytes result new = (given : List Given) → StandsFor old given �
 -- ---- the same from what is kept
 
 abbrev pub playlist_after : ℕ → Kept → Playlist → OutPlaylist
-playlist_after tolerance kept p = record {
-  version = max p.version 6;
-  target = p.target;
-  kind = p.kind;
-  independent = p.independent;
-  ended = p.ended;
-  date_ranges = map date_range_text (date_ranges_after tolerance kept p);
-  segments = map written_item (kept_window tolerance kept p);
-}
+playlist_after tolerance kept p = out_playlist p (map date_range_text (date_ranges_after tolerance kept p)) (map written_item (kept_window tolerance kept p))
 
 abbrev pub step_judged : Channel → Playlist → Option RefreshFault → Channel
 step_judged c p None = record c { kept = kept_after c.tolerance c.kept p; text = Some (text_of (playlist_after c.tolerance c.kept p)) }

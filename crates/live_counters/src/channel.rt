@@ -1,20 +1,22 @@
 //! A live channel: what it keeps, and what holds of it whatever it was given.
-ghost use Rattle.std.specs.Prelude.{◌≡◌, ◌<◌, ◌≤◌, [], Some, None, IfOk, IsErrOf, IsSome, option_map, slice_get};
+ghost use Rattle.std.specs.Prelude.{◌≡◌, ◌<◌, ◌≤◌, ℕ, List, [], Some, None, IfOk, IsErrOf, IsSome, option_map, slice_get};
 ghost use Rattle.std.specs.Option.{option_copied};
 ghost use Rattle.playlist_meaning.specs.Uri.{base_of};
 ghost use Rattle.live_counters.specs.Channel.{decided, withdrawn, ChangesStore, ChangesStoreExactly, after_bytes, StandsOn, AlwaysStandsOn, StandsFor, Decides, Withdraws, Writes, Refreshes, Knows, Explains, explained};
+ghost use Rattle.live_counters.specs.Accepting.{IsRead, WasRead};
 ghost use Rattle.pod_store.specs.Store.{withdrawn as without_break};
 ghost use Rattle.pod_store.specs.Store.{is_used};
 ghost use Rattle.break_finder.specs.Entering.{id_of, why};
 ghost use Rattle.live_meaning.specs.Successor.{is_mapped};
+ghost use Rattle.live_meaning.specs.Limits.{max_tolerance};
 
-use crate::refresh::{accept, next_of, next_of_owned};
+use crate::refresh::{accept, next_after, playlist_of};
 use crate::types_say::know_pods;
 use base_uris::{Base, BaseFault};
 use break_finder::{Knowledge, Why};
 use decision_files::read_decisions;
 use fixed_duration::Nanos;
-use live_meaning::RefreshFault;
+use live_meaning::{MAX_TOLERANCE, RefreshFault};
 use live_window::{State, is_mapped};
 use playlist_meaning::{Items, Playlist, Shared, Text};
 use pod_store::{DecisionFault, PodStore};
@@ -76,16 +78,16 @@ fn why_after(knowledge: &Knowledge, store: &PodStore, last: &Playlist, id: &str)
 impl Channel {
     /// A channel that was given nothing.
     pub fn new(alloc: Global, base: &str, tolerance: Nanos) -> Result<Channel, ChannelFault>
-        ensures ok { IfOk result (λ c. (base_of base.now ≡ Some c.base) × (c.tolerance ≡ tolerance) × (tolerance ≤ 10000000000) × StandsFor c []) }
+        ensures ok { IfOk result (λ c. (base_of base.now ≡ Some c.base) × (c.tolerance ≡ tolerance) × (tolerance ≤ max_tolerance) × StandsFor c []) }
         ensures base { IsErrOf result ChannelFault.BadBase → base_of base.now ≡ None }
-        ensures tolerance { IsErrOf result ChannelFault.BadTolerance → IsSome (base_of base.now) × (10000000000 < tolerance) }
+        ensures tolerance { IsErrOf result ChannelFault.BadTolerance → IsSome (base_of base.now) × (max_tolerance < tolerance) }
     {
         let base = match Base::new(alloc, base) {
             Ok(base) => base,
             Err(BaseFault::BadBase) => return Err(ChannelFault::BadBase),
             Err(_) => return Err(ChannelFault::OutOfMemory),
         };
-        if tolerance.0 > 10_000_000_000 {
+        if tolerance.0 > MAX_TOLERANCE {
             return Err(ChannelFault::BadTolerance);
         }
         Ok(Channel {
@@ -109,15 +111,24 @@ impl Channel {
         })
     }
 
+    // Takes a playlist that was read: of whichever bytes, this is their refresh.
+    fn take(&mut self, alloc: Global, playlist: Playlist) -> Result<Refreshed, RefreshFault>
+        requires { WasRead self.old.base playlist }
+        ensures { (bytes : List ℕ) → IsRead self.old.base bytes playlist → Refreshes self.old bytes result self.new }
+    {
+        let next = next_after(alloc, self.tolerance, &self.state, &playlist)?;
+        let (refreshed, text) = accept(&mut self.state, playlist, next)?;
+        self.text = Some(text);
+        Ok(refreshed)
+    }
+
     /// Takes a refresh of the origin's playlist: it is accepted, and the text that is written is the one owed then, or
     /// it is refused with its first fault, and the channel is as it was.
     pub fn refresh(&mut self, alloc: Global, bytes: &[u8]) -> Result<Refreshed, RefreshFault>
         ensures { Refreshes self.old bytes.now result self.new }
     {
-        let (playlist, next) = next_of(alloc, &self.base, self.tolerance, &self.state, bytes)?;
-        let (done, text) = accept(&mut self.state, playlist, next)?;
-        self.text = Some(text);
-        Ok(done)
+        let playlist = playlist_of(alloc, bytes, &self.base)?;
+        self.take(alloc, playlist)
     }
 
     /// Takes a refresh, with the answers and the faults of `refresh`, of bytes that the caller gives up: their memory is given
@@ -129,11 +140,9 @@ impl Channel {
     ) -> Result<Refreshed, RefreshFault>
         ensures { Refreshes self.old bytes.items result self.new }
     {
-        let (base, tolerance) = (&self.base, self.tolerance);
-        let (playlist, next) = next_of_owned(alloc, base, tolerance, &self.state, bytes)?;
-        let (refreshed, written) = accept(&mut self.state, playlist, next)?;
-        self.text = Some(written);
-        Ok(refreshed)
+        let playlist = playlist_of(alloc, bytes.as_slice(), &self.base)?;
+        drop(bytes);
+        self.take(alloc, playlist)
     }
 
     /// Takes the decisions that a file says.

@@ -1,17 +1,16 @@
 //! What an accepted refresh comes to, from what is kept.
-ghost use Rattle.std.specs.Prelude.{◌≡◌, Ok, IfOk, IfErr, OnOk, true, false};
+ghost use Rattle.std.specs.Prelude.{◌≡◌, ℕ, IfOk, IfErr, OnOk, false};
 ghost use Rattle.std.specs.List.{list_all};
 ghost use Rattle.playlist_meaning.specs.Stitched.{fits};
-ghost use Rattle.playlist_meaning.specs.Reading.{reading, limited};
-ghost use Rattle.reading_laws.specs.Read.{uris_are_text};
 ghost use Rattle.live_meaning.specs.Kept.{kept_items, kept_refusal};
 ghost use Rattle.live_meaning.specs.Live.{succession_fault};
 ghost use Rattle.live_meaning.specs.Successor.{answer_of};
 ghost use Rattle.live_window.specs.Checked.{AreContiguous};
 ghost use Rattle.live_window.specs.Showing.{AreKept, kept_in};
 ghost use Rattle.live_counters.specs.Channel.{IsContiguous};
-ghost use Rattle.live_counters.specs.Accepting.{IsAccepted, Follows, Accepts, Refused, RefusesNext, RefusesReading, accepted_state};
+ghost use Rattle.live_counters.specs.Accepting.{IsAccepted, IsRead, Follows, Refused, RefusesNext, accepted_state};
 ghost use Rattle.live_window.specs.Listed.{RefusesList};
+ghost use Rattle.live_window.specs.declared.state.State.{State as LiveState};
 
 use crate::channel::Refreshed;
 use crate::types_say::know_texts;
@@ -84,8 +83,8 @@ fn may_follow(last: &Option<Playlist>, playlist: &Playlist) -> Result<(), Refres
     }
 }
 
-// What is kept after a playlist, where it is accepted.
-fn next_after(
+/// What is kept after a playlist, where it is accepted.
+pub fn next_after(
     alloc: Global,
     tolerance: Nanos,
     state: &State,
@@ -101,56 +100,15 @@ fn next_after(
     next_kept(alloc, tolerance, state, playlist)
 }
 
-// The playlist that bytes are read as.
-fn playlist_read(alloc: Global, bytes: &[u8], base: &Base) -> Result<Playlist, RefreshFault>
-    ensures ok { IfOk result (λ p. reading limited base.now bytes.now ≡ Ok p) }
-    ensures texts { IfOk result (λ p. list_all uris_are_text p.segments ≡ true) }
-    ensures err { IfErr result (λ e. RefusesReading e (reading limited base.now bytes.now)) }
+#[tactic(auto, using(crate::proofs::Refreshing::read_rises))]
+/// The playlist that bytes are read as.
+pub fn playlist_of(alloc: Global, bytes: &[u8], base: &Base) -> Result<Playlist, RefreshFault>
+    ensures ok { IfOk result (IsRead base.now bytes.now) }
+    ensures err { IfErr result (λ e. (tolerance : ℕ) (state : LiveState) → Refused base.now tolerance state bytes.now e) }
 {
-    match read(alloc, bytes, base) {
-        Ok(playlist) => {
-            know_texts(playlist.segments.as_slice());
-            Ok(playlist)
-        }
-        Err(fault) => Err(RefreshFault::Playlist(fault)),
-    }
-}
-
-/// The playlist that bytes are read as and what is kept after it, where it is accepted; else the first fault.
-pub fn next_of(
-    alloc: Global,
-    base: &Base,
-    tolerance: Nanos,
-    state: &State,
-    bytes: &[u8],
-) -> Result<(Playlist, NextKept), RefreshFault>
-    requires decided { AreKept state.now.store state.now }
-    requires last { IsContiguous state.now.last }
-    ensures ok { IfOk result (λ a. Accepts base.now tolerance state.now bytes.now a.0 a.1) }
-    ensures err { IfErr result (λ e. Refused base.now tolerance state.now bytes.now e) }
-{
-    let playlist = playlist_read(alloc, bytes, base)?;
-    let next = next_after(alloc, tolerance, state, &playlist)?;
-    Ok((playlist, next))
-}
-
-/// The same of bytes that the caller gives up: their memory is given back once they are read, before anything is written.
-pub fn next_of_owned(
-    alloc: Global,
-    base: &Base,
-    tolerance: Nanos,
-    state: &State,
-    bytes: Vec<u8>,
-) -> Result<(Playlist, NextKept), RefreshFault>
-    requires decided { AreKept state.now.store state.now }
-    requires last { IsContiguous state.now.last }
-    ensures ok { IfOk result (λ a. Accepts base.now tolerance state.now bytes.items a.0 a.1) }
-    ensures err { IfErr result (λ e. Refused base.now tolerance state.now bytes.items e) }
-{
-    let read = playlist_read(alloc, bytes.as_slice(), base)?;
-    drop(bytes);
-    let next = next_after(alloc, tolerance, state, &read)?;
-    Ok((read, next))
+    let playlist = read(alloc, bytes, base)?;
+    know_texts(playlist.segments.as_slice());
+    Ok(playlist)
 }
 
 /// Keeps what an accepted refresh comes to. Answers what it did, and the text that is written. The breaks that were entered

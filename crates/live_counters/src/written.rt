@@ -9,7 +9,8 @@ ghost use Rattle.live_meaning.specs.Live.{date_range_text, date_ranges_left};
 ghost use Rattle.live_window.specs.Marking.{so_far};
 ghost use Rattle.live_window.specs.Showing.{kept_in};
 ghost use Rattle.live_window.specs.Listed.{IsFront, IsRestDecided, RefusesList, states_time};
-ghost use Rattle.live_counters.specs.Accepting.{IsLeft, IsWritten, out_with};
+ghost use Rattle.live_laws.specs.Owed.{out_playlist};
+ghost use Rattle.live_counters.specs.Accepting.{IsLeft, IsWritten};
 
 use crate::in_use::breaks_in_use;
 use fixed_duration::Nanos;
@@ -46,7 +47,7 @@ fn text_with<'a>(
     date_ranges: Vec<OriginText<'a>>,
     items: Vec<OutSegment<'a>>,
 ) -> Result<Shared<Text>, AllocError>
-    ensures { IfOk result (λ text. text ≡ text_of (out_with playlist.now date_ranges.entry.items items.entry.items)) }
+    ensures { IfOk result (λ text. text ≡ text_of (out_playlist playlist.now date_ranges.entry.items items.entry.items)) }
 {
     let out = OutPlaylist {
         version: playlist.version.max(6),
@@ -67,7 +68,7 @@ fn text_without(
     in_use: &[Shared<Text>],
     items: Vec<OutSegment<'_>>,
 ) -> Result<Shared<Text>, AllocError>
-    ensures { IfOk result (λ text. text ≡ text_of (out_with playlist.now (map date_range_text (date_ranges_left (list_any states_time items.entry.items) in_use.now playlist.now.date_ranges)) items.entry.items)) }
+    ensures { IfOk result (λ text. text ≡ text_of (out_playlist playlist.now (map date_range_text (date_ranges_left (list_any states_time items.entry.items) in_use.now playlist.now.date_ranges)) items.entry.items)) }
 {
     let date_ranges = date_ranges_left(
         alloc,

@@ -18,7 +18,8 @@ use Rattle.edge_messages.specs.ChannelBody.{body_said}
 use Rattle.edge_messages.specs.Replies.{exists, bad_tolerance}
 use Rattle.live_edge.specs.Replies.{refresh_owed, decisions_owed, live_owed, why_owed}
 use Rattle.edge_messages.specs.Routes.{path_of, route_of}
-use Rattle.live_edge.specs.Table.{Table, Entry, Turn, unmoved, event_turn, given_at, put_given, without, removed, read_turn, made, tried, added, fresh, most_tolerance, is_method, turn_at, routed, turn, table_of, reply_to}
+use Rattle.live_meaning.specs.Limits.{max_tolerance}
+use Rattle.live_edge.specs.Table.{Table, Entry, Turn, unmoved, event_turn, given_at, put_given, without, removed, read_turn, made, tried, added, fresh, is_method, turn_at, routed, turn, table_of, reply_to}
 use Rattle.live_edge.specs.Isolation.{names, is_on, replies_on, was_served, IsIsolated}
 
 -- ---- the entries of a name
@@ -132,7 +133,7 @@ either_table false x t u table h k = k
 tried_other : (x n : List ℕ) (tolerance : ℕ) (table : Table) (o : Option Parts) → bytes_eq x n ≡ false → picked x (tried table n tolerance o).table ≡ picked x table
 tried_other x n tolerance table None other = refl
 tried_other x n tolerance table (Some base) other =
-    either_table (nat_lt most_tolerance tolerance) x _ _ table refl
+    either_table (nat_lt max_tolerance tolerance) x _ _ table refl
     (added_other_step (is_some (given_at n table)) (nat_le 64 (length table)) x n (fresh n base tolerance) table exists (bare 503) other)
 
 made_other : (x n : List ℕ) (table : Table) (said : Result (List ℕ × ℕ) BodyFault) → bytes_eq x n ≡ false → picked x (made table n said).table ≡ picked x table
@@ -226,7 +227,7 @@ tried_this : (x : List ℕ) (tolerance : ℕ) (table : Table) (o : Option Parts)
     → shown x (tried table x tolerance o) ≡ tried (picked x table) x tolerance o
 tried_this x tolerance table None served = refl
 tried_this x tolerance table (Some base) served =
-    either_shown (nat_lt most_tolerance tolerance) x (unmoved table bad_tolerance) (added table x base tolerance) (unmoved (picked x table) bad_tolerance)
+    either_shown (nat_lt max_tolerance tolerance) x (unmoved table bad_tolerance) (added table x base tolerance) (unmoved (picked x table) bad_tolerance)
     (added (picked x table) x base tolerance) served (λ z. refl) (added_this x base tolerance table)
 
 made_this : (x : List ℕ) (table : Table) (said : Result (List ℕ × ℕ) BodyFault) → was_served (made table x said).reply ≡ true

@@ -24,7 +24,8 @@ use Rattle.edge_messages.specs.ChannelBody.{body_said}
 use Rattle.edge_messages.specs.Replies.{refresh_status, decision_status, decisions_reply}
 use Rattle.live_edge.specs.Replies.{refresh_reply, refresh_owed, decisions_owed, live_owed, why_owed}
 use Rattle.edge_messages.specs.Routes.{path_of, route_of}
-use Rattle.live_edge.specs.Table.{Table, Turn, event_turn, given_at, removed, read_turn, made, tried, most_tolerance, is_method, turn_at, routed, turn, table_of}
+use Rattle.live_meaning.specs.Limits.{max_tolerance}
+use Rattle.live_edge.specs.Table.{Table, Turn, event_turn, given_at, removed, read_turn, made, tried, is_method, turn_at, routed, turn, table_of}
 use Rattle.live_edge.specs.Edges.{Kept, StandsFor, Stands, TakesTurn}
 use Rattle.live_edge.specs.Isolation.{is_on, was_served, Exchange, IsRun, is_served_on, asked_of, answered_of, RunsAreIsolated}
 use Rattle.live_edge.proofs.Isolated.{picked, turn_other, Alike, served_step, and_parts}
@@ -69,7 +70,7 @@ tried_left : (n : List ℕ) (tolerance : ℕ) (table : Table) (o : Option Parts)
     → (tried table n tolerance o).table ≡ table
 tried_left n tolerance table None is = refl
 tried_left n tolerance table (Some base) is =
-    either_left (nat_lt most_tolerance tolerance) _ _ table is (λ z. refl)
+    either_left (nat_lt max_tolerance tolerance) _ _ table is (λ z. refl)
     (λ k. either_left (is_some (given_at n table)) _ _ table k (λ z. refl)
     (λ l. either_left (nat_le 64 (length table)) _ _ table l (λ z. refl) (λ z. absurd (true≢false z))))
 

@@ -20,7 +20,8 @@ use Rattle.edge_messages.proofs.Names.{none_is}
 use Rattle.live_edge.specs.Channels.{Given, IsGiven, with_event}
 use Rattle.edge_messages.specs.Replies.{not_found, bad_base, bad_tolerance, exists, live_reply, why_text, text_reply}
 use Rattle.live_edge.specs.Replies.{channel_fault_reply, live_owed, why_owed}
-use Rattle.live_edge.specs.Table.{Table, Entry, Turn, turn, table_of, unmoved, event_turn, given_at, put_given, without, removed, read_turn, made, tried, added, most_tolerance, fresh}
+use Rattle.live_meaning.specs.Limits.{max_tolerance}
+use Rattle.live_edge.specs.Table.{Table, Entry, Turn, turn, table_of, unmoved, event_turn, given_at, put_given, without, removed, read_turn, made, tried, added, fresh}
 use Rattle.live_edge.specs.Events.{TakesOne, Takes}
 use Rattle.live_edge.specs.Edges.{Kept, kept_of, Stands, StandsForSome, TakenTurn}
 use Rattle.live_edge.proofs.Given.{text_is, why_is}
@@ -126,10 +127,10 @@ no_reply : {E : Type 0} (table : Table) (t : Turn) (r : Result Reply E) (kept : 
 no_reply table t (Ok reply) kept e s = absurd (true≢false (sym e))
 no_reply table t (Err x) kept e s = s
 
-is_over : (tolerance : ℕ) → 10000000000 < tolerance → nat_lt most_tolerance tolerance ≡ true
+is_over : (tolerance : ℕ) → 10000000000 < tolerance → nat_lt max_tolerance tolerance ≡ true
 is_over tolerance h = grind (arith, nat_tests)
 
-is_within : (tolerance : ℕ) → tolerance ≤ 10000000000 → nat_lt most_tolerance tolerance ≡ false
+is_within : (tolerance : ℕ) → tolerance ≤ 10000000000 → nat_lt max_tolerance tolerance ≡ false
 is_within tolerance h = grind (arith, nat_tests)
 
 module _ (table : Table) (name base : List ℕ) (tolerance : ℕ) (said : Result (List ℕ × ℕ) BodyFault) (e : said ≡ Ok (base, tolerance)) where

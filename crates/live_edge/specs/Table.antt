@@ -2,6 +2,7 @@
 use Rattle.std.specs.Prelude.{ℕ, Bool, nat_le, nat_lt, List, [], ◌∷◌, ◌++◌, codes, length, bytes_eq, Option, Some, None, is_some, Result, Ok, Err, if◌then◌else◌}
 use Rattle.url.specs.Parts.{Parts}
 use Rattle.playlist_meaning.specs.Uri.{base_of}
+use Rattle.live_meaning.specs.Limits.{max_tolerance}
 use Rattle.live_counters.specs.Channel.{decided, refreshed}
 use Rattle.live_counters.specs.Channel as channel
 use Rattle.http_messages.specs.declared.message.Request.{Request}
@@ -65,10 +66,6 @@ removed table name (Some given) = record { reply = bare 204; table = without nam
 
 -- ---- making a channel
 
--- 10 seconds
-abbrev pub most_tolerance : ℕ
-most_tolerance = 10000000000
-
 abbrev pub fresh : List ℕ → Parts → ℕ → Entry
 fresh name base tolerance = record { name = name; given = record { base = base; tolerance = tolerance; events = [] } }
 
@@ -81,7 +78,7 @@ added table name base tolerance =
 abbrev pub tried : Table → List ℕ → ℕ → Option Parts → Turn
 tried table name tolerance None = unmoved table bad_base
 tried table name tolerance (Some base) =
-    if nat_lt most_tolerance tolerance then unmoved table bad_tolerance else added table name base tolerance
+    if nat_lt max_tolerance tolerance then unmoved table bad_tolerance else added table name base tolerance
 
 abbrev pub made : Table → List ℕ → Result (List ℕ × ℕ) BodyFault → Turn
 made table name (Err fault) = unmoved table (body_fault_reply fault)

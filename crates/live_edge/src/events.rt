@@ -10,7 +10,6 @@ use http::StatusCode;
 use http_messages::{Content, ContentType, Reply};
 use live_counters::Channel;
 use live_meaning::RefreshFault;
-use playlist_meaning::FaultKind;
 use pod_store::DecisionKind;
 use std::alloc::{AllocError, Global};
 
@@ -20,7 +19,6 @@ fn is_memory(fault: RefreshFault) -> bool
 {
     match fault {
         RefreshFault::OutOfMemory => true,
-        RefreshFault::Playlist(unread) => unread.kind == FaultKind::OutOfMemory && unread.line == 0,
         _ => false,
     }
 }

@@ -10,5 +10,5 @@ mod serving;
 
 pub use channels::CHANNEL_LIMIT;
 pub use edge::Edge;
-pub use edge_messages::{FaultText, LiveWords, read_live_words, refresh_fault_text, why_word};
+pub use edge_messages::{FaultText, refresh_fault_text, why_word};
 pub use serving::{EdgeFault, Served, serve};

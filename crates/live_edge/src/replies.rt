@@ -1,5 +1,5 @@
 //! The replies that are owed to what is asked of a channel.
-ghost use Rattle.std.specs.Prelude.{◌≡◌, string_bytes, IfOk, IsErr};
+ghost use Rattle.std.specs.Prelude.{◌≡◌, ◌≢◌, [], string_bytes, IfOk, IsErr};
 ghost use Rattle.live_counters.specs.Channel.{explained};
 ghost use Rattle.edge_messages.specs.Replies.{why_text, text_reply};
 ghost use Rattle.live_edge.specs.Replies.{channel_fault_reply};
@@ -26,7 +26,8 @@ pub fn channel_fault_reply(alloc: Global, fault: ChannelFault) -> Result<Reply, 
 
 // A line for each known break.
 fn why_lines(alloc: Global, channel: &Channel) -> Result<String, AllocError>
-    ensures { IfOk result (λ lines. string_bytes lines ≡ why_text (explained channel.now.kept) channel.now.kept.breaks) }
+    ensures lines { IfOk result (λ lines. string_bytes lines ≡ why_text (explained channel.now.kept) channel.now.kept.breaks) }
+    ensures memory { IsErr result → channel.now.kept.breaks ≢ [] }
 {
     let mut lines = String::new(alloc);
     let mut place = 0usize;
@@ -40,9 +41,10 @@ fn why_lines(alloc: Global, channel: &Channel) -> Result<String, AllocError>
     Ok(lines)
 }
 
-/// The known breaks, and why each is filled or not.
+/// The known breaks, and why each is filled or not. Takes no memory where none is known.
 pub fn why_reply(alloc: Global, channel: &Channel) -> Result<Reply, AllocError>
-    ensures { IfOk result (λ reply. reply ≡ text_reply (why_text (explained channel.now.kept) channel.now.kept.breaks)) }
+    ensures reply { IfOk result (λ reply. reply ≡ text_reply (why_text (explained channel.now.kept) channel.now.kept.breaks)) }
+    ensures memory { IsErr result → channel.now.kept.breaks ≢ [] }
 {
     let lines = why_lines(alloc, channel)?;
     text_reply(alloc, lines)

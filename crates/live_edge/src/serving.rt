@@ -8,7 +8,7 @@ ghost use Rattle.http_messages.specs.Requests.{IsUnfinished};
 ghost use Rattle.http_messages.specs.Limits.{most_reads};
 ghost use Rattle.http_messages.specs.Received.{Holds, HasEnded, HasGivenPart, IsWholeAtLastRead};
 ghost use Rattle.http_messages.specs.Replies.{text_sent};
-ghost use Rattle.http_messages.specs.Runs.{IsFairToSource, IsFairToSink};
+ghost use Rattle.devices.specs.Fair.{IsFairToSource, IsFairToSink, GaveAtEachButLast};
 ghost use Rattle.live_edge.specs.FaultTexts.{edge_fault_text};
 ghost use Rattle.live_edge.specs.Served.{HasServed, HasServedFront, HasRepliedWhole, HasRepliedFront, edge_fault};
 
@@ -134,8 +134,9 @@ pub fn serve<S: Source, K: Sink>(
     ensures nothing_past { IfOk result (λ _. IsWholeAtLastRead S.remaining S.called source.old source.new) }
     ensures nothing_past_front { IsErrOf result EdgeFault.Write → IsWholeAtLastRead S.remaining S.called source.old source.new }
 
-    // A device is blamed exactly where it failed, and is left alone then.
+    // A device is blamed exactly where it failed, and is left alone then; the source is at its end too.
     ensures source { IsFairToSource EdgeFault.Read EdgeFault.TooManyReads most_reads result (source_stand S.remaining S.called S.failed source.old) (source_stand S.remaining S.called S.failed source.new) }
+    ensures to_end { IsErrOf result EdgeFault.Ended → GaveAtEachButLast (source_stand S.remaining S.called S.failed source.old) (source_stand S.remaining S.called S.failed source.new) }
     ensures sink { IsFairToSink EdgeFault.Write result (sink_stand K.contents K.failed sink.old) (sink_stand K.contents K.failed sink.new) }
 {
     match receive(alloc, source)? {

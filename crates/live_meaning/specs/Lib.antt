@@ -9,3 +9,5 @@ pub mod KeptLaws
 pub mod BreakLaws
 pub mod OwedLaws
 pub mod FallbackRows
+pub mod Unread
+pub mod Limits

@@ -206,18 +206,13 @@ written_date_ranges told playlist =
 abbrev pub date_range_text : DateRange → List ℕ
 date_range_text one = one.text
 
--- the playlist owed after this refresh was accepted: the window in place of the segments, of version 6 at least,
--- which the written tags need (7)
+-- the playlist with these date ranges and segments in place of its own, of version 6 at least, which the written tags need (7)
+abbrev pub playlist_with : Playlist → List DateRange → List Segment → Playlist
+playlist_with playlist date_ranges segments = record playlist { version = max playlist.version 6; date_ranges = date_ranges; segments = segments }
+
+-- the playlist owed after this refresh was accepted: the window in place of its segments, and the date ranges that are left
 abbrev pub owed_for : Told → Playlist → Playlist
-owed_for told playlist = record {
-  version = max playlist.version 6;
-  target = playlist.target;
-  kind = playlist.kind;
-  independent = playlist.independent;
-  ended = playlist.ended;
-  date_ranges = written_date_ranges told playlist;
-  segments = map item_segment (window_after told playlist);
-}
+owed_for told playlist = playlist_with playlist (written_date_ranges told playlist) (map item_segment (window_after told playlist))
 
 -- the playlist owed: none before the first accepted refresh
 abbrev pub owed : Told → Option Playlist

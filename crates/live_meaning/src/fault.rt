@@ -1,12 +1,12 @@
 //! Why a refresh of a live playlist is refused.
-use playlist_meaning::PlaylistFault;
+use playlist_meaning::{FaultKind, PlaylistFault};
 use std::alloc::AllocError;
 
 /// Why a refresh of a live playlist is refused: it can't be read, or a client that holds the playlist before it may
 /// not be given it (RFC 8216, sections 4.3.3 and 6.2.1).
 #[derive(Clone, Copy, PartialEq, Eq, Debug)]
 pub enum RefreshFault {
-    /// P1 to P25: the text is no playlist that can be read.
+    /// P1 to P24: the text is no playlist that can be read.
     Playlist(PlaylistFault),
     /// N1: the version isn't that of the playlist before.
     VersionChanged,
@@ -40,5 +40,20 @@ impl From<AllocError> for RefreshFault {
 
     fn from(_error: AllocError) -> RefreshFault {
         RefreshFault::OutOfMemory
+    }
+}
+
+/// Memory that was refused while a playlist was read is no fault of it.
+impl From<PlaylistFault> for RefreshFault {
+    ghost use Rattle.std.specs.Prelude.{◌≡◌};
+    ghost use Rattle.live_meaning.specs.Unread.{fault_of_reading};
+
+    ghost from_gives = { λ fault refused. refused ≡ fault_of_reading fault };
+
+    fn from(fault: PlaylistFault) -> RefreshFault {
+        if fault.kind == FaultKind::OutOfMemory {
+            return RefreshFault::OutOfMemory;
+        }
+        RefreshFault::Playlist(fault)
     }
 }

@@ -8,12 +8,28 @@ ghost use Rattle.live_meaning.specs.KeptLaws.{KeptFollows, KeptHavePods};
 ghost use Rattle.live_meaning.specs.OwedLaws.{HeaderIsTheLast, DateRangesAreTheOrigins, WindowIsStitched, UnmarkedStandOnce, SegmentsPlayTheWindow, NothingDecidedNothingChanged, PodsAreKept, StoreStaysSmall};
 ghost use Rattle.live_meaning.specs.LiveLaws.{OnlyGrows, EachSucceeds, MarksFollow, HistoriesAreLinked, MarksAreKnown, NoFaultSucceeds, NewestFits, MarksHavePods, UsedAreInUse};
 
+ghost use Rattle.std.specs.Prelude.{◌≡◌};
+ghost use Rattle.live_meaning.specs.Limits.{default_tolerance, max_tolerance};
+
 pub mod fallback_rows;
 mod fault;
 pub mod paced_rows;
 pub mod rows;
 
 pub use fault::RefreshFault;
+
+/// How far from the start of a break an instant may lie and still enter it, and how far before its end it must lie, where
+/// nothing else is asked: 100 ms, in nanoseconds.
+pub const DEFAULT_TOLERANCE: u64 = 100_000_000;
+
+/// The most that may be asked: 10 s, in nanoseconds.
+pub const MAX_TOLERANCE: u64 = 10_000_000_000;
+
+/// These constants are the tolerances of the definitions.
+pub fn tolerances_are_the_limits()
+    ensures default { default_tolerance ≡ DEFAULT_TOLERANCE }
+    ensures most { max_tolerance ≡ MAX_TOLERANCE }
+{}
 
 /// The stitched list only grows, whatever events come.
 pub fn only_grows()

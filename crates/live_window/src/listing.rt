@@ -13,13 +13,12 @@ ghost use Rattle.live_window.specs.Marking.{so_far, capped_in, length_after};
 ghost use Rattle.live_window.specs.Listed.{is_after, IsFront};
 
 use crate::marking::{Limits, copied_text, mark_on};
-use crate::placing::is_same_run;
 use break_finder::Knowledge;
 use fixed_duration::Nanos;
 use playlist_meaning::{Segment, Shared, Text};
 use pod_store::PodStore;
 use std::alloc::{AllocError, Global};
-use stitcher::Marked;
+use stitcher::{Marked, is_same_run};
 use timeline::{Beginnings, ends_at};
 
 #[tactic(auto, using(crate::proofs::Listed::newest_seen, crate::proofs::Listed::newest_decided, crate::proofs::Listed::none_seen))]

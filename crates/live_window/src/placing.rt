@@ -4,14 +4,14 @@ ghost use Rattle.playlist_meaning.specs.Marks.{Mark};
 ghost use Rattle.playlist_meaning.specs.Stitched.{pieces_of_ads};
 ghost use Rattle.playlist_meaning.specs.Paced.{due};
 ghost use Rattle.pod_store.specs.Pods.{duration_of_segment, segment_count};
-ghost use Rattle.stitcher.specs.Making.{begun, is_same_run};
+ghost use Rattle.stitcher.specs.Making.{begun};
 ghost use Rattle.live_window.specs.Marking.{place_on};
 ghost use Rattle.live_window.specs.Placing.{due_after, due_after_one, rest_count, run_count};
 
 use fixed_duration::Nanos;
 use playlist_meaning::{Shared, Text};
 use pod_store::{Ad, PodSegment, PodStore};
-use stitcher::{Marked, Rest};
+use stitcher::{Marked, Rest, is_same_run};
 
 fn segments_in(ads: &[Ad]) -> usize
     requires { sum (map segment_count ads.now) < 2 ^ 64 }
@@ -37,16 +37,6 @@ fn items_of(store: &PodStore, marked: &Marked) -> usize
     match store.pod_for(id.as_str()) {
         Some(pod) => segments_in(pod.ads()),
         None => 0,
-    }
-}
-
-/// Whether both are marked, with one break.
-pub fn is_same_run(mark: &Option<Shared<Text>>, previous: &Option<Shared<Text>>) -> bool
-    ensures { result ≡ is_same_run mark.now previous.now }
-{
-    match (mark, previous) {
-        (Some(id), Some(other)) => id.as_str() == other.as_str(),
-        _ => false,
     }
 }
 

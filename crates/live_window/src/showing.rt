@@ -1,7 +1,6 @@
 //! The breaks that are known after a refresh, and the segments that are shown then.
-ghost use Rattle.std.specs.Prelude.{◌≡◌, IfOk, IfErr};
+ghost use Rattle.std.specs.Prelude.{◌≡◌, IfOk};
 ghost use Rattle.stitcher.specs.StitchedSegments.{AreDecided};
-ghost use Rattle.break_finder.specs.Known.{carry};
 ghost use Rattle.live_meaning.specs.Successor.{is_mapped};
 ghost use Rattle.live_window.specs.Checked.{AreContiguous};
 ghost use Rattle.live_window.specs.Showing.{kept_in};
@@ -11,11 +10,10 @@ use crate::listing::{Listing, listed, newest_mark};
 use crate::marking::{Limits, text_in};
 use crate::state::State;
 use crate::successor::is_mapped;
-use break_finder::{FindFault, Knowledge};
+use break_finder::Knowledge;
 use fixed_duration::Nanos;
-use live_meaning::RefreshFault;
-use playlist_meaning::{Playlist, Shared, Text};
-use std::alloc::Global;
+use playlist_meaning::Playlist;
+use std::alloc::{AllocError, Global};
 use stitcher::Marked;
 
 /// What a channel knows and shows.
@@ -27,21 +25,6 @@ pub struct Showing {
     pub list: Vec<Marked>,
     /// How long their newest run has lasted.
     pub so_far: Nanos,
-}
-
-fn carried(
-    alloc: Global,
-    knowledge: &Knowledge,
-    playlist: &Playlist,
-    newest: &Option<Shared<Text>>,
-) -> Result<Knowledge, RefreshFault>
-    ensures ok { IfOk result (λ after. after ≡ carry (record { playlist = playlist.now; carried = newest.now }) knowledge.now) }
-    ensures err { IfErr result (λ e. e ≡ RefreshFault.OutOfMemory) }
-{
-    match knowledge.carry(alloc, playlist, text_in(newest)) {
-        Ok(after) => Ok(after),
-        Err(FindFault::OutOfMemory) => Err(RefreshFault::OutOfMemory),
-    }
 }
 
 fn limits_of(tolerance: Nanos, playlist: &Playlist) -> Limits
@@ -61,15 +44,16 @@ pub fn shown_with(
     tolerance: Nanos,
     state: &State,
     playlist: &Playlist,
-) -> Result<Showing, RefreshFault>
+) -> Result<Showing, AllocError>
     requires contiguous { AreContiguous playlist.now.segments }
     requires decided { AreDecided state.now.store state.now.shown }
-    ensures ok { IfOk result (λ a. IsShown tolerance state.now playlist.now a) }
-    ensures err { IfErr result (λ e. e ≡ RefreshFault.OutOfMemory) }
+    ensures { IfOk result (λ a. IsShown tolerance state.now playlist.now a) }
 {
     let shown = state.shown.as_slice();
     let newest = newest_mark(shown)?;
-    let knowledge = carried(alloc, &state.knowledge, playlist, &newest)?;
+    let knowledge = state
+        .knowledge
+        .carry(alloc, playlist, text_in(&newest))?;
     let limits = limits_of(tolerance, playlist);
     let Listing { list, so_far } = listed(
         alloc,

@@ -23,7 +23,7 @@ use Rattle.live_meaning.specs.Live as live
 use Rattle.live_meaning.specs.Live.{Event, Told, told, refusal, number_range_fault, succession_fault, last_playlist, list_of, after_refresh, window_after}
 use Rattle.live_meaning.specs.Successor.{fault_if}
 use Rattle.live_counters.specs.declared.channel.Refreshed.{Refreshed}
-use Rattle.live_counters.specs.Channel.{Channel, Given, Reading, decided, decisions_in, told_by, StandsFor, ChangesStore, after_bytes, with_store, refreshed_with, fresh_after, answer_read, owed_answer, judged, is_memory_kind, AnswersAs, AnswersUnless, Answers}
+use Rattle.live_counters.specs.Channel.{Channel, Given, Reading, decided, decisions_in, told_by, StandsFor, ChangesStore, after_bytes, with_store, refreshed_with, fresh_after, answer_read, owed_answer, judged, AnswersAs, AnswersUnless, Answers}
 use Rattle.one_playlist.specs.declared.fault.VodFault.TheVariants.{Playlist as PlaylistOf, OutOfMemory}
 use Rattle.one_playlist.specs.Events.{first_decided, events_of, fault_by, fault_of_decisions, RefusesDecisions}
 use Rattle.one_playlist.specs.Given.{given_by, HasDecided, fault_of_refresh, IsRefreshed, RefusesRefresh}
@@ -95,10 +95,6 @@ module _ (c : Channel) (bytes : List ℕ) (given : List Given) where
       }
 
   module _ (first : before.accepted ≡ []) where
-    unread_so : (fault : PlaylistFault) → reading limited c.base bytes ≡ Err fault → (b : Bool) → RefusesRefresh (cond b OutOfMemory (PlaylistOf fault)) c bytes given
-    unread_so fault is true = tt
-    unread_so fault is false = is
-
     judged_so : (p : Playlist) (done : Refreshed) (f : RefreshFault) (b : Bool) → reading limited c.base bytes ≡ Ok p → refusal c.tolerance before p ≡ fault_if b PassesRange
         → Err f ≡ judged (fault_if b PassesRange) done → RefusesRefresh (fault_of_refresh f) c bytes given
     judged_so p done f true is r h = let same : PassesRange ≡ f = cc in subst (λ x. RefusesRefresh (fault_of_refresh x) c bytes given) same (record { playlist = p; read = is; refused = r })
@@ -112,16 +108,9 @@ module _ (c : Channel) (bytes : List ℕ) (given : List Given) where
     owed_fault f h = by (reading limited c.base bytes) refl h
       where
         by : (r : Reading) → reading limited c.base bytes ≡ r → Err f ≡ answer_read c.tolerance before r → RefusesRefresh (fault_of_refresh f) c bytes given
-        by (Err fault) is a = let same : Unreadable fault ≡ f = cc in subst (λ x. RefusesRefresh (fault_of_refresh x) c bytes given) same (unread_so fault is (is_memory_kind fault.kind))
+        by (Err fault) is a = let same : Unreadable fault ≡ f = cc in subst (λ x. RefusesRefresh (fault_of_refresh x) c bytes given) same is
         by (Ok p) is a = judged_so p (answer_to p) f (not (list_all fits (list_of (after_refresh c.tolerance before p)))) is (number_range_alone p) (a ∙ ap (λ o. judged o (answer_to p)) (number_range_alone p))
 
     pub refuses_refresh : (f : RefreshFault) (new : Channel) → Answers c bytes given (Err f) new → RefusesRefresh (fault_of_refresh f) c bytes given
-    refuses_refresh (Unreadable fault) new h = by (is_memory_kind fault.kind) refl
-      where
-        by : (b : Bool) → is_memory_kind fault.kind ≡ b → RefusesRefresh (cond b OutOfMemory (PlaylistOf fault)) c bytes given
-        by true is = tt
-        by false is =
-            let a : AnswersAs c bytes given (Err (Unreadable fault)) new = subst (λ b. AnswersUnless (b && (fault.line == 0)) c bytes given (Err (Unreadable fault)) new) is h in
-            subst (λ b. RefusesRefresh (cond b OutOfMemory (PlaylistOf fault)) c bytes given) is (owed_fault (Unreadable fault) a.answer)
     refuses_refresh NoMemory new h = tt
     refuses_refresh f new h = owed_fault f h.answer

@@ -16,12 +16,13 @@ use Rattle.live_laws.specs.Owed.{owed_text}
 use Rattle.live_counters.specs.Channel as channel
 use Rattle.live_counters.specs.Channel.{Channel, Given, readable, refreshed, told_by, WritesOwed}
 use Rattle.live_counters.proofs.Steps.{channel_writes}
-use Rattle.one_playlist.specs.Vod.{run_tolerance}
+use Rattle.live_meaning.specs.Limits.{default_tolerance}
 use Rattle.one_playlist.specs.declared.fault.VodFault.{VodFault}
 use Rattle.one_playlist.specs.declared.fault.VodFault.TheVariants.{BadBase, Decision, Playlist as PlaylistOf, NumberRange, Read, TooManyReads, Write, OutOfMemory}
 use Rattle.one_playlist.specs.Given.{given_by, IsDecided, IsGivenAll, IsRefreshed, PassesItsRange, RefreshesFrom, RefusesInput, RefusesFrom}
 use Rattle.one_playlist.specs.Events.{events_of}
-use Rattle.one_playlist.specs.Runs.{GaveAtEachButLast, IfAtEnd, IsFairToSource, IsFairToSink}
+use Rattle.devices.specs.Fair.{IsFairToSource, IsFairToSink}
+use Rattle.one_playlist.specs.Runs.{most_reads, IfAtEnd, OnEnd}
 use Rattle.one_playlist.specs.Vod.{told_with, IsInOrder, IsOfVod, HasRead, HasJudged, Writes, WritesFront}
 
 -- what a channel writes where this playlist was accepted last
@@ -64,14 +65,14 @@ module _ (base : List ℕ) (file : Option (List ℕ)) (c : Channel) (d : IsDecid
       told_then =
           ap (λ x. told_by x then.tolerance (refreshed input ∷ given_by file)) r.base
           ∙ (ap (λ x. told_by c.base x (refreshed input ∷ given_by file)) (r.tolerance ∙ d.tolerance)
-          ∙ ap (λ x. told run_tolerance (readable x ++ events)) r.read)
+          ∙ ap (λ x. told default_tolerance (readable x ++ events)) r.read)
 
       accepted : HasJudged base file old new None
       accepted = judged p r.read None r.accepted
 
       last_is : last_playlist (told_with events p).accepted ≡ Some p
       unfolding accepted judged
-      last_is = ap (λ o. last_playlist (cond (is_none o) (after_refresh run_tolerance (told run_tolerance events) p) (told run_tolerance events)).accepted) accepted.judged
+      last_is = ap (λ o. last_playlist (cond (is_none o) (after_refresh default_tolerance (told default_tolerance events) p) (told default_tolerance events)).accepted) accepted.judged
 
       owes : (unwrap_or then.text [] ≡ owed_text (told_with events p) p) × ((other : Parts) → Denotes other (owed_text (told_with events p) p) (owed_for (told_with events p) p))
       owes = owed_so (told_with events p) p then.text last_is (subst (λ t. WritesOwed t then.text) told_then (channel_writes then (refreshed input ∷ given_by file) r.stands))
@@ -155,28 +156,33 @@ pub number_range_of : {A P : Type 0} (r : Result A VodFault) (e : VodFault) → 
 number_range_of (Ok x) e h f is = absurd h
 number_range_of (Err d) e h f is = let same : d ≡ NumberRange = cc in f (sym h ∙ same)
 
-pub still_fair : {A B : Type 0} (e : VodFault) (old new : SourceStand) → IsFairToSource {A = A} (Err e) old new → IsFairToSource {A = B} (Err e) old new
+abbrev pub FairToSource : {A : Type 0} → Result A VodFault → SourceStand → SourceStand → Type 0
+FairToSource r old new = IsFairToSource Read TooManyReads most_reads r old new
+
+abbrev pub FairToSink : {A : Type 0} → Result A VodFault → SinkStand → SinkStand → Type 0
+FairToSink r old new = IsFairToSink Write r old new
+
+pub still_fair : {A B : Type 0} (e : VodFault) (old new : SourceStand) → FairToSource {A = A} (Err e) old new → FairToSource {A = B} (Err e) old new
 still_fair e old new f = record {
   blamed = λ is. f.blamed (still e Read is);
   unfailed = tt;
   told = f.told;
   too_many = λ is. f.too_many (still e TooManyReads is);
   calls = f.calls;
-  to_end = f.to_end;
 }
 
-pub still_fair_sink : {A B : Type 0} (e : VodFault) (old new : SinkStand) → IsFairToSink {A = A} (Err e) old new → IsFairToSink {A = B} (Err e) old new
+pub still_fair_sink : {A B : Type 0} (e : VodFault) (old new : SinkStand) → FairToSink {A = A} (Err e) old new → FairToSink {A = B} (Err e) old new
 still_fair_sink e old new f = record { blamed = λ is. f.blamed (still e Write is); unfailed = tt; told = f.told }
 
 -- what a call said of its source holds where its fault is handed on
-pub fair_on : {A B : Type 0} (r : Result A VodFault) (e : VodFault) (old new : SourceStand) → IsErrAnd r (λ d. d ≡ e) → IsFairToSource {A = B} (Err e) old new → IsFairToSource r old new
+pub fair_on : {A B : Type 0} (r : Result A VodFault) (e : VodFault) (old new : SourceStand) → IsErrAnd r (λ d. d ≡ e) → FairToSource {A = B} (Err e) old new → FairToSource r old new
 fair_on (Ok x) e old new h f = absurd h
-fair_on {A = A} (Err d) e old new h f = subst (λ x. IsFairToSource {A = A} (Err x) old new) (sym h) (still_fair e old new f)
+fair_on {A = A} (Err d) e old new h f = subst (λ x. FairToSource {A = A} (Err x) old new) (sym h) (still_fair e old new f)
 
 -- the same of its sink
-pub fair_sink_on : {A B : Type 0} (r : Result A VodFault) (e : VodFault) (old new : SinkStand) → IsErrAnd r (λ d. d ≡ e) → IsFairToSink {A = B} (Err e) old new → IsFairToSink r old new
+pub fair_sink_on : {A B : Type 0} (r : Result A VodFault) (e : VodFault) (old new : SinkStand) → IsErrAnd r (λ d. d ≡ e) → FairToSink {A = B} (Err e) old new → FairToSink r old new
 fair_sink_on (Ok x) e old new h f = absurd h
-fair_sink_on {A = A} (Err d) e old new h f = subst (λ x. IsFairToSink {A = A} (Err x) old new) (sym h) (still_fair_sink e old new f)
+fair_sink_on {A = A} (Err d) e old new h f = subst (λ x. FairToSink {A = A} (Err x) old new) (sym h) (still_fair_sink e old new f)
 
 pub write_is_no_read : (Write ≢ Read) × (Write ≢ TooManyReads)
 write_is_no_read = (λ same. absurd (cc), λ same. absurd (cc))
@@ -184,7 +190,7 @@ write_is_no_read = (λ same. absurd (cc), λ same. absurd (cc))
 pub write_is_no_playlist : {A : Type 0} (fault : Fault) → Write ≡ PlaylistOf fault → A
 write_is_no_playlist fault same = absurd (cc)
 
-at_end : (e : VodFault) (P : Type 0) → P → IfAtEnd e P
+pub at_end : (e : VodFault) (P : Type 0) → P → IfAtEnd e P
 at_end (PlaylistOf fault) P p = p
 at_end NumberRange P p = p
 at_end Write P p = p
@@ -194,19 +200,23 @@ at_end Read P p = tt
 at_end TooManyReads P p = tt
 at_end OutOfMemory P p = tt
 
+-- what holds at the end of the input holds where a fault is handed on
+pub on_end : {A : Type 0} (r : Result A VodFault) (e : VodFault) (P : Type 0) → IsErrAnd r (λ d. d ≡ e) → IfAtEnd e P → OnEnd r P
+on_end (Ok x) e P h f = absurd h
+on_end (Err d) e P h f = subst (λ x. IfAtEnd x P) (sym h) f
+
 -- the source was read to its end, and isn't to blame for what comes after
-pub fair_source : {A B : Type 0} (r : Result A VodFault) (x : B) (old new : SourceStand) → IsFairToSource (Ok x) old new → IfErr r (λ e. (e ≢ Read) × (e ≢ TooManyReads)) → IsFairToSource r old new
-fair_source (Ok y) x old new f h = record { blamed = λ is. absurd (cc); unfailed = f.unfailed; told = tt; too_many = λ is. absurd (cc); calls = f.calls; to_end = f.to_end }
+pub fair_source : {A B : Type 0} (r : Result A VodFault) (x : B) (old new : SourceStand) → FairToSource (Ok x) old new → IfErr r (λ e. (e ≢ Read) × (e ≢ TooManyReads)) → FairToSource r old new
+fair_source (Ok y) x old new f h = record { blamed = λ is. absurd (cc); unfailed = f.unfailed; told = tt; too_many = λ is. absurd (cc); calls = f.calls }
 fair_source (Err e) x old new f h = record {
   blamed = λ is. let same : e ≡ Read = cc in absurd (h.0 same);
   unfailed = tt;
   told = λ other. f.unfailed;
   too_many = λ is. let same : e ≡ TooManyReads = cc in absurd (h.1 same);
   calls = f.calls;
-  to_end = at_end e (GaveAtEachButLast old new) f.to_end;
 }
 
-pub unused_sink : {A : Type 0} (r : Result A VodFault) (s : SinkStand) → IfErr r (λ e. e ≢ Write) → IsFairToSink r s s
+pub unused_sink : {A : Type 0} (r : Result A VodFault) (s : SinkStand) → IfErr r (λ e. e ≢ Write) → FairToSink r s s
 unused_sink (Ok x) s h = record { blamed = λ is. absurd (cc); unfailed = refl; told = tt }
 unused_sink (Err e) s h = record { blamed = λ is. let same : e ≡ Write = cc in absurd (h same); unfailed = tt; told = λ other. refl }
 

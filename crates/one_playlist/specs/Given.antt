@@ -1,24 +1,24 @@
 -- A channel that is given a decision file, if there is one, and one refresh.
-use Rattle.std.specs.Prelude.{◌≡◌, ℕ, List, [], ◌∷◌, Option, Some, None, Ok, Err, if◌then◌else◌}
+use Rattle.std.specs.Prelude.{◌≡◌, ℕ, List, [], ◌∷◌, Option, Some, None, Ok, Err}
 use Rattle.playlist_meaning.specs.declared.Playlist.{Playlist}
-use Rattle.playlist_meaning.specs.declared.PlaylistFault.{PlaylistFault}
 use Rattle.playlist_meaning.specs.Reading.{reading, limited}
 use Rattle.playlist_meaning.specs.Uri.{base_of}
 use Rattle.devices.specs.Stands.{GaveAll}
 use Rattle.live_meaning.specs.declared.fault.RefreshFault.{RefreshFault}
 use Rattle.live_meaning.specs.declared.fault.RefreshFault.TheVariants.{Playlist as Unreadable, NumberRange as PassesRange, OutOfMemory as NoMemory}
 use Rattle.live_meaning.specs.Live.{refusal}
+use Rattle.live_meaning.specs.Limits.{default_tolerance}
 use Rattle.live_counters.specs.Channel as channel
-use Rattle.live_counters.specs.Channel.{Channel, Given, decided, refreshed, StandsFor, told_by, is_memory_kind}
+use Rattle.live_counters.specs.Channel.{Channel, Given, decided, refreshed, StandsFor, told_by}
 use Rattle.one_playlist.specs.declared.fault.VodFault.{VodFault}
 use Rattle.one_playlist.specs.declared.fault.VodFault.TheVariants.{BadBase, Decision, Playlist as PlaylistOf, NumberRange, OutOfMemory}
 use Rattle.one_playlist.specs.Events.{events_of}
-use Rattle.one_playlist.specs.Vod.{IsOfReading, run_tolerance}
+use Rattle.one_playlist.specs.Vod.{IsOfReading}
 
 -- the channel was given nothing
 pub record IsNew (text : List ℕ) (c : Channel) : Type 0 where
   pub base : base_of text ≡ Some c.base
-  pub tolerance : c.tolerance ≡ run_tolerance
+  pub tolerance : c.tolerance ≡ default_tolerance
   pub stands : StandsFor c []
 
 -- ---- the decision file
@@ -37,7 +37,7 @@ pub record HasDecided (file : Option (List ℕ)) (old new : Channel) : Type 0 wh
 -- the channel of a base, which was given the decision file, if there is one
 pub record IsDecided (text : List ℕ) (file : Option (List ℕ)) (c : Channel) : Type 0 where
   pub base : base_of text ≡ Some c.base
-  pub tolerance : c.tolerance ≡ run_tolerance
+  pub tolerance : c.tolerance ≡ default_tolerance
   pub said : events_of file ≡ Ok (channel.events_of c.base (given_by file))
   pub stands : StandsFor c (given_by file)
 
@@ -50,12 +50,9 @@ IsOfBeginning _ = ⊥
 
 -- ---- the refresh
 
-abbrev pub fault_if_memory : PlaylistFault → VodFault
-fault_if_memory fault = if is_memory_kind fault.kind then OutOfMemory else PlaylistOf fault
-
 -- why the first refresh is refused: there is no playlist that it has to follow
 abbrev pub fault_of_refresh : RefreshFault → VodFault
-fault_of_refresh (Unreadable fault) = fault_if_memory fault
+fault_of_refresh (Unreadable fault) = PlaylistOf fault
 fault_of_refresh NoMemory = OutOfMemory
 fault_of_refresh _ = NumberRange
 
@@ -118,7 +115,7 @@ RefusesFrom e source_old source_new old = IsOfReading e
 -- the channel of a base, which was given the decision file, if there is one, and then the input that a source gave, to its end
 pub record IsGivenAll (text : List ℕ) (file source_old source_new : Option (List ℕ)) (c : Channel) : Type 0 where
   pub base : base_of text ≡ Some c.base
-  pub tolerance : c.tolerance ≡ run_tolerance
+  pub tolerance : c.tolerance ≡ default_tolerance
   pub input : List ℕ
   pub given : GaveAll source_old source_new input
   pub stands : StandsFor c (refreshed input ∷ given_by file)

@@ -1,7 +1,6 @@
 pub mod Events
 pub mod Given
 pub mod FaultTexts
-pub mod Arguments
 pub mod Runs
 pub mod Vod
 pub mod Printed

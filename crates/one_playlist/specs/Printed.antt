@@ -2,11 +2,12 @@
 use Rattle.std.specs.Prelude.{◌≡◌, ◌≢◌, ℕ, List, [], ◌∷◌, ◌++◌, Option, Some, Ok, Err}
 use Rattle.playlist_meaning.specs.Reading.{Fault}
 use Rattle.one_playlist.specs.declared.fault.VodFault.{VodFault}
-use Rattle.one_playlist.specs.declared.fault.VodFault.TheVariants.{Playlist, NumberRange, Write}
+use Rattle.one_playlist.specs.declared.fault.VodFault.TheVariants.{Playlist, NumberRange, Read, TooManyReads, Write}
 use Rattle.live_meaning.specs.declared.fault.RefreshFault.TheVariants.{NumberRange as PassesRange}
 use Rattle.one_playlist.specs.FaultTexts.{vod_fault_text}
 use Rattle.devices.specs.Stands.{SourceStand, SinkStand, WasHanded}
-use Rattle.one_playlist.specs.Runs.{IsFairToSource, IsFairToSink}
+use Rattle.devices.specs.Fair.{IsFairToSource, IsFairToSink, GaveAtEachButLast}
+use Rattle.one_playlist.specs.Runs.{most_reads, IfAtEnd}
 use Rattle.one_playlist.specs.Vod.{HasRead, HasJudged, Writes, WritesFront, IsInOrder, IsOfVod}
 
 -- what `vod` says of its fault, clause by clause
@@ -17,14 +18,16 @@ pub record VodFailed (e : VodFault) (base : List ℕ) (file : Option (List ℕ))
   pub order : IsInOrder e base file
   pub playlist : (fault : Fault) → e ≡ Playlist fault → HasRead base source_old.remaining source_new.remaining (Err fault)
   pub number_range : e ≡ NumberRange → HasJudged base file source_old.remaining source_new.remaining (Some PassesRange)
-  pub source : IsFairToSource {A = Unit {0}} (Err e) source_old source_new
-  pub sink : IsFairToSink {A = Unit {0}} (Err e) sink_old sink_new
+  pub source : IsFairToSource {A = Unit {0}} Read TooManyReads most_reads (Err e) source_old source_new
+  pub to_end : IfAtEnd e (GaveAtEachButLast source_old source_new)
+  pub sink : IsFairToSink {A = Unit {0}} Write (Err e) sink_old sink_new
 
 -- what `vod` says of its success
 pub record Succeeds (base : List ℕ) (file : Option (List ℕ)) (source_old source_new : SourceStand) (sink_old sink_new : SinkStand) : Type 0 where
   pub writes : Writes base file source_old.remaining source_new.remaining sink_old.contents sink_new.contents
-  pub source : IsFairToSource {A = Unit {0}} (Ok tt) source_old source_new
-  pub sink : IsFairToSink {A = Unit {0}} (Ok tt) sink_old sink_new
+  pub source : IsFairToSource {A = Unit {0}} Read TooManyReads most_reads (Ok tt) source_old source_new
+  pub to_end : GaveAtEachButLast source_old source_new
+  pub sink : IsFairToSink {A = Unit {0}} Write (Ok tt) sink_old sink_new
 
 -- what is printed of a fault
 abbrev pub fault_line : VodFault → List ℕ

@@ -9,14 +9,11 @@ use Rattle.devices.specs.Handed.{TookFront}
 use Rattle.devices.specs.Stands.{GaveAll}
 use Rattle.live_meaning.specs.declared.fault.RefreshFault.{RefreshFault}
 use Rattle.live_meaning.specs.Live.{Event, refreshed, Told, told, refusal, owed_for}
+use Rattle.live_meaning.specs.Limits.{default_tolerance}
 use Rattle.live_laws.specs.Owed.{owed_text}
 use Rattle.one_playlist.specs.declared.fault.VodFault.{VodFault}
 use Rattle.one_playlist.specs.declared.fault.VodFault.TheVariants.{BadBase, Decision, Playlist as PlaylistOf, NumberRange, Read, TooManyReads, Write, OutOfMemory}
 use Rattle.one_playlist.specs.Events.{events_of}
-
--- how far a segment's begin may lie from a break's and still enter it, and must lie before its end: 100 ms, in nanoseconds
-abbrev pub run_tolerance : ℕ
-run_tolerance = 100000000
 
 -- what is read of an input under the base that a text says, if it says one
 abbrev pub read_under : List ℕ → List ℕ → Option (Result Playlist Fault)
@@ -34,11 +31,11 @@ pub record HasJudged (base : List ℕ) (file old new : Option (List ℕ)) (outco
   pub decided : events_of file ≡ Ok events
   pub playlist : Playlist
   pub read : HasRead base old new (Ok playlist)
-  pub judged : refusal run_tolerance (told run_tolerance events) playlist ≡ outcome
+  pub judged : refusal default_tolerance (told default_tolerance events) playlist ≡ outcome
 
 -- what is told once the playlist is accepted as the first refresh after these events
 abbrev pub told_with : List Event → Playlist → Told
-told_with events playlist = told run_tolerance (refreshed playlist ∷ events)
+told_with events playlist = told default_tolerance (refreshed playlist ∷ events)
 
 -- a playlist was read and accepted, and the sink took its owed text. Under every base that text denotes the playlist that
 -- was read with the window of the stitched list in place of its segments

@@ -1,12 +1,11 @@
-//! The program's words, and what the program prints and answers.
-ghost use Rattle.std.specs.Prelude.{◌≡◌, ◌≤◌, Ok, Err, Some, None, map, option_map, string_bytes};
+//! What the program prints and answers after a run.
+ghost use Rattle.std.specs.Prelude.{◌≡◌, ◌≤◌, Err, None};
 ghost use Rattle.std.specs.Option.{option_copied};
 ghost use Rattle.pod_store.specs.declared.fault.DecisionFault.{DecisionFault};
 ghost use Rattle.one_playlist.specs.Events.{events_of};
 ghost use Rattle.playlist_meaning.specs.Uri.{base_of};
 ghost use Rattle.devices.specs.Stands.{source_stand, sink_stand, WasHanded};
 ghost use Rattle.one_playlist.specs.Printed.{fault_line, Succeeds, FailsAndPrints};
-ghost use Rattle.one_playlist.specs.Arguments.{asked, asked_by, asked_with};
 
 use crate::fault::VodFault;
 use crate::run::vod;
@@ -14,42 +13,6 @@ use arrayvec::ArrayString;
 use devices::{Sink, Source, hand_out};
 use std::alloc::Global;
 use std::mem::forget;
-
-/// What the program is asked to do.
-#[derive(Clone, Copy)]
-pub enum Command<'a> {
-    /// One playlist from standard input to standard output.
-    Vod {
-        /// The URL of the playlist, to which its references are joined.
-        base: &'a str,
-        /// The path of the decision file, where breaks are to be filled.
-        decisions: Option<&'a str>,
-    },
-}
-
-// `vod` with these words after it.
-fn vod_with<'a>(verb: &str, base: &'a str, decisions: Option<&'a str>) -> Option<Command<'a>>
-    ensures { option_map asked result ≡ asked_with verb.now base.now (option_copied decisions.entry) }
-{
-    if verb == "vod" {
-        Some(Command::Vod { base, decisions })
-    } else {
-        None
-    }
-}
-
-/// What these words ask for, the program's name left out. None is usage.
-pub fn read_args(words: &[String]) -> Option<Command<'_>>
-    ensures { option_map asked result ≡ asked_by (map string_bytes words.now) }
-{
-    match words {
-        [verb, base] => vod_with(verb.as_str(), base.as_str(), None),
-        [verb, base, decisions] => {
-            vod_with(verb.as_str(), base.as_str(), Some(decisions.as_str()))
-        }
-        _ => None,
-    }
-}
 
 // A fault's line. It lies in the value itself, since there may be no memory left for it.
 fn fault_line(fault: VodFault) -> ArrayString<95>

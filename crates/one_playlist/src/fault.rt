@@ -4,7 +4,7 @@ ghost use Rattle.one_playlist.specs.FaultTexts.{vod_fault_text};
 ghost use Rattle.one_playlist.specs.Events.{fault_of_decisions};
 
 use live_counters::RefreshFault;
-use playlist_meaning::{FaultKind, PlaylistFault};
+use playlist_meaning::PlaylistFault;
 use pod_store::{DecisionFault, DecisionFaultText, DecisionKind};
 use std::alloc::{AllocError, AllocFailed};
 use std::error::Error;
@@ -74,9 +74,6 @@ impl From<RefreshFault> for VodFault {
 
     fn from(fault: RefreshFault) -> VodFault {
         match fault {
-            RefreshFault::Playlist(fault) if fault.kind == FaultKind::OutOfMemory => {
-                VodFault::OutOfMemory
-            }
             RefreshFault::Playlist(fault) => VodFault::Playlist(fault),
             RefreshFault::OutOfMemory => VodFault::OutOfMemory,
             _ => VodFault::NumberRange,

@@ -1,7 +1,8 @@
 //! An input, read to its end.
-ghost use Rattle.std.specs.Prelude.{IfOk, IfErr};
-ghost use Rattle.devices.specs.Stands.{GaveAll, source_stand};
-ghost use Rattle.one_playlist.specs.Runs.{IsFairToSource};
+ghost use Rattle.std.specs.Prelude.{IfOk, IfErr, IsErrOf};
+ghost use Rattle.devices.specs.Fair.{IsFairToSource, GaveAtEachButLast};
+ghost use Rattle.devices.specs.Stands.{GaveAll, GaveMany, source_stand};
+ghost use Rattle.one_playlist.specs.Runs.{most_reads, OnEnd};
 ghost use Rattle.one_playlist.specs.Vod.{IsOfReading};
 
 use crate::fault::VodFault;
@@ -12,10 +13,13 @@ use std::alloc::Global;
 pub const MOST_READS: u64 = 65_536;
 
 /// Reads an input to its end, with room for 8,192 bytes in each read. The whole of it is kept, also
-/// past the length that a playlist may have: whether it is UTF-8 is judged first. A read that fails is the last.
+/// past the length that a playlist may have: whether it is UTF-8 is judged first. A read that fails is the last, and so is the
+/// one that tells the end. An empty input takes no memory.
 pub fn read_input<S: Source>(alloc: Global, source: &mut S) -> Result<Vec<u8>, VodFault>
     ensures ok { IfOk result (λ input. GaveAll (S.remaining source.old) (S.remaining source.new) input.items) }
-    ensures source { IsFairToSource result (source_stand S.remaining S.called S.failed source.old) (source_stand S.remaining S.called S.failed source.new) }
+    ensures source { IsFairToSource VodFault.Read VodFault.TooManyReads most_reads result (source_stand S.remaining S.called S.failed source.old) (source_stand S.remaining S.called S.failed source.new) }
+    ensures to_end { OnEnd result (GaveAtEachButLast (source_stand S.remaining S.called S.failed source.old) (source_stand S.remaining S.called S.failed source.new)) }
+    ensures memory { IsErrOf result VodFault.OutOfMemory → GaveMany (S.remaining source.old) (S.remaining source.new) 1 }
     ensures faults { IfErr result IsOfReading }
 {
     let mut input = Vec::new(alloc);

@@ -6,7 +6,7 @@ mod fault;
 mod input;
 mod run;
 
-pub use command::{Command, command_vod, read_args};
+pub use command::command_vod;
 pub use fault::VodFault;
 pub use input::MOST_READS;
-pub use run::{TOLERANCE, vod};
+pub use run::vod;

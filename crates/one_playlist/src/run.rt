@@ -12,23 +12,22 @@ ghost use Rattle.one_playlist.specs.Events.{RefusesDecisions, events_of};
 ghost use Rattle.one_playlist.specs.Given.{IsNew, HasDecided, IsDecided, IsGivenAll, IsOfBeginning, IsOfRefresh, Refreshes, Refuses, RefreshesFrom, RefusesFrom};
 ghost use Rattle.one_playlist.specs.Vod.{IsInOrder, IsOfVod, HasJudged, HasRead, Writes, WritesFront};
 ghost use Rattle.devices.specs.Stands.{source_stand, sink_stand};
-ghost use Rattle.one_playlist.specs.Runs.{IsFairToSource, IsFairToSink};
+ghost use Rattle.devices.specs.Fair.{IsFairToSource, IsFairToSink, GaveAtEachButLast};
+ghost use Rattle.one_playlist.specs.Runs.{most_reads, OnEnd};
 
 use crate::fault::VodFault;
 use crate::input::read_input;
 use devices::{Sink, Source, hand_out};
 use fixed_duration::Nanos;
 use live_counters::{Channel, ChannelFault};
+use live_meaning::DEFAULT_TOLERANCE;
 use std::alloc::Global;
-
-/// How far an instant may be from the start of a break, and must be before its end: 100 ms, in nanoseconds.
-pub const TOLERANCE: u64 = 100_000_000;
 
 fn new_channel(alloc: Global, base: &str) -> Result<Channel, VodFault>
     ensures ok { IfOk result (IsNew base.now) }
     ensures err { IfErr result (λ e. e ≢ VodFault.OutOfMemory → (e ≡ VodFault.BadBase) × (base_of base.now ≡ None)) }
 {
-    match Channel::new(alloc, base, Nanos(TOLERANCE)) {
+    match Channel::new(alloc, base, Nanos(DEFAULT_TOLERANCE)) {
         Ok(channel) => Ok(channel),
         Err(ChannelFault::OutOfMemory) => Err(VodFault::OutOfMemory),
         Err(_) => Err(VodFault::BadBase),
@@ -67,7 +66,7 @@ fn hand_text<K: Sink>(channel: &Channel, sink: &mut K) -> Result<(), VodFault>
     ensures ok { OnOk result (Appends (K.contents sink.old) (K.contents sink.new) (unwrap_or channel.now.text [])) }
     ensures err { IsErrOf result VodFault.Write → TookFront (K.contents sink.old) (K.contents sink.new) (unwrap_or channel.now.text []) }
     ensures kind { IfErr result (λ e. e ≡ VodFault.Write) }
-    ensures sink { IsFairToSink result (sink_stand K.contents K.failed sink.old) (sink_stand K.contents K.failed sink.new) }
+    ensures sink { IsFairToSink VodFault.Write result (sink_stand K.contents K.failed sink.old) (sink_stand K.contents K.failed sink.new) }
 {
     let text = channel.playlist().unwrap_or(&[]);
     match hand_out(text, sink) {
@@ -97,7 +96,8 @@ fn refresh_from<S: Source>(
 ) -> Result<(), VodFault>
     ensures ok { OnOk result (RefreshesFrom (S.remaining source.old) (S.remaining source.new) channel.old channel.new) }
     ensures err { IfErr result (λ e. RefusesFrom e (S.remaining source.old) (S.remaining source.new) channel.old) }
-    ensures source { IsFairToSource result (source_stand S.remaining S.called S.failed source.old) (source_stand S.remaining S.called S.failed source.new) }
+    ensures source { IsFairToSource VodFault.Read VodFault.TooManyReads most_reads result (source_stand S.remaining S.called S.failed source.old) (source_stand S.remaining S.called S.failed source.new) }
+    ensures to_end { OnEnd result (GaveAtEachButLast (source_stand S.remaining S.called S.failed source.old) (source_stand S.remaining S.called S.failed source.new)) }
 {
     let input = read_input(alloc, source)?;
     refresh(alloc, channel, input)
@@ -133,9 +133,10 @@ pub fn vod<S: Source, K: Sink>(
     ensures playlist { IfErr result (λ e. (fault : Fault) → e ≡ VodFault.Playlist fault → HasRead base.now (S.remaining source.old) (S.remaining source.new) (Err fault)) }
     ensures number_range { IsErrOf result VodFault.NumberRange → HasJudged base.now (option_copied decisions.entry) (S.remaining source.old) (S.remaining source.new) (Some NumberRange) }
 
-    // A device is blamed exactly where it failed, and is left alone then.
-    ensures source { IsFairToSource result (source_stand S.remaining S.called S.failed source.old) (source_stand S.remaining S.called S.failed source.new) }
-    ensures sink { IsFairToSink result (sink_stand K.contents K.failed sink.old) (sink_stand K.contents K.failed sink.new) }
+    // A device is blamed exactly where it failed, and is left alone then; the source is at its end too.
+    ensures source { IsFairToSource VodFault.Read VodFault.TooManyReads most_reads result (source_stand S.remaining S.called S.failed source.old) (source_stand S.remaining S.called S.failed source.new) }
+    ensures to_end { OnEnd result (GaveAtEachButLast (source_stand S.remaining S.called S.failed source.old) (source_stand S.remaining S.called S.failed source.new)) }
+    ensures sink { IsFairToSink VodFault.Write result (sink_stand K.contents K.failed sink.old) (sink_stand K.contents K.failed sink.new) }
 {
     let mut channel = decided_channel(alloc, base, decisions)?;
     refresh_from(alloc, source, &mut channel)?;

@@ -1,5 +1,5 @@
 //! The attributes of a key tag that are carried as they stand (RFC 8216, section 4.3.2.4).
-ghost use Rattle.std.specs.Prelude.{◌≡◌, ◌∷◌, [], map, IfOk, true};
+ghost use Rattle.std.specs.Prelude.{◌≡◌, ◌≤◌, ◌∷◌, [], map, length, IfOk, true};
 ghost use Rattle.attr_list.specs.Attributes.{pair_spelling};
 ghost use Rattle.attr_list.specs.Attrs.{attr_pair};
 ghost use Rattle.fixed_duration.specs.Appended.{Appends};
@@ -83,13 +83,25 @@ fn is_key_attribute(attr: &Attr<'_>) -> bool
     }
 }
 
-// How many bytes the others take with their commas, so that the text has no more room than it needs.
-fn length_of_others(attrs: &[Attr<'_>]) -> usize {
+// How many bytes `,NAME=value` or `,NAME="value"` takes.
+fn length_of(attr: &Attr<'_>) -> usize
+    ensures { result ≤ length (44 ∷ pair_spelling (attr_pair attr.now)) }
+{
+    let marks: usize = if attr.quoted { 4 } else { 2 };
+    attr.name
+        .len()
+        .saturating_add(attr.value.len())
+        .saturating_add(marks)
+}
+
+// How many bytes the others take with their commas: their text is given no more room than it needs.
+fn length_of_others(attrs: &[Attr<'_>]) -> usize
+    ensures { result ≤ length (after_commas (carried (map attr_pair attrs.now))) }
+{
     let mut length: usize = 0;
     for attr in attrs {
         if !is_key_attribute(attr) {
-            let spelled = attr.span.end.saturating_sub(attr.span.start);
-            length = length.saturating_add(spelled).saturating_add(1);
+            length = length.saturating_add(length_of(attr));
         }
     }
     length

@@ -1,5 +1,6 @@
 //! Texts that are short as a rule.
-ghost use Rattle.std.specs.Prelude.{◌≡◌, ◌++◌, ◌+◌, ◌≤◌, IfOk, length, string_bytes, IsTrue};
+ghost use Rattle.std.specs.Prelude.{◌≡◌, ◌++◌, ◌+◌, ◌<◌, ◌≤◌, IfOk, IsErr, length, string_bytes, IsTrue};
+ghost use Rattle.playlist_meaning.specs.ShortTexts.{most_inline};
 ghost use Rattle.std.specs.Str.{is_utf8};
 
 use arrayvec::ArrayString;
@@ -67,10 +68,11 @@ impl ShortText {
         Ok(ShortText::from_string(text))
     }
 
-    /// Two texts as one. Fails only where memory is refused.
+    /// Two texts as one. Fails only where memory is refused, and never where both have 48 bytes at the most.
     #[inline(always)]
     pub fn joined(alloc: Global, front: &str, back: &str) -> Result<ShortText, AllocError>
-        ensures { IfOk result (λ text. text ≡ front.now ++ back.now) }
+        ensures text { IfOk result (λ text. text ≡ front.now ++ back.now) }
+        ensures memory { IsErr result → most_inline < length front.now + length back.now }
     {
         if front.len() <= MOST_INLINE && back.len() <= MOST_INLINE - front.len() {
             return Ok(ShortText::inline(front, back));
@@ -78,9 +80,10 @@ impl ShortText {
         ShortText::owned(alloc, front, back)
     }
 
-    /// A copy of a text. Fails only where memory is refused.
+    /// A copy of a text. Fails only where memory is refused, and never where the text has 48 bytes at the most.
     pub fn copy_of(alloc: Global, text: &str) -> Result<ShortText, AllocError>
-        ensures { IfOk result (λ t. t ≡ text.now) }
+        ensures text { IfOk result (λ t. t ≡ text.now) }
+        ensures memory { IsErr result → most_inline < length text.now }
     {
         ShortText::joined(alloc, text, "")
     }

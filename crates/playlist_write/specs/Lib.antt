@@ -6,3 +6,4 @@ pub mod WellFormed
 pub mod Denoted
 pub mod Laws
 pub mod Taken
+pub mod Room

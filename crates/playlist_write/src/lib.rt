@@ -14,6 +14,7 @@ ghost use Rattle.devices.specs.Handed.{TookFront};
 use crate::header::{push_date_ranges, push_end, push_header};
 use crate::lines::push_line;
 use crate::pieces::{PIECE_ROOM, write_date_ranges, write_segments};
+use crate::room::room_for;
 use crate::segments::push_segments;
 use devices::{Sink, SinkFailed, hand_out};
 use playlist_meaning::{Items, PlaylistKind, Text};
@@ -28,6 +29,7 @@ mod last_duration;
 pub mod laws;
 mod lines;
 mod pieces;
+mod room;
 mod segments;
 mod well_formed;
 
@@ -77,46 +79,6 @@ impl From<SinkFailed> for WriteFault {
     fn from(_failed: SinkFailed) -> WriteFault {
         WriteFault::Io
     }
-}
-
-// So many segments are looked at to reckon how much room all of them take.
-const FEW: usize = 16;
-
-// No segment is given more room than this at first, so that one long text claims none for all the others.
-const MOST_ROOM: usize = 1024;
-
-// The room that a segment takes, generously.
-fn room_of(next: &OutSegment<'_>) -> usize {
-    let segment = &next.segment;
-    let texts = segment
-        .uri
-        .as_str()
-        .len()
-        .saturating_add(segment.title.as_str().len());
-    let keys = segment.keys.len().saturating_mul(160);
-    texts.saturating_add(keys).saturating_add(88)
-}
-
-// The room that a segment is given: the most that one of the first ones takes, as far as that goes.
-fn most_room(segments: &[OutSegment<'_>]) -> usize {
-    let mut most: usize = 0;
-    for next in segments.iter().take(FEW) {
-        most = most.max(room_of(next));
-    }
-    most.min(MOST_ROOM)
-}
-
-// At least as much room as most texts take: a text that grows is held twice while it is moved, and room that isn't used takes
-// no memory.
-fn room_for(playlist: &OutPlaylist<'_>) -> usize {
-    let mut room: usize = 256;
-    for date_range in playlist.date_ranges.as_slice() {
-        room = room
-            .saturating_add(date_range.as_str().len())
-            .saturating_add(24);
-    }
-    let segments = playlist.segments.as_slice();
-    room.saturating_add(segments.len().saturating_mul(most_room(segments)))
 }
 
 // The lines before the date ranges, in a text with so much room.

@@ -16,7 +16,7 @@ mod played;
 pub use ends::{Ends, Rest};
 pub use fault::StitchFault;
 pub use key_tags::{is_new, keeps_formats, transition};
-pub use making::stitch;
+pub use making::{is_same_run, stitch};
 pub use marked::{Marked, Numbers};
 pub use origin_text::OriginText;
 pub use played::Played;

@@ -82,7 +82,8 @@ fn next_numbers(numbers: Numbers, steps: u64) -> Result<Numbers, StitchFault>
     Ok(numbers_of(media, discontinuity, steps))
 }
 
-fn is_same_run(mark: &Option<Shared<Text>>, previous: &Option<Shared<Text>>) -> bool
+/// Whether both are marked, with one break: a segment of this mark goes on the run of one of that mark.
+pub fn is_same_run(mark: &Option<Shared<Text>>, previous: &Option<Shared<Text>>) -> bool
     ensures { result ≡ is_same_run mark.now previous.now }
 {
     match (mark, previous) {

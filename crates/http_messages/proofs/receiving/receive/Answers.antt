@@ -1,4 +1,4 @@
-use Rattle.std.proofs.Common.{◌++◌, take, length, length-append, subst, sym, ap, refl, ◌∙◌, arith}
+use Rattle.std.proofs.Common.{◌++◌, [], append-nil, take, length, length-append, subst, sym, ap, refl, ◌∙◌, arith}
 use Rattle.std.specs.Io.KnownBytes.{Consumes}
 use Rattle.std.proofs.KnownBytes.{Consumes-trans}
 use Rattle.devices.specs.Devices.{Failures}
@@ -27,4 +27,13 @@ loop-preserved g c =
       calls = omega (arith, c.in-Ok.ensures.calls);
       failed = ap (λ (f : Failures). f.count) c.in-Ok.ensures.failures ∙ c.loop.invariant.failed;
       many = omega (arith, c.loop.invariant.many, c.if-count-eq0.false, c.in-Ok.ensures.bound.1, ap length more.0, length-append c.loop.arriving block);
+    }
+
+pub returns-then-count-eq0-clause-to_end : goal.returns-then-count-eq0-clause-to_end
+returns-then-count-eq0-clause-to_end g c is =
+    let read = rw c.if-count-eq0.true at c.in-Ok.ensures.bytes in
+    record {
+      count = c.loop.counter;
+      reads = λ h. omega (arith, c.in-Ok.ensures.calls, c.loop.invariant.called);
+      bytes = record { input = c.loop.arriving; given = subst (Consumes _ _) (append-nil _) (Consumes-trans _ _ _ _ [] c.loop.invariant.given read.0); many = c.loop.invariant.many };
     }

@@ -22,7 +22,7 @@ loop-id-preserved c =
           ∙ ap (λ n. flat_map (why_line (explained kept)) (map id_of (take n kept.breaks))) (sym next);
     }
 
-pub returns : goal.returns
-returns c =
+pub returns-clause-lines : goal.returns-clause-lines
+returns-clause-lines c =
     let kept = c.args.channel.now.kept in
     c.loop-id.invariant.lines ∙ ap (λ l. flat_map (why_line (explained kept)) (map id_of l)) (no_more kept.breaks c.loop-id.place c.in_default.ensures.place)

@@ -16,6 +16,7 @@ returns-in-Err-clause-fault g c one =
         playlist = said.playlist;
         number_range = λ is. said.number_range (is_one _ _ is);
         source = still_fair _ _ _ said.source;
+        to_end = said.to_end;
         sink = still_fair_sink _ _ _ said.sink;
       };
       printed = c.print_fault.ensures;

@@ -1,4 +1,4 @@
-use Rattle.std.proofs.Common.{◌<◌, [], take, length, length-append, sym, ap, ◌∙◌, arith, append-nil, refl, subst}
+use Rattle.std.proofs.Common.{◌<◌, ◌++◌, [], take, length, length-append, sym, ap, ◌∙◌, arith, append-nil, refl, subst}
 use Rattle.devices.specs.Devices.{Failures}
 use Rattle.std.proofs.KnownBytes.{Consumes-trans}
 use Rattle.std.specs.Io.KnownBytes.{Consumes}
@@ -13,19 +13,21 @@ returns-then-count-eq0-clause-ok g c =
 
 pub returns-then-count-eq0-clause-source : goal.returns-then-count-eq0-clause-source
 returns-then-count-eq0-clause-source g c =
-    let given = c.loop.invariant.given in
-    let read = rw c.if-count-eq0.true at c.in-Ok.ensures.bytes in
     record {
       blamed = λ is. absurd (cc);
       unfailed = ap (λ (f : Failures). f.count) c.in-Ok.ensures.failures ∙ c.loop.invariant.failed;
       told = tt;
       too_many = λ is. absurd (cc);
       calls = omega (arith, c.in-Ok.ensures.calls, c.loop.invariant.calls);
-      to_end = record {
-        count = c.loop.counter;
-        reads = λ h. omega (arith, c.in-Ok.ensures.calls, c.loop.invariant.called);
-        bytes = record { input = c.loop.input.items; given = subst (Consumes _ _) (append-nil _) (Consumes-trans _ _ _ _ [] given read.0); many = c.loop.invariant.many };
-      };
+    }
+
+pub returns-then-count-eq0-clause-to_end : goal.returns-then-count-eq0-clause-to_end
+returns-then-count-eq0-clause-to_end g c =
+    let read = rw c.if-count-eq0.true at c.in-Ok.ensures.bytes in
+    record {
+      count = c.loop.counter;
+      reads = λ h. omega (arith, c.in-Ok.ensures.calls, c.loop.invariant.called);
+      bytes = record { input = c.loop.input.items; given = subst (Consumes _ _) (append-nil _) (Consumes-trans _ _ _ _ [] c.loop.invariant.given read.0); many = c.loop.invariant.many };
     }
 
 pub loop-preserved : goal.loop-preserved
@@ -37,4 +39,13 @@ loop-preserved g c =
       calls = omega (arith, c.in-Ok.ensures.calls);
       failed = ap (λ (f : Failures). f.count) c.in-Ok.ensures.failures ∙ c.loop.invariant.failed;
       many = omega (arith, c.loop.invariant.many, c.if-count-eq0.false, c.in-Ok.ensures.bound.1, ap length c.in_ok-extend_from_slice.ensures.items, length-append c.loop.input.items block);
+    }
+
+pub returns-in_err-extend_from_slice-clause-memory : goal.returns-in_err-extend_from_slice-clause-memory
+returns-in_err-extend_from_slice-clause-memory g c is =
+    let block = take c.in-Ok.count c.read.new.buf in
+    record {
+      input = c.loop.input.items ++ block;
+      given = Consumes-trans _ _ _ _ block c.loop.invariant.given c.in-Ok.ensures.bytes.0;
+      many = omega (arith, c.if-count-eq0.false, c.in-Ok.ensures.bound.1, length-append c.loop.input.items block);
     }

@@ -3,7 +3,7 @@ use Rattle.std.proofs.Common.{refl, subst, sym, ◌∙◌}
 use Rattle.std.specs.Prelude.{◌≢◌}
 use Rattle.one_playlist.specs.declared.fault.VodFault.TheVariants.{Read, TooManyReads, Write}
 use Rattle.one_playlist.specs.Vod.{IsInOrder}
-use Rattle.one_playlist.proofs.WholeRun.{judged_before, is_one, unread, passes, writes, given_all, writes_front, handed_on, in_order, of_input, no_write, number_range_of, fair_on, fair_sink_on, write_is_no_read, write_is_no_playlist, fair_source, unused_sink}
+use Rattle.one_playlist.proofs.WholeRun.{judged_before, is_one, unread, passes, writes, given_all, writes_front, handed_on, in_order, of_input, no_write, number_range_of, fair_on, fair_sink_on, write_is_no_read, write_is_no_playlist, fair_source, unused_sink, on_end, at_end}
 use Rattle.one_playlist.proofs.run.vod.Goals as goal
 
 pub returns-in_err-refresh_from-clause-kind : goal.returns-in_err-refresh_from-clause-kind
@@ -33,6 +33,10 @@ returns-in_err-refresh_from-clause-number_range g c =
 pub returns-in_err-refresh_from-clause-source : goal.returns-in_err-refresh_from-clause-source
 returns-in_err-refresh_from-clause-source g c =
     fair_on c.from_residual-in_err-refresh_from.result c.in_err-refresh_from.field-0.0 _ _ c.from_residual-in_err-refresh_from.ensures.1 c.in_err-refresh_from.ensures.source
+
+pub returns-in_err-refresh_from-clause-to_end : goal.returns-in_err-refresh_from-clause-to_end
+returns-in_err-refresh_from-clause-to_end g c =
+    on_end c.from_residual-in_err-refresh_from.result c.in_err-refresh_from.field-0.0 _ c.from_residual-in_err-refresh_from.ensures.1 c.in_err-refresh_from.ensures.to_end
 
 pub returns-in_err-refresh_from-clause-sink : goal.returns-in_err-refresh_from-clause-sink
 returns-in_err-refresh_from-clause-sink g c =
@@ -64,6 +68,10 @@ returns-in_err-hand_text-clause-source g c =
     fair_source c.from_residual-in_err-hand_text.result tt _ _ c.in_ok-refresh_from.ensures.source
     (handed_on c.from_residual-in_err-hand_text.result c.in_err-hand_text.field-0.0 _ c.from_residual-in_err-hand_text.ensures.1
     (subst (λ e. (e ≢ Read) × (e ≢ TooManyReads)) (sym c.in_err-hand_text.ensures.kind) write_is_no_read))
+
+pub returns-in_err-hand_text-clause-to_end : goal.returns-in_err-hand_text-clause-to_end
+returns-in_err-hand_text-clause-to_end g c =
+    on_end c.from_residual-in_err-hand_text.result c.in_err-hand_text.field-0.0 _ c.from_residual-in_err-hand_text.ensures.1 (at_end _ _ c.in_ok-refresh_from.ensures.to_end)
 
 pub returns-in_err-hand_text-clause-sink : goal.returns-in_err-hand_text-clause-sink
 returns-in_err-hand_text-clause-sink g c =

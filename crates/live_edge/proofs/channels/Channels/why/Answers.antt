@@ -15,4 +15,4 @@ returns-in_default c table s =
 pub returns : goal.returns
 returns c table s =
     let seen = subst (λ k. Stands k table) (sym c.self.view_is) s in
-    why_turn c.self.inside.by_name.entries table c.args.name.now c.in-Some.channel.now c.why_reply.result _ seen c.in-Some.ensures.value c.why_reply.ensures s
+    why_turn c.self.inside.by_name.entries table c.args.name.now c.in-Some.channel.now c.why_reply.result _ seen c.in-Some.ensures.value c.why_reply.ensures.reply s

@@ -1,0 +1,59 @@
+//! How much room the text of a playlist is given before it is made.
+ghost use Rattle.std.specs.Prelude.{◌≤◌, map, sum};
+ghost use Rattle.playlist_write.specs.Room.{most_room, date_range_room, text_room};
+
+use crate::OutPlaylist;
+use stitcher::{OriginText, OutSegment};
+
+// So many segments are looked at to reckon how much room all of them take.
+const FEW: usize = 16;
+
+// No segment is given more room than this at first, so that one long text claims none for all the others.
+const MOST_ROOM: usize = 1024;
+
+// The room that a segment takes, generously.
+fn room_of(next: &OutSegment<'_>) -> usize {
+    let segment = &next.segment;
+    let texts = segment
+        .uri
+        .as_str()
+        .len()
+        .saturating_add(segment.title.as_str().len());
+    let keys = segment.keys.len().saturating_mul(160);
+    texts.saturating_add(keys).saturating_add(88)
+}
+
+// The room that each segment is given: the most that one of the first ones takes, as far as that goes.
+fn segment_room(segments: &[OutSegment<'_>]) -> usize
+    ensures { result ≤ most_room }
+{
+    let mut most: usize = 0;
+    for next in segments.iter().take(FEW) {
+        most = most.max(room_of(next));
+    }
+    most.min(MOST_ROOM)
+}
+
+// The room that the lines of date ranges are given.
+fn date_ranges_room(date_ranges: &[OriginText<'_>]) -> usize
+    ensures { result ≤ sum (map date_range_room date_ranges.now) }
+{
+    let mut room: usize = 0;
+    for date_range in date_ranges {
+        room = room
+            .saturating_add(date_range.as_str().len())
+            .saturating_add(24);
+    }
+    room
+}
+
+// At least as much room as most texts take: a text that grows is held twice while it is moved, and room that isn't used takes
+// no memory.
+pub(crate) fn room_for(playlist: &OutPlaylist<'_>) -> usize
+    ensures { result ≤ text_room playlist.now }
+{
+    let date_ranges = date_ranges_room(playlist.date_ranges.as_slice());
+    let segments = playlist.segments.as_slice();
+    let room = segments.len().saturating_mul(segment_room(segments));
+    room.saturating_add(date_ranges).saturating_add(256)
+}
