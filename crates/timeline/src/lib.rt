@@ -2,7 +2,7 @@
 #![tactic(auto)]
 
 ghost use Rattle.std.specs.Prelude.{◌≡◌, ℤ, [], ◌∷◌, IfOk, IfErr, MatchOption, option_map, pos, ◌-ℤ◌};
-ghost use Rattle.playlist_meaning.specs.Instants.{bounded, ends_at, instants_after, instants_of};
+ghost use Rattle.playlist_meaning.specs.Instants.{bounded, ends_at, instants_after};
 ghost use Rattle.playlist_meaning.specs.LookBack.{or_earlier};
 ghost use Rattle.timeline.specs.Reckoned.{clamped, stack_of};
 
@@ -154,19 +154,4 @@ impl<'a> Beginnings<'a> {
         self.segments = later;
         Ok(Some(begun))
     }
-}
-
-/// The instant at which each of a playlist's segments begins, as `Beginnings` tells it.
-pub fn instants(
-    alloc: Global,
-    segments: &[Shared<Segment>],
-) -> Result<Vec<Option<Instant>>, AllocError>
-    ensures { IfOk result (λ v. v.items ≡ instants_of segments.now) }
-{
-    let mut found = Vec::with_capacity(alloc, segments.len())?;
-    let mut beginnings = Beginnings::new(alloc, None, segments);
-    while let Some(begun) = beginnings.next()? {
-        found.push(begun)?;
-    }
-    Ok(found)
 }
