@@ -18,7 +18,7 @@ segment. Without decisions: dated-ranges has 67,600 date ranges with a time,
 empty-lines four million empty lines, many-attributes 10,000 keys of 42 attributes."""
 import json, os, sys
 
-MOST_BYTES = 4_194_304  # of a playlist that is read
+MAX_BYTES = 4_194_304  # of a playlist that is read
 
 OUT30 = "0xFC302000000000000000FFF00F05000000017FFFFE002932E00001" + "0" * 16
 RANGE = '#EXT-X-DATERANGE:ID="b1",START-DATE="2024-05-01T12:00:10Z",SCTE35-OUT=' + OUT30
@@ -151,7 +151,7 @@ def as_large_as_may_be(lines):
     a line more at its end."""
     head = ["#EXTM3U", "#EXT-X-TARGETDURATION:10"]
     tail = ["#EXT-X-PROGRAM-DATE-TIME:2024-05-01T12:00:00Z", "#EXTINF:10,", "s0.ts", "#EXT-X-ENDLIST"]
-    room = MOST_BYTES - len(text(head + tail)) - 64
+    room = MAX_BYTES - len(text(head + tail)) - 64
     return head + lines[:room // len(text(lines[:1]))] + tail, None
 
 
@@ -160,7 +160,7 @@ def dated_ranges():
 
 
 def empty_lines():
-    return as_large_as_may_be([""] * MOST_BYTES)
+    return as_large_as_may_be([""] * MAX_BYTES)
 
 
 def many_attributes():

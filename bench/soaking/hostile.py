@@ -18,16 +18,16 @@ NEXT = GOOD + b"#EXTINF:10,\ns2.ts\n"
 def under_one_key(length):
     """One key whose IVs are told by the segments' numbers, with a URI of so many bytes, under 10,000 segments."""
     key = b'#EXT-X-KEY:METHOD=AES-128,URI="' + b"k" * length + b'"\n'
-    return large.HEAD + key + large.segments(large.MOST_SEGMENTS)
+    return large.HEAD + key + large.segments(large.MAX_SEGMENTS)
 
 
 def longest_key():
-    return under_one_key(large.MOST_BYTES - len(under_one_key(0)))
+    return under_one_key(large.MAX_BYTES - len(under_one_key(0)))
 
 
 def empty_lines():
     tail = large.segments(1)
-    return large.HEAD + b"\n" * (large.MOST_BYTES - len(large.HEAD) - len(tail)) + tail
+    return large.HEAD + b"\n" * (large.MAX_BYTES - len(large.HEAD) - len(tail)) + tail
 
 
 def no_change(made):
@@ -71,7 +71,7 @@ CASES = [
     ("breaks entered 100 times, pods of 500 segments", pods(500, 40), lambda: entered_again(100), True),
     ("breaks entered 6,666 times, pods of 500 segments", pods(500, 40), lambda: entered_again(6666), True),
     ("breaks entered 6,666 times, pods of 2 MB each", pods(500, 4_000), lambda: entered_again(6666), False),
-    ("a decision file of 4 MiB of [", b"[" * large.MOST_BYTES, None, True),
+    ("a decision file of 4 MiB of [", b"[" * large.MAX_BYTES, None, True),
     ("a decision file of 100 breaks with 500 ads each", no_change(large.many_ads), None, True),
 ]
 

@@ -1,8 +1,8 @@
 """Large texts: as many bytes, segments, breaks or levels as may be, and one more."""
 import json
 
-MOST_BYTES = 4_194_304
-MOST_SEGMENTS = 10_000
+MAX_BYTES = 4_194_304
+MAX_SEGMENTS = 10_000
 OUT = b"0xFC302000000000000000FFF00F05000000017FFFFE002932E000010000000000000000"
 # (it may follow a playlist of the segments 0 and 1)
 HEAD = b"#EXTM3U\n#EXT-X-TARGETDURATION:10\n#EXT-X-MEDIA-SEQUENCE:2\n"
@@ -13,23 +13,23 @@ def segments(count, more=lambda n: b""):
 
 
 def many_segments(rng):
-    return HEAD + segments(MOST_SEGMENTS + rng.choice((-1, 0, 1)))
+    return HEAD + segments(MAX_SEGMENTS + rng.choice((-1, 0, 1)))
 
 
 def long_segments(rng):
     """The most segments, with URIs that fill the text."""
-    room = (MOST_BYTES - len(HEAD)) // MOST_SEGMENTS - 12
-    return HEAD + b"".join(b"#EXTINF:1,\n%0*d\n" % (room, n) for n in range(MOST_SEGMENTS))
+    room = (MAX_BYTES - len(HEAD)) // MAX_SEGMENTS - 12
+    return HEAD + b"".join(b"#EXTINF:1,\n%0*d\n" % (room, n) for n in range(MAX_SEGMENTS))
 
 
 def empty_lines(rng):
     tail = segments(1)
-    return HEAD + b"\n" * (MOST_BYTES - len(HEAD) - len(tail) + rng.choice((-1, 0, 1))) + tail
+    return HEAD + b"\n" * (MAX_BYTES - len(HEAD) - len(tail) + rng.choice((-1, 0, 1))) + tail
 
 
 def one_line(rng):
     tail = b"#EXTINF:10,\ns.ts\n"
-    return HEAD + b"#" * (MOST_BYTES - len(HEAD) - len(tail) - 1 + rng.choice((0, 1))) + b"\n" + tail
+    return HEAD + b"#" * (MAX_BYTES - len(HEAD) - len(tail) - 1 + rng.choice((0, 1))) + b"\n" + tail
 
 
 def long_reference(rng):
@@ -46,7 +46,7 @@ def breaks_at_one_start(rng):
     ranges = b"".join(b'#EXT-X-DATERANGE:ID="%d",START-DATE="2024-05-01T12:00:00Z",DURATION=10,SCTE35-OUT=%s\n' % (n, OUT)
                       for n in range(5000))
     stated = b"#EXT-X-PROGRAM-DATE-TIME:2024-05-01T12:00:00Z\n"
-    return HEAD + ranges + segments(MOST_SEGMENTS, lambda n: stated)
+    return HEAD + ranges + segments(MAX_SEGMENTS, lambda n: stated)
 
 
 def long_attribute(rng):

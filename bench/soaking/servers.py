@@ -12,7 +12,7 @@ import time
 
 from programs import TOP
 
-MOST_CONNECTIONS = 4_294_967_295
+MAX_CONNECTIONS = 4_294_967_295
 BODY = b'{"base":"http://origin.example/ch/index.m3u8"}'
 
 
@@ -53,7 +53,7 @@ class Server(run_live.Server):
             if room:
                 resource.setrlimit(resource.RLIMIT_AS, (room, room))
 
-        self.running = subprocess.Popen([program, "live", str(self.port), str(MOST_CONNECTIONS)], stdin=subprocess.DEVNULL,
+        self.running = subprocess.Popen([program, "live", str(self.port), str(MAX_CONNECTIONS)], stdin=subprocess.DEVNULL,
                                         stdout=subprocess.DEVNULL, stderr=self.faults, preexec_fn=limit)
 
     def ask(self, request):

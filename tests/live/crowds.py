@@ -15,7 +15,7 @@ import sys
 import threading
 import time
 
-MOST_SECONDS = 1.0  # that a good client waits, on a busy machine
+MAX_SECONDS = 1.0  # that a good client waits, on a busy machine
 WHY = b"/channels/a/why"
 EVERYBODY = "4294967295"
 
@@ -66,7 +66,7 @@ class Beside:
         """What is wrong with what it got. Prints how long it waited."""
         print(f"beside {crowd}: {self.count} good requests, the longest {self.longest:.3f} s")
         found = [f"{self.others} of {self.count} good requests had another reply"] if self.others or not self.count else []
-        return found + ([f"a good client waited {self.longest:.3f} s"] if self.longest > MOST_SECONDS else [])
+        return found + ([f"a good client waited {self.longest:.3f} s"] if self.longest > MAX_SECONDS else [])
 
 
 def connected(server, count):
@@ -145,7 +145,7 @@ def large_bodies(server):
 CROWDS = {"600 silent clients": silent, "200 that send a byte at a time": byte_at_a_time,
           "100 that read nothing of 4 MB": reading_nothing, "351 that reset at each stage": resetting,
           "a flood of 20,000": flooding, "40 bodies of 4 MiB less a byte": large_bodies}
-MOST_MEMORY = 192 << 20
+MAX_MEMORY = 192 << 20
 
 
 def begun(run_live, program, **given):
@@ -164,7 +164,7 @@ def beside(run_live, program, name):
             them = CROWDS[name](server)
         found = good.differences(name)
         memory = server.memory()
-        if memory > MOST_MEMORY:
+        if memory > MAX_MEMORY:
             found.append(f"the server has {memory >> 20} MiB")
         for it in them:
             it.close()

@@ -4,7 +4,7 @@
 ghost use Rattle.connections.specs.Runs.{HasRun};
 
 use connections::{Connections, Moved, Phase, hear, say};
-use live_edge::EdgeFault;
+use http_edge::EdgeFault;
 use mio::net::TcpStream;
 use mio::{Interest, Registry, Token};
 use std::io::{ErrorKind, Read};

@@ -40,7 +40,7 @@ fn line_of(text: &str) -> Option<ArrayString<LINE>> {
 }
 
 impl Faults {
-    /// Fails only where memory is refused.
+    /// Fails only where an allocation fails.
     pub fn new(rt: &HostRuntime, alloc: Global) -> Result<Faults, AllocError> {
         Ok(Faults {
             readiness: readiness(rt),

@@ -9,12 +9,12 @@ mod server;
 
 use crate::decisions::{DecisionsFault, decided};
 use crate::live::live;
+use byte_streams::Counted;
 use command_line::{Command, read_command};
-use devices::Counted;
-use one_playlist::command_vod;
 use std::io::{ErrorKind, Write};
 use std::process::ExitCode;
 use std::{env, fs};
+use vod_run::command_vod;
 
 const USAGE: &str = "usage: adsplice vod BASE [DECISIONS] | adsplice live PORT COUNT\n";
 

@@ -8,7 +8,7 @@ use crate::faults::Faults;
 use connections::{
     Admission, Arrivals, Connections, PLACES, Phase, ending_deadline, has_come, serving_deadline,
 };
-use live_edge::EdgeFault;
+use http_edge::EdgeFault;
 use mio::net::{TcpListener, TcpStream};
 use mio::{Events, Interest, Poll, Token};
 use std::alloc::{AllocError, Global};

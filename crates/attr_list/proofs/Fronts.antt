@@ -10,7 +10,8 @@ use Rattle.std.proofs.lemmas.List.Folds.{list_all-append}
 use Rattle.std.proofs.lemmas.Str.{IsUtf8-from_ascii, IsCharBoundary-from_take}
 use Rattle.attr_list.specs.declared.AttrFault.TheVariants.{BadName, NoEquals, BadValue, OpenQuote}
 use Rattle.attr_list.specs.Attributes.{is_comma, is_equals, is_quote, is_name_byte, is_name, is_value, ends_plain, piece_name, quoted_value, plain_value, value_pair, value_of}
-use Rattle.attr_list.specs.Scanning.{first_from, first_piece, ends_pair, begins_quoted, name_fault, IsNamed, IsValued, HasValueFault}
+use Rattle.attr_list.specs.Scanning.{first_from, first_piece}
+use Rattle.attr_list.specs.Inner.Scanning.{ends_pair, begins_quoted, name_fault, IsNamed, IsValued, HasValueFault}
 use Rattle.attr_list.proofs.Cuts.{position_at, any_at, before_after, begins_with, before_has_none, rest_begins, list_any-none, position_le, position_none}
 use Rattle.attr_list.proofs.Pieces.{first_past, first_inside, first_ended, name_runs, name_without_equals, plain_runs}
 

@@ -11,7 +11,8 @@ use Rattle.std.proofs.lemmas.Slice.Eq.{bytes_eq-Decides}
 use Rattle.attr_list.specs.declared.AttrFault.{AttrFault}
 use Rattle.attr_list.specs.declared.AttrFault.TheVariants.{BadValue, OpenQuote}
 use Rattle.attr_list.specs.Attributes.{Pair, is_comma, is_equals, is_quote, is_name, is_value, is_pair, are_apart, is_named, value_spelling, pair_spelling, attributes_text, IsPair, IsAttributeList, pieces_from, pieces, piece_name, piece_value, has_equals, quoted_value, plain_value, value_pair, value_of, pair_of, add_pair, pairs_from, attributes_of}
-use Rattle.attr_list.specs.Scanning.{first_from, ends_pair, StartsWithPair}
+use Rattle.attr_list.specs.Scanning.{first_from}
+use Rattle.attr_list.specs.Inner.Scanning.{ends_pair, StartsWithPair}
 use Rattle.attr_list.proofs.Cuts.{before_has_none}
 use Rattle.attr_list.proofs.Pieces.{pieces_are, later_from}
 use Rattle.attr_list.proofs.Steps.{pieces_of_pair, pair_read}

@@ -6,7 +6,8 @@ use Rattle.std.proofs.lemmas.Bool.{and_parts, or_parts, not-true}
 use Rattle.std.proofs.lemmas.List.{append-nil}
 use Rattle.std.proofs.lemmas.Bool.Decides.{nat_tests}
 use Rattle.attr_list.specs.Attributes.{is_comma, is_equals, is_quote, is_name_byte, is_name, is_value, ends_plain, value_spelling, pieces_from}
-use Rattle.attr_list.specs.Scanning.{first_from, first_piece, ends_pair}
+use Rattle.attr_list.specs.Scanning.{first_from, first_piece}
+use Rattle.attr_list.specs.Inner.Scanning.{ends_pair}
 use Rattle.attr_list.proofs.Elements.{none_from, fewer}
 
 -- the pieces after the first

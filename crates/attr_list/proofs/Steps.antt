@@ -7,7 +7,8 @@ use Rattle.std.proofs.lemmas.List.{take_at}
 use Rattle.attr_list.specs.declared.AttrFault.{AttrFault}
 use Rattle.attr_list.specs.declared.AttrFault.TheVariants.{Twice}
 use Rattle.attr_list.specs.Attributes.{Pair, is_comma, is_equals, is_quote, is_name, is_value, is_pair, ends_plain, is_named, is_full, value_spelling, pair_spelling, pieces, piece_name, piece_value, has_equals, quoted_value, plain_value, value_pair, value_of, pair_of, pairs_from, add_pair, spans_from}
-use Rattle.attr_list.specs.Scanning.{first_piece, ends_pair, IsNamed, IsValued, HasValueFault, StartsWithPair}
+use Rattle.attr_list.specs.Scanning.{first_piece}
+use Rattle.attr_list.specs.Inner.Scanning.{ends_pair, IsNamed, IsValued, HasValueFault, StartsWithPair}
 use Rattle.attr_list.proofs.Cuts.{position_at, before_at, after_at, any_at}
 use Rattle.attr_list.proofs.Pieces.{first_named, later_named, first_valued, later_valued, later_from, pieces_are, name_without_equals}
 

@@ -6,7 +6,8 @@ use Rattle.attr_list.specs.declared.AttrFault.{AttrFault}
 use Rattle.attr_list.specs.declared.attr.Attr.{Attr}
 use Rattle.attr_list.specs.Attributes.{Pair, pair_spelling, pieces, pair_of, pairs_from, spans_from}
 use Rattle.attr_list.specs.Attrs.{attr_pair, attr_span}
-use Rattle.attr_list.specs.Scanning.{first_piece, StartsWithPair}
+use Rattle.attr_list.specs.Scanning.{first_piece}
+use Rattle.attr_list.specs.Inner.Scanning.{StartsWithPair}
 use Rattle.attr_list.proofs.Steps.{first_pair, read_on, read_last, ends_empty, span_on, span_last}
 
 -- the attributes with the one at the front of the text

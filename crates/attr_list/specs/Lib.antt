@@ -4,3 +4,4 @@ pub mod FaultTexts
 pub mod Laws
 pub mod Numbers
 pub mod Scanning
+pub mod Inner

@@ -1,9 +1,7 @@
 -- The front of a text that is cut into attributes: its first piece, and how a piece ends (RFC 8216, 4.2). The byte
 -- 61 is `=`.
-use Rattle.std.specs.Prelude.{◌≡◌, ℕ, Bool, true, false, not, ◌&&◌, List, [], ◌∷◌, ◌++◌, Option, Some, None, Err, IsTrue, if◌then◌else◌}
-use Rattle.attr_list.specs.declared.AttrFault.{AttrFault}
-use Rattle.attr_list.specs.declared.AttrFault.TheVariants.{BadName, NoEquals}
-use Rattle.attr_list.specs.Attributes.{Pair, is_comma, is_quote, is_name, is_value, is_pair, pair_spelling, piece_name, has_equals, value_spelling, value_of}
+use Rattle.std.specs.Prelude.{ℕ, Bool, false, not, ◌&&◌, List, [], ◌∷◌, if◌then◌else◌}
+use Rattle.attr_list.specs.Attributes.{is_comma, is_quote}
 
 -- what stands before the first comma that is not between quotes
 abbrev pub first_from : Bool → List ℕ → List ℕ
@@ -13,37 +11,3 @@ first_from quoted (b ∷ bytes) =
 
 abbrev pub first_piece : List ℕ → List ℕ
 first_piece text = first_from false text
-
--- a pair may end before this text: it is empty or begins with a comma
-abbrev pub ends_pair : List ℕ → Bool
-ends_pair [] = true
-ends_pair (b ∷ bytes) = is_comma b
-
-abbrev pub begins_quoted : List ℕ → Bool
-begins_quoted [] = false
-begins_quoted (b ∷ bytes) = is_quote b
-
--- the text is a name, `=` and the rest
-abbrev pub IsNamed : List ℕ → List ℕ → List ℕ → Type 0
-IsNamed text name rest = IsTrue (is_name name) × (text ≡ name ++ 61 ∷ rest)
-
--- what is wrong with a piece before its value
-abbrev pub name_fault : List ℕ → Option AttrFault
-name_fault piece =
-    if not (is_name (piece_name piece)) then Some BadName
-    else (if not (has_equals piece) then Some NoEquals else None)
-
--- the text is a value's spelling and what follows it
-abbrev pub IsValued : List ℕ → Bool → List ℕ → List ℕ → Type 0
-IsValued text quoted value after =
-    IsTrue (is_value quoted value) × (text ≡ value_spelling quoted value ++ after) × IsTrue (ends_pair after)
-
--- no value begins the text, and this is why
-abbrev pub HasValueFault : List ℕ → AttrFault → Type 0
-HasValueFault text fault = (name : List ℕ) → value_of name (first_piece text) ≡ Err fault
-
--- the text is a pair's spelling and what follows it
-pub record StartsWithPair (text : List ℕ) (pair : Pair) (after : List ℕ) : Type 0 where
-  pub fits : IsTrue (is_pair pair)
-  pub spelled : text ≡ pair_spelling pair ++ after
-  pub ended : IsTrue (ends_pair after)

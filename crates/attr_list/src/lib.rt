@@ -16,7 +16,7 @@ mod numbers;
 mod scan;
 
 pub use attr::{Attr, Span};
-pub use list::{AttrList, MOST_ATTRIBUTES};
+pub use list::{AttrList, MAX_ATTRIBUTES};
 pub use numbers::{read_decimal, read_hex_u128};
 
 /// Why a text is no attribute list, or no number (RFC 8216, section 4.2).
@@ -35,7 +35,7 @@ pub enum AttrFault {
     Twice,
     /// A6: there are more than 64 attributes.
     TooMany,
-    /// A7: memory was refused.
+    /// A7: an allocation failed.
     OutOfMemory,
     /// A8: a text is no number in range.
     BadNumber,

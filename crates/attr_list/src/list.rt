@@ -8,7 +8,8 @@ ghost use Rattle.attr_list.specs.declared.AttrFault.{AttrFault};
 ghost use Rattle.attr_list.specs.declared.attr.Attr.{Attr};
 ghost use Rattle.attr_list.specs.Attributes.{Pair, IsAttributeList, are_attributes, attributes_of, attribute, pair_of, pair_spelling, pieces, spans_from, slices_at, is_named};
 ghost use Rattle.attr_list.specs.Attrs.{attr_pair, attr_span};
-ghost use Rattle.attr_list.specs.Scanning.{first_piece, StartsWithPair};
+ghost use Rattle.attr_list.specs.Scanning.{first_piece};
+ghost use Rattle.attr_list.specs.Inner.Scanning.{StartsWithPair};
 
 use crate::scan::{split_name, split_value};
 use crate::{Attr, AttrFault, Span};
@@ -17,7 +18,7 @@ use std::marker::Model;
 use std::slice::Iter;
 
 /// The most attributes that a list may have.
-pub const MOST_ATTRIBUTES: usize = 64;
+pub const MAX_ATTRIBUTES: usize = 64;
 
 /// The attributes of a tag, in order (RFC 8216, section 4.2), as slices of its text. No two have one name.
 #[derive(Debug, Drop)]
@@ -39,7 +40,7 @@ impl<'a> Model for AttrList<'a> {
 }
 
 impl<'a> AttrList<'a> {
-    /// Reads a text as an attribute list of at most [`MOST_ATTRIBUTES`] attributes.
+    /// Reads a text as an attribute list of at most [`MAX_ATTRIBUTES`] attributes.
     ///
     /// The first faulty attribute decides the fault, and in it the order TooMany, BadName, NoEquals,
     /// Twice, OpenQuote, BadValue. The first attribute is judged before any memory is taken.
@@ -47,16 +48,16 @@ impl<'a> AttrList<'a> {
         // What is read is in the grammar.
         ensures list { IfOk result (λ list. IsAttributeList text.now (map attr_pair list)) }
         // What is in the grammar is read, up to the limit.
-        ensures reads { (pairs : List Pair) → IsAttributeList text.now pairs → length pairs ≤ MOST_ATTRIBUTES
+        ensures reads { (pairs : List Pair) → IsAttributeList text.now pairs → length pairs ≤ MAX_ATTRIBUTES
             → MatchResult result (λ list. map attr_pair list ≡ pairs) (λ e. e ≡ AttrFault.OutOfMemory) }
 
         // Exactly the answer of the reading, with its first fault.
-        ensures ok { IfOk result (λ list. attributes_of (Some MOST_ATTRIBUTES) text.now ≡ Ok (map attr_pair list)) }
+        ensures ok { IfOk result (λ list. attributes_of (Some MAX_ATTRIBUTES) text.now ≡ Ok (map attr_pair list)) }
         ensures fault { IfErr result
-            (λ e. (e ≡ AttrFault.OutOfMemory) ⊎ (attributes_of (Some MOST_ATTRIBUTES) text.now ≡ Err e)) }
+            (λ e. (e ≡ AttrFault.OutOfMemory) ⊎ (attributes_of (Some MAX_ATTRIBUTES) text.now ≡ Err e)) }
 
         // The first attribute's fault is told whatever memory there is: that of an empty text, too.
-        ensures told { (e : AttrFault) → pair_of (Some MOST_ATTRIBUTES) [] (first_piece text.now) ≡ Err e → result ≡ Err e }
+        ensures told { (e : AttrFault) → pair_of (Some MAX_ATTRIBUTES) [] (first_piece text.now) ≡ Err e → result ≡ Err e }
 
         // Each attribute's place, where its spelling stands.
         ensures spans { IfOk result (λ list. map attr_span list ≡ spans_from 0 (pieces text.now)) }
@@ -97,10 +98,10 @@ impl<'a> AttrList<'a> {
 
 // The attributes of a text, in one pass.
 fn read_attrs(alloc: Global, text: &str) -> Result<Vec<Attr<'_>>, AttrFault>
-    ensures ok { IfOk result (λ v. attributes_of (Some MOST_ATTRIBUTES) text.now ≡ Ok (map attr_pair v.items)) }
+    ensures ok { IfOk result (λ v. attributes_of (Some MAX_ATTRIBUTES) text.now ≡ Ok (map attr_pair v.items)) }
     ensures fault { IfErr result
-        (λ e. (e ≡ AttrFault.OutOfMemory) ⊎ (attributes_of (Some MOST_ATTRIBUTES) text.now ≡ Err e)) }
-    ensures told { (e : AttrFault) → pair_of (Some MOST_ATTRIBUTES) [] (first_piece text.now) ≡ Err e → result ≡ Err e }
+        (λ e. (e ≡ AttrFault.OutOfMemory) ⊎ (attributes_of (Some MAX_ATTRIBUTES) text.now ≡ Err e)) }
+    ensures told { (e : AttrFault) → pair_of (Some MAX_ATTRIBUTES) [] (first_piece text.now) ≡ Err e → result ≡ Err e }
     ensures spans { IfOk result (λ v. map attr_span v.items ≡ spans_from 0 (pieces text.now)) }
 {
     let mut attrs: Vec<Attr<'_>> = Vec::new(alloc);
@@ -134,10 +135,10 @@ fn read_pair<'a>(text: &'a str, before: &[Attr<'_>]) -> Result<PairText<'a>, Att
     ensures { MatchResult result
         (λ p. let pair : Pair = record { name = p.name.now; value = p.value.now; quoted = p.quoted } in
         StartsWithPair text.now pair p.after.now
-        × (pair_of (Some MOST_ATTRIBUTES) (map attr_pair before.now) (pair_spelling pair) ≡ Ok pair))
-        (λ e. pair_of (Some MOST_ATTRIBUTES) (map attr_pair before.now) (first_piece text.now) ≡ Err e) }
+        × (pair_of (Some MAX_ATTRIBUTES) (map attr_pair before.now) (pair_spelling pair) ≡ Ok pair))
+        (λ e. pair_of (Some MAX_ATTRIBUTES) (map attr_pair before.now) (first_piece text.now) ≡ Err e) }
 {
-    if before.len() >= MOST_ATTRIBUTES {
+    if before.len() >= MAX_ATTRIBUTES {
         return Err(AttrFault::TooMany);
     }
     let (name, rest) = split_name(text)?;

@@ -7,15 +7,15 @@ ghost use Rattle.attr_list.specs.Numbers.{decimal_of, hex_of, has_hex_prefix};
 
 use crate::AttrFault;
 
-const MOST_DECIMAL_DIGITS: usize = 20;
+const MAX_DECIMAL_DIGITS: usize = 20;
 
-const MOST_HEX_DIGITS: usize = 32;
+const MAX_HEX_DIGITS: usize = 32;
 
 /// Reads a decimal integer: 1 to 20 digits, below 2^64. Anything else is `BadNumber`. Takes no memory.
 pub fn read_decimal(text: &str) -> Result<u64, AttrFault>
     ensures { result ≡ ok_or (decimal_of text.now) AttrFault.BadNumber }
 {
-    if text.is_empty() || text.len() > MOST_DECIMAL_DIGITS || !is_decimal(text.as_bytes()) {
+    if text.is_empty() || text.len() > MAX_DECIMAL_DIGITS || !is_decimal(text.as_bytes()) {
         return Err(AttrFault::BadNumber);
     }
     text.parse().ok().ok_or(AttrFault::BadNumber)
@@ -29,7 +29,7 @@ pub fn read_hex_u128(text: &str) -> Result<u128, AttrFault>
     let Some(digits) = after_prefix(text) else {
         return Err(AttrFault::BadNumber);
     };
-    if digits.is_empty() || digits.len() > MOST_HEX_DIGITS || !is_hex(digits.as_bytes()) {
+    if digits.is_empty() || digits.len() > MAX_HEX_DIGITS || !is_hex(digits.as_bytes()) {
         return Err(AttrFault::BadNumber);
     }
     u128::from_str_radix(digits, 16)

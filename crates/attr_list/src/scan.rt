@@ -2,7 +2,8 @@
 ghost use Rattle.std.specs.Prelude.{◌≡◌, ◌∷◌, not, false, Some, MatchResult};
 ghost use Rattle.std.specs.List.{position_or_len};
 ghost use Rattle.attr_list.specs.Attributes.{is_name_byte, ends_plain};
-ghost use Rattle.attr_list.specs.Scanning.{first_piece, ends_pair, begins_quoted, name_fault, IsNamed, IsValued, HasValueFault};
+ghost use Rattle.attr_list.specs.Scanning.{first_piece};
+ghost use Rattle.attr_list.specs.Inner.Scanning.{ends_pair, begins_quoted, name_fault, IsNamed, IsValued, HasValueFault};
 
 use crate::AttrFault;
 

@@ -5,14 +5,16 @@ use Rattle.std.specs.List.{AllZip, AllByRecursion, IsDistinct}
 use Rattle.std.specs.Map.{keys_of}
 use Rattle.std.specs.declared.alloc.Global.{Global}
 use Rattle.indexmap.specs.IndexMap.{insert_entry}
-use Rattle.playlist_meaning.specs.declared.DateRange.{DateRange}
-use Rattle.break_finder.specs.declared.said.Said.{Said}
+use Rattle.playlist_model.specs.declared.DateRange.{DateRange}
+use Rattle.break_finder.specs.declared.described.Described.{Described}
 use Rattle.break_finder.specs.Breaks.{Break, break_of, said_of, said_in, and_tag}
-use Rattle.break_finder.specs.Known.{Accepted, with_tag, break_stands, stands_in, carry}
+use Rattle.break_finder.specs.Known.{Accepted, stands_in, carry}
+use Rattle.break_finder.specs.Inner.Known.{with_tag, break_stands}
 use Rattle.break_finder.proofs.Walked.{Fits, walked_is_carried}
-use Rattle.break_finder.specs.Kept.{Pairs, break_at, is_key, kept_for, said_or_nothing}
+use Rattle.break_finder.specs.Kept.{break_at}
+use Rattle.break_finder.specs.Inner.Kept.{Pairs, is_key, kept_for, said_or_nothing}
 
-for_cond : (b : Bool) (x : Break) (o : Option Break) (p : Option Said) → option_map said_in o ≡ p → option_map said_in (cond b (Some x) o) ≡ cond b (Some x.said) p
+for_cond : (b : Bool) (x : Break) (o : Option Break) (p : Option Described) → option_map said_in o ≡ p → option_map said_in (cond b (Some x) o) ≡ cond b (Some x.said) p
 for_cond true x o p h = refl
 for_cond false x o p h = h
 
@@ -21,41 +23,41 @@ kept_all id [] = refl
 kept_all id (e ∷ es) = for_cond (is_key id e.0) (break_at e) (break_of (map break_at es) id) (kept_for id es) (kept_all id es)
 
 -- what is kept of an ID is what is said of its break
-pub said_kept : (id : List ℕ) (es : Pairs) (breaks : List Break) (found : Option Said) → map break_at es ≡ breaks → found ≡ kept_for id es → found ≡ said_of breaks id
+pub said_kept : (id : List ℕ) (es : Pairs) (breaks : List Break) (found : Option Described) → map break_at es ≡ breaks → found ≡ kept_for id es → found ≡ said_of breaks id
 said_kept id es breaks found view_is found_is = found_is ∙ sym (kept_all id es) ∙ ap (λ bs. said_of bs id) view_is
 
-added_cond : (b : Bool) (e : String Global × Said) (es rest : Pairs) (said : Said) (tag : DateRange) (more : List Break) (old : Option Said)
+added_cond : (b : Bool) (e : String Global × Described) (es rest : Pairs) (said : Described) (tag : DateRange) (more : List Break) (old : Option Described)
     → said ≡ and_tag (said_or_nothing (cond b (Some e.1) old)) tag → (said ≡ and_tag (said_or_nothing old) tag → map break_at rest ≡ more)
     → map break_at (cond b ((e.0, said) ∷ es) (e ∷ rest)) ≡ cond b (record { id = string_bytes e.0; said = and_tag e.1 tag } ∷ map break_at es) (break_at e ∷ more)
-added_cond true e es rest said tag more old h f = ap (λ (x : Said). record { id = string_bytes e.0; said = x } ∷ map break_at es) h
+added_cond true e es rest said tag more old h f = ap (λ (x : Described). record { id = string_bytes e.0; said = x } ∷ map break_at es) h
 added_cond false e es rest said tag more old h f = ap (λ xs. break_at e ∷ xs) (f h)
 
 -- what is inserted is what the tag adds
-pub added : (es : Pairs) (k : String Global) (said : Said) (tag : DateRange) → string_bytes k ≡ tag.id → said ≡ and_tag (said_or_nothing (kept_for tag.id es)) tag
+pub added : (es : Pairs) (k : String Global) (said : Described) (tag : DateRange) → string_bytes k ≡ tag.id → said ≡ and_tag (said_or_nothing (kept_for tag.id es)) tag
     → map break_at (insert_entry string_eq es k said) ≡ with_tag (map break_at es) tag
-added [] k said tag i h = ap (λ id. record { id = id; said = said } ∷ []) i ∙ ap (λ (s : Said). record { id = tag.id; said = s } ∷ []) h
+added [] k said tag i h = ap (λ id. record { id = id; said = said } ∷ []) i ∙ ap (λ (s : Described). record { id = tag.id; said = s } ∷ []) h
 added (e ∷ es) k said tag i h =
     ap (λ b. map break_at (cond b ((e.0, said) ∷ es) (e ∷ insert_entry string_eq es k said))) (ap (λ id. bytes_eq id (string_bytes e.0)) i)
     ∙ added_cond (is_key tag.id e.0) e es (insert_entry string_eq es k said) said tag (with_tag (map break_at es) tag) (kept_for tag.id es) h (added es k said tag i)
 
-filtered_cond : (b : Bool) (e : String Global × Said) (es : Pairs) (more : List Break) → map break_at es ≡ more → map break_at (cond b (e ∷ es) es) ≡ cond b (break_at e ∷ more) more
+filtered_cond : (b : Bool) (e : String Global × Described) (es : Pairs) (more : List Break) → map break_at es ≡ more → map break_at (cond b (e ∷ es) es) ≡ cond b (break_at e ∷ more) more
 filtered_cond true e es more h = ap (λ xs. break_at e ∷ xs) h
 filtered_cond false e es more h = h
 
 pub filtered : (date_ranges : List DateRange) (carried : Option (List ℕ)) (es : Pairs)
-    → map break_at (filter (λ (e : String Global × Said). stands_in date_ranges carried (string_bytes e.0)) es) ≡ filter (break_stands date_ranges carried) (map break_at es)
+    → map break_at (filter (λ (e : String Global × Described). stands_in date_ranges carried (string_bytes e.0)) es) ≡ filter (break_stands date_ranges carried) (map break_at es)
 filtered date_ranges carried [] = refl
 filtered date_ranges carried (e ∷ es) =
-    filtered_cond (stands_in date_ranges carried (string_bytes e.0)) e (filter (λ (e : String Global × Said). stands_in date_ranges carried (string_bytes e.0)) es)
+    filtered_cond (stands_in date_ranges carried (string_bytes e.0)) e (filter (λ (e : String Global × Described). stands_in date_ranges carried (string_bytes e.0)) es)
     (filter (break_stands date_ranges carried) (map break_at es)) (filtered date_ranges carried es)
 
 -- a clone has the same breaks
-pub cloned : (es fs : Pairs) → AllZip (λ (p q : String Global × Said). (string_bytes q.0 ≡ string_bytes p.0) × (q.1 ≡ p.1)) es fs → map break_at fs ≡ map break_at es
+pub cloned : (es fs : Pairs) → AllZip (λ (p q : String Global × Described). (string_bytes q.0 ≡ string_bytes p.0) × (q.1 ≡ p.1)) es fs → map break_at fs ≡ map break_at es
 cloned [] [] h = refl
 cloned [] (f ∷ fs) h = absurd h
 cloned (e ∷ es) [] h = absurd h
 cloned (e ∷ es) (f ∷ fs) h =
-    ap (λ id. record { id = id; said = f.1 } ∷ map break_at fs) h.0.0 ∙ ap (λ (s : Said). record { id = string_bytes e.0; said = s } ∷ map break_at fs) h.0.1
+    ap (λ id. record { id = id; said = f.1 } ∷ map break_at fs) h.0.0 ∙ ap (λ (s : Described). record { id = string_bytes e.0; said = s } ∷ map break_at fs) h.0.1
     ∙ ap (λ xs. break_at e ∷ xs) (cloned es fs h.1)
 
 apart_both : (p : List ℕ → Bool) (k : String Global) (ks : List (String Global)) → AllByRecursion (λ (j : String Global). p (string_bytes j) ≡ true) ks → AllByRecursion (λ (j : String Global). string_eq k j ≡ false) ks

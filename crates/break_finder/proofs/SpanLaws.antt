@@ -12,7 +12,8 @@ use Rattle.std.proofs.lemmas.List.Folds.{find-append}
 use Rattle.std.proofs.lemmas.Slice.Eq.{bytes_eq-Decides}
 use Rattle.break_finder.specs.Breaks.{is_near, is_not_past}
 use Rattle.break_finder.specs.Known.{is_this}
-use Rattle.break_finder.specs.Entrances.{Entrance, Span, entrance_id, is_entered, is_enterable, taken, is_within, is_in, but, second_of, Tells}
+use Rattle.break_finder.specs.Entrances.{Entrance, TimeSpan, entrance_id, is_entered, taken, is_within, is_in, but, Tells}
+use Rattle.break_finder.specs.Inner.Entrances.{is_enterable, second_of}
 
 -- ---- one break
 
@@ -26,14 +27,14 @@ one_step e false early last = refl
 one_taken : (tolerance : ℕ) (last : Option (List ℕ)) (instant : ℤ) (e : Entrance) → taken tolerance last instant (e ∷ []) ≡ cond (is_enterable tolerance instant e) (but (Some e.id) None last) None
 one_taken tolerance last instant e = one_step e (is_near instant tolerance (Some e.start)) (is_not_past instant tolerance e.end) (is_this e.id last)
 
-pub open_tells : (tolerance : ℕ) (e : Entrance) (span : Span) → span.first ≡ Some e.id → span.second ≡ None
+pub open_tells : (tolerance : ℕ) (e : Entrance) (span : TimeSpan) → span.first ≡ Some e.id → span.second ≡ None
     → ((instant : ℤ) → is_in span instant ≡ true → is_enterable tolerance instant e ≡ true) → Tells tolerance (e ∷ []) span
 open_tells tolerance e span first second can instant last inside =
     one_taken tolerance last instant e
     ∙ ap (λ b. cond b (but (Some e.id) None last) None) (can instant inside)
     ∙ sym (ap (λ x. but x span.second last) first ∙ ap (λ x. but (Some e.id) x last) second)
 
-pub closed_tells : (tolerance : ℕ) (e : Entrance) (span : Span) → span.first ≡ None
+pub closed_tells : (tolerance : ℕ) (e : Entrance) (span : TimeSpan) → span.first ≡ None
     → ((instant : ℤ) → is_in span instant ≡ true → is_enterable tolerance instant e ≡ false) → Tells tolerance (e ∷ []) span
 closed_tells tolerance e span first cannot instant last inside =
     one_taken tolerance last instant e
@@ -69,7 +70,7 @@ chosen (Some id) second first' second' last = chosen_step id second first' secon
 within_more : (from to from' to' instant : ℤ) → from ≤ℤ from' → to' ≤ℤ to → is_within from' to' instant ≡ true → is_within from to instant ≡ true
 within_more from to from' to' instant low high inside = grind (arith, ints, nat_tests)
 
-pub both_tell : (tolerance : ℕ) (before after : List Entrance) (a b span : Span)
+pub both_tell : (tolerance : ℕ) (before after : List Entrance) (a b span : TimeSpan)
     → a.from ≤ℤ span.from → b.from ≤ℤ span.from → span.to ≤ℤ a.to → span.to ≤ℤ b.to
     → span.first ≡ option_or a.first b.first → span.second ≡ second_of a.first a.second b.first b.second
     → Tells tolerance before a → Tells tolerance after b → Tells tolerance (before ++ after) span
@@ -122,7 +123,7 @@ end_window instant start end tolerance =
 pub first_one : {X : Type 0} (P : X → Type 0) (x : X) (rest xs : List X) → xs ≡ x ∷ rest → All P xs → P x
 first_one P x rest xs is all = All-head P x rest (All-same P (x ∷ rest) xs (sym is) all)
 
-pub three_tell : (tolerance : ℕ) (e : Entrance) (before within after : Span) (spans : List Span) → spans ≡ before ∷ within ∷ after ∷ []
+pub three_tell : (tolerance : ℕ) (e : Entrance) (before within after : TimeSpan) (spans : List TimeSpan) → spans ≡ before ∷ within ∷ after ∷ []
     → before.to ≡ within.from → before.first ≡ None → after.from ≡ within.to → after.first ≡ None
     → within.first ≡ Some e.id → within.second ≡ None
     → ((instant : ℤ) → is_enterable tolerance instant e ≡ is_in within instant)

@@ -5,7 +5,7 @@ use Rattle.std.specs.List.{list_any}
 use Rattle.std.proofs.lemmas.List.Folds.{list_any-append}
 use Rattle.std.proofs.lemmas.Slice.Eq.{bytes_eq-Decides}
 use Rattle.indexmap.specs.IndexSet.{insert_key}
-use Rattle.break_finder.specs.Kept.{is_text, has_text}
+use Rattle.break_finder.specs.Inner.Kept.{is_text, has_text}
 
 or_false : (b : Bool) → (b || false) ≡ b
 or_false true = refl

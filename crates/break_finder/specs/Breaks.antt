@@ -1,14 +1,14 @@
 -- What is known of a break, and where it ends.
 use Rattle.std.specs.Prelude.{ℕ, Bool, true, false, ◌&&◌, List, find, ℤ, pos, ◌+ℤ◌, ◌-ℤ◌, int_le, int_lt, Option, Some, None, option_map, is_some, bytes_eq, if◌then◌else◌}
-use Rattle.playlist_meaning.specs.declared.DateRange.{DateRange}
-use Rattle.playlist_meaning.specs.LookBack.{or_earlier}
-use Rattle.break_finder.specs.declared.said.Said.{Said}
+use Rattle.playlist_model.specs.declared.DateRange.{DateRange}
+use Rattle.playlist_model.specs.LookBack.{or_earlier}
+use Rattle.break_finder.specs.declared.described.Described.{Described}
 use Rattle.break_finder.specs.Signals.{signal_of, is_leaving, is_returning, signal_nanos}
 
 -- a break with the first value of each of its attributes
 pub record Break : Type 0 where
   pub id : List ℕ
-  pub said : Said
+  pub said : Described
 
 abbrev pub is_named : List ℕ → Break → Bool
 is_named id b = bytes_eq id b.id
@@ -16,31 +16,31 @@ is_named id b = bytes_eq id b.id
 abbrev pub break_of : List Break → List ℕ → Option Break
 break_of breaks id = find (is_named id) breaks
 
-abbrev pub said_in : Break → Said
+abbrev pub said_in : Break → Described
 said_in b = b.said
 
 -- what is said of the break of an ID, where it is known
-abbrev pub said_of : List Break → List ℕ → Option Said
+abbrev pub said_of : List Break → List ℕ → Option Described
 said_of breaks id = option_map said_in (break_of breaks id)
 
-abbrev pub nothing_said : Said
-nothing_said = record { start = None; end = None; duration = None; planned = None; out = None; back = None }
+abbrev pub nothing_said : Described
+nothing_said = record { start = None; end = None; duration = None; planned_duration = None; scte35_out = None; scte35_in = None }
 
 -- what is said with one tag more: a value that stands, stays
-abbrev pub and_tag : Said → DateRange → Said
+abbrev pub and_tag : Described → DateRange → Described
 and_tag said tag = record {
   start = or_earlier said.start tag.start;
   end = or_earlier said.end tag.end;
   duration = or_earlier said.duration tag.duration;
-  planned = or_earlier said.planned tag.planned;
-  out = or_earlier said.out (option_map signal_of tag.out);
-  back = or_earlier said.back (option_map signal_of tag.back);
+  planned_duration = or_earlier said.planned_duration tag.planned_duration;
+  scte35_out = or_earlier said.scte35_out (option_map signal_of tag.scte35_out);
+  scte35_in = or_earlier said.scte35_in (option_map signal_of tag.scte35_in);
 }
 
 -- ---- what a break says
 
-abbrev pub is_signalled : Said → Bool
-is_signalled said = is_some said.start && is_leaving said.out
+abbrev pub is_signalled : Described → Bool
+is_signalled said = is_some said.start && is_leaving said.scte35_out
 
 -- where a break ends: at an instant; or it is closed, and no segment more is inside
 pub data End : Type 0 where
@@ -54,13 +54,13 @@ end_after None duration = None
 
 -- the first end that is known: END-DATE; START-DATE with DURATION; a valid SCTE35-IN; START-DATE with
 -- PLANNED-DURATION; with the duration of its splice section; with that of its pod
-abbrev pub end_of : Said → ℕ → Option End
+abbrev pub end_of : Described → ℕ → Option End
 end_of said length =
     or_earlier (option_map at said.end)
     (or_earlier (end_after said.start said.duration)
-    (or_earlier (if is_returning said.back then Some closed else None)
-    (or_earlier (end_after said.start said.planned)
-    (or_earlier (end_after said.start (signal_nanos said.out))
+    (or_earlier (if is_returning said.scte35_in then Some closed else None)
+    (or_earlier (end_after said.start said.planned_duration)
+    (or_earlier (end_after said.start (signal_nanos said.scte35_out))
     (end_after said.start (Some length))))))
 
 -- a segment at this instant is before the end; none is before the end of a closed break

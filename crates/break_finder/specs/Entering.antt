@@ -1,20 +1,18 @@
 -- Which break a segment is inside, or enters.
 use Rattle.std.specs.Prelude.{ℕ, Bool, false, not, ◌&&◌, List, find, ℤ, Option, Some, None, option_map, is_none, if◌then◌else◌}
-use Rattle.playlist_meaning.specs.LookBack.{or_earlier}
-use Rattle.playlist_meaning.specs.Pods.{Pod}
-use Rattle.playlist_meaning.specs.Marks.{Mark}
-use Rattle.pod_store.specs.Pods.{total, pod_fits}
+use Rattle.pod_store.specs.Pods.{Pod, total, pod_fits}
+use Rattle.pod_store.specs.Marks.{Mark}
 use Rattle.pod_store.specs.Store.{Store, pod_for, fits}
 use Rattle.break_finder.specs.declared.why.Why.{Why}
 use Rattle.break_finder.specs.declared.why.Why.TheVariants.{Filled, NotKnown, NoStart, NotSignalled, NotDecided, DoesNotFit, Waiting}
 use Rattle.break_finder.specs.Signals.{is_leaving}
-use Rattle.break_finder.specs.declared.said.Said.{Said}
+use Rattle.break_finder.specs.declared.described.Described.{Described}
 use Rattle.break_finder.specs.Breaks.{Break, said_of, is_signalled, end_of, is_before_end, is_not_past, is_near}
 use Rattle.break_finder.specs.Known.{is_this}
 
 -- ---- inside
 
-abbrev pub is_inside_said : Option ℤ → ℕ → Pod → Option Said → Bool
+abbrev pub is_inside_said : Option ℤ → ℕ → Pod → Option Described → Bool
 is_inside_said None tolerance pod said = false
 is_inside_said (Some instant) tolerance pod None = false
 is_inside_said (Some instant) tolerance pod (Some said) = is_before_end instant tolerance (end_of said (total pod))
@@ -27,47 +25,42 @@ is_inside breaks id instant tolerance pod = is_inside_said instant tolerance pod
 
 -- what breaks are entered by: the tolerance, the target, whether the origin's segments have sections, and
 -- the last break entered
-pub record Moment : Type 0 where
+pub record EntryLimits : Type 0 where
   pub tolerance : ℕ
-  pub target : ℕ
+  pub target_duration : ℕ
   pub mapped : Bool
   pub last : Option (List ℕ)
 
 -- the break is signalled, and the instant is near its start
-abbrev pub starts_at : Moment → ℤ → Said → Bool
+abbrev pub starts_at : EntryLimits → ℤ → Described → Bool
 starts_at m instant said = is_signalled said && is_near instant m.tolerance said.start
 
 -- and it is before the end of the break, which lasts so long by its pod
-abbrev pub is_at : Moment → ℤ → Said → ℕ → Bool
+abbrev pub is_at : EntryLimits → ℤ → Described → ℕ → Bool
 is_at m instant said length = starts_at m instant said && is_not_past instant m.tolerance (end_of said length)
 
 -- a segment at this instant enters the break, if it has this pod
-abbrev pub can_enter : Moment → ℤ → Break → Pod → Bool
-can_enter m instant b pod = is_at m instant b.said (total pod) && pod_fits m.target m.mapped pod && not (is_this b.id m.last)
+abbrev pub can_enter : EntryLimits → ℤ → Break → Pod → Bool
+can_enter m instant b pod = is_at m instant b.said (total pod) && pod_fits m.target_duration m.mapped pod && not (is_this b.id m.last)
 
-abbrev pub enters_with : Moment → ℤ → Break → Option Pod → Bool
+abbrev pub enters_with : EntryLimits → ℤ → Break → Option Pod → Bool
 enters_with m instant b None = false
 enters_with m instant b (Some pod) = can_enter m instant b pod
 
 -- it is signalled, decided and fitting, the segment is near its start and before its end, and it isn't the
 -- last one entered
-abbrev pub enters_break : Moment → Store → ℤ → Break → Bool
+abbrev pub enters_break : EntryLimits → Store → ℤ → Break → Bool
 enters_break m store instant b = enters_with m instant b (pod_for store b.id)
 
 abbrev pub id_of : Break → List ℕ
 id_of b = b.id
 
 -- the first known break that a segment at this instant enters
-abbrev pub entered : Moment → Store → List Break → Option ℤ → Option (List ℕ)
+abbrev pub entered : EntryLimits → Store → List Break → Option ℤ → Option (List ℕ)
 entered m store breaks None = None
 entered m store breaks (Some instant) = option_map id_of (find (enters_break m store instant) breaks)
 
 -- ---- marks
-
--- the mark of the segment before, where this one is inside that break
-abbrev pub continued : Moment → List Break → Option ℤ → Option Mark → Option Mark
-continued m breaks instant None = None
-continued m breaks instant (Some mark) = if is_inside breaks mark.id instant m.tolerance mark.pod then Some mark else None
 
 abbrev pub mark_with : List ℕ → Option Pod → Option Mark
 mark_with id None = None
@@ -77,22 +70,17 @@ abbrev pub mark_of : Store → Option (List ℕ) → Option Mark
 mark_of store None = None
 mark_of store (Some id) = mark_with id (pod_for store id)
 
--- a segment's mark, from that of the segment before
-abbrev pub next_mark : Moment → Store → List Break → Option ℤ → Option Mark → Option Mark
-next_mark m store breaks instant before =
-    or_earlier (continued m breaks instant before) (mark_of store (entered m store breaks instant))
-
 -- ---- why
 
 -- why a known break that isn't filled isn't
-abbrev pub why_said : Said → List ℕ → ℕ → Bool → Store → Why
+abbrev pub why_said : Described → List ℕ → ℕ → Bool → Store → Why
 why_said said id target mapped store =
     if is_none said.start then NoStart
-    else (if not (is_leaving said.out) then NotSignalled
+    else (if not (is_leaving said.scte35_out) then NotSignalled
     else (if is_none (pod_for store id) then NotDecided
     else (if not (fits store id target mapped) then DoesNotFit else Waiting)))
 
-abbrev pub why_known : Option Said → List ℕ → ℕ → Bool → Store → Why
+abbrev pub why_known : Option Described → List ℕ → ℕ → Bool → Store → Why
 why_known None id target mapped store = NotKnown
 why_known (Some said) id target mapped store = why_said said id target mapped store
 

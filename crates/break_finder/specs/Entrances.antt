@@ -1,8 +1,6 @@
 -- The breaks that can be entered while the store, the target and the sections of segments stay as they are.
 use Rattle.std.specs.Prelude.{◌≡◌, ℕ, Bool, true, false, not, ◌&&◌, List, [], ◌∷◌, find, ℤ, int_le, int_lt, Option, Some, None, option_map, if◌then◌else◌}
-use Rattle.std.specs.Option.{option_or}
-use Rattle.playlist_meaning.specs.Pods.{Pod}
-use Rattle.pod_store.specs.Pods.{total, pod_fits}
+use Rattle.pod_store.specs.Pods.{Pod, total, pod_fits}
 use Rattle.pod_store.specs.Store.{Store, pod_for}
 use Rattle.break_finder.specs.Signals.{is_leaving}
 use Rattle.break_finder.specs.Breaks.{Break, End, end_of, is_not_past, is_near}
@@ -20,7 +18,7 @@ entrance_id e = e.id
 -- of a break that starts at this instant and has this pod
 abbrev pub entrance_at : ℕ → Bool → Break → ℤ → Pod → Option Entrance
 entrance_at target mapped b start pod =
-    if is_leaving b.said.out && pod_fits target mapped pod
+    if is_leaving b.said.scte35_out && pod_fits target mapped pod
     then Some (record { id = b.id; start = start; end = end_of b.said (total pod) })
     else None
 
@@ -53,12 +51,8 @@ taken tolerance last instant found = option_map entrance_id (find (is_entered to
 
 -- ---- spans
 
--- a segment at this instant enters the break, whichever was entered last
-abbrev pub is_enterable : ℕ → ℤ → Entrance → Bool
-is_enterable tolerance instant e = is_near instant tolerance (Some e.start) && is_not_past instant tolerance e.end
-
 -- time from an instant up to another, with the first break that is entered in it, and the first that is another
-pub record Span : Type 0 where
+pub record TimeSpan : Type 0 where
   pub from : ℤ
   pub to : ℤ
   pub first : Option (List ℕ)
@@ -67,7 +61,7 @@ pub record Span : Type 0 where
 abbrev pub is_within : ℤ → ℤ → ℤ → Bool
 is_within from to instant = int_le from instant && int_lt instant to
 
-abbrev pub is_in : Span → ℤ → Bool
+abbrev pub is_in : TimeSpan → ℤ → Bool
 is_in span instant = is_within span.from span.to instant
 
 abbrev pub is_last : Option (List ℕ) → Option (List ℕ) → Bool
@@ -78,13 +72,8 @@ is_last (Some id) last = is_this id last
 abbrev pub but : Option (List ℕ) → Option (List ℕ) → Option (List ℕ) → Option (List ℕ)
 but first second last = if is_last first last then second else first
 
--- of breaks with this first and first other, and later ones with those, the first other
-abbrev pub second_of : Option (List ℕ) → Option (List ℕ) → Option (List ℕ) → Option (List ℕ) → Option (List ℕ)
-second_of None second later_first later_second = later_second
-second_of (Some id) second later_first later_second = option_or second (but later_first later_second (Some id))
-
 -- at each instant in the span it tells which of these is entered, after whichever was entered last
-abbrev pub Tells : ℕ → List Entrance → Span → Type 0
+abbrev pub Tells : ℕ → List Entrance → TimeSpan → Type 0
 Tells tolerance found span =
     (instant : ℤ) (last : Option (List ℕ)) → is_in span instant ≡ true → taken tolerance last instant found ≡ but span.first span.second last
 

@@ -6,4 +6,4 @@ pub mod Entrances
 pub mod Laws
 pub mod Kept
 pub mod Ends
-pub mod Rows
+pub mod Inner

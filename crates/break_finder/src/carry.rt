@@ -3,13 +3,15 @@ ghost use Rattle.std.specs.Prelude.{◌≡◌, ◌||◌, ℕ, List, map, filter,
 ghost use Rattle.std.specs.List.{list_any};
 ghost use Rattle.std.specs.Option.{option_copied};
 ghost use Rattle.indexmap.specs.IndexMap.{IsUnique};
-ghost use Rattle.break_finder.specs.Kept.{break_at, kept_for, said_or_nothing, has_text, stands_with, is_kept_with};
-ghost use Rattle.break_finder.specs.Known.{break_stands, is_tag_of, is_this, with_tag};
+ghost use Rattle.break_finder.specs.Kept.{break_at};
+ghost use Rattle.break_finder.specs.Inner.Kept.{kept_for, said_or_nothing, has_text, stands_with, is_kept_with};
+ghost use Rattle.break_finder.specs.Known.{is_tag_of, is_this};
+ghost use Rattle.break_finder.specs.Inner.Known.{break_stands, with_tag};
 
+use crate::described::{Described, and_tag, nothing_said};
 use crate::kept::kept_for;
-use crate::said::{Said, and_tag, nothing_said};
 use indexmap::{IndexMap, IndexSet};
-use playlist_meaning::DateRange;
+use playlist_model::DateRange;
 use std::alloc::{AllocError, Global};
 
 fn is_this(id: &str, other: Option<&str>) -> bool
@@ -55,19 +57,23 @@ fn stands_with(ids: &IndexSet<&str>, carried: Option<&str>, id: &str) -> bool
 }
 
 // Forgets the breaks that are none of these IDs and are not carried.
-fn keep_standing(kept: &mut IndexMap<String, Said>, ids: &IndexSet<&str>, carried: Option<&str>)
+fn keep_standing(
+    kept: &mut IndexMap<String, Described>,
+    ids: &IndexSet<&str>,
+    carried: Option<&str>,
+)
     ensures standing { kept.new.entries ≡ filter (is_kept_with ids.now.keys (option_copied carried.entry)) kept.old.entries }
     ensures unique { IsUnique string_eq kept.new }
 {
     kept.retain(
-        |id: &String, said: &mut Said| -> bool
+        |id: &String, said: &mut Described| -> bool
             ensures { (result ≡ stands_with ids.entry.now.keys (option_copied carried.entry) (string_bytes id.now)) × (said.new ≡ said.old) }
         { stands_with(ids, carried, id.as_str()) },
     );
 }
 
 // What is said of a break so far.
-fn said_so_far(breaks: &IndexMap<String, Said>, id: &str) -> Said
+fn said_so_far(breaks: &IndexMap<String, Described>, id: &str) -> Described
     ensures { result ≡ said_or_nothing (kept_for id.now breaks.now.entries) }
 {
     match kept_for(breaks, id) {
@@ -79,7 +85,7 @@ fn said_so_far(breaks: &IndexMap<String, Said>, id: &str) -> Said
 // A tag of a break that is known says more of it; another break is known from now on.
 fn add_tag(
     alloc: Global,
-    breaks: &mut IndexMap<String, Said>,
+    breaks: &mut IndexMap<String, Described>,
     tag: &DateRange,
 ) -> Result<(), AllocError>
     ensures { OnOk result (map break_at breaks.new.entries ≡ with_tag (map break_at breaks.old.entries) tag.now) }
@@ -94,7 +100,7 @@ fn add_tag(
 /// The breaks with what these tags say.
 pub fn add_tags(
     alloc: Global,
-    breaks: &mut IndexMap<String, Said>,
+    breaks: &mut IndexMap<String, Described>,
     date_ranges: &[DateRange],
 ) -> Result<(), AllocError>
     ensures { OnOk result (map break_at breaks.new.entries ≡ fold with_tag (map break_at breaks.old.entries) date_ranges.now) }
@@ -110,10 +116,10 @@ pub fn add_tags(
 /// Copies of the breaks that stand in these tags, or are carried.
 pub fn standing(
     alloc: Global,
-    breaks: &IndexMap<String, Said>,
+    breaks: &IndexMap<String, Described>,
     date_ranges: &[DateRange],
     carried: Option<&str>,
-) -> Result<IndexMap<String, Said>, AllocError>
+) -> Result<IndexMap<String, Described>, AllocError>
     ensures standing { IfOk result (λ kept. map break_at kept.entries ≡ filter (break_stands date_ranges.now (option_copied carried.entry)) (map break_at breaks.now.entries)) }
     ensures unique { IfOk result (IsUnique string_eq) }
 {

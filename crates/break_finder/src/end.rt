@@ -4,10 +4,10 @@ ghost use Rattle.break_finder.specs.Breaks.{at, closed, end_after, end_of, is_be
 ghost use Rattle.break_finder.specs.Signals.{ticks_nanos, signal_nanos, is_returning};
 ghost use Rattle.break_finder.specs.Ends.{end_view};
 
-use crate::said::{Said, is_returning};
+use crate::described::{Described, is_returning};
 use crate::signal::Signal;
 use fixed_duration::Nanos;
-use playlist_meaning::Instant;
+use playlist_model::Instant;
 
 /// Where a break ends.
 #[derive(Clone, Copy)]
@@ -84,14 +84,14 @@ fn closed_end(back: Option<Signal>) -> Option<End>
 }
 
 /// Where a break ends whose pod lasts this long: the first end that is known.
-pub fn end_of(said: &Said, total: Nanos) -> Option<End>
+pub fn end_of(said: &Described, total: Nanos) -> Option<End>
     ensures { option_map end_view result ≡ end_of said.now total }
 {
     stated_end(said.end)
         .or(end_after(said.start, said.duration))
-        .or(closed_end(said.back))
-        .or(end_after(said.start, said.planned))
-        .or(end_after_signal(said.start, said.out))
+        .or(closed_end(said.scte35_in))
+        .or(end_after(said.start, said.planned_duration))
+        .or(end_after_signal(said.start, said.scte35_out))
         .or(end_after(said.start, Some(total)))
 }
 

@@ -8,12 +8,12 @@ ghost use Rattle.break_finder.specs.Kept.{break_at};
 ghost use Rattle.break_finder.specs.Entering.{entered};
 ghost use Rattle.break_finder.specs.Entrances.{entrances_in, taken, Tells};
 
+use crate::described::Described;
 use crate::entrance::{Entrance, entrance_of, first_entered};
-use crate::said::Said;
-use crate::spans::{Span, place_of, span_at, spans_of};
+use crate::spans::{TimeSpan, place_of, span_at, spans_of};
 use fixed_duration::Nanos;
 use indexmap::IndexMap;
-use playlist_meaning::Instant;
+use playlist_model::Instant;
 use pod_store::PodStore;
 use std::alloc::{AllocError, Global};
 use std::marker::Model;
@@ -28,7 +28,7 @@ const FEW_SEGMENTS: usize = 64;
 pub struct Entrances<'a> {
     tolerance: Nanos,
     list: Vec<Entrance<'a>>,
-    spans: Vec<Span<'a>>,
+    spans: Vec<TimeSpan<'a>>,
     // That of the span found last.
     place: usize,
 }
@@ -50,7 +50,7 @@ fn spans_for<'a>(
     tolerance: Nanos,
     list: &[Entrance<'a>],
     segments: usize,
-) -> Result<Vec<Span<'a>>, AllocError>
+) -> Result<Vec<TimeSpan<'a>>, AllocError>
     ensures { IfOk result (λ v. All (Tells tolerance list.now) v.items) }
 {
     if segments < FEW_SEGMENTS {
@@ -65,7 +65,7 @@ fn listed<'a>(
     target: u64,
     mapped: bool,
     store: &PodStore,
-    breaks: &'a IndexMap<String, Said>,
+    breaks: &'a IndexMap<String, Described>,
 ) -> Result<Vec<Entrance<'a>>, AllocError>
     ensures { IfOk result (λ v. v.items ≡ entrances_in target mapped store.now (map break_at breaks.now.entries)) }
 {
@@ -85,7 +85,7 @@ pub fn entrances_of<'a>(
     target: u64,
     mapped: bool,
     store: &PodStore,
-    breaks: &'a IndexMap<String, Said>,
+    breaks: &'a IndexMap<String, Described>,
     segments: usize,
 ) -> Result<Entrances<'a>, AllocError>
     ensures { IfOk result (λ found. found ≡ record { tolerance = tolerance; found = entrances_in target mapped store.now (map break_at breaks.now.entries) }) }
@@ -120,7 +120,7 @@ impl<'a> Entrances<'a> {
     pub fn entered(&mut self, instant: Option<Instant>, last: Option<&str>) -> Option<&'a str>
         ensures entered { (target : ℕ) → (mapped : Bool) → (store : Store) → (breaks : List Break)
             → self.old.found ≡ entrances_in target mapped store breaks
-            → option_map (λ id. id.now) result ≡ entered (record { tolerance = self.old.tolerance; target = target; mapped = mapped; last = option_copied last.entry }) store breaks instant }
+            → option_map (λ id. id.now) result ≡ entered (record { tolerance = self.old.tolerance; target_duration = target; mapped = mapped; last = option_copied last.entry }) store breaks instant }
         ensures kept { self.new ≡ self.old }
     {
         match instant {

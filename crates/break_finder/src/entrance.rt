@@ -5,10 +5,10 @@ ghost use Rattle.pod_store.specs.Store.{pod_for};
 ghost use Rattle.break_finder.specs.Known.{is_this};
 ghost use Rattle.break_finder.specs.Entrances.{entrance_of, is_entered, taken};
 
+use crate::described::{Described, is_leaving};
 use crate::end::{End, end_of, is_near, is_not_past};
-use crate::said::{Said, is_leaving};
 use fixed_duration::Nanos;
-use playlist_meaning::Instant;
+use playlist_model::Instant;
 use pod_store::PodStore;
 use std::marker::Model;
 
@@ -62,12 +62,12 @@ pub fn entrance_of<'a>(
     mapped: bool,
     store: &PodStore,
     id: &'a str,
-    said: &Said,
+    said: &Described,
 ) -> Option<Entrance<'a>>
     ensures { result ≡ entrance_of target mapped (record { id = id.now; said = said.now }) (pod_for store.now id.now) }
 {
     let start = said.start?;
-    if !is_leaving(said.out) {
+    if !is_leaving(said.scte35_out) {
         return None;
     }
     let pod = store.pod_for(id)?;

@@ -10,19 +10,24 @@ ghost use Rattle.break_finder.specs.Entering.{is_inside, is_inside_said, id_of, 
 ghost use Rattle.break_finder.specs.Signals.{is_leaving};
 
 use crate::carry::{add_tags, standing};
+use crate::described::{Described, is_leaving};
 use crate::end::{end_of, is_before_end};
 use crate::entering::{Entrances, entrances_of};
 use crate::kept::kept_for;
-use crate::said::{Said, is_leaving};
 use crate::why::Why;
 use fixed_duration::Nanos;
 use indexmap::IndexMap;
-use playlist_meaning::{Instant, Playlist};
+use playlist_model::{Instant, Playlist};
 use pod_store::{Pod, PodStore};
 use std::alloc::{AllocError, Global};
 use std::marker::Model;
 
-fn is_inside_said(instant: Option<Instant>, tolerance: Nanos, pod: &Pod, said: Option<Said>) -> bool
+fn is_inside_said(
+    instant: Option<Instant>,
+    tolerance: Nanos,
+    pod: &Pod,
+    said: Option<Described>,
+) -> bool
     ensures { result ≡ is_inside_said instant tolerance pod.now said }
 {
     let Some(instant) = instant else {
@@ -34,13 +39,13 @@ fn is_inside_said(instant: Option<Instant>, tolerance: Nanos, pod: &Pod, said: O
     }
 }
 
-fn why_said(said: &Said, id: &str, target: u64, mapped: bool, store: &PodStore) -> Why
+fn why_said(said: &Described, id: &str, target: u64, mapped: bool, store: &PodStore) -> Why
     ensures { result ≡ why_said said.now id.now target mapped store.now }
 {
     if said.start.is_none() {
         return Why::NoStart;
     }
-    if !is_leaving(said.out) {
+    if !is_leaving(said.scte35_out) {
         return Why::NotSignalled;
     }
     if store.pod_for(id).is_none() {
@@ -55,7 +60,7 @@ fn why_said(said: &Said, id: &str, target: u64, mapped: bool, store: &PodStore) 
 /// The known breaks, in the order in which they became known.
 #[derive(Drop)]
 pub struct Knowledge {
-    breaks: IndexMap<String, Said>,
+    breaks: IndexMap<String, Described>,
 }
 
 impl Model for Knowledge {
@@ -79,7 +84,7 @@ impl Knowledge {
         }
     }
 
-    fn said(&self, id: &str) -> Option<Said>
+    fn said(&self, id: &str) -> Option<Described>
         ensures { result ≡ said_of self.now id.now }
     {
         kept_for(&self.breaks, id)
@@ -118,7 +123,7 @@ impl Knowledge {
 
     /// The breaks that can be entered, in the order of the IDs, by this tolerance: each is signalled and decided, and its
     /// pod fits. They are made for about so many segments, which changes what they take and nothing else. Fails only
-    /// where memory is refused.
+    /// where an allocation fails.
     pub fn entrances(
         &self,
         alloc: Global,
@@ -143,7 +148,7 @@ impl Knowledge {
 
     /// What is known after a refresh, where this is known before it, and the newest segment of the refresh before
     /// is marked with this break. A break that stands in neither is forgotten; of each attribute the first value
-    /// stays; the breaks that come new stand last, by their first tags. Fails only where memory is refused.
+    /// stays; the breaks that come new stand last, by their first tags. Fails only where an allocation fails.
     pub fn carry(
         &self,
         alloc: Global,

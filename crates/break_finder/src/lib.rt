@@ -3,17 +3,17 @@
 #![tactic(auto)]
 
 mod carry;
+mod described;
 mod end;
 mod entering;
 mod entrance;
 mod kept;
 mod knowledge;
 pub mod laws;
-mod rows;
-mod said;
 mod signal;
 mod spans;
 mod why;
+mod worked_examples;
 
 pub use entering::Entrances;
 pub use knowledge::Knowledge;

@@ -4,30 +4,31 @@ ghost use Rattle.std.specs.List.{All};
 ghost use Rattle.std.specs.Option.{option_copied, option_or};
 ghost use Rattle.break_finder.specs.Breaks.{is_near, is_not_past};
 ghost use Rattle.break_finder.specs.Ends.{end_view};
-ghost use Rattle.break_finder.specs.Entrances.{Entrance, is_enterable, but, second_of, is_in, is_within, Tells};
+ghost use Rattle.break_finder.specs.Entrances.{Entrance, but, is_in, is_within, Tells};
+ghost use Rattle.break_finder.specs.Inner.Entrances.{is_enterable, second_of};
 
 use crate::end::End;
 use crate::entrance::{Entrance, is_last};
 use fixed_duration::Nanos;
-use playlist_meaning::Instant;
+use playlist_model::Instant;
 use std::alloc::{AllocError, Global};
 use std::marker::Model;
 
 /// Time from an instant up to another, which is no part of it, in nanoseconds from 1970. Of the breaks that can be
 /// entered in it the IDs of the first, and of the first that is another.
 #[derive(Drop)]
-pub struct Span<'a> {
+pub struct TimeSpan<'a> {
     from: i128,
     to: i128,
     first: Option<&'a str>,
     second: Option<&'a str>,
 }
 
-impl<'a> Model for Span<'a> {
+impl<'a> Model for TimeSpan<'a> {
     ghost use Rattle.std.specs.Option.{option_copied};
-    ghost use Rattle.break_finder.specs.Entrances.{Span};
+    ghost use Rattle.break_finder.specs.Entrances.{TimeSpan};
 
-    ghost Value = { Span };
+    ghost Value = { TimeSpan };
 
     ghost view = { λ a. record { from = a.from; to = a.to; first = option_copied a.first; second = option_copied a.second } };
 }
@@ -63,7 +64,7 @@ fn second_of<'a>(
     but(their_first, their_second, our_first)
 }
 
-impl<'a> Span<'a> {
+impl<'a> TimeSpan<'a> {
     // Whether an instant, in nanoseconds from 1970, is in it.
     fn holds(&self, instant: i128) -> bool
         ensures { result ≡ is_in self.now instant }
@@ -80,7 +81,7 @@ impl<'a> Span<'a> {
 }
 
 // What two spans have in common, where the breaks of the one come before those of the other.
-fn met<'a>(ours: &Span<'a>, theirs: &Span<'a>) -> Span<'a>
+fn met<'a>(ours: &TimeSpan<'a>, theirs: &TimeSpan<'a>) -> TimeSpan<'a>
     ensures from_ours { ours.now.from ≤ℤ result.from }
     ensures from_theirs { theirs.now.from ≤ℤ result.from }
     ensures to_ours { result.to ≤ℤ ours.now.to }
@@ -88,7 +89,7 @@ fn met<'a>(ours: &Span<'a>, theirs: &Span<'a>) -> Span<'a>
     ensures first { result.first ≡ option_or ours.now.first theirs.now.first }
     ensures second { result.second ≡ second_of ours.now.first ours.now.second theirs.now.first theirs.now.second }
 {
-    Span {
+    TimeSpan {
         from: ours.from.max(theirs.from),
         to: ours.to.min(theirs.to),
         first: ours.first.or(theirs.first),
@@ -97,7 +98,7 @@ fn met<'a>(ours: &Span<'a>, theirs: &Span<'a>) -> Span<'a>
 }
 
 // These spans, but the first one where it ends here or before.
-fn from_here<'s, 'a>(spans: &'s [Span<'a>], end: i128) -> &'s [Span<'a>]
+fn from_here<'s, 'a>(spans: &'s [TimeSpan<'a>], end: i128) -> &'s [TimeSpan<'a>]
     ensures { (tolerance : ℕ) (found : List Entrance) → All (Tells tolerance found) spans.now → All (Tells tolerance found) result.now }
 {
     match spans.split_first() {
@@ -114,9 +115,9 @@ fn from_here<'s, 'a>(spans: &'s [Span<'a>], end: i128) -> &'s [Span<'a>]
 // The spans of breaks and of others that come after these, of those of each.
 fn joined<'a>(
     alloc: Global,
-    ours: &[Span<'a>],
-    theirs: &[Span<'a>],
-) -> Result<Vec<Span<'a>>, AllocError>
+    ours: &[TimeSpan<'a>],
+    theirs: &[TimeSpan<'a>],
+) -> Result<Vec<TimeSpan<'a>>, AllocError>
     ensures { IfOk result (λ v. (tolerance : ℕ) (before after : List Entrance) → All (Tells tolerance before) ours.now → All (Tells tolerance after) theirs.now → All (Tells tolerance (before ++ after)) v.items) }
 {
     let most = ours.len().saturating_add(theirs.len());
@@ -175,10 +176,10 @@ fn closing(start: Instant, tolerance: Nanos, end: Option<End>) -> i128
 }
 
 // A span in which none is entered.
-fn closed_span<'a>(from: i128, to: i128) -> Span<'a>
+fn closed_span<'a>(from: i128, to: i128) -> TimeSpan<'a>
     ensures { result ≡ record { from = from; to = to; first = None; second = None } }
 {
-    Span {
+    TimeSpan {
         from,
         to,
         first: None,
@@ -187,13 +188,13 @@ fn closed_span<'a>(from: i128, to: i128) -> Span<'a>
 }
 
 // The span in which a break can be entered.
-fn open_span<'a>(tolerance: Nanos, entrance: &Entrance<'a>) -> Span<'a>
+fn open_span<'a>(tolerance: Nanos, entrance: &Entrance<'a>) -> TimeSpan<'a>
     ensures from { result.from ≡ entrance.now.start -ℤ pos tolerance }
     ensures window { (instant : ℤ) → is_enterable tolerance instant entrance.now ≡ is_in result instant }
     ensures first { result.first ≡ Some entrance.now.id }
     ensures second { result.second ≡ None }
 {
-    Span {
+    TimeSpan {
         from: opening(entrance.start, tolerance),
         to: closing(entrance.start, tolerance, entrance.end),
         first: Some(entrance.id),
@@ -206,7 +207,7 @@ fn spans_of_one<'a>(
     alloc: Global,
     tolerance: Nanos,
     entrance: &Entrance<'a>,
-) -> Result<Vec<Span<'a>>, AllocError>
+) -> Result<Vec<TimeSpan<'a>>, AllocError>
     ensures { IfOk result (λ v. All (Tells tolerance (entrance.now ∷ [])) v.items) }
 {
     let within = open_span(tolerance, entrance);
@@ -224,7 +225,7 @@ pub fn spans_of<'a>(
     alloc: Global,
     tolerance: Nanos,
     list: &[Entrance<'a>],
-) -> Result<Vec<Span<'a>>, AllocError>
+) -> Result<Vec<TimeSpan<'a>>, AllocError>
     ensures { IfOk result (λ v. All (Tells tolerance list.now) v.items) }
 {
     let Some(first) = list.first() else {
@@ -240,20 +241,20 @@ pub fn spans_of<'a>(
 }
 
 /// The place of the span that an instant is in, which often is this one.
-pub fn place_of(spans: &[Span<'_>], place: usize, instant: Instant) -> usize {
+pub fn place_of(spans: &[TimeSpan<'_>], place: usize, instant: Instant) -> usize {
     let instant = i128::from(instant.0);
     match spans.get(place) {
         Some(span) if span.holds(instant) => place,
-        _ => spans.partition_point(|span: &Span<'_>| -> bool { span.to <= instant }),
+        _ => spans.partition_point(|span: &TimeSpan<'_>| -> bool { span.to <= instant }),
     }
 }
 
 /// The span at this place, where the instant is in it.
 pub fn span_at<'s, 'a>(
-    spans: &'s [Span<'a>],
+    spans: &'s [TimeSpan<'a>],
     place: usize,
     instant: Instant,
-) -> Option<&'s Span<'a>>
+) -> Option<&'s TimeSpan<'a>>
     ensures inside { IfSome result (λ span. is_in span.now instant ≡ true) }
     ensures tells { (tolerance : ℕ) (found : List Entrance) → All (Tells tolerance found) spans.now → IfSome result (λ span. Tells tolerance found span.now) }
 {

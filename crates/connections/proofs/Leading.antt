@@ -1,15 +1,15 @@
 -- What leads from one table to another.
 use Rattle.std.proofs.Common.{◌≡◌, List, [], ◌∷◌, ◌++◌, refl, sym, subst}
-use Rattle.connections.specs.Table.{State, Event, Happens}
+use Rattle.connections.specs.Table.{State, ClientEvent, Happens}
 use Rattle.connections.specs.Runs.{IsRun, HasRun}
 
 pub stays : (old new : State) → new ≡ old → HasRun old new
 stays old new e = record { events = []; run = e }
 
-pub by_one : (old new : State) (e : Event) → Happens old e new → HasRun old new
+pub by_one : (old new : State) (e : ClientEvent) → Happens old e new → HasRun old new
 by_one old new e h = record { events = e ∷ []; run = (old, refl, h) }
 
-joined : (first middle : State) (before : List Event) → IsRun first before middle → (last : State) (events : List Event) → IsRun middle events last
+joined : (first middle : State) (before : List ClientEvent) → IsRun first before middle → (last : State) (events : List ClientEvent) → IsRun middle events last
     → IsRun first (events ++ before) last
 joined first middle before b last [] h = subst (IsRun first before) (sym h) b
 joined first middle before b last (e ∷ events) h = (h.0, joined first middle before b h.0 events h.1, h.2)

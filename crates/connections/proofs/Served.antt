@@ -5,11 +5,11 @@ use Rattle.std.proofs.lemmas.Bool.{eqb-false}
 use Rattle.std.proofs.lemmas.List.{append-nil, drop-drop}
 use Rattle.http_messages.specs.Requests.{IsUnfinished}
 use Rattle.http_messages.proofs.Fronts.{nothing_yet}
-use Rattle.live_edge.specs.Served.{IsServed}
+use Rattle.http_edge.specs.Served.{IsServed}
 use Rattle.connections.specs.declared.conversation.Conversation.{Conversation}
 use Rattle.connections.specs.declared.conversation.Conversation.TheVariants.{Asking, Answering}
 use Rattle.connections.specs.Conversing.{Goes}
-use Rattle.connections.specs.Table.{State, at, left_of, taken_of, Event, came, gave, took, went, Puts, GoesOn, Happens}
+use Rattle.connections.specs.Table.{State, at, left_of, taken_of, ClientEvent, came, gave, took, went, Puts, GoesOn, Happens}
 use Rattle.connections.specs.Runs.{visits, said, taken, Service, InTurn, AreOf, IsAsking, HasReply, StandsAt, IsRun, IsServedRun}
 
 -- ---- places
@@ -34,7 +34,7 @@ by_place P k here there place = split (k == place) refl where
 
 -- ---- what doesn't concern a place
 
-more_services : (place : ℕ) (events : List Event) (s : Service) (services : List Service) (c : Option Conversation) → StandsAt place events services c
+more_services : (place : ℕ) (events : List ClientEvent) (s : Service) (services : List Service) (c : Option Conversation) → StandsAt place events services c
     → StandsAt place events (s ∷ services) c
 more_services place events s services None h = tt
 more_services place events s services (Some (Asking bytes pieces)) h = h
@@ -50,7 +50,7 @@ more_services place events s services (Some (Answering rest status)) h = record 
 }
 
 -- where an event leaves what was said, taken and visited
-carried : (place : ℕ) (now before : List Event) (services : List Service) (c : Option Conversation) → visits place now ≡ visits place before
+carried : (place : ℕ) (now before : List ClientEvent) (services : List Service) (c : Option Conversation) → visits place now ≡ visits place before
     → said place now ≡ said place before → taken place now ≡ taken place before → StandsAt place before services c → StandsAt place now services c
 carried place now before services None v s t h = tt
 carried place now before services (Some (Asking bytes pieces)) v s t h =
@@ -66,13 +66,13 @@ carried place now before services (Some (Answering rest status)) v s t h = recor
   rest_is = h.rest_is ∙ ap (λ n. drop n h.service.text) (sym t);
 }
 
-moved : (place : ℕ) (events : List Event) (services : List Service) (old new : Option Conversation) → new ≡ old → StandsAt place events services old
+moved : (place : ℕ) (events : List ClientEvent) (services : List Service) (old new : Option Conversation) → new ≡ old → StandsAt place events services old
     → StandsAt place events services new
 moved place events services old new e h = subst (StandsAt place events services) (sym e) h
 
 -- ---- a client comes
 
-on_came : (first middle last : State) (k : ℕ) (before : List Event) → IsServedRun first before middle → Happens middle (came k) last
+on_came : (first middle last : State) (k : ℕ) (before : List ClientEvent) → IsServedRun first before middle → Happens middle (came k) last
     → IsServedRun first (came k ∷ before) last
 on_came first middle last k before run h =
     let events = came k ∷ before in record {
@@ -89,7 +89,7 @@ on_came first middle last k before run h =
 
 -- ---- a client goes
 
-on_went : (first middle last : State) (k : ℕ) (before : List Event) → IsServedRun first before middle → Happens middle (went k) last
+on_went : (first middle last : State) (k : ℕ) (before : List ClientEvent) → IsServedRun first before middle → Happens middle (went k) last
     → IsServedRun first (went k ∷ before) last
 on_went first middle last k before run h =
     let events = went k ∷ before in record {
@@ -105,7 +105,7 @@ on_went first middle last k before run h =
 
 -- ---- a client takes
 
-took_here : (k count : ℕ) (before : List Event) (services : List Service) (c : Option Conversation) → count ≤ length (left_of c) → StandsAt k before services c
+took_here : (k count : ℕ) (before : List ClientEvent) (services : List Service) (c : Option Conversation) → count ≤ length (left_of c) → StandsAt k before services c
     → StandsAt k (took k count ∷ before) services (taken_of count c)
 took_here k count before services None le h = tt
 took_here k count before services (Some (Asking bytes pieces)) le h = record {
@@ -126,7 +126,7 @@ took_here k count before services (Some (Answering rest status)) le h = record {
       ∙ ap (λ n. drop n h.service.text) (sym (chosen (k == k) (taken k before + count) (taken k before) (same k)));
 }
 
-on_took : (first middle last : State) (k count : ℕ) (before : List Event) → IsServedRun first before middle → Happens middle (took k count) last
+on_took : (first middle last : State) (k count : ℕ) (before : List ClientEvent) → IsServedRun first before middle → Happens middle (took k count) last
     → IsServedRun first (took k count ∷ before) last
 on_took first middle last k count before run h =
     let events = took k count ∷ before in record {
@@ -142,15 +142,15 @@ on_took first middle last k count before run h =
 
 -- ---- a client gives
 
-said_here : (k : ℕ) (piece : List ℕ) (before : List Event) → said k (gave k piece ∷ before) ≡ said k before ++ piece
+said_here : (k : ℕ) (piece : List ℕ) (before : List ClientEvent) → said k (gave k piece ∷ before) ≡ said k before ++ piece
 said_here k piece before = chosen (k == k) (said k before ++ piece) (said k before) (same k)
 
-still_of : (k : ℕ) (piece : List ℕ) (before : List Event) (services : List Service) → AreOf before services → AreOf (gave k piece ∷ before) services
+still_of : (k : ℕ) (piece : List ℕ) (before : List ClientEvent) (services : List Service) → AreOf before services → AreOf (gave k piece ∷ before) services
 still_of k piece before [] a = a
 still_of k piece before (s ∷ earlier) a = inl a
 
 -- another place
-given_there : (k : ℕ) (piece : List ℕ) (before : List Event) (services : List Service) (middle last : State) (it : Option Conversation) → Puts middle last k it
+given_there : (k : ℕ) (piece : List ℕ) (before : List ClientEvent) (services : List Service) (middle last : State) (it : Option Conversation) → Puts middle last k it
     → ((place : ℕ) → StandsAt place before services (at middle place)) → (place : ℕ) → (k == place) ≡ false
     → StandsAt place (gave k piece ∷ before) services (at last place)
 given_there k piece before services middle last it puts each place e =
@@ -158,7 +158,7 @@ given_there k piece before services middle last it puts each place e =
     (carried place (gave k piece ∷ before) before services (at middle place) refl (left (k == place) (said place before ++ piece) (said place before) e) refl (each place))
 
 -- nothing is served by it
-unserved : (first middle last : State) (k : ℕ) (piece : List ℕ) (before : List Event) (it : Option Conversation) (run : IsServedRun first before middle)
+unserved : (first middle last : State) (k : ℕ) (piece : List ℕ) (before : List ClientEvent) (it : Option Conversation) (run : IsServedRun first before middle)
     → Puts middle last k it → last.edge ≡ middle.edge → StandsAt k (gave k piece ∷ before) run.services it
     → IsServedRun first (gave k piece ∷ before) last
 unserved first middle last k piece before it run puts edge here = record {
@@ -172,7 +172,7 @@ unserved first middle last k piece before it run puts edge here = record {
 }
 
 -- it makes the request whole
-newly : (first middle last : State) (k : ℕ) (piece : List ℕ) (before : List Event) (bytes rest : List ℕ) (status : ℕ) (run : IsServedRun first before middle)
+newly : (first middle last : State) (k : ℕ) (piece : List ℕ) (before : List ClientEvent) (bytes rest : List ℕ) (status : ℕ) (run : IsServedRun first before middle)
     → IsAsking k before bytes → IsServed (bytes ++ piece) middle.edge last.edge rest status → Puts middle last k (Some (Answering rest status))
     → IsServedRun first (gave k piece ∷ before) last
 newly first middle last k piece before bytes rest status run asks served puts =
@@ -202,7 +202,7 @@ newly first middle last k piece before bytes rest status run asks served puts =
           (given_there k piece before run.services middle last (Some (Answering rest status)) puts run.each place e));
     }
 
-to_asking : (first middle last : State) (k : ℕ) (piece : List ℕ) (before : List Event) (bytes : List ℕ) (pieces : ℕ) (run : IsServedRun first before middle)
+to_asking : (first middle last : State) (k : ℕ) (piece : List ℕ) (before : List ClientEvent) (bytes : List ℕ) (pieces : ℕ) (run : IsServedRun first before middle)
     → IsAsking k before bytes → (after : Conversation) → Goes (Asking bytes pieces) piece middle.edge last.edge after → Puts middle last k (Some after)
     → IsServedRun first (gave k piece ∷ before) last
 to_asking first middle last k piece before bytes pieces run stands (Asking more count) goes puts =
@@ -214,7 +214,7 @@ to_asking first middle last k piece before bytes pieces run stands (Asking more 
 to_asking first middle last k piece before bytes pieces run stands (Answering rest status) goes puts =
     newly first middle last k piece before bytes rest status run stands goes puts
 
-to_answering : (k : ℕ) (piece : List ℕ) (before : List Event) (services : List Service) (rest : List ℕ) (status : ℕ) → HasReply k before services rest status
+to_answering : (k : ℕ) (piece : List ℕ) (before : List ClientEvent) (services : List Service) (rest : List ℕ) (status : ℕ) → HasReply k before services rest status
     → HasReply k (gave k piece ∷ before) services rest status
 to_answering k piece before services rest status h = record {
   service = h.service;
@@ -227,7 +227,7 @@ to_answering k piece before services rest status h = record {
   rest_is = h.rest_is;
 }
 
-on_gave_at : (first middle last : State) (k : ℕ) (piece : List ℕ) (before : List Event) (c : Option Conversation) (run : IsServedRun first before middle)
+on_gave_at : (first middle last : State) (k : ℕ) (piece : List ℕ) (before : List ClientEvent) (c : Option Conversation) (run : IsServedRun first before middle)
     → StandsAt k before run.services c → GoesOn c middle k piece last → IsServedRun first (gave k piece ∷ before) last
 on_gave_at first middle last k piece before None run stands h = unserved first middle last k piece before None run h.0 h.1 tt
 on_gave_at first middle last k piece before (Some (Asking bytes pieces)) run stands h =
@@ -239,14 +239,14 @@ on_gave_at first middle last k piece before (Some (Answering rest status)) run s
 
 -- ---- all
 
-on_event : (first middle last : State) (e : Event) (before : List Event) → IsServedRun first before middle → Happens middle e last
+on_event : (first middle last : State) (e : ClientEvent) (before : List ClientEvent) → IsServedRun first before middle → Happens middle e last
     → IsServedRun first (e ∷ before) last
 on_event first middle last (came k) before run h = on_came first middle last k before run h
 on_event first middle last (gave k piece) before run h = on_gave_at first middle last k piece before (at middle k) run (run.each k) h
 on_event first middle last (took k count) before run h = on_took first middle last k count before run h
 on_event first middle last (went k) before run h = on_went first middle last k before run h
 
-pub served : (first last : State) (events : List Event) → ((place : ℕ) → at first place ≡ None) → IsRun first events last → IsServedRun first events last
+pub served : (first last : State) (events : List ClientEvent) → ((place : ℕ) → at first place ≡ None) → IsRun first events last → IsServedRun first events last
 served first last [] vacant h = record {
   services = [];
   turns = ap (λ (s : State). s.edge) h;

@@ -1,16 +1,16 @@
 -- Runs of any number of connections: what happens one after another, and what each one is answered.
 use Rattle.std.specs.Prelude.{◌≡◌, ℕ, ◌+◌, ◌==◌, List, [], ◌∷◌, ◌++◌, drop, Option, Some, None, if◌then◌else◌, ◌⊎◌}
 use Rattle.http_messages.specs.Requests.{IsUnfinished}
-use Rattle.live_edge.specs.Edges.{Kept}
-use Rattle.live_edge.specs.Served.{IsServed}
+use Rattle.http_edge.specs.Edges.{NamedChannel}
+use Rattle.http_edge.specs.Served.{IsServed}
 use Rattle.connections.specs.declared.conversation.Conversation.{Conversation}
 use Rattle.connections.specs.declared.conversation.Conversation.TheVariants.{Asking, Answering}
-use Rattle.connections.specs.Table.{State, at, Event, came, gave, took, went, Happens}
+use Rattle.connections.specs.Table.{State, at, ClientEvent, came, gave, took, went, Happens}
 
 -- ---- what happened at a place, of all that happened, the newest first
 
 -- how many clients came there
-abbrev pub visits : ℕ → List Event → ℕ
+abbrev pub visits : ℕ → List ClientEvent → ℕ
 visits place [] = 0
 visits place (came k ∷ before) = if k == place then visits place before + 1 else visits place before
 visits place (gave k piece ∷ before) = visits place before
@@ -18,7 +18,7 @@ visits place (took k count ∷ before) = visits place before
 visits place (went k ∷ before) = visits place before
 
 -- what the last of them said since it came
-abbrev pub said : ℕ → List Event → List ℕ
+abbrev pub said : ℕ → List ClientEvent → List ℕ
 said place [] = []
 said place (came k ∷ before) = if k == place then [] else said place before
 said place (gave k piece ∷ before) = if k == place then said place before ++ piece else said place before
@@ -26,7 +26,7 @@ said place (took k count ∷ before) = said place before
 said place (went k ∷ before) = said place before
 
 -- how many bytes it took of its reply
-abbrev pub taken : ℕ → List Event → ℕ
+abbrev pub taken : ℕ → List ClientEvent → ℕ
 taken place [] = 0
 taken place (came k ∷ before) = if k == place then 0 else taken place before
 taken place (gave k piece ∷ before) = taken place before
@@ -44,19 +44,19 @@ pub record Service : Type 0 where
   pub status : ℕ
 
 -- they are served one after the other, the newest first, each as `serve` serves a connection that says these bytes
-abbrev pub InTurn : List Kept → List Service → List Kept → Type 0
+abbrev pub InTurn : List NamedChannel → List Service → List NamedChannel → Type 0
 InTurn first [] last = last ≡ first
-InTurn first (s ∷ before) last = (middle : List Kept) × InTurn first before middle × IsServed s.bytes middle last s.text s.status
+InTurn first (s ∷ before) last = (middle : List NamedChannel) × InTurn first before middle × IsServed s.bytes middle last s.text s.status
 
 -- it is what this client has said with this piece, which was no whole request before
-pub record IsNewly (k : ℕ) (piece : List ℕ) (before : List Event) (s : Service) : Type 0 where
+pub record IsNewly (k : ℕ) (piece : List ℕ) (before : List ClientEvent) (s : Service) : Type 0 where
   pub place : s.place ≡ k
   pub visit : s.visit ≡ visits k before
   pub bytes : s.bytes ≡ said k before ++ piece
   pub unfinished : IsUnfinished (said k before)
 
 -- at most one is served at each piece that comes
-abbrev pub AreOf : List Event → List Service → Type 0
+abbrev pub AreOf : List ClientEvent → List Service → Type 0
 AreOf [] services = services ≡ []
 AreOf (came k ∷ before) services = AreOf before services
 AreOf (took k count ∷ before) services = AreOf before services
@@ -71,13 +71,13 @@ IsOneOf s (one ∷ more) = (s ≡ one) ⊎ IsOneOf s more
 -- ---- how a connection stands
 
 -- it said nothing that isn't a part of a request, and was sent nothing
-pub record IsAsking (place : ℕ) (events : List Event) (bytes : List ℕ) : Type 0 where
+pub record IsAsking (place : ℕ) (events : List ClientEvent) (bytes : List ℕ) : Type 0 where
   pub all : bytes ≡ said place events
   pub unfinished : IsUnfinished bytes
   pub untaken : taken place events ≡ 0
 
 -- it was served by what it said first itself, and is still owed all of that reply that it didn't take
-pub record HasReply (place : ℕ) (events : List Event) (services : List Service) (rest : List ℕ) (status : ℕ) : Type 0 where
+pub record HasReply (place : ℕ) (events : List ClientEvent) (services : List Service) (rest : List ℕ) (status : ℕ) : Type 0 where
   pub service : Service
   pub one : IsOneOf service services
   pub place_is : service.place ≡ place
@@ -87,24 +87,24 @@ pub record HasReply (place : ℕ) (events : List Event) (services : List Service
   pub status_is : status ≡ service.status
   pub rest_is : rest ≡ drop (taken place events) service.text
 
-abbrev pub StandsAt : ℕ → List Event → List Service → Option Conversation → Type 0
+abbrev pub StandsAt : ℕ → List ClientEvent → List Service → Option Conversation → Type 0
 StandsAt place events services None = Unit {0}
 StandsAt place events services (Some (Asking bytes pieces)) = IsAsking place events bytes
 StandsAt place events services (Some (Answering rest status)) = HasReply place events services rest status
 
 -- ---- runs
 
-abbrev pub IsRun : State → List Event → State → Type 0
+abbrev pub IsRun : State → List ClientEvent → State → Type 0
 IsRun first [] last = last ≡ first
 IsRun first (e ∷ before) last = (middle : State) × IsRun first before middle × Happens middle e last
 
 -- things that happen at places lead from one to the other
 pub record HasRun (old new : State) : Type 0 where
-  pub events : List Event
+  pub events : List ClientEvent
   pub run : IsRun old events new
 
 -- all that was served, in the order in which it became whole, and each connection by itself
-pub record IsServedRun (first : State) (events : List Event) (last : State) : Type 0 where
+pub record IsServedRun (first : State) (events : List ClientEvent) (last : State) : Type 0 where
   pub services : List Service
   pub turns : InTurn first.edge services last.edge
   pub pieces : AreOf events services
@@ -113,4 +113,4 @@ pub record IsServedRun (first : State) (events : List Event) (last : State) : Ty
 -- whatever happens, from no connections on
 abbrev pub ConnectionsAreServed : Type 0
 ConnectionsAreServed =
-    (first last : State) (events : List Event) → ((place : ℕ) → at first place ≡ None) → IsRun first events last → IsServedRun first events last
+    (first last : State) (events : List ClientEvent) → ((place : ℕ) → at first place ≡ None) → IsRun first events last → IsServedRun first events last

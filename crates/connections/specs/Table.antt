@@ -1,6 +1,6 @@
 -- The connections by their places, and what happens to them.
 use Rattle.std.specs.Prelude.{◌≡◌, ◌≢◌, ℕ, ◌≤◌, List, [], drop, length, slice_index_or, Option, Some, None, sum_by}
-use Rattle.live_edge.specs.Edges.{Kept}
+use Rattle.http_edge.specs.Edges.{NamedChannel}
 use Rattle.connections.specs.declared.conversation.Conversation.{Conversation}
 use Rattle.connections.specs.declared.conversation.Conversation.TheVariants.{Asking, Answering}
 use Rattle.connections.specs.declared.table.Phase.{Phase}
@@ -10,7 +10,7 @@ use Rattle.connections.specs.Conversing.{Goes}
 
 -- the edge, and each place: nobody, or a connection
 pub record State : Type 0 where
-  pub edge : List Kept
+  pub edge : List NamedChannel
   pub places : List (Option Conversation)
 
 abbrev pub at : State → ℕ → Option Conversation
@@ -40,15 +40,15 @@ phase_of (Some (Answering rest status)) = phase.Answering status
 
 -- ---- what happens
 
-pub data Event : Type 0 where
+pub data ClientEvent : Type 0 where
   -- a client came
-  came : ℕ → Event
+  came : ℕ → ClientEvent
   -- it gave its next bytes
-  gave : ℕ → List ℕ → Event
+  gave : ℕ → List ℕ → ClientEvent
   -- it took so many bytes of its reply
-  took : ℕ → ℕ → Event
+  took : ℕ → ℕ → ClientEvent
   -- it went, or was given up
-  went : ℕ → Event
+  went : ℕ → ClientEvent
 
 -- only this place is another, and it is this
 pub record Puts (old new : State) (place : ℕ) (it : Option Conversation) : Type 0 where
@@ -68,7 +68,7 @@ taken_of count (Some (Answering rest status)) = Some (Answering (drop count rest
 taken_of count None = None
 taken_of count (Some (Asking bytes pieces)) = Some (Asking bytes pieces)
 
-abbrev pub Happens : State → Event → State → Type 0
+abbrev pub Happens : State → ClientEvent → State → Type 0
 Happens old (came place) new = Puts old new place (Some (Asking [] 0)) × (new.edge ≡ old.edge)
 Happens old (gave place piece) new = GoesOn (at old place) old place piece new
 Happens old (took place count) new =

@@ -89,7 +89,7 @@ fn remove(arrivals: &mut Vec<Arrival>, place: usize)
 }
 
 impl Arrivals {
-    /// Nobody, and the memory for so many. Fails only where memory is refused.
+    /// Nobody, and the memory for so many. Fails only where an allocation fails.
     pub fn new(alloc: Global, most: usize) -> Result<Arrivals, AllocError>
         ensures { IfOk result (λ new. new ≡ []) }
     {
@@ -105,7 +105,7 @@ impl Arrivals {
         self.arrivals.len()
     }
 
-    /// One comes after the others. Fails only where memory is refused, and leaves them then.
+    /// One comes after the others. Fails only where an allocation fails, and leaves them then.
     pub fn came(&mut self, place: usize, until: Instant) -> Result<(), AllocError>
         ensures ok { OnOk result (self.new ≡ self.old ++ record { place = place; until = until } ∷ []) }
         ensures err { OnErr result (self.new ≡ self.old) }

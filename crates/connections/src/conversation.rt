@@ -1,10 +1,10 @@
 //! One connection: what its client said so far, and then what is left of the reply.
 ghost use Rattle.std.specs.Prelude.{◌≡◌, OnErr, IfOk, IfErr, IsErrOf};
-ghost use Rattle.live_edge.specs.declared.serving.EdgeFault.TheVariants.{TooManyReads};
+ghost use Rattle.http_edge.specs.declared.serving.EdgeFault.TheVariants.{TooManyReads};
 ghost use Rattle.connections.specs.Conversing.{Goes, HasTooMany, IsFaultOfGiving};
 
-use http_messages::{Arrived, Arriving, Asked, Leaving, MOST_READS, refusal_reply, sends_body};
-use live_edge::{Edge, EdgeFault};
+use http_edge::{Edge, EdgeFault};
+use http_messages::{Arrived, Arriving, Asked, Leaving, MAX_READS, refusal_reply, sends_body};
 use std::alloc::Global;
 
 /// Where a connection stands.
@@ -35,7 +35,7 @@ pub fn give(
     };
     match arriving.take(alloc, piece)? {
         Arrived::More(arriving) => {
-            if pieces >= MOST_READS - 1 {
+            if pieces >= MAX_READS - 1 {
                 return Err(EdgeFault::TooManyReads);
             }
             Ok(Conversation::Asking(arriving, pieces + 1))

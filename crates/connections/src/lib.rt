@@ -14,5 +14,5 @@ pub use admission::Admission;
 pub use arrivals::{Arrival, Arrivals, has_come};
 pub use conversation::{Conversation, give};
 pub use deadlines::{ending_deadline, serving_deadline};
-pub use table::{Connections, MOST_HELD, PLACES, Phase};
+pub use table::{Connections, MAX_HELD, PLACES, Phase};
 pub use wire::{Moved, hear, say};

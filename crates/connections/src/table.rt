@@ -1,6 +1,6 @@
 //! The connections by their places.
 ghost use Rattle.std.specs.Prelude.{◌≡◌, ◌<◌, ◌≤◌, ◌+◌, ◌++◌, [], None, Some, true, length, replicate, is_none, IfOk, IfErr, OnOk, OnErr};
-ghost use Rattle.live_edge.specs.Edges.{StandsFor};
+ghost use Rattle.http_edge.specs.Edges.{RepresentsRequests};
 ghost use Rattle.connections.specs.Conversing.{IsFaultOfGiving};
 ghost use Rattle.connections.specs.Limits.{most_held, place_count};
 ghost use Rattle.connections.specs.Arrivals.{is_asking};
@@ -8,13 +8,13 @@ ghost use Rattle.connections.specs.Table.{at, held_of, held_in, left_of, taken_o
 ghost use Rattle.connections.specs.Table.{came, gave, took, went};
 
 use crate::conversation::{Conversation, give};
+use http_edge::{Edge, EdgeFault};
 use http_messages::Arriving;
-use live_edge::{Edge, EdgeFault};
 use std::alloc::{AllocError, Global};
 use std::marker::Model;
 
 /// The most bytes of requests that aren't whole, over all connections.
-pub const MOST_HELD: usize = 67_108_864;
+pub const MAX_HELD: usize = 67_108_864;
 
 /// The places for connections. A process may have 1,024 files open, where nobody says otherwise.
 pub const PLACES: usize = 512;
@@ -70,7 +70,7 @@ fn vacant(alloc: Global) -> Result<Vec<Option<Conversation>>, AllocError>
 }
 
 impl Connections {
-    /// The edge, with no connection yet. Fails only where memory is refused.
+    /// The edge, with no connection yet. Fails only where an allocation fails.
     pub fn new(alloc: Global, edge: Edge) -> Result<Connections, AllocError>
         ensures edge { IfOk result (λ new. new.edge ≡ edge) }
         ensures vacant { IfOk result (λ new. new.places ≡ replicate place_count None) }
@@ -84,9 +84,9 @@ impl Connections {
     }
 
     /// A new edge, which stands for no request, with no connection yet: all that come are served over this one. Fails only
-    /// where memory is refused.
+    /// where an allocation fails.
     pub fn over_new_edge(alloc: Global) -> Result<Connections, AllocError>
-        ensures edge { IfOk result (λ new. StandsFor new.edge []) }
+        ensures edge { IfOk result (λ new. RepresentsRequests new.edge []) }
         ensures vacant { IfOk result (λ new. new.places ≡ replicate place_count None) }
     {
         let edge = Edge::new(alloc)?;

@@ -5,16 +5,16 @@ ghost use Rattle.connections.specs.Table.{Happens, at, left_of, held_in, went};
 ghost use Rattle.connections.specs.Runs.{HasRun};
 ghost use Rattle.connections.specs.Wires.{HasHeard, HasSaid, IsFailed};
 
-use crate::table::{Connections, MOST_HELD};
+use crate::table::{Connections, MAX_HELD};
 use arrayvec::ArrayVec;
-use live_edge::EdgeFault;
+use http_edge::EdgeFault;
 use std::io::{ErrorKind, Read, Write};
 
 // A reply of at most so many bytes is handed out in one write.
 const BLOCK: usize = 8192;
 
 // So many bytes are written at once at the most, so that a client's turn is short.
-const MOST_WRITTEN: usize = 65_536;
+const MAX_WRITTEN: usize = 65_536;
 
 /// What a call came to.
 #[derive(Clone, Copy, Debug, PartialEq, Eq)]
@@ -59,7 +59,7 @@ pub fn hear<R: Read>(
     ensures moves { result ≡ Moved.Nothing → ⊥ }
     ensures run { HasRun connections.old connections.new }
 {
-    if block.len() > MOST_HELD - connections.held() {
+    if block.len() > MAX_HELD - connections.held() {
         return Moved::Full;
     }
     let count = match reader.read(block) {
@@ -92,7 +92,7 @@ fn cut(text: &[u8]) -> &[u8]
     ensures front { result.now ≡ take (length result.now) text.now }
     ensures some { length result.now ≡ 0 → text.now ≡ [] }
 {
-    &text[..text.len().min(MOST_WRITTEN)]
+    &text[..text.len().min(MAX_WRITTEN)]
 }
 
 // A front of two texts: both, where they fit into a block, else the first that isn't empty.

@@ -8,9 +8,9 @@ use Rattle.std.proofs.lemmas.Bool.Decides.{nat_tests}
 use Rattle.std.proofs.lemmas.List.{length-map}
 use Rattle.std.proofs.lemmas.List.Folds.{list_all-append}
 use Rattle.fixed_duration.specs.Duration.{duration_of}
-use Rattle.playlist_meaning.specs.declared.ByteRange.{ByteRange}
-use Rattle.playlist_meaning.specs.declared.Key.{Key}
-use Rattle.playlist_meaning.specs.Pods.{PodSegment, Ad}
+use Rattle.playlist_model.specs.declared.ByteRange.{ByteRange}
+use Rattle.playlist_model.specs.declared.Key.{Key}
+use Rattle.pod_store.specs.Pods.{PodSegment, Ad, is_uri, is_method, is_format, segment_count}
 use Rattle.serde_json.specs.Data.{Data}
 use Rattle.serde_json.specs.Find.{get, as_object}
 use Rattle.pod_store.specs.declared.fault.DecisionFault.{DecisionFault}
@@ -18,12 +18,11 @@ use Rattle.pod_store.specs.declared.fault.Place.{Place}
 use Rattle.pod_store.specs.declared.fault.DecisionKind.TheVariants.{Shape, BadUri, BadDuration, BadKey, EmptyPod, TooMany}
 use Rattle.pod_store.specs.Outcome.{Outcome, ◌>>=◌, fault_at, in_ad, in_segment, or_fault, mended, refuse_if, optional, some_value, each_after}
 use Rattle.decision_files.specs.Json.{text_at, list_at, u64_of}
-use Rattle.pod_store.specs.Pods.{is_uri, is_method, is_format, segment_count}
 use Rattle.decision_files.specs.Decided as said
 use Rattle.pod_store.specs.Rules.{byte_range_fits, segment_keeps, key_keeps, ad_keeps, ads_keep}
 use Rattle.attr_list.specs.Numbers.{hex_of}
-use Rattle.fitting.specs.Fitting.{iv_fits}
-use Rattle.fitting.proofs.Hexadecimal.{hex_is_iv}
+use Rattle.writable.specs.Fitting.{iv_fits}
+use Rattle.writable.proofs.Hexadecimal.{hex_is_iv}
 use Rattle.decision_files.proofs.Bounds.{duration_is_small}
 
 -- ---- steps that are passed
@@ -171,7 +170,7 @@ iv_is place d =
     (λ text was n h. hex_is_iv text n (found (fault_at place BadKey) (hex_of text) n h))
 
 abbrev key : List ℕ → List ℕ → ℕ → Option (List ℕ) → Key
-key method uri iv format = record { format = unwrap_or format (codes "identity"); method = method; uri = uri; iv = Some iv; other = [] }
+key method uri iv format = record { format = unwrap_or format (codes "identity"); method = method; uri = uri; iv = Some iv; other_attributes = [] }
 
 members_keep : (place : Place) (d : Data) (k : Key) → said.key_members place d ≡ Ok k → KeyKeeps k
 members_keep place d =

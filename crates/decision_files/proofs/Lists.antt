@@ -5,7 +5,7 @@ use Rattle.std.specs.List.{list_any}
 use Rattle.serde_json.specs.View.{view, items_view}
 use Rattle.serde_json.specs.declared.value.Value.{Value}
 use Rattle.decision_files.specs.Json.{list_of}
-use Rattle.decision_files.specs.Views.{texts_of}
+use Rattle.decision_files.specs.Inner.Views.{texts_of}
 
 pub list_of_items : (vs : List Value) → list_of (items_view vs) ≡ map view vs
 list_of_items [] = refl

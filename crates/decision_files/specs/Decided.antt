@@ -4,10 +4,10 @@ use Rattle.std.specs.List.{list_any}
 use Rattle.std.specs.Str.{is_utf8}
 use Rattle.fixed_duration.specs.Duration.{duration_of}
 use Rattle.attr_list.specs.Numbers.{hex_of}
-use Rattle.playlist_meaning.specs.declared.ByteRange.{ByteRange}
-use Rattle.playlist_meaning.specs.declared.InitSection.{InitSection}
-use Rattle.playlist_meaning.specs.declared.Key.{Key}
-use Rattle.playlist_meaning.specs.Pods.{PodSegment, Ad, Pod}
+use Rattle.playlist_model.specs.declared.ByteRange.{ByteRange}
+use Rattle.playlist_model.specs.declared.InitSection.{InitSection}
+use Rattle.playlist_model.specs.declared.Key.{Key}
+use Rattle.pod_store.specs.Pods.{PodSegment, Ad, Pod, Decision, is_id, is_uri, is_method, is_format, segment_count}
 use Rattle.serde_json.specs.Data.{Data}
 use Rattle.serde_json.specs.Find.{get, as_null, as_str, as_object}
 use Rattle.serde_json.specs.Read.{read}
@@ -18,7 +18,6 @@ use Rattle.pod_store.specs.declared.fault.Place.{Place}
 use Rattle.pod_store.specs.declared.fault.DecisionKind.TheVariants.{NotJson, Shape, BadUri, BadDuration, BadKey, EmptyPod, TooMany}
 use Rattle.pod_store.specs.Outcome.{Outcome, ◌>>=◌, nowhere, in_break, in_ad, in_segment, fault_at, or_fault, mended, refuse_if, optional, each_after}
 use Rattle.decision_files.specs.Json.{text_at, values_of, list_at, u64_of}
-use Rattle.pod_store.specs.Pods.{Decision, is_id, is_uri, is_method, is_format, segment_count}
 
 -- ---- ranges
 
@@ -77,7 +76,7 @@ key_members place d =
     key_uri_said place d >>= λ uri.
     iv_said place d >>= λ iv.
     optional (format_said place) (get (codes "format") d) >>= λ format.
-    Ok (record { format = unwrap_or format (codes "identity"); method = method; uri = uri; iv = Some iv; other = [] })
+    Ok (record { format = unwrap_or format (codes "identity"); method = method; uri = uri; iv = Some iv; other_attributes = [] })
 
 abbrev pub key_said : Place → Data → Outcome Key
 key_said place d = or_fault (fault_at place Shape) (as_object d) >>= λ members. key_members place d
@@ -119,7 +118,7 @@ segments_said pod ad before d =
 
 abbrev pub ad_of : Option Part → Option Key → List PodSegment → Ad
 ad_of part key segments = record {
-  section = option_map (section_with (keys_of key)) part;
+  init_section = option_map (section_with (keys_of key)) part;
   keys = keys_of key;
   segments = segments;
 }

@@ -1,4 +1,3 @@
 pub mod Json
 pub mod Decided
-pub mod Views
-pub mod Rows
+pub mod Inner

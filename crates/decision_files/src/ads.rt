@@ -5,11 +5,11 @@ ghost use Rattle.serde_json.specs.Find.{get};
 ghost use Rattle.pod_store.specs.Outcome.{Gives, each_after, optional};
 ghost use Rattle.pod_store.specs.Pods.{segment_count};
 ghost use Rattle.decision_files.specs.Decided.{map_said, key_said, ad_said, next_ad, pod_said, ad_of};
-ghost use Rattle.decision_files.specs.Views.{part_of};
+ghost use Rattle.decision_files.specs.Inner.Views.{part_of};
 
 use crate::keys::{Part, key_said, keys_of, map_said, section_with};
-use crate::segments::{MOST_SEGMENTS, segments_said};
-use playlist_meaning::{Items, Key};
+use crate::segments::{MAX_SEGMENTS, segments_said};
+use playlist_model::{Items, Key};
 use pod_store::{Ad, DecisionFault, DecisionKind, Place, Pod, PodSegment};
 use serde_json::Value;
 use std::alloc::{AllocError, Global};
@@ -46,7 +46,7 @@ fn ad_of(
         None => None,
     };
     Ok(Ad {
-        map,
+        init_section: map,
         keys,
         segments: Items::from_vec(segments),
     })
@@ -60,9 +60,9 @@ fn ad_said(
     before: usize,
     value: &Value,
 ) -> Result<Ad, DecisionFault>
-    requires { before ≤ MOST_SEGMENTS }
+    requires { before ≤ MAX_SEGMENTS }
     ensures said { Gives (λ a. a) result (ad_said pod ad before (view value.now)) }
-    ensures most { IfOk result (λ a. before + segment_count a ≤ MOST_SEGMENTS) }
+    ensures most { IfOk result (λ a. before + segment_count a ≤ MAX_SEGMENTS) }
 {
     let place = Place::in_ad(pod, ad);
     let part = stated_map(alloc, place, value)?;
@@ -74,7 +74,7 @@ fn ad_said(
 // The ads of these objects.
 fn ads_of(alloc: Global, pod: usize, list: &[Value]) -> Result<Vec<Ad>, DecisionFault>
     ensures said { Gives (λ v. v.items) result (each_after (next_ad pod) [] (map view list.now)) }
-    ensures most { IfOk result (λ v. sum (map segment_count v.items) ≤ MOST_SEGMENTS) }
+    ensures most { IfOk result (λ v. sum (map segment_count v.items) ≤ MAX_SEGMENTS) }
 {
     let mut done: Vec<Ad> = Vec::new(alloc);
     let mut before: usize = 0;

@@ -2,15 +2,16 @@
 ghost use Rattle.std.specs.Prelude.{◌≡◌, ◌∷◌, ◌++◌, [], true, not, map, codes, bytes_eq, IfOk};
 ghost use Rattle.std.specs.List.{list_any};
 ghost use Rattle.serde_json.specs.View.{view};
-ghost use Rattle.pod_store.specs.Outcome.{Gives, GivesExactly, each_after};
+ghost use Rattle.pod_store.specs.Outcome.{Gives, each_after};
+ghost use Rattle.pod_store.specs.Inner.Outcome.{GivesExactly};
 ghost use Rattle.decision_files.specs.Decided.{id_said, pod_said, break_said, next_break, breaks_said, withdraw_said, in_no_break, of_no_break, fallback_pod, fallback_said, value_said, json_of, decisions_of};
-ghost use Rattle.decision_files.specs.Views.{texts_of};
+ghost use Rattle.decision_files.specs.Inner.Views.{texts_of};
 
 use crate::ads::pod_said;
 use crate::members::{list_at, text_at, values_of};
 use crate::texts::is_id;
 use indexmap::IndexSet;
-use playlist_meaning::{Items, Text, text_of};
+use playlist_model::{Items, Text, text_of};
 use pod_store::{Decision, DecisionFault, DecisionKind, Decisions, Place, Pod};
 use serde_json::Value;
 use std::alloc::Global;

@@ -3,14 +3,15 @@ ghost use Rattle.std.specs.Prelude.{◌≡◌, IfOk, option_map, codes};
 ghost use Rattle.std.specs.Option.{option_copied};
 ghost use Rattle.serde_json.specs.View.{view};
 ghost use Rattle.serde_json.specs.Find.{as_str, get};
-ghost use Rattle.pod_store.specs.Outcome.{Gives, GivesExactly, optional, or_fault};
+ghost use Rattle.pod_store.specs.Outcome.{Gives, optional, or_fault};
+ghost use Rattle.pod_store.specs.Inner.Outcome.{GivesExactly};
 ghost use Rattle.decision_files.specs.Decided.{part_said, map_said, format_said, text_of, method_said, key_uri_said, iv_said, key_said, key_members, keys_of, section_with};
-ghost use Rattle.decision_files.specs.Views.{part_of};
+ghost use Rattle.decision_files.specs.Inner.Views.{part_of};
 
 use crate::members::{byte_range_said, text_at};
 use crate::texts::{is_format, is_method, is_uri};
 use attr_list::read_hex_u128;
-use playlist_meaning::{ByteRange, InitSection, Items, Key, Keys, OtherAttributes, Shared, Text};
+use playlist_model::{ByteRange, InitSection, Items, Key, Keys, OtherAttributes, Shared, Text};
 use pod_store::{DecisionFault, DecisionKind, Place};
 use serde_json::Value;
 use std::alloc::{AllocError, Global};
@@ -119,7 +120,7 @@ fn key_members(alloc: Global, place: Place, value: &Value) -> Result<Key, Decisi
         method: Shared::copy_of(alloc, method)?,
         uri: Shared::copy_of(alloc, uri)?,
         iv: Some(iv),
-        other: Shared::new(alloc, OtherAttributes::none(alloc))?,
+        other_attributes: Shared::new(alloc, OtherAttributes::none(alloc))?,
     })
 }
 

@@ -5,8 +5,8 @@ mod ads;
 mod file;
 mod keys;
 mod members;
-mod rows;
 mod segments;
 mod texts;
+mod worked_examples;
 
 pub use file::read_decisions;

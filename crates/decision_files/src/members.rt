@@ -4,7 +4,7 @@ ghost use Rattle.serde_json.specs.View.{view};
 ghost use Rattle.decision_files.specs.Json.{text_at, values_of, list_at, u64_of};
 ghost use Rattle.decision_files.specs.Decided.{stated_byte_range, byte_range_said};
 
-use playlist_meaning::ByteRange;
+use playlist_model::ByteRange;
 use pod_store::{DecisionFault, DecisionKind, Place};
 use serde_json::Value;
 

@@ -12,7 +12,7 @@ use serde_json::Value;
 use std::alloc::Global;
 
 /// How many segments a break has at most.
-pub const MOST_SEGMENTS: usize = 500;
+pub const MAX_SEGMENTS: usize = 500;
 
 fn segment_texts(
     alloc: Global,
@@ -51,12 +51,12 @@ fn next_segment(
     done: &Vec<PodSegment>,
     value: &Value,
 ) -> Result<PodSegment, DecisionFault>
-    requires { before ≤ MOST_SEGMENTS }
+    requires { before ≤ MAX_SEGMENTS }
     ensures said { Gives (λ s. s) result (next_segment pod ad before done.now.items (view value.now)) }
-    ensures room { OnOk result (before + length done.now.items < MOST_SEGMENTS) }
+    ensures room { OnOk result (before + length done.now.items < MAX_SEGMENTS) }
 {
     let place = Place::in_segment(pod, ad, done.len());
-    if done.len() >= MOST_SEGMENTS - before {
+    if done.len() >= MAX_SEGMENTS - before {
         return Err(place.fault(DecisionKind::TooMany));
     }
     segment_said(alloc, place, value)
@@ -70,9 +70,9 @@ fn segments_of(
     before: usize,
     list: &[Value],
 ) -> Result<Vec<PodSegment>, DecisionFault>
-    requires { before ≤ MOST_SEGMENTS }
+    requires { before ≤ MAX_SEGMENTS }
     ensures said { Gives (λ v. v.items) result (each_after (next_segment pod ad before) [] (map view list.now)) }
-    ensures most { IfOk result (λ v. before + length v.items ≤ MOST_SEGMENTS) }
+    ensures most { IfOk result (λ v. before + length v.items ≤ MAX_SEGMENTS) }
 {
     let mut done = Vec::new(alloc);
     let mut rest = list;
@@ -92,9 +92,9 @@ pub fn segments_said(
     before: usize,
     value: &Value,
 ) -> Result<Vec<PodSegment>, DecisionFault>
-    requires { before ≤ MOST_SEGMENTS }
+    requires { before ≤ MAX_SEGMENTS }
     ensures said { Gives (λ v. v.items) result (segments_said pod ad before (view value.now)) }
-    ensures most { IfOk result (λ v. before + length v.items ≤ MOST_SEGMENTS) }
+    ensures most { IfOk result (λ v. before + length v.items ≤ MAX_SEGMENTS) }
 {
     let place = Place::in_ad(pod, ad);
     let list = list_at(value, "segments").ok_or(place.fault(DecisionKind::Shape))?;

@@ -17,7 +17,7 @@ use std::marker::Model;
 const NANOS_PER_SECOND: u64 = 1_000_000_000;
 
 /// Durations are shorter than this many seconds.
-const SECONDS_LIMIT: u64 = 1_000_000;
+const MAX_SECONDS: u64 = 1_000_000;
 
 /// Why a text is no duration. The first that holds is told, in this order.
 #[derive(Clone, Copy, Debug, PartialEq, Eq, Hash)]
@@ -85,7 +85,7 @@ impl Nanos {
 
     #[tactic(auto, using(crate::proofs::Again::read_again, crate::proofs::Again::text_whole))]
     /// Appends the duration in seconds, without a point where they are whole, else without zeros at the end.
-    /// Where memory was refused the text is as it was.
+    /// Where an allocation failed the text is as it was.
     pub fn write_to(&self, out: &mut String) -> Result<(), AllocError>
         ensures ok { Appends result out.old out.new (duration_text self.now) }
         ensures err { OnErr result (string_bytes out.new ≡ string_bytes out.old) }
@@ -157,7 +157,7 @@ fn seconds_of(digits: &[u8]) -> Option<u64>
     let mut value: u64 = 0;
     for digit in digits {
         value = value * 10 + u64::from(*digit - b'0');
-        if value >= SECONDS_LIMIT {
+        if value >= MAX_SECONDS {
             return None;
         }
     }

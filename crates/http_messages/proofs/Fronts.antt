@@ -15,7 +15,8 @@ use Rattle.http_messages.specs.declared.head.HeadRead.{HeadRead}
 use Rattle.http_messages.specs.declared.head.HeadRead.TheVariants.{Whole, Partial, Bad}
 use Rattle.http_messages.specs.Limits.{head_limit}
 use Rattle.http_messages.specs.Requests.{BeginsWith, HasNoHead, NeverHasHead, MayBecomeHead, IsUnfinished, framing_said}
-use Rattle.http_messages.specs.Received.{IsHeadAt, IsReadAs, IsJudgedAs}
+use Rattle.http_messages.specs.Received.{IsHeadAt}
+use Rattle.http_messages.specs.Inner.Received.{IsReadAs, IsJudgedAs}
 
 -- ---- more bytes
 

@@ -3,3 +3,4 @@ pub mod Replies
 pub mod Requests
 pub mod Received
 pub mod Arriving
+pub mod Inner

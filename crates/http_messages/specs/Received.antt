@@ -1,17 +1,12 @@
 -- What was read of a request.
-use Rattle.std.specs.Prelude.{◌≡◌, ℕ, ◌+◌, ◌≤◌, List, drop, length, Option, Some, None}
+use Rattle.std.specs.Prelude.{◌≡◌, ℕ, List, drop, length, Option, Some, None}
 use Rattle.std.specs.Io.KnownBytes.{Consumes, IsAtEnd}
-use Rattle.devices.specs.Devices.{next_count}
-use Rattle.httparse.specs.Grammar.{RequestHead, print_request, HasNoRequest, MayBecomeRequest}
-use Rattle.http_messages.specs.declared.head.Framing.TheVariants.{Body}
+use Rattle.byte_streams.specs.Devices.{next_count}
+use Rattle.httparse.specs.Grammar.{RequestHead, print_request}
 use Rattle.http_messages.specs.declared.head.Head.{Head}
-use Rattle.http_messages.specs.declared.head.HeadRead.{HeadRead}
-use Rattle.http_messages.specs.declared.head.HeadRead.TheVariants.{Whole, Partial, Bad}
 use Rattle.http_messages.specs.declared.receiving.Asked.{Asked}
 use Rattle.http_messages.specs.declared.receiving.Asked.TheVariants as asked
-use Rattle.http_messages.specs.declared.receiving.Step.{Step}
-use Rattle.http_messages.specs.declared.receiving.Step.TheVariants as step
-use Rattle.http_messages.specs.Requests.{BeginsWith, NeverHasHead, MayBecomeHead, Asks, IsRefusedFor, IsUnfinished, framing_said}
+use Rattle.http_messages.specs.Requests.{BeginsWith, Asks, IsRefusedFor, IsUnfinished, framing_said}
 
 abbrev pub IsAsked : List ℕ → Asked → Type 0
 IsAsked bytes (asked.Request request) = Asks bytes request
@@ -55,22 +50,3 @@ pub record IsHeadAt (bytes : List ℕ) (head : Head) : Type 0 where
   pub method : head.method ≡ h.method
   pub target : head.target ≡ h.target
   pub framing : head.framing ≡ framing_said h
-
--- what some bytes are, of which a head may have all
-abbrev pub IsReadAs : List ℕ → HeadRead → Type 0
-IsReadAs bytes (Whole head) = IsHeadAt bytes head
-IsReadAs bytes Partial = HasNoRequest bytes × MayBecomeRequest bytes
-IsReadAs bytes Bad = NeverHasHead bytes
-
--- what some bytes are, of which a head may have a front
-abbrev pub IsJudgedAs : List ℕ → HeadRead → Type 0
-IsJudgedAs bytes (Whole head) = IsHeadAt bytes head
-IsJudgedAs bytes Partial = HasNoRequest bytes × MayBecomeHead bytes
-IsJudgedAs bytes Bad = NeverHasHead bytes
-
--- what is known after a look at the bytes
-abbrev pub IsStep : List ℕ → Step → Type 0
-IsStep bytes (step.Whole head count) = IsHeadAt bytes head × (head.framing ≡ Body count) × (head.len + count ≤ length bytes)
-IsStep bytes (step.Refused refusal) = IsRefusedFor bytes refusal
-IsStep bytes (step.More None) = IsUnfinished bytes
-IsStep bytes (step.More (Some head)) = IsUnfinished bytes × IsHeadAt bytes head

@@ -52,7 +52,7 @@ impl Arriving {
     }
 
     /// Takes the next piece. However the bytes are cut, the request that they begin with is the one that is asked. Fails
-    /// only where memory is refused.
+    /// only where an allocation fails.
     pub fn take(self, alloc: Global, piece: &[u8]) -> Result<Arrived, AllocError>
         ensures { IfOk result (IsArrived (self ++ piece.now)) }
     {

@@ -6,25 +6,26 @@ ghost use Rattle.attr_list.specs.Numbers.{decimal_of};
 ghost use Rattle.httparse.specs.Borrowed.{header_parts};
 ghost use Rattle.http_messages.specs.Requests.{is_named, stated_by, body_of_length, framing_of_put, framing_of};
 ghost use Rattle.http_messages.specs.Limits.{head_limit};
-ghost use Rattle.http_messages.specs.Received.{IsHeadAt, IsReadAs};
+ghost use Rattle.http_messages.specs.Received.{IsHeadAt};
+ghost use Rattle.http_messages.specs.Inner.Received.{IsReadAs};
 
 use crate::refusal::Refusal;
 use attr_list::read_decimal;
 use http::Method;
 use http::method::MethodError;
 use httparse::{EMPTY_HEADER, Header, Status};
-use playlist_meaning::Text;
+use playlist_model::Text;
 use std::alloc::{AllocError, Global};
 use std::str;
 
 /// The most bytes of a head.
-pub const HEAD_LIMIT: usize = 16_384;
+pub const MAX_HEAD_BYTES: usize = 16_384;
 
 /// The most fields of a head.
-pub const FIELD_LIMIT: usize = 64;
+pub const MAX_FIELDS: usize = 64;
 
 /// The most bytes of a body.
-pub const BODY_LIMIT: u64 = 4_194_304;
+pub const MAX_BODY_BYTES: u64 = 4_194_304;
 
 /// What a head says of the body.
 #[derive(Clone, Copy, Debug, PartialEq, Eq)]
@@ -76,7 +77,7 @@ fn body_of_length(value: &[u8]) -> Framing
     match decimal_said(value) {
         None => Framing::Refused(Refusal::BadRequest),
         Some(length) => {
-            if length > BODY_LIMIT {
+            if length > MAX_BODY_BYTES {
                 Framing::Refused(Refusal::TooLarge)
             } else {
                 Framing::Body(length)
@@ -131,7 +132,7 @@ pub fn read_head(alloc: Global, bytes: &[u8]) -> Result<HeadRead, AllocError>
     requires { length bytes.now ≤ head_limit }
     ensures { IfOk result (IsReadAs bytes.now) }
 {
-    let mut fields = [EMPTY_HEADER; FIELD_LIMIT];
+    let mut fields = [EMPTY_HEADER; MAX_FIELDS];
     let mut request = httparse::Request::new(&mut fields);
     let Ok(status) = request.parse(bytes) else {
         return Ok(HeadRead::Bad);
@@ -142,7 +143,7 @@ pub fn read_head(alloc: Global, bytes: &[u8]) -> Result<HeadRead, AllocError>
     let (Some(method), Some(target)) = (request.method, request.path) else {
         return Ok(HeadRead::Bad);
     };
-    if request.headers.len() > FIELD_LIMIT {
+    if request.headers.len() > MAX_FIELDS {
         return Ok(HeadRead::Bad);
     }
     let framing = framing_of(method, request.headers);

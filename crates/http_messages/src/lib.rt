@@ -12,9 +12,9 @@ mod reply_head;
 mod sending;
 
 pub use arriving::{Arrived, Arriving};
-pub use head::{BODY_LIMIT, FIELD_LIMIT, HEAD_LIMIT};
+pub use head::{MAX_BODY_BYTES, MAX_FIELDS, MAX_HEAD_BYTES};
 pub use leaving::Leaving;
 pub use message::{Allow, Body, Content, ContentType, Reply, Request};
-pub use receiving::{Asked, MOST_READS, ReceiveFault, receive};
+pub use receiving::{Asked, MAX_READS, ReceiveFault, receive};
 pub use refusal::{Refusal, plain_reply, refusal_reply};
 pub use sending::{send, sends_body};

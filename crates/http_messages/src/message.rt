@@ -3,7 +3,7 @@ ghost use Rattle.std.specs.Prelude.{◌≡◌, ◌≤◌, slice_range, vec_len};
 ghost use Rattle.http_messages.specs.Replies.{bare, body_of};
 
 use http::{Method, StatusCode};
-use playlist_meaning::{Shared, Text};
+use playlist_model::{Shared, Text};
 use std::marker::Model;
 
 /// The body of a request. It keeps the bytes that were read, of which it is a part, so that none of them is copied.

@@ -1,21 +1,22 @@
 //! A request, read from a source.
 ghost use Rattle.std.specs.Prelude.{◌≡◌, ◌≤◌, ◌+◌, List, ℕ, length, take, drop, Some, Ok, Err, IfOk, IfErr, IfSome, IsErrOf};
-ghost use Rattle.devices.specs.Stands.{source_stand};
+ghost use Rattle.byte_streams.specs.Stands.{source_stand};
 ghost use Rattle.http_messages.specs.declared.receiving.Asked.{Asked as Question};
 ghost use Rattle.http_messages.specs.Requests.{IsUnfinished};
 ghost use Rattle.http_messages.specs.Limits.{most_reads};
-ghost use Rattle.http_messages.specs.Received.{IsJudgedAs, IsHeadAt, IsStep, Holds, HasAsked, HasEnded, HasGivenPart, IsWholeAtLastRead};
-ghost use Rattle.devices.specs.Fair.{IsFairToSource, GaveAtEachButLast};
+ghost use Rattle.http_messages.specs.Received.{IsHeadAt, Holds, HasAsked, HasEnded, HasGivenPart, IsWholeAtLastRead};
+ghost use Rattle.http_messages.specs.Inner.Received.{IsJudgedAs, IsStep};
+ghost use Rattle.byte_streams.specs.Fair.{IsFairToSource, GaveAtEachButLast};
 
 use crate::arriving::{Arrived, Arriving};
-use crate::head::{Framing, HEAD_LIMIT, Head, HeadRead, read_head};
+use crate::head::{Framing, Head, HeadRead, MAX_HEAD_BYTES, read_head};
 use crate::message::{Body, Request};
 use crate::refusal::Refusal;
-use devices::{READ_ROOM, Source};
+use byte_streams::{READ_ROOM, Source};
 use std::alloc::{AllocError, AllocFailed, Global};
 
 /// How many reads a request may take.
-pub const MOST_READS: u64 = 65_536;
+pub const MAX_READS: u64 = 65_536;
 
 /// What was asked.
 #[derive(Drop)]
@@ -34,7 +35,7 @@ pub enum ReceiveFault {
     TooManyReads,
     /// The bytes ended before the request was whole.
     Ended,
-    /// Memory was refused.
+    /// An allocation failed.
     OutOfMemory,
 }
 
@@ -62,7 +63,7 @@ impl<T: Drop> From<AllocFailed<T>> for ReceiveFault {
 fn judged(alloc: Global, bytes: &[u8]) -> Result<HeadRead, AllocError>
     ensures { IfOk result (IsJudgedAs bytes.now) }
 {
-    let Some(front) = bytes.get(..HEAD_LIMIT) else {
+    let Some(front) = bytes.get(..MAX_HEAD_BYTES) else {
         return read_head(alloc, bytes);
     };
     match read_head(alloc, front)? {
@@ -132,7 +133,8 @@ pub fn receive<S: Source>(alloc: Global, source: &mut S) -> Result<Asked, Receiv
     ensures ended { IsErrOf result ReceiveFault.Ended → HasEnded (S.remaining source.old) (S.remaining source.new) }
     ensures unfinished { IsErrOf result ReceiveFault.TooManyReads → HasGivenPart (S.remaining source.old) (S.remaining source.new) }
 
-    // However the source cuts its bytes: what all that it holds asks is answered, and it doesn't end where that is a whole request.
+    // However the source cuts its bytes: what all that it holds asks is answered, and it doesn't end where that is a whole
+    // request.
     ensures whole { (it : Question) → Holds (S.remaining source.old) it → IfOk result (λ asked. asked ≡ it) }
     ensures held { IsErrOf result ReceiveFault.Ended → IfSome (S.remaining source.old) IsUnfinished }
 
@@ -145,7 +147,7 @@ pub fn receive<S: Source>(alloc: Global, source: &mut S) -> Result<Asked, Receiv
 {
     let mut arriving = Arriving::new(alloc);
     let mut block = [0u8; READ_ROOM];
-    for _ in 0..MOST_READS {
+    for _ in 0..MAX_READS {
         let Ok(count) = source.read(&mut block) else {
             return Err(ReceiveFault::Read);
         };

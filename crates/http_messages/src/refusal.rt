@@ -4,7 +4,7 @@ ghost use Rattle.http_messages.specs.Replies.{plain, refusal_reply, refusal_stat
 
 use crate::message::{Content, ContentType, Reply};
 use http::StatusCode;
-use playlist_meaning::Shared;
+use playlist_model::Shared;
 use std::alloc::{AllocError, Global};
 
 /// Why a request is refused by its head alone.
@@ -40,7 +40,7 @@ impl Refusal {
     }
 }
 
-/// A reply that is a text. Fails only where memory is refused.
+/// A reply that is a text. Fails only where an allocation fails.
 pub fn plain_reply(alloc: Global, status: StatusCode, text: &str) -> Result<Reply, AllocError>
     ensures { IfOk result (λ reply. reply ≡ plain status text.now) }
 {
@@ -55,7 +55,7 @@ pub fn plain_reply(alloc: Global, status: StatusCode, text: &str) -> Result<Repl
     })
 }
 
-/// The reply to a request that is refused. Fails only where memory is refused.
+/// The reply to a request that is refused. Fails only where an allocation fails.
 pub fn refusal_reply(alloc: Global, refusal: Refusal) -> Result<Reply, AllocError>
     ensures { IfOk result (λ reply. reply ≡ refusal_reply refusal) }
 {

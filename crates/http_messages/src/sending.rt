@@ -1,14 +1,14 @@
 //! A reply, written to a sink.
 ghost use Rattle.std.specs.Prelude.{◌≡◌, ◌++◌, [], true, OnOk, OnErr};
 ghost use Rattle.std.specs.Io.KnownBytes.{Appends};
-ghost use Rattle.devices.specs.Devices.{FailedAtLast, NoneFailed};
-ghost use Rattle.devices.specs.Handed.{TookFront};
+ghost use Rattle.byte_streams.specs.Devices.{FailedAtLast, NoneFailed};
+ghost use Rattle.byte_streams.specs.Handed.{TookFront};
 ghost use Rattle.http_messages.specs.Replies.{head_text, text_sent, body_sent, sends_body};
 
 use crate::message::Reply;
 use crate::reply_head::head_of;
 use arrayvec::ArrayVec;
-use devices::{Sink, SinkFailed, hand_out};
+use byte_streams::{Sink, SinkFailed, hand_out};
 use http::Method;
 
 // A reply of at most so many bytes is handed out in one write.

@@ -6,7 +6,7 @@ use Rattle.std.proofs.lemmas.Bool.{false_from_ne_true, eqb-true}
 use Rattle.std.proofs.lemmas.List.Sums.{position_or_len_is}
 use Rattle.std.proofs.lemmas.Str.{IsCharBoundary-after_ascii}
 use Rattle.memchr.specs.Find.{Nowhere, NoneBefore, Passes, is_byte}
-use Rattle.playlist_meaning.specs.Lines.{is_colon}
+use Rattle.playlist_model.specs.Lines.{is_colon}
 
 pub no_colon : (text : List ℕ) → Nowhere (Passes (is_byte 58) text) 0 (length text) → position_or_len is_colon text ≡ length text
 no_colon text none =

@@ -3,8 +3,8 @@ use Rattle.std.proofs.Common.{◌≡◌, ◌+◌, Bool, true, false, cond, List,
 use Rattle.std.specs.Prelude.{nat_lt, ◌||◌}
 use Rattle.std.specs.List.{list_any}
 use Rattle.std.proofs.lemmas.Bool.Decides.{nat_tests}
-use Rattle.playlist_meaning.specs.Said.{Said}
-use Rattle.playlist_meaning.specs.LookBack.{count}
+use Rattle.playlist_model.specs.Said.{Said}
+use Rattle.playlist_model.specs.LookBack.{count}
 
 more : (n : ℕ) → nat_lt 0 (n + 1) ≡ true
 more n = grind (arith, nat_tests)

@@ -3,14 +3,14 @@ use Rattle.std.proofs.Common.{◌≡◌, ◌≢◌, ℕ, Bool, true, false, List
 use Rattle.std.specs.Prelude.{Result, Ok, Err, IsOk, MatchResult, codes, bytes_eq, if◌then◌else◌}
 use Rattle.url.specs.Parts.{Parts}
 use Rattle.attr_list.specs.Attributes.{Pair, attribute}
-use Rattle.playlist_meaning.specs.declared.FaultKind.{FaultKind}
-use Rattle.playlist_meaning.specs.Said.{Reader, key_tag, map_tag, time_tag, Said, no_keys, Outcome, ◌>>=◌, refuse_if, attributes, required, optional, set_key, key_said, section_said, section_byte_range, iv_of, quoted_of, uri_of, or_fault}
-use Rattle.instants.specs.Instant.{instant_of}
-use Rattle.playlist_meaning.specs.declared.FaultKind.TheVariants as fault
-use Rattle.playlist_meaning.specs.LookBack.{Standing, standing_at, with_said}
-use Rattle.playlist_meaning.specs.Reading.{said_by_tag, within_formats, with_ivs}
+use Rattle.playlist_model.specs.declared.FaultKind.{FaultKind}
+use Rattle.playlist_model.specs.Said.{Reader, key_tag, map_tag, time_tag, Said, no_keys, Outcome, ◌>>=◌, refuse_if, attributes, required, optional, set_key, key_said, section_said, section_byte_range, iv_of, quoted_of, uri_of, or_fault}
+use Rattle.date_times.specs.Instant.{instant_of}
+use Rattle.playlist_model.specs.declared.FaultKind.TheVariants as fault
+use Rattle.playlist_model.specs.LookBack.{Standing, standing_at, with_said}
+use Rattle.playlist_model.specs.Reading.{said_by_tag, within_formats, with_ivs}
 use Rattle.segment_state.specs.Running.{Running, running_at, Takes as StateTakes, TakesExactly}
-use Rattle.playlist_parse.specs.Progress.{Progress, progress_at, Takes}
+use Rattle.playlist_parse.specs.Inner.Progress.{Progress, progress_at, TakesLine}
 
 abbrev with_standing : Progress → Standing → Progress
 with_standing p standing = record p { standing = standing }
@@ -93,9 +93,9 @@ takes_of p new (Err fault) before o refuses kept e says h = h.0
 
 -- what the state takes, the reading takes
 pub takes_tag : (outcome : Parts → List Said → Outcome Said) (p q : Progress) (new : Running) (result : Result (Unit {0}) FaultKind) → p ≡ q
-    → ((base : Parts) (before : List Said) → Says (outcome base before)) → StateTakes outcome (running_of p) new result → Takes outcome q (with_running p new) result
+    → ((base : Parts) (before : List Said) → Says (outcome base before)) → StateTakes outcome (running_of p) new result → TakesLine outcome q (with_running p new) result
 takes_tag outcome p q new result is says takes =
-    subst (λ (x : Progress). Takes outcome x (with_running p new) result) is
+    subst (λ (x : Progress). TakesLine outcome x (with_running p new) result) is
     (λ before e. takes_of p new result before (outcome p.base before) _ _ e (says p.base before) (takes before (ap (λ (x : Progress). x.standing) e)))
 
 refused_so : (result : Result (Unit {0}) FaultKind) (P : Type 0) (o : Outcome Said) (kept : Type 0) → MatchResult result (λ _. P) (λ e. (o ≡ Err e) × kept) → MatchResult result (λ _. P) (λ e. (e ≢ fault.OutOfMemory → o ≡ Err e) × kept)
@@ -104,6 +104,6 @@ refused_so (Err e) P o kept h = (λ _. h.0, h.1)
 
 -- what the state takes with no memory, the reading takes
 pub takes_tag_exactly : (outcome : Parts → List Said → Outcome Said) (p q : Progress) (new : Running) (result : Result (Unit {0}) FaultKind) → p ≡ q
-    → ((base : Parts) (before : List Said) → Says (outcome base before)) → TakesExactly outcome (running_of p) new result → Takes outcome q (with_running p new) result
+    → ((base : Parts) (before : List Said) → Says (outcome base before)) → TakesExactly outcome (running_of p) new result → TakesLine outcome q (with_running p new) result
 takes_tag_exactly outcome p q new result is says takes =
     takes_tag outcome p q new result is says (λ before e. refused_so result _ (outcome p.base before) (new ≡ running_of p) (takes before e))

@@ -6,10 +6,11 @@ use Rattle.std.specs.Str.Lines.{strip_carriage_return, lines}
 use Rattle.std.proofs.lemmas.List.Splits.{slice_split_first, length-slice_split}
 use Rattle.std.proofs.lemmas.List.Sums.{count_by-le-length}
 use Rattle.attr_list.specs.Attributes.{slices_at}
-use Rattle.playlist_meaning.specs.Laws.{AreSlices}
-use Rattle.playlist_meaning.proofs.LineLaws.{lines_are_slices}
-use Rattle.playlist_meaning.specs.Lines.{placed_from, placed_lines}
-use Rattle.playlist_parse.specs.LineViews.{is_feed, with_end, line_span, line_text, lines_from}
+use Rattle.playlist_model.specs.Laws.{AreSlices}
+use Rattle.playlist_model.proofs.LineLaws.{lines_are_slices}
+use Rattle.playlist_model.specs.Lines.{placed_from, placed_lines}
+use Rattle.playlist_parse.specs.LineViews.{is_feed, with_end, line_span, lines_from}
+use Rattle.playlist_parse.specs.Inner.LineViews.{line_text}
 use Rattle.playlist_parse.proofs.LineLemmas.{map_twice}
 
 -- ---- lines from a place on

@@ -3,9 +3,11 @@ use Rattle.std.proofs.Common.{◌≡◌, ℕ, ◌+◌, zero, suc, Bool, true, fa
 use Rattle.std.specs.Prelude.{◌==◌, slice_index}
 use Rattle.std.specs.List.{list_all, slice_split, onto_first}
 use Rattle.std.proofs.lemmas.Bool.{and_parts, and_from}
-use Rattle.playlist_meaning.specs.Lines.{is_printable, placed_from}
-use Rattle.playlist_meaning.proofs.Printable.{printable_has_no_control}
-use Rattle.playlist_parse.specs.LineViews.{is_feed, is_free, is_plain_byte, line_text, lines_from, with_end}
+use Rattle.playlist_model.specs.Lines.{placed_from}
+use Rattle.playlist_model.specs.Inner.Lines.{is_printable}
+use Rattle.playlist_model.proofs.Printable.{printable_has_no_control}
+use Rattle.playlist_parse.specs.LineViews.{is_feed, lines_from, with_end}
+use Rattle.playlist_parse.specs.Inner.LineViews.{is_free, is_plain_byte, line_text}
 
 in_front : (xs : List ℕ) (n : ℕ) → list_all is_printable xs ≡ true → list_all is_printable (take n xs) ≡ true
 in_front xs zero h = refl

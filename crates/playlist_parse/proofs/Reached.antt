@@ -2,16 +2,17 @@
 use Rattle.std.proofs.Common.{◌≡◌, ℕ, ◌+◌, List, [], ◌∷◌, length, refl, ap, sym, ◌∙◌, arith, subst}
 use Rattle.std.specs.Prelude.{◌≢◌, Result, Ok, Err, IsOk, None, Some, MatchResult}
 use Rattle.url.specs.Parts.{Parts}
-use Rattle.playlist_meaning.specs.declared.FaultKind.{FaultKind}
-use Rattle.playlist_meaning.specs.declared.FaultKind.TheVariants.{OutOfMemory}
-use Rattle.playlist_meaning.specs.declared.Playlist.{Playlist}
-use Rattle.playlist_meaning.specs.Refusals.{Refuses}
-use Rattle.playlist_meaning.specs.Said.{Said, nothing, Outcome}
-use Rattle.playlist_meaning.specs.LookBack.{with_said}
-use Rattle.playlist_meaning.specs.Reading.{said_by, said_from, at_line, and_whole, whole_fault, playlist_of, Fault}
-use Rattle.playlist_meaning.specs.Reading.{limited}
-use Rattle.playlist_parse.specs.Answers.{Answers, fault_at, line_of}
-use Rattle.playlist_parse.specs.Progress.{Progress, progress_at, Ends}
+use Rattle.playlist_model.specs.declared.FaultKind.{FaultKind}
+use Rattle.playlist_model.specs.declared.FaultKind.TheVariants.{OutOfMemory}
+use Rattle.playlist_model.specs.declared.Playlist.{Playlist}
+use Rattle.playlist_model.specs.Refusals.{Refuses}
+use Rattle.playlist_model.specs.Said.{Said, nothing, Outcome}
+use Rattle.playlist_model.specs.LookBack.{with_said}
+use Rattle.playlist_model.specs.Reading.{said_by, said_from, at_line, and_whole, whole_fault, playlist_of, Fault}
+use Rattle.playlist_model.specs.Reading.{limited}
+use Rattle.playlist_parse.specs.Answers.{Answers}
+use Rattle.playlist_parse.specs.Inner.Answers.{fault_at, line_of}
+use Rattle.playlist_parse.specs.Inner.Progress.{Progress, progress_at, Ends}
 
 -- some lines after the header are read, and these are left: what the others said, with what is left, leads to the same as
 -- all lines, and the next one has this number

@@ -3,14 +3,14 @@ use Rattle.std.proofs.Common.{◌≡◌, ℕ, List, [], ◌∷◌, refl, sym, ap
 use Rattle.std.specs.Prelude.{◌≢◌, Bool, Some, None, Result, bytes_eq, if◌then◌else◌}
 use Rattle.std.specs.List.{find}
 use Rattle.std.proofs.lemmas.Slice.Eq.{bytes_eq-Decides}
-use Rattle.playlist_meaning.specs.declared.FaultKind.{FaultKind}
-use Rattle.playlist_meaning.specs.Lines.{tag}
-use Rattle.playlist_meaning.specs.Said.{Name, unknown_tag}
-use Rattle.playlist_meaning.specs.Reading.{names, name_found, name_of, said_by_kind, said_by_tag, limited}
+use Rattle.playlist_model.specs.declared.FaultKind.{FaultKind}
+use Rattle.playlist_model.specs.Lines.{tag}
+use Rattle.playlist_model.specs.Said.{Name, unknown_tag}
+use Rattle.playlist_model.specs.Reading.{names, name_found, name_of, said_by_kind, said_by_tag, limited}
 use Rattle.playlist_parse.specs.declared.tag.Tag.{Tag}
 use Rattle.playlist_parse.specs.declared.tag.Tag.TheVariants.{Unknown}
-use Rattle.playlist_parse.specs.LineViews.{tag_view}
-use Rattle.playlist_parse.specs.Progress.{Progress, Takes}
+use Rattle.playlist_parse.specs.Inner.LineViews.{tag_view}
+use Rattle.playlist_parse.specs.Inner.Progress.{Progress, TakesLine}
 
 -- the text is no row's name
 abbrev pub NoneIs : List ℕ → List (List ℕ × Bool × Name) → Type 0
@@ -34,5 +34,5 @@ flagged found true = refl
 flagged found false = refl
 
 -- what a tag of this name does, the tag does whose text has it
-pub takes_named : (text rest : List ℕ) (colon : Bool) (name : Name) (old new : Progress) (result : Result (Unit {0}) FaultKind) → name ≡ name_of text colon → Takes (λ base before. said_by_tag limited base before name rest) old new result → Takes (λ base before. said_by_kind limited base before (tag text rest colon)) old new result
-takes_named text rest colon name old new result h takes = subst (λ n. Takes (λ base before. said_by_tag limited base before n rest) old new result) h takes
+pub takes_named : (text rest : List ℕ) (colon : Bool) (name : Name) (old new : Progress) (result : Result (Unit {0}) FaultKind) → name ≡ name_of text colon → TakesLine (λ base before. said_by_tag limited base before name rest) old new result → TakesLine (λ base before. said_by_kind limited base before (tag text rest colon)) old new result
+takes_named text rest colon name old new result h takes = subst (λ n. TakesLine (λ base before. said_by_tag limited base before n rest) old new result) h takes

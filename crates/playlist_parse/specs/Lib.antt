@@ -1,4 +1,3 @@
 pub mod LineViews
-pub mod Progress
-pub mod Views
 pub mod Answers
+pub mod Inner

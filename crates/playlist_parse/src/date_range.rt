@@ -1,14 +1,14 @@
 //! Date ranges (RFC 8216, section 4.3.2.7).
 ghost use Rattle.std.specs.Prelude.{◌≡◌, IfOk, option_map};
 ghost use Rattle.attr_list.specs.Attributes.{attribute};
-ghost use Rattle.playlist_meaning.specs.Refusals.{Gives};
-ghost use Rattle.playlist_meaning.specs.Said.{optional, time_of, length_of, value_of, date_range_said, date_range};
-ghost use Rattle.playlist_meaning.specs.Reading.{limited};
+ghost use Rattle.playlist_model.specs.Refusals.{Gives};
+ghost use Rattle.playlist_model.specs.Said.{optional, time_of, length_of, value_of, date_range_said, date_range};
+ghost use Rattle.playlist_model.specs.Reading.{limited};
 ghost use Rattle.segment_state.specs.Attributes.{pairs_of};
 
 use attr_list::AttrList;
 use fixed_duration::Nanos;
-use playlist_meaning::{DateRange, FaultKind, Instant, Text, read_instant};
+use playlist_model::{DateRange, FaultKind, Instant, Text, read_instant};
 use segment_state::attributes::{attributes_of, required};
 use std::alloc::{AllocError, Global};
 
@@ -34,10 +34,10 @@ pub fn date_range_of(alloc: Global, rest: &str) -> Result<DateRange, FaultKind>
         start,
         end,
         duration,
-        planned,
-        out,
-        back,
-        text,
+        planned_duration: planned,
+        scte35_out: out,
+        scte35_in: back,
+        attributes: text,
     })
 }
 

@@ -8,5 +8,5 @@ mod reader;
 mod tag;
 
 pub use line::{Line, LineKind, Lines, kind_of};
-pub use playlist_meaning::MOST_BYTES;
+pub use playlist_model::MAX_BYTES;
 pub use reader::read;

@@ -3,8 +3,9 @@ ghost use Rattle.std.specs.Prelude.{◌≡◌, [], ◌∷◌, map, ◌+◌, ◌^
 ghost use Rattle.std.specs.List.{list_all, position_or_len, before_first, after_first};
 ghost use Rattle.std.specs.Str.Lines.{lines, strip_carriage_return};
 ghost use Rattle.attr_list.specs.Attributes.{slices_at};
-ghost use Rattle.playlist_meaning.specs.Lines.{kind_of, is_blank, is_colon, placed_lines};
-ghost use Rattle.playlist_parse.specs.LineViews.{line_kind_view, line_span, line_view, is_feed, is_plain_byte, lines_from, with_end};
+ghost use Rattle.playlist_model.specs.Lines.{kind_of, is_blank, is_colon, placed_lines};
+ghost use Rattle.playlist_parse.specs.LineViews.{line_kind_view, line_span, line_view, is_feed, lines_from, with_end};
+ghost use Rattle.playlist_parse.specs.Inner.LineViews.{is_plain_byte};
 
 use attr_list::Span;
 use memchr::memchr;

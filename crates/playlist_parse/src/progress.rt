@@ -1,46 +1,46 @@
 //! A playlist as far as it has been read, and what each tag adds to it.
 ghost use Rattle.std.specs.Prelude.{◌≡◌, [], ◌∷◌, true, false, not, Some, None, Ok, Err, is_none, unwrap_or};
 ghost use Rattle.std.specs.List.{list_any, list_all};
-ghost use Rattle.playlist_meaning.specs.Reading.{said_by, said_by_kind, said_by_tag, said_by_uri, has_section, are_mixed};
-ghost use Rattle.playlist_meaning.specs.Lines as kinds;
-ghost use Rattle.playlist_meaning.specs.Lines.{has_control};
-ghost use Rattle.playlist_meaning.specs.Said as said;
-ghost use Rattle.playlist_meaning.specs.Said.{number, version_of, playlist_type_of, refuse_if};
-ghost use Rattle.playlist_meaning.specs.Reading.{limited};
-ghost use Rattle.playlist_parse.specs.Progress.{progress_at, Takes, Ends};
+ghost use Rattle.playlist_model.specs.Reading.{said_by, said_by_kind, said_by_tag, said_by_uri, has_section, are_mixed};
+ghost use Rattle.playlist_model.specs.Lines as kinds;
+ghost use Rattle.playlist_model.specs.Lines.{has_control};
+ghost use Rattle.playlist_model.specs.Said as said;
+ghost use Rattle.playlist_model.specs.Said.{number, version_of, playlist_type_of, refuse_if};
+ghost use Rattle.playlist_model.specs.Reading.{limited};
+ghost use Rattle.playlist_parse.specs.Inner.Progress.{progress_at, TakesLine, Ends};
 
 use crate::date_range::date_range_of;
 use crate::line::{LineKind, kind_of};
 use crate::tag::{Tag, tag_of};
 use attr_list::read_decimal;
-use base_uris::Base;
-use playlist_meaning::{
+use playlist_model::{
     DateRange, FaultKind, Items, Playlist, PlaylistKind, Segment, Shared, has_control,
 };
-use segment_state::State;
+use segment_state::ReaderState;
 use std::alloc::Global;
 use std::marker::Model;
+use uri_resolver::Base;
 
 /// A playlist as far as it has been read.
 #[derive(Drop)]
 pub struct Progress<'a> {
     alloc: Global,
     version: Option<u64>,
-    target: Option<u64>,
-    kind: Option<PlaylistKind>,
-    independent: bool,
-    ended: bool,
+    target_duration: Option<u64>,
+    playlist_type: Option<PlaylistKind>,
+    independent_segments: bool,
+    end_list: bool,
     has_sequence: bool,
     has_discontinuity_sequence: bool,
     has_media: bool,
-    state: State<'a>,
+    state: ReaderState<'a>,
     date_ranges: Vec<DateRange>,
     segments: Vec<Shared<Segment>>,
 }
 
 impl<'a> Model for Progress<'a> {
-    ghost use Rattle.playlist_parse.specs.Progress.{Progress};
-    ghost use Rattle.playlist_parse.specs.Views.{progress_of};
+    ghost use Rattle.playlist_parse.specs.Inner.Progress.{Progress};
+    ghost use Rattle.playlist_parse.specs.Inner.Views.{progress_of};
 
     ghost Value = { Progress };
 
@@ -55,14 +55,14 @@ impl<'a> Progress<'a> {
         Progress {
             alloc,
             version: None,
-            target: None,
-            kind: None,
-            independent: false,
-            ended: false,
+            target_duration: None,
+            playlist_type: None,
+            independent_segments: false,
+            end_list: false,
             has_sequence: false,
             has_discontinuity_sequence: false,
             has_media: false,
-            state: State::new(alloc, base),
+            state: ReaderState::new(alloc, base),
             date_ranges: Vec::new(alloc),
             segments: Vec::new(alloc),
         }
@@ -72,7 +72,7 @@ impl<'a> Progress<'a> {
     #[inline(always)]
     pub fn line(&mut self, line: &'a str, is_plain: bool) -> Result<(), FaultKind>
         requires { is_plain ≡ true → has_control line.now ≡ false }
-        ensures { Takes (λ base before. said_by limited base before line.now) self.old self.new result }
+        ensures { TakesLine (λ base before. said_by limited base before line.now) self.old self.new result }
     {
         if has_control_in(line, is_plain) {
             return Err(FaultKind::Control);
@@ -88,7 +88,7 @@ impl<'a> Progress<'a> {
     #[inline(never)]
     fn other_line(&mut self, line: &'a str) -> Result<(), FaultKind>
         requires { has_control line.now ≡ false }
-        ensures { Takes (λ base before. said_by limited base before line.now) self.old self.new result }
+        ensures { TakesLine (λ base before. said_by limited base before line.now) self.old self.new result }
     {
         match kind_of(line) {
             LineKind::Ignored => Ok(()),
@@ -98,7 +98,7 @@ impl<'a> Progress<'a> {
     }
 
     fn uri(&mut self, reference: &str) -> Result<(), FaultKind>
-        ensures { Takes (λ base before. said_by_uri limited base before reference.now) self.old self.new result }
+        ensures { TakesLine (λ base before. said_by_uri limited base before reference.now) self.old self.new result }
     {
         let segment = self.state.take_segment(reference)?;
         self.has_media = true;
@@ -107,7 +107,7 @@ impl<'a> Progress<'a> {
     }
 
     fn tag(&mut self, name: &str, rest: &'a str, colon: bool) -> Result<(), FaultKind>
-        ensures { Takes (λ base before. said_by_kind limited base before (kinds.tag name.now rest.now colon)) self.old self.new result }
+        ensures { TakesLine (λ base before. said_by_kind limited base before (kinds.tag name.now rest.now colon)) self.old self.new result }
     {
         match tag_of(name, colon) {
             Tag::Inf => self.duration(rest),
@@ -119,7 +119,7 @@ impl<'a> Progress<'a> {
             Tag::PlaylistType => self.playlist_type(rest),
             Tag::EndList => self.end(),
             Tag::IndependentSegments => {
-                self.independent = true;
+                self.independent_segments = true;
                 Ok(())
             }
             Tag::IFramesOnly => Err(FaultKind::IFramesOnly),
@@ -134,48 +134,48 @@ impl<'a> Progress<'a> {
     }
 
     fn duration(&mut self, rest: &'a str) -> Result<(), FaultKind>
-        ensures { Takes (λ base before. said_by_tag limited base before said.duration_tag rest.now) self.old self.new result }
+        ensures { TakesLine (λ base before. said_by_tag limited base before said.duration_tag rest.now) self.old self.new result }
     {
         self.state.duration_tag(rest)
     }
 
     fn discontinuity(&mut self) -> Result<(), FaultKind>
-        ensures { Takes (λ base before. said_by_tag limited base before said.discontinuity_tag []) self.old self.new result }
+        ensures { TakesLine (λ base before. said_by_tag limited base before said.discontinuity_tag []) self.old self.new result }
     {
         self.state.discontinuity()
     }
 
     // EXT-X-BYTERANGE (4.3.2.2)
     fn byte_range(&mut self, rest: &str) -> Result<(), FaultKind>
-        ensures { Takes (λ base before. said_by_tag limited base before said.byte_range_tag rest.now) self.old self.new result }
+        ensures { TakesLine (λ base before. said_by_tag limited base before said.byte_range_tag rest.now) self.old self.new result }
     {
         self.state.byte_range_tag(rest)
     }
 
     // EXT-X-KEY (4.3.2.4)
     fn key(&mut self, rest: &str) -> Result<(), FaultKind>
-        ensures { Takes (λ base before. said_by_tag limited base before said.key_tag rest.now) self.old self.new result }
+        ensures { TakesLine (λ base before. said_by_tag limited base before said.key_tag rest.now) self.old self.new result }
     {
         self.state.key_tag(rest)
     }
 
     // EXT-X-MAP (4.3.2.5)
     fn section(&mut self, rest: &str) -> Result<(), FaultKind>
-        ensures { Takes (λ base before. said_by_tag limited base before said.map_tag rest.now) self.old self.new result }
+        ensures { TakesLine (λ base before. said_by_tag limited base before said.map_tag rest.now) self.old self.new result }
     {
         self.state.map_tag(rest)
     }
 
     // EXT-X-PROGRAM-DATE-TIME (4.3.2.6)
     fn time(&mut self, rest: &str) -> Result<(), FaultKind>
-        ensures { Takes (λ base before. said_by_tag limited base before said.time_tag rest.now) self.old self.new result }
+        ensures { TakesLine (λ base before. said_by_tag limited base before said.time_tag rest.now) self.old self.new result }
     {
         self.state.time_tag(rest)
     }
 
     // EXT-X-DATERANGE (4.3.2.7)
     fn date_range(&mut self, rest: &str) -> Result<(), FaultKind>
-        ensures { Takes (λ base before. said_by_tag limited base before said.date_range_tag rest.now) self.old self.new result }
+        ensures { TakesLine (λ base before. said_by_tag limited base before said.date_range_tag rest.now) self.old self.new result }
     {
         let date_range = date_range_of(self.alloc, rest)?;
         self.date_ranges.push(date_range)?;
@@ -184,7 +184,7 @@ impl<'a> Progress<'a> {
 
     // EXT-X-VERSION (4.3.1.2)
     fn version(&mut self, rest: &str) -> Result<(), FaultKind>
-        ensures { Takes (λ base before. said_by_tag limited base before said.version_tag rest.now) self.old self.new result }
+        ensures { TakesLine (λ base before. said_by_tag limited base before said.version_tag rest.now) self.old self.new result }
     {
         if self.version.is_some() {
             return Err(FaultKind::Repeated);
@@ -195,18 +195,18 @@ impl<'a> Progress<'a> {
 
     // EXT-X-TARGETDURATION (4.3.3.1)
     fn target(&mut self, rest: &str) -> Result<(), FaultKind>
-        ensures { Takes (λ base before. said_by_tag limited base before said.target_tag rest.now) self.old self.new result }
+        ensures { TakesLine (λ base before. said_by_tag limited base before said.target_tag rest.now) self.old self.new result }
     {
-        if self.target.is_some() {
+        if self.target_duration.is_some() {
             return Err(FaultKind::Repeated);
         }
-        self.target = Some(number(rest)?);
+        self.target_duration = Some(number(rest)?);
         Ok(())
     }
 
     // EXT-X-MEDIA-SEQUENCE (4.3.3.2)
     fn sequence(&mut self, rest: &str) -> Result<(), FaultKind>
-        ensures { Takes (λ base before. said_by_tag limited base before said.sequence_tag rest.now) self.old self.new result }
+        ensures { TakesLine (λ base before. said_by_tag limited base before said.sequence_tag rest.now) self.old self.new result }
     {
         if self.has_sequence {
             return Err(FaultKind::Repeated);
@@ -221,7 +221,7 @@ impl<'a> Progress<'a> {
 
     // EXT-X-DISCONTINUITY-SEQUENCE (4.3.3.3)
     fn discontinuity_sequence(&mut self, rest: &str) -> Result<(), FaultKind>
-        ensures { Takes (λ base before. said_by_tag limited base before said.discontinuity_sequence_tag rest.now) self.old self.new result }
+        ensures { TakesLine (λ base before. said_by_tag limited base before said.discontinuity_sequence_tag rest.now) self.old self.new result }
     {
         if self.has_discontinuity_sequence {
             return Err(FaultKind::Repeated);
@@ -236,31 +236,31 @@ impl<'a> Progress<'a> {
 
     // EXT-X-PLAYLIST-TYPE (4.3.3.5)
     fn playlist_type(&mut self, rest: &str) -> Result<(), FaultKind>
-        ensures { Takes (λ base before. said_by_tag limited base before said.type_tag rest.now) self.old self.new result }
+        ensures { TakesLine (λ base before. said_by_tag limited base before said.type_tag rest.now) self.old self.new result }
     {
-        if self.kind.is_some() {
+        if self.playlist_type.is_some() {
             return Err(FaultKind::Repeated);
         }
-        self.kind = Some(playlist_type_of(rest)?);
+        self.playlist_type = Some(playlist_type_of(rest)?);
         Ok(())
     }
 
     // EXT-X-ENDLIST (4.3.3.4)
     fn end(&mut self) -> Result<(), FaultKind>
-        ensures { Takes (λ base before. said_by_tag limited base before said.ended_tag []) self.old self.new result }
+        ensures { TakesLine (λ base before. said_by_tag limited base before said.ended_tag []) self.old self.new result }
     {
-        if self.ended {
+        if self.end_list {
             return Err(FaultKind::Repeated);
         }
-        self.ended = true;
+        self.end_list = true;
         Ok(())
     }
 
     // The target duration, where the text as a whole has no fault.
     fn target_of_whole(&self) -> Result<u64, FaultKind>
-        ensures { result ≡ refuse_if (is_none self.now.heading.target) FaultKind.NoTarget (refuse_if (not self.now.heading.has_media) FaultKind.NoSegments (refuse_if (are_mixed self.now.segments) FaultKind.MixedMaps (Ok (unwrap_or self.now.heading.target 0)))) }
+        ensures { result ≡ refuse_if (is_none self.now.heading.target_duration) FaultKind.NoTarget (refuse_if (not self.now.heading.has_media) FaultKind.NoSegments (refuse_if (are_mixed self.now.segments) FaultKind.MixedMaps (Ok (unwrap_or self.now.heading.target_duration 0)))) }
     {
-        let Some(target) = self.target else {
+        let Some(target) = self.target_duration else {
             return Err(FaultKind::NoTarget);
         };
         if !self.has_media {
@@ -279,10 +279,10 @@ impl<'a> Progress<'a> {
         let target = self.target_of_whole()?;
         Ok(Playlist {
             version: self.version.unwrap_or(1),
-            target,
-            kind: self.kind,
-            independent: self.independent,
-            ended: self.ended,
+            target_duration: target,
+            playlist_type: self.playlist_type,
+            independent_segments: self.independent_segments,
+            end_list: self.end_list,
             date_ranges: Items::from_vec(self.date_ranges),
             segments: Items::from_vec(self.segments),
         })
@@ -331,7 +331,7 @@ fn is_any_mapped(segments: &[Shared<Segment>]) -> bool
 {
     segments
         .iter()
-        .any(|s: &Shared<Segment>| s.section.is_some())
+        .any(|s: &Shared<Segment>| s.init_section.is_some())
 }
 
 fn are_all_mapped(segments: &[Shared<Segment>]) -> bool
@@ -339,7 +339,7 @@ fn are_all_mapped(segments: &[Shared<Segment>]) -> bool
 {
     segments
         .iter()
-        .all(|s: &Shared<Segment>| s.section.is_some())
+        .all(|s: &Shared<Segment>| s.init_section.is_some())
 }
 
 // Whether some segments have an initialisation section, and others have none.

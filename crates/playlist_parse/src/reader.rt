@@ -1,19 +1,20 @@
 //! The reader: from bytes to a playlist, or its first fault.
 ghost use Rattle.std.specs.Prelude.{◌≡◌, ◌^◌, ◌<◌, [], ◌∷◌, map, length, true, Ok, Err};
 ghost use Rattle.std.specs.List.{list_all};
-ghost use Rattle.playlist_meaning.specs.Said.{nothing};
-ghost use Rattle.playlist_meaning.specs.Reading.{reading, said_by, said_from, and_whole};
-ghost use Rattle.playlist_meaning.specs.Reading.{limited};
-ghost use Rattle.playlist_parse.specs.LineViews.{is_free, line_text};
-ghost use Rattle.playlist_parse.specs.Answers.{Answers, fault_at};
+ghost use Rattle.playlist_model.specs.Said.{nothing};
+ghost use Rattle.playlist_model.specs.Reading.{reading, said_by, said_from, and_whole};
+ghost use Rattle.playlist_model.specs.Reading.{limited};
+ghost use Rattle.playlist_parse.specs.Inner.LineViews.{is_free, line_text};
+ghost use Rattle.playlist_parse.specs.Answers.{Answers};
+ghost use Rattle.playlist_parse.specs.Inner.Answers.{fault_at};
 
 use crate::line::{Lines, has_plain_bytes};
 use crate::progress::Progress;
-use base_uris::Base;
-use playlist_meaning::{FaultKind, MOST_BYTES, Playlist, PlaylistFault, text_of};
+use playlist_model::{FaultKind, MAX_BYTES, Playlist, PlaylistFault, text_of};
 use std::alloc::Global;
+use uri_resolver::Base;
 
-// A fault at a line. Want of memory stands at none.
+// A fault at a line. A failed allocation stands at none.
 fn fault_at(kind: FaultKind, line: u64) -> PlaylistFault
     ensures { result ≡ fault_at kind line }
 {
@@ -60,7 +61,7 @@ pub fn read(alloc: Global, bytes: &[u8], base: &Base) -> Result<Playlist, Playli
         Ok(text) => text,
         Err(kind) => return Err(fault_at(kind, 0)),
     };
-    if text.len() > MOST_BYTES {
+    if text.len() > MAX_BYTES {
         return Err(fault_at(FaultKind::TooLong, 0));
     }
     let mut lines = Lines::new(text);

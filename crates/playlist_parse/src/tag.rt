@@ -1,7 +1,7 @@
 //! The tags of RFC 8216, section 4.3, by name.
 ghost use Rattle.std.specs.Prelude.{◌≡◌, if◌then◌else◌};
-ghost use Rattle.playlist_meaning.specs.Reading.{name_of};
-ghost use Rattle.playlist_parse.specs.LineViews.{tag_view};
+ghost use Rattle.playlist_model.specs.Reading.{name_of};
+ghost use Rattle.playlist_parse.specs.Inner.LineViews.{tag_view};
 
 /// A tag that a reader knows, or any other.
 #[derive(Clone, Copy)]

@@ -1,21 +1,21 @@
 //! Segments that are listed again. When they begin is tried on the built program (`tests/run_playlists`).
 use fixed_duration::Nanos;
-use playlist_meaning::{Instant, Items, Segment, Shared, ShortText, same_segment};
+use playlist_model::{Instant, Items, Segment, Shared, ShortText, same_segment};
 use std::alloc::{AllocError, Global};
 
 /// A clear segment of this duration and title, which has no section.
 pub(crate) fn segment(alloc: Global, duration: Nanos, title: &str) -> Result<Segment, AllocError> {
     Ok(Segment {
-        number: 7,
-        discontinuity: 0,
-        steps: 0,
+        media_sequence: 7,
+        discontinuity_sequence: 0,
+        discontinuities: 0,
         uri: ShortText::copy_of(alloc, "http://origin.example/s.ts")?,
         byte_range: None,
         keys: Items::from_vec(Vec::new(alloc)),
-        section: None,
+        init_section: None,
         duration,
         title: Shared::new(alloc, ShortText::copy_of(alloc, title)?)?,
-        time: None,
+        program_date_time: None,
     })
 }
 
@@ -23,8 +23,8 @@ pub(crate) fn segment(alloc: Global, duration: Nanos, title: &str) -> Result<Seg
 fn is_listed_again(alloc: Global, duration: Nanos) -> Result<bool, AllocError> {
     let first = segment(alloc, Nanos(10), "")?;
     let mut again = segment(alloc, duration, "news")?;
-    again.steps = 1;
-    again.time = Some(Instant(100));
+    again.discontinuities = 1;
+    again.program_date_time = Some(Instant(100));
     Ok(same_segment(&first, &again))
 }
 

@@ -1,8 +1,8 @@
 //! Calls that the program shows nothing of. Bases, references, times and characters are tried on the built program
 //! (`tests/run_playlists`).
 use crate::made::key;
-use live_window::text_in;
-use playlist_meaning::{Instant, Items, Key, Shared, Text, read_instant};
+use channel_window::text_in;
+use playlist_model::{Instant, Items, Key, Shared, Text, read_instant};
 use std::alloc::{AllocError, Global};
 
 // 1900-01-01T00:00:00Z and 2200-01-01T00:00:00Z, in nanoseconds from 1970.

@@ -1,5 +1,5 @@
 //! Each public call once.
-use devices::{Counted, Pieces, READ_ROOM, Sink, Source, Taken, hand_out};
+use byte_streams::{Counted, READ_ROOM, Sink, Source, TestSink, TestSource, hand_out};
 use std::alloc::{AllocError, Global};
 use std::io;
 use std::io::{ErrorKind, Read, Write};
@@ -20,7 +20,7 @@ fn write_next<K: Sink>(sink: &mut K, bytes: &[u8]) -> Option<usize> {
 
 #[test]
 fn pieces_of_a_source(rt: HostRuntime) {
-    let mut source = Pieces::new(b"abcdefg", 3, 4, 2);
+    let mut source = TestSource::new(b"abcdefg", 3, 4, 2);
     for moved in [Some(3), None, Some(1), Some(3), Some(0)] {
         assert!(rt; read_next(&mut source) == moved);
     }
@@ -38,7 +38,7 @@ static WRITES: [(&[u8], Option<usize>); 4] = [
 
 #[test]
 fn room_of_a_sink(rt: HostRuntime) -> Result<(), AllocError> {
-    let mut sink = Taken::new(rt.alloc(), 5, 3, 2)?;
+    let mut sink = TestSink::new(rt.alloc(), 5, 3, 2)?;
     for (bytes, taken) in WRITES.iter() {
         assert!(rt; write_next(&mut sink, bytes) == *taken);
     }
@@ -49,7 +49,7 @@ fn room_of_a_sink(rt: HostRuntime) -> Result<(), AllocError> {
 
 // Whether what fits is handed out whole, and of what doesn't the front, at most so many bytes a call.
 fn is_handed_out(alloc: Global, most: usize) -> Result<bool, AllocError> {
-    let mut sink = Taken::new(alloc, 7, most.max(1), 0)?;
+    let mut sink = TestSink::new(alloc, 7, most.max(1), 0)?;
     let is_whole = hand_out(b"abcde", &mut sink).is_ok();
     let is_cut = hand_out(b"fgh", &mut sink).is_err();
     Ok(is_whole && is_cut && sink.bytes() == b"abcdefg".as_slice())

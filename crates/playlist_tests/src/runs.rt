@@ -1,11 +1,11 @@
 //! Devices that move few bytes or fail, and shown faults. The program's words and what it prints are tried on the built
 //! program (`tests/run_devices`, `tests/run_playlists`).
-use devices::{Pieces, Source, Taken};
-use one_playlist::{VodFault, command_vod};
-use playlist_meaning::{FaultKind, PlaylistFault};
+use byte_streams::{Source, TestSink, TestSource};
+use playlist_model::{FaultKind, PlaylistFault};
 use std::alloc::{AllocError, Global};
 use std::fmt::Display;
 use stitcher::StitchFault;
+use vod_run::{VodFault, command_vod};
 
 const BASE: &str = "http://origin.example/ch/index.m3u8";
 
@@ -25,13 +25,13 @@ const CANNOT_WRITE: &[u8] = b"cannot write output\n";
 // these bytes.
 fn ends_with(
     alloc: Global,
-    source: &mut Pieces<'_>,
-    mut sink: Taken,
+    source: &mut TestSource<'_>,
+    mut sink: TestSink,
     base: &str,
     printed: &[u8],
     bytes: &[u8],
 ) -> Result<bool, AllocError> {
-    let mut faults = Taken::new(alloc, ROOM, 1, 0)?;
+    let mut faults = TestSink::new(alloc, ROOM, 1, 0)?;
     let status = command_vod(alloc, base, None, source, &mut sink, &mut faults);
     let is_told = status == u8::from(!printed.is_empty()) && faults.bytes() == printed;
     Ok(is_told && sink.bytes() == bytes)
@@ -39,8 +39,8 @@ fn ends_with(
 
 // Whether a run of some bytes a call up to a cut, writes what is owed, as many bytes a call.
 fn is_written(alloc: Global, most: usize, cut: usize) -> Result<bool, AllocError> {
-    let mut source = Pieces::new(PLAIN, most.max(1), cut, 0);
-    let sink = Taken::new(alloc, ROOM, most.max(1), 0)?;
+    let mut source = TestSource::new(PLAIN, most.max(1), cut, 0);
+    let sink = TestSink::new(alloc, ROOM, most.max(1), 0)?;
     ends_with(alloc, &mut source, sink, BASE, b"", WRITTEN)
 }
 
@@ -58,8 +58,8 @@ fn pieces_of_any_size(rt: HostRuntime) {
 
 // Whether a run of a byte a call, whose read of this number fails, is blamed on that and writes nothing.
 fn is_read_failure(alloc: Global, fail: u64) -> Result<bool, AllocError> {
-    let mut source = Pieces::new(PLAIN, 1, 0, fail);
-    let sink = Taken::new(alloc, ROOM, 1, 0)?;
+    let mut source = TestSource::new(PLAIN, 1, 0, fail);
+    let sink = TestSink::new(alloc, ROOM, 1, 0)?;
     ends_with(alloc, &mut source, sink, BASE, CANNOT_READ, b"")
 }
 
@@ -83,8 +83,8 @@ fn is_write_failure(
     fail: u64,
     count: usize,
 ) -> Result<bool, AllocError> {
-    let mut source = Pieces::new(PLAIN, ROOM, 0, 0);
-    let sink = Taken::new(alloc, room, most.max(1), fail)?;
+    let mut source = TestSource::new(PLAIN, ROOM, 0, 0);
+    let sink = TestSink::new(alloc, room, most.max(1), fail)?;
     let bytes = WRITTEN.get(..count).unwrap_or(b"?");
     ends_with(alloc, &mut source, sink, BASE, CANNOT_WRITE, bytes)
 }
@@ -99,8 +99,8 @@ fn each_write_fails_in_turn(rt: HostRuntime) {
 
 // Whether a run of a byte a call, whose sink fails after all that is owed, isn't blamed on it.
 fn is_whole_before_a_failure(alloc: Global) -> Result<bool, AllocError> {
-    let mut source = Pieces::new(PLAIN, ROOM, 0, 0);
-    let sink = Taken::new(alloc, ROOM, 1, WRITTEN.len() as u64 + 1)?;
+    let mut source = TestSource::new(PLAIN, ROOM, 0, 0);
+    let sink = TestSink::new(alloc, ROOM, 1, WRITTEN.len() as u64 + 1)?;
     ends_with(alloc, &mut source, sink, BASE, b"", WRITTEN)
 }
 
@@ -117,19 +117,19 @@ fn a_sink_without_room(rt: HostRuntime) {
 // Whether a run over this source is refused with this fault printed, with nothing written, after so many reads.
 fn is_refused_after(
     alloc: Global,
-    mut source: Pieces<'_>,
+    mut source: TestSource<'_>,
     base: &str,
     printed: &[u8],
     reads: u64,
 ) -> Result<bool, AllocError> {
-    let sink = Taken::new(alloc, ROOM, ROOM, 0)?;
+    let sink = TestSink::new(alloc, ROOM, ROOM, 0)?;
     let is_refused = ends_with(alloc, &mut source, sink, base, printed, b"")?;
     Ok(is_refused && source.calls() == reads)
 }
 
 fn is_read_too_often(alloc: Global) -> Result<bool, AllocError> {
     let input = Vec::from_elem(alloc, b'\n', 70_000)?;
-    let source = Pieces::new(input.as_slice(), 1, 0, 0);
+    let source = TestSource::new(input.as_slice(), 1, 0, 0);
     is_refused_after(alloc, source, BASE, b"E3 TooManyReads\n", 65_536)
 }
 
@@ -140,7 +140,7 @@ fn too_many_reads(rt: HostRuntime) {
 
 #[test]
 fn a_base_that_is_none_reads_nothing(rt: HostRuntime) {
-    let source = Pieces::new(PLAIN, ROOM, 0, 1);
+    let source = TestSource::new(PLAIN, ROOM, 0, 1);
     let refused = is_refused_after(rt.alloc(), source, "ftp://h/", b"C1 BadBase\n", 0);
     assert!(rt; matches!(refused, Ok(true)));
 }

@@ -1,6 +1,6 @@
 //! Calls of a store of pods that no program makes.
 use decision_files::read_decisions;
-use playlist_meaning::{Shared, Text};
+use playlist_model::{Shared, Text};
 use pod_store::{DecisionFault, PodStore};
 use std::alloc::{AllocError, Global};
 

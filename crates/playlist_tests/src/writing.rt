@@ -2,14 +2,14 @@
 //! the built program (`tests/run_playlists`).
 use crate::beginnings::segment;
 use crate::made::key;
-use devices::Taken;
+use byte_streams::TestSink;
 use fixed_duration::Nanos;
-use playlist_meaning::{
+use playlist_model::{
     ByteRange, InitSection, Instant, Items, Key, PlaylistKind, Segment, Shared, Text,
 };
 use playlist_write::{OutPlaylist, WriteFault, write};
 use std::alloc::{AllocError, Global};
-use stitcher::{OriginText, OutSegment, Played};
+use stitcher::{OutSegment, SegmentRef, TextRef};
 
 const ROOM: usize = 4096;
 
@@ -54,7 +54,7 @@ fn section(alloc: Global) -> Result<Shared<InitSection>, AllocError> {
 // A part of a file, encrypted, with a section under another key.
 fn encrypted(alloc: Global) -> Result<Segment, AllocError> {
     let mut segment = segment(alloc, Nanos(9_500_000_000), "one")?;
-    segment.section = Some(section(alloc)?);
+    segment.init_section = Some(section(alloc)?);
     segment.keys = keys(alloc, "http://origin.example/ch/kb", 2)?;
     segment.byte_range = Some(ByteRange {
         length: 30,
@@ -80,11 +80,11 @@ fn sources_with(alloc: Global, date_range: &str) -> Result<Sources, AllocError> 
 
 fn item(segment: &Segment) -> OutSegment<'_> {
     OutSegment {
-        segment: Played::of_origin(segment),
-        media: 7,
-        discontinuity: 3,
-        steps: 1,
-        time: Some(Instant(1_714_564_800_000_000_000)),
+        segment: SegmentRef::of_origin(segment),
+        media_sequence: 7,
+        discontinuity_sequence: 3,
+        discontinuities: 1,
+        program_date_time: Some(Instant(1_714_564_800_000_000_000)),
     }
 }
 
@@ -108,13 +108,13 @@ fn playlist(
     count: usize,
 ) -> Result<OutPlaylist<'_>, AllocError> {
     let segments = Items::from_vec(items(&sources.origin, alloc, count)?);
-    let date_ranges = Items::from_vec(vec![in alloc; OriginText::new(&sources.date_range)]?);
+    let date_ranges = Items::from_vec(vec![in alloc; TextRef::new(&sources.date_range)]?);
     Ok(OutPlaylist {
         version,
-        target: 10,
-        kind: Some(PlaylistKind::Event),
-        independent: true,
-        ended: true,
+        target_duration: 10,
+        playlist_type: Some(PlaylistKind::Event),
+        independent_segments: true,
+        end_list: true,
         date_ranges,
         segments,
     })
@@ -122,7 +122,7 @@ fn playlist(
 
 // Whether a sink that takes at most so many bytes a call has the whole text.
 fn takes_all(alloc: Global, playlist: &OutPlaylist<'_>, most: usize) -> Result<bool, WriteFault> {
-    let mut sink = Taken::new(alloc, ROOM, most.max(1), 0)?;
+    let mut sink = TestSink::new(alloc, ROOM, most.max(1), 0)?;
     write(alloc, playlist, &mut sink)?;
     Ok(sink.bytes() == WRITTEN.as_bytes())
 }
@@ -134,7 +134,7 @@ fn stops_after(
     count: usize,
 ) -> Result<bool, AllocError> {
     let fail = (count as u64).saturating_add(1);
-    let mut sink = Taken::new(alloc, ROOM, 1, fail)?;
+    let mut sink = TestSink::new(alloc, ROOM, 1, fail)?;
     let is_blamed = matches!(write(alloc, playlist, &mut sink), Err(WriteFault::Io));
     let taken = sink.bytes();
     Ok(is_blamed && taken.len() == count && WRITTEN.as_bytes().starts_with(taken))
@@ -156,7 +156,7 @@ fn taken_before(
     text: &[u8],
     fail: u64,
 ) -> Result<usize, AllocError> {
-    let mut sink = Taken::new(alloc, LONG_ROOM, LONG_ROOM, fail)?;
+    let mut sink = TestSink::new(alloc, LONG_ROOM, LONG_ROOM, fail)?;
     let _ = write(alloc, playlist, &mut sink);
     let taken = sink.bytes();
     Ok(if text.starts_with(taken) {

@@ -11,8 +11,9 @@ use Rattle.std.proofs.lemmas.List.Splits.{slice_split_at}
 use Rattle.std.proofs.lemmas.List.Folds.{list_any-append}
 use Rattle.std.proofs.lemmas.Str.{IsUtf8-append, IsUtf8-from_ascii, chars-append, encodes-chars, NoCharPasses-byte, IsUtf8-nil}
 use Rattle.std.proofs.lemmas.Str.Ascii.{IsAscii-nil, IsAscii-cons}
-use Rattle.playlist_meaning.specs.Lines.{has_control, is_printable}
-use Rattle.playlist_meaning.proofs.Printable.{ascii, printable_has_no_control}
+use Rattle.playlist_model.specs.Lines.{has_control}
+use Rattle.playlist_model.specs.Inner.Lines.{is_printable}
+use Rattle.playlist_model.proofs.Printable.{ascii, printable_has_no_control}
 
 pub record Clean (bytes : List ℕ) : Type 0 where
   pub utf8 : IsUtf8 bytes

@@ -7,29 +7,29 @@ use Rattle.attr_list.specs.declared.AttrFault.{AttrFault}
 use Rattle.attr_list.specs.Attributes.{Pair, attribute, attributes_of}
 use Rattle.attr_list.proofs.Limits.{limited_is_read}
 use Rattle.fixed_duration.specs.Duration.{duration_of}
-use Rattle.playlist_meaning.specs.declared.FaultKind.TheVariants as fault
-use Rattle.playlist_meaning.specs.declared.DateRange.{DateRange}
-use Rattle.instants.specs.Instant.{instant_of}
-use Rattle.playlist_meaning.specs.Said.{mended, or_fault, required, optional, some_value, value_if, time_of, length_of, Said, Reader, date_range, Outcome, ◌>>=◌, date_range_of, date_range_said}
-use Rattle.playlist_meaning.specs.Reading.{limited, unlimited}
-use Rattle.fitting.specs.Fitting.{if_some, is_clean, says_date_range, date_range_fits}
-use Rattle.playlist_write.specs.DateRangeParts.{is_id, says_time, says_duration, is_date_range}
+use Rattle.playlist_model.specs.declared.FaultKind.TheVariants as fault
+use Rattle.playlist_model.specs.declared.DateRange.{DateRange}
+use Rattle.date_times.specs.Instant.{instant_of}
+use Rattle.playlist_model.specs.Said.{mended, or_fault, required, optional, some_value, value_if, time_of, length_of, Said, Reader, date_range, Outcome, ◌>>=◌, date_range_of, date_range_said}
+use Rattle.playlist_model.specs.Reading.{limited, unlimited}
+use Rattle.writable.specs.Fitting.{if_some, is_clean, says_date_range, date_range_fits}
+use Rattle.playlist_write.specs.Inner.DateRangeParts.{is_id, says_time, says_duration, is_date_range}
 
 -- a reader of at most 64 attributes
 abbrev pub few : Reader
 few = limited
 
 Keeps : List ℕ → Outcome Said → Type 0
-Keeps text o = (r : DateRange) → o ≡ Ok (date_range r) → r.text ≡ text
+Keeps text o = (r : DateRange) → o ≡ Ok (date_range r) → r.attributes ≡ text
 
 keeps_bind : {A : Type 0} (text : List ℕ) (o : Outcome A) (f : A → Outcome Said) → ((x : A) → Keeps text (f x)) → Keeps text (o >>= f)
 unfolding Keeps
 keeps_bind text (Ok x) f h r e = h x r e
 keeps_bind text (Err d) f h r e = cc
 
-keeps_ok : (r : DateRange) → Keeps r.text (Ok (date_range r))
+keeps_ok : (r : DateRange) → Keeps r.attributes (Ok (date_range r))
 unfolding Keeps
-keeps_ok r q e = let f : r ≡ q = cc in ap (λ x. x.text) (sym f)
+keeps_ok r q e = let f : r ≡ q = cc in ap (λ x. x.attributes) (sym f)
 
 pairs_kept : (text : List ℕ) (pairs : List Pair) → Keeps text (date_range_of text pairs)
 pairs_kept text pairs =
@@ -41,7 +41,7 @@ pairs_kept text pairs =
 text_kept : (text : List ℕ) → Keeps text (date_range_said unlimited text)
 text_kept text = keeps_bind {A = List Pair} text (mended fault.BadAttributes (attributes_of None text)) _ (pairs_kept text)
 
-pub is_kept : (text : List ℕ) (r : DateRange) → date_range_said unlimited text ≡ Ok (date_range r) → r.text ≡ text
+pub is_kept : (text : List ℕ) (r : DateRange) → date_range_said unlimited text ≡ Ok (date_range r) → r.attributes ≡ text
 unfolding Keeps
 is_kept text r e = text_kept text r e
 

@@ -4,24 +4,24 @@ use Rattle.std.specs.Prelude.{◌&&◌, ◌==◌, ℤ, Option, is_some, is_none,
 use Rattle.std.specs.List.{list_any, list_all}
 use Rattle.std.proofs.lemmas.Bool.{and_parts, not-true, ltb-true, lt-leb, lt-ltb, cond-false, eqb-true}
 use Rattle.std.proofs.lemmas.List.{append-nil, append_assoc}
-use Rattle.playlist_meaning.specs.declared.Key.{Key}
-use Rattle.playlist_meaning.specs.declared.ByteRange.{ByteRange}
-use Rattle.playlist_meaning.specs.declared.InitSection.{InitSection}
-use Rattle.playlist_meaning.specs.declared.Segment.{Segment}
-use Rattle.playlist_meaning.specs.Said.{Said, discontinuity, no_keys, key, key_tag_said, duration, media}
-use Rattle.playlist_meaning.specs.LookBack.{or_earlier, put_key, Extent, Standing, extent_with, effective_key, are_sorted}
-use Rattle.playlist_meaning.specs.Reading.{passes, needs_iv}
-use Rattle.instants.specs.Instant.{in_range}
-use Rattle.playlist_meaning.proofs.ListTests.{all_filter}
-use Rattle.playlist_meaning.specs.declared.KeyTag.{KeyTag}
-use Rattle.playlist_meaning.specs.declared.KeyTag.TheVariants.{End, Set}
+use Rattle.playlist_model.specs.declared.Key.{Key}
+use Rattle.playlist_model.specs.declared.ByteRange.{ByteRange}
+use Rattle.playlist_model.specs.declared.InitSection.{InitSection}
+use Rattle.playlist_model.specs.declared.Segment.{Segment}
+use Rattle.playlist_model.specs.Said.{Said, discontinuity, no_keys, key, key_tag_said, duration, media}
+use Rattle.playlist_model.specs.LookBack.{or_earlier, put_key, Extent, Standing, extent_with, effective_key, are_sorted}
+use Rattle.playlist_model.specs.Reading.{passes, needs_iv}
+use Rattle.date_times.specs.Instant.{in_range}
+use Rattle.playlist_model.proofs.ListTests.{all_filter}
+use Rattle.playlist_model.specs.declared.KeyTag.{KeyTag}
+use Rattle.playlist_model.specs.declared.KeyTag.TheVariants.{End, Set}
 use Rattle.stitcher.specs.declared.OutSegment.{OutSegment}
-use Rattle.playlist_meaning.specs.Same.{same_section, same_option}
-use Rattle.stitcher.specs.KeyTags.{transition, is_new, keeps_formats, after_tags}
-use Rattle.playlist_meaning.proofs.SameParts.{section_is}
+use Rattle.playlist_model.specs.Same.{same_section, same_option}
+use Rattle.stitcher.specs.KeyTags.{transition, is_new_key, keeps_formats, after_tags}
+use Rattle.playlist_model.proofs.SameParts.{section_is}
 use Rattle.stitcher.proofs.TagLaws.{transition_leads}
 use Rattle.playlist_write.specs.Owed.{Current, keys_owed, changed_section, section_owed, keys_then, time_owed, byte_range_owed, segment_owed, after_segment, segments_owed}
-use Rattle.fitting.specs.Fitting.{is_clean, uri_fits, quoted_uri_fits, byte_range_fits, if_some, key_fits, keys_fit, states_iv, section_fits}
+use Rattle.writable.specs.Fitting.{is_clean, uri_fits, quoted_uri_fits, byte_range_fits, if_some, key_fits, keys_fit, states_iv, section_fits}
 use Rattle.playlist_write.specs.WellFormed.{is_word, numbers_are_words, resource_fits, segment_fits}
 use Rattle.playlist_write.specs.Denoted.{denoted_segment}
 use Rattle.playlist_write.proofs.Machine.{Known, step, run, Allowed, number_known, discontinuity_known}
@@ -30,12 +30,12 @@ use Rattle.playlist_write.proofs.Machine.{Known, step, run, Allowed, number_know
 abbrev pub numbers_go_on : ℕ → ℕ → List OutSegment → Bool
 numbers_go_on number steps [] = true
 numbers_go_on number steps (out ∷ later) =
-    out.media == number && out.discontinuity == steps + out.steps && numbers_go_on (number + 1) out.discontinuity later
+    out.media_sequence == number && out.discontinuity_sequence == steps + out.discontinuities && numbers_go_on (number + 1) out.discontinuity_sequence later
 
 -- as one segment has a section or none, so have all
 abbrev pub sections_alike : Bool → List OutSegment → Bool
 sections_alike mapped [] = true
-sections_alike mapped (out ∷ later) = cond mapped (is_some out.segment.section) (is_none out.segment.section) && sections_alike mapped later
+sections_alike mapped (out ∷ later) = cond mapped (is_some out.segment.init_section) (is_none out.segment.init_section) && sections_alike mapped later
 
 -- the lines fit and can stand here, and lead there
 pub record Goes (from : Known) (lines : List Said) (to : Known) : Type 0 where
@@ -59,16 +59,16 @@ goes-append xs ys a b c h g = record {
 -- ---- discontinuities
 
 goes_steps : (n : ℕ) (k : Known) → discontinuity_known k.standing + n < 2 ^ 64
-    → Goes k (replicate n discontinuity) (record k { standing = record k.standing { discontinuities = k.standing.discontinuities + n; steps = k.standing.steps + n } })
-goes_steps zero k h = record { allowed = tt; leads = ap (λ s. record k { standing = s }) (same k.standing (k.standing.discontinuities + 0) (k.standing.steps + 0) (omega arith) (omega arith)) }
+    → Goes k (replicate n discontinuity) (record k { standing = record k.standing { discontinuity_count = k.standing.discontinuity_count + n; discontinuities = k.standing.discontinuities + n } })
+goes_steps zero k h = record { allowed = tt; leads = ap (λ s. record k { standing = s }) (same k.standing (k.standing.discontinuity_count + 0) (k.standing.discontinuities + 0) (omega arith) (omega arith)) }
   where
-    same : (at : Standing) (d s : ℕ) → d ≡ at.discontinuities → s ≡ at.steps → at ≡ record at { discontinuities = d; steps = s }
-    same at d s e g = ap (λ x. record at { discontinuities = x }) (sym e) ∙ ap (λ x. record at { discontinuities = d; steps = x }) (sym g)
+    same : (at : Standing) (d s : ℕ) → d ≡ at.discontinuity_count → s ≡ at.discontinuities → at ≡ record at { discontinuity_count = d; discontinuities = s }
+    same at d s e g = ap (λ x. record at { discontinuity_count = x }) (sym e) ∙ ap (λ x. record at { discontinuity_count = d; discontinuities = x }) (sym g)
 goes_steps (suc n) k h =
     let below : discontinuity_known k.standing + 1 < 2 ^ 64 = omega (arith, h) in
     let next = goes_steps n (step k discontinuity) (omega (arith, h)) in record {
       allowed = (tt, lt-leb _ _ below, next.allowed);
-      leads = next.leads ∙ ap (λ d. record k { standing = record k.standing { discontinuities = d; steps = k.standing.steps + 1 + n } }) (omega arith) ∙ ap (λ s. record k { standing = record k.standing { discontinuities = k.standing.discontinuities + suc n; steps = s } }) (omega arith);
+      leads = next.leads ∙ ap (λ d. record k { standing = record k.standing { discontinuity_count = d; discontinuities = k.standing.discontinuities + 1 + n } }) (omega arith) ∙ ap (λ s. record k { standing = record k.standing { discontinuity_count = k.standing.discontinuity_count + suc n; discontinuities = s } }) (omega arith);
     }
 
 -- ---- keys
@@ -85,8 +85,8 @@ sets_allowed : (keys : List Key) (k : Known) → list_all key_fits keys ≡ true
 sets_allowed [] k h = tt
 sets_allowed (j ∷ keys) k h = let a = and_parts _ _ h in (a.0, tt, sets_allowed keys (step k (key j)) a.1)
 
-tags_allowed : (b : Bool) (old new : List Key) (k : Known) → list_all key_fits new ≡ true → Allowed k (map key_tag_said (cond b (map Set (filter (is_new old) new)) (End ∷ map Set new)))
-tags_allowed true old new k h = sets_allowed (filter (is_new old) new) k (all_filter key_fits (is_new old) new h)
+tags_allowed : (b : Bool) (old new : List Key) (k : Known) → list_all key_fits new ≡ true → Allowed k (map key_tag_said (cond b (map Set (filter (is_new_key old) new)) (End ∷ map Set new)))
+tags_allowed true old new k h = sets_allowed (filter (is_new_key old) new) k (all_filter key_fits (is_new_key old) new h)
 tags_allowed false old new k h = (tt, tt, sets_allowed new (step k no_keys) h)
 
 goes_keys : (old new : List Key) (k : Known) → k.standing.keys ≡ old → keys_fit old ≡ true → keys_fit new ≡ true → Goes k (keys_owed old new) (with_keys k new)
@@ -100,9 +100,9 @@ goes_keys old new k e h g =
 -- ---- the section
 
 abbrev with_section : Known → List Key → Option InitSection → Known
-with_section k keys section = record k { standing = record k.standing { keys = keys; section = section } }
+with_section k keys section = record k { standing = record k.standing { keys = keys; init_section = section } }
 
-with_both : (k : Known) (ks : List Key) (s : Option InitSection) → k.standing.keys ≡ ks → k.standing.section ≡ s → k ≡ with_section k ks s
+with_both : (k : Known) (ks : List Key) (s : Option InitSection) → k.standing.keys ≡ ks → k.standing.init_section ≡ s → k ≡ with_section k ks s
 with_both k ks s e g = ap (with_keys k) e ∙ ap (with_section k ks) g
 
 record SectionParts (s : InitSection) : Type 0 where
@@ -120,40 +120,40 @@ section_parts s h =
 abbrev written : Bool → InitSection → Option InitSection
 written same new = cond same None (Some new)
 
-section_step : (same : Bool) (cur : Current) (new : InitSection) (k : Known) → same_option same_section (Some new) cur.section ≡ same → k.standing.keys ≡ cur.keys → k.standing.section ≡ cur.section → keys_fit cur.keys ≡ true → section_fits new ≡ true
+section_step : (same : Bool) (cur : Current) (new : InitSection) (k : Known) → same_option same_section (Some new) cur.init_section ≡ same → k.standing.keys ≡ cur.keys → k.standing.init_section ≡ cur.init_section → keys_fit cur.keys ≡ true → section_fits new ≡ true
     → Goes k (section_owed cur.keys (written same new)) (with_section k (keys_then cur.keys (written same new)) (Some new))
-section_step true cur new k e ke se h f = record { allowed = tt; leads = with_both k cur.keys (Some new) ke (se ∙ section_is new cur.section e) }
+section_step true cur new k e ke se h f = record { allowed = tt; leads = with_both k cur.keys (Some new) ke (se ∙ section_is new cur.init_section e) }
 section_step false cur new k e ke se h f =
     let p = section_parts new f in
     goes-append _ _ k (with_keys k new.keys) _ (goes_keys cur.keys new.keys k ke h p.keys) (record { allowed = ((p.uri, p.byte_range), p.ivs, tt); leads = refl })
 
-goes_section : (cur : Current) (sec : Option InitSection) (k : Known) → k.standing.keys ≡ cur.keys → k.standing.section ≡ cur.section → keys_fit cur.keys ≡ true → if_some section_fits sec ≡ true
-    → Goes k (section_owed cur.keys (changed_section cur.section sec)) (with_section k (keys_then cur.keys (changed_section cur.section sec)) (or_earlier sec cur.section))
-goes_section cur None k ke se h f = record { allowed = tt; leads = with_both k cur.keys cur.section ke se }
+goes_section : (cur : Current) (sec : Option InitSection) (k : Known) → k.standing.keys ≡ cur.keys → k.standing.init_section ≡ cur.init_section → keys_fit cur.keys ≡ true → if_some section_fits sec ≡ true
+    → Goes k (section_owed cur.keys (changed_section cur.init_section sec)) (with_section k (keys_then cur.keys (changed_section cur.init_section sec)) (or_earlier sec cur.init_section))
+goes_section cur None k ke se h f = record { allowed = tt; leads = with_both k cur.keys cur.init_section ke se }
 goes_section cur (Some new) k ke se h f = section_step _ cur new k refl ke se h f
 
 then_step : (same : Bool) (cur : Current) (new : InitSection) → keys_fit cur.keys ≡ true → keys_fit new.keys ≡ true → keys_fit (keys_then cur.keys (written same new)) ≡ true
 then_step true cur new h g = h
 then_step false cur new h g = g
 
-then_fit : (cur : Current) (sec : Option InitSection) → keys_fit cur.keys ≡ true → if_some section_fits sec ≡ true → keys_fit (keys_then cur.keys (changed_section cur.section sec)) ≡ true
+then_fit : (cur : Current) (sec : Option InitSection) → keys_fit cur.keys ≡ true → if_some section_fits sec ≡ true → keys_fit (keys_then cur.keys (changed_section cur.init_section sec)) ≡ true
 then_fit cur None h f = h
-then_fit cur (Some new) h f = then_step (same_option same_section (Some new) cur.section) cur new h (section_parts new f).keys
+then_fit cur (Some new) h f = then_step (same_option same_section (Some new) cur.init_section) cur new h (section_parts new f).keys
 
 -- ---- the rest of a segment's lines
 
 abbrev segment_with : Standing → OutSegment → Segment
 segment_with s out = record {
-  number = number_known s;
-  discontinuity = discontinuity_known s;
-  steps = s.steps;
+  media_sequence = number_known s;
+  discontinuity_sequence = discontinuity_known s;
+  discontinuities = s.discontinuities;
   uri = out.segment.uri;
   byte_range = out.segment.byte_range;
   keys = map (effective_key (number_known s)) s.keys;
-  section = s.section;
+  init_section = s.init_section;
   duration = out.segment.duration;
   title = out.segment.title;
-  time = out.time;
+  program_date_time = out.program_date_time;
 }
 
 abbrev ended_segment : Known → OutSegment → Known
@@ -161,17 +161,17 @@ ended_segment k out = record k {
   heading = record k.heading { has_media = true };
   standing = record k.standing {
     media_count = k.standing.media_count + 1;
-    steps = 0;
+    discontinuities = 0;
     duration = None;
     byte_range = None;
-    time = None;
+    program_date_time = None;
     extent = extent_with out.segment.uri out.segment.byte_range;
   };
   segments = k.segments ++ segment_with k.standing out ∷ [];
 }
 
 abbrev fresh : Known → Known
-fresh k = record k { standing = record k.standing { duration = None; byte_range = None; time = None } }
+fresh k = record k { standing = record k.standing { duration = None; byte_range = None; program_date_time = None } }
 
 -- one segment's own parts, apart from its keys and its section
 record TailFits (out : OutSegment) : Type 0 where
@@ -179,12 +179,12 @@ record TailFits (out : OutSegment) : Type 0 where
   byte_range : if_some byte_range_fits out.segment.byte_range ≡ true
   duration : out.segment.duration < 10 ^ 15
   title : is_clean out.segment.title ≡ true
-  time : if_some in_range out.time ≡ true
+  program_date_time : if_some in_range out.program_date_time ≡ true
 
 tail : (out : OutSegment) (t : Option ℤ) (r : Option ByteRange) → List Said
 tail out t r = time_owed t ++ (duration out.segment.duration out.segment.title ∷ (byte_range_owed r ++ media out.segment.uri ∷ []))
 
-goes_tail : (out : OutSegment) (t : Option ℤ) (r : Option ByteRange) → out.time ≡ t → out.segment.byte_range ≡ r → (k : Known) → TailFits out → passes (number_known k.standing) ≡ false
+goes_tail : (out : OutSegment) (t : Option ℤ) (r : Option ByteRange) → out.program_date_time ≡ t → out.segment.byte_range ≡ r → (k : Known) → TailFits out → passes (number_known k.standing) ≡ false
     → Goes (fresh k) (tail out t r) (ended_segment (fresh k) out)
 unfolding tail
 goes_tail out None None te re k f n = rw (te, re) (record { allowed = ((f.duration, f.title), tt, (f.uri, (refl, n, None, refl), tt)); leads = refl })
@@ -192,11 +192,11 @@ goes_tail out None (Some r) te re k f n =
     let fits : byte_range_fits r ≡ true = subst (λ x. if_some byte_range_fits x ≡ true) re f.byte_range in
     rw (te, re) (record { allowed = ((f.duration, f.title), tt, (ltb-true _ _ fits, tt, (f.uri, (refl, n, Some r, refl), tt))); leads = refl })
 goes_tail out (Some t) None te re k f n =
-    let fits : in_range t ≡ true = subst (λ x. if_some in_range x ≡ true) te f.time in
+    let fits : in_range t ≡ true = subst (λ x. if_some in_range x ≡ true) te f.program_date_time in
     rw (te, re) (record { allowed = (fits, tt, ((f.duration, f.title), tt, (f.uri, (refl, n, None, refl), tt))); leads = refl })
 goes_tail out (Some t) (Some r) te re k f n =
     let fits : byte_range_fits r ≡ true = subst (λ x. if_some byte_range_fits x ≡ true) re f.byte_range in
-    let stands : in_range t ≡ true = subst (λ x. if_some in_range x ≡ true) te f.time in
+    let stands : in_range t ≡ true = subst (λ x. if_some in_range x ≡ true) te f.program_date_time in
     rw (te, re) (record { allowed = (stands, tt, ((f.duration, f.title), tt, (ltb-true _ _ fits, tt, (f.uri, (refl, n, Some r, refl), tt)))); leads = refl })
 
 -- ---- one segment
@@ -207,13 +207,13 @@ ready h cur n d extent segments = record h {
   heading = record h.heading { has_media = nat_lt 0 n };
   standing = record h.standing {
     media_count = n;
-    discontinuities = d;
-    steps = 0;
+    discontinuity_count = d;
+    discontinuities = 0;
     duration = None;
     byte_range = None;
-    time = None;
+    program_date_time = None;
     keys = cur.keys;
-    section = cur.section;
+    init_section = cur.init_section;
     extent = extent;
   };
   segments = segments;
@@ -226,32 +226,32 @@ effective : (n : ℕ) (keys : List Key) → list_all states_iv keys ≡ true →
 effective n [] h = refl
 effective n (k ∷ keys) h = let a = and_parts _ _ h in let e = effective_step n k a.0 in let t = effective n keys a.1 in cc
 
-segment_ext : (out : OutSegment) (n d s : ℕ) (ks : List Key) (sec : Option InitSection) → n ≡ out.media → d ≡ out.discontinuity → s ≡ out.steps → ks ≡ out.segment.keys → sec ≡ out.segment.section
-    → ◌≡◌ {A = Segment} (record { number = n; discontinuity = d; steps = s; uri = out.segment.uri; byte_range = out.segment.byte_range; keys = ks; section = sec; duration = out.segment.duration; title = out.segment.title; time = out.time }) (denoted_segment out)
+segment_ext : (out : OutSegment) (n d s : ℕ) (ks : List Key) (sec : Option InitSection) → n ≡ out.media_sequence → d ≡ out.discontinuity_sequence → s ≡ out.discontinuities → ks ≡ out.segment.keys → sec ≡ out.segment.init_section
+    → ◌≡◌ {A = Segment} (record { media_sequence = n; discontinuity_sequence = d; discontinuities = s; uri = out.segment.uri; byte_range = out.segment.byte_range; keys = ks; init_section = sec; duration = out.segment.duration; title = out.segment.title; program_date_time = out.program_date_time }) (denoted_segment out)
 segment_ext out n d s ks sec a b c e f = rw (a, b, c, e, f) refl
 
 pub record SegmentFits (out : OutSegment) : Type 0 where
-  pub media : out.media < 2 ^ 64
-  pub discontinuity : out.discontinuity < 2 ^ 64
+  pub media_sequence : out.media_sequence < 2 ^ 64
+  pub discontinuity_sequence : out.discontinuity_sequence < 2 ^ 64
   tail : TailFits out
   keys : keys_fit out.segment.keys ≡ true
   ivs : list_all states_iv out.segment.keys ≡ true
-  section : if_some section_fits out.segment.section ≡ true
+  init_section : if_some section_fits out.segment.init_section ≡ true
 
 pub segment_parts : (out : OutSegment) → segment_fits out ≡ true → SegmentFits out
 segment_parts out h =
     let a = and_parts _ _ h in let b = and_parts _ _ a.0 in let c = and_parts _ _ b.0 in let d = and_parts _ _ c.0 in let e = and_parts _ _ d.0 in
     let f : (numbers_are_words out ≡ true) × (resource_fits out.segment ≡ true) = and_parts _ _ e.0 in
-    let n : (is_word out.media ≡ true) × (is_word out.discontinuity ≡ true) = and_parts _ _ f.0 in
+    let n : (is_word out.media_sequence ≡ true) × (is_word out.discontinuity_sequence ≡ true) = and_parts _ _ f.0 in
     let r : (uri_fits out.segment.uri ≡ true) × (if_some byte_range_fits out.segment.byte_range ≡ true) = and_parts _ _ f.1 in
     let k : (keys_fit out.segment.keys ≡ true) × (list_all states_iv out.segment.keys ≡ true) = and_parts _ _ e.1 in
     record {
-      media = ltb-true _ _ n.0;
-      discontinuity = ltb-true _ _ n.1;
-      tail = record { uri = r.0; byte_range = r.1; duration = ltb-true _ _ c.1; title = b.1; time = a.1 };
+      media_sequence = ltb-true _ _ n.0;
+      discontinuity_sequence = ltb-true _ _ n.1;
+      tail = record { uri = r.0; byte_range = r.1; duration = ltb-true _ _ c.1; title = b.1; program_date_time = a.1 };
       keys = k.0;
       ivs = k.1;
-      section = d.1;
+      init_section = d.1;
     }
 
 extent_of : OutSegment → Option Extent
@@ -259,24 +259,24 @@ extent_of out = extent_with out.segment.uri out.segment.byte_range
 
 module _ (h : Known) where
   goes_segment : (cur : Current) (n d : ℕ) (extent : Option Extent) (segments : List Segment) (out : OutSegment) → SegmentFits out → keys_fit cur.keys ≡ true
-      → or_earlier out.segment.section cur.section ≡ out.segment.section → h.standing.sequence + n ≡ out.media → h.standing.discontinuity_sequence + d + out.steps ≡ out.discontinuity
-      → Goes (ready h cur n d extent segments) (segment_owed cur out) (ready h (after_segment cur out) (n + 1) (d + out.steps) (extent_of out) (segments ++ denoted_segment out ∷ []))
+      → or_earlier out.segment.init_section cur.init_section ≡ out.segment.init_section → h.standing.media_sequence + n ≡ out.media_sequence → h.standing.discontinuity_sequence + d + out.discontinuities ≡ out.discontinuity_sequence
+      → Goes (ready h cur n d extent segments) (segment_owed cur out) (ready h (after_segment cur out) (n + 1) (d + out.discontinuities) (extent_of out) (segments ++ denoted_segment out ∷ []))
   unfolding extent_of tail
   goes_segment cur n d extent segments out f kf se media_is disc_is =
       let k0 = ready h cur n d extent segments in
-      let k1 : Known = record k0 { standing = record k0.standing { discontinuities = d + out.steps; steps = 0 + out.steps } } in
-      let changed = changed_section cur.section out.segment.section in
-      let ms = f.media in let ds = f.discontinuity in
-      let k2 = with_section k1 (keys_then cur.keys changed) (or_earlier out.segment.section cur.section) in
+      let k1 : Known = record k0 { standing = record k0.standing { discontinuity_count = d + out.discontinuities; discontinuities = 0 + out.discontinuities } } in
+      let changed = changed_section cur.init_section out.segment.init_section in
+      let ms = f.media_sequence in let ds = f.discontinuity_sequence in
+      let k2 = with_section k1 (keys_then cur.keys changed) (or_earlier out.segment.init_section cur.init_section) in
       let k3 = with_keys k2 out.segment.keys in
-      let one = goes_steps out.steps k0 (omega arith) in
-      let two = goes_section cur out.segment.section k1 refl refl kf f.section in
-      let three = goes_keys (keys_then cur.keys changed) out.segment.keys k2 refl (then_fit cur out.segment.section kf f.section) f.keys in
-      let four = goes_tail out out.time out.segment.byte_range refl refl k3 f.tail (lt-leb _ _ (omega arith)) in
-      let same = segment_ext out (h.standing.sequence + n) (h.standing.discontinuity_sequence + (d + out.steps)) (0 + out.steps) (map (effective_key (h.standing.sequence + n)) out.segment.keys) (or_earlier out.segment.section cur.section)
-      media_is (omega arith) (omega arith) (effective (h.standing.sequence + n) out.segment.keys f.ivs) se in
+      let one = goes_steps out.discontinuities k0 (omega arith) in
+      let two = goes_section cur out.segment.init_section k1 refl refl kf f.init_section in
+      let three = goes_keys (keys_then cur.keys changed) out.segment.keys k2 refl (then_fit cur out.segment.init_section kf f.init_section) f.keys in
+      let four = goes_tail out out.program_date_time out.segment.byte_range refl refl k3 f.tail (lt-leb _ _ (omega arith)) in
+      let same = segment_ext out (h.standing.media_sequence + n) (h.standing.discontinuity_sequence + (d + out.discontinuities)) (0 + out.discontinuities) (map (effective_key (h.standing.media_sequence + n)) out.segment.keys) (or_earlier out.segment.init_section cur.init_section)
+      media_is (omega arith) (omega arith) (effective (h.standing.media_sequence + n) out.segment.keys f.ivs) se in
       let all = goes-append _ _ k0 k1 _ one (goes-append _ _ k1 k2 _ two (goes-append _ _ k2 k3 _ three four)) in
-      let there = ready h (after_segment cur out) (n + 1) (d + out.steps) (extent_of out) in
+      let there = ready h (after_segment cur out) (n + 1) (d + out.discontinuities) (extent_of out) in
       let with_media : Bool → Segment → Known = λ b s. record (there (segments ++ s ∷ [])) { heading = record h.heading { has_media = b } } in
       let stood : nat_lt 0 (n + 1) ≡ true = lt-ltb _ _ (omega arith) in
       record { allowed = all.allowed; leads = all.leads ∙ ap (with_media true) same ∙ ap (λ b. with_media b (denoted_segment out)) (sym stood) }
@@ -286,10 +286,10 @@ module _ (h : Known) where
   pub record After (cur : Current) (n d : ℕ) (extent : Option Extent) (segments : List Segment) (outs : List OutSegment) : Type 0 where
     pub current : Current
     pub count : ℕ
-    pub discontinuities : ℕ
+    pub discontinuity_count : ℕ
     pub last : Option Extent
     pub counted : count ≡ n + length outs
-    pub goes : Goes (ready h cur n d extent segments) (segments_owed cur outs) (ready h current count discontinuities last (segments ++ map denoted_segment outs))
+    pub goes : Goes (ready h cur n d extent segments) (segments_owed cur outs) (ready h current count discontinuity_count last (segments ++ map denoted_segment outs))
 
   kept : (mapped : Bool) (sec cur : Option InitSection) → cond mapped (is_some sec) (is_none sec) ≡ true → (mapped ≡ false → cur ≡ None) → or_earlier sec cur ≡ sec
   kept mapped (Some s) cur e f = refl
@@ -302,24 +302,24 @@ module _ (h : Known) where
   still_none false (Some s) cur e g m = cc
 
   pub goes_segments : (mapped : Bool) (outs : List OutSegment) (cur : Current) (n d number disc : ℕ) (extent : Option Extent) (segments : List Segment) → list_all segment_fits outs ≡ true → sections_alike mapped outs ≡ true
-      → numbers_go_on number disc outs ≡ true → number ≡ h.standing.sequence + n → disc ≡ h.standing.discontinuity_sequence + d → keys_fit cur.keys ≡ true → (mapped ≡ false → cur.section ≡ None) → After cur n d extent segments outs
+      → numbers_go_on number disc outs ≡ true → number ≡ h.standing.media_sequence + n → disc ≡ h.standing.discontinuity_sequence + d → keys_fit cur.keys ≡ true → (mapped ≡ false → cur.init_section ≡ None) → After cur n d extent segments outs
   goes_segments mapped [] cur n d number disc extent segments f a g ne de kf sn =
-      record { current = cur; count = n; discontinuities = d; last = extent; counted = omega arith; goes = record { allowed = tt; leads = ap (ready h cur n d extent) (sym (append-nil segments)) } }
+      record { current = cur; count = n; discontinuity_count = d; last = extent; counted = omega arith; goes = record { allowed = tt; leads = ap (ready h cur n d extent) (sym (append-nil segments)) } }
   goes_segments mapped (out ∷ outs) cur n d number disc extent segments f a g ne de kf sn =
       let fs = and_parts _ _ f in let al = and_parts _ _ a in
-      let g1 = and_parts _ _ g in let g4 : ((out.media == number) ≡ true) × ((out.discontinuity == disc + out.steps) ≡ true) = and_parts _ _ g1.0 in
-      let m : out.media ≡ number = eqb-true _ _ g4.0 in let c : out.discontinuity ≡ disc + out.steps = eqb-true _ _ g4.1 in
+      let g1 = and_parts _ _ g in let g4 : ((out.media_sequence == number) ≡ true) × ((out.discontinuity_sequence == disc + out.discontinuities) ≡ true) = and_parts _ _ g1.0 in
+      let m : out.media_sequence ≡ number = eqb-true _ _ g4.0 in let c : out.discontinuity_sequence ≡ disc + out.discontinuities = eqb-true _ _ g4.1 in
       let parts = segment_parts out fs.0 in
-      let se = kept mapped out.segment.section cur.section al.0 sn in
+      let se = kept mapped out.segment.init_section cur.init_section al.0 sn in
       let one = goes_segment cur n d extent segments out parts kf se (omega arith) (omega arith) in
-      let rest = goes_segments mapped outs (after_segment cur out) (n + 1) (d + out.steps) (number + 1) out.discontinuity (extent_of out) (segments ++ denoted_segment out ∷ []) fs.1 al.1 g1.1 (omega arith) (omega arith) parts.keys
-      (still_none mapped out.segment.section cur.section al.0 se) in
+      let rest = goes_segments mapped outs (after_segment cur out) (n + 1) (d + out.discontinuities) (number + 1) out.discontinuity_sequence (extent_of out) (segments ++ denoted_segment out ∷ []) fs.1 al.1 g1.1 (omega arith) (omega arith) parts.keys
+      (still_none mapped out.segment.init_section cur.init_section al.0 se) in
       let all = goes-append _ _ _ _ _ one rest.goes in
       record {
         current = rest.current;
         count = rest.count;
-        discontinuities = rest.discontinuities;
+        discontinuity_count = rest.discontinuity_count;
         last = rest.last;
         counted = omega (arith, rest.counted);
-        goes = record { allowed = all.allowed; leads = all.leads ∙ ap (ready h rest.current rest.count rest.discontinuities rest.last) (append_assoc segments (denoted_segment out ∷ []) (map denoted_segment outs)) };
+        goes = record { allowed = all.allowed; leads = all.leads ∙ ap (ready h rest.current rest.count rest.discontinuity_count rest.last) (append_assoc segments (denoted_segment out ∷ []) (map denoted_segment outs)) };
       }

@@ -6,8 +6,8 @@ use Rattle.std.proofs.lemmas.Bool.{and_parts, cases_lt, eqb-true}
 use Rattle.std.proofs.lemmas.Bool.Decides.{nat_tests}
 use Rattle.std.proofs.lemmas.Str.{IsAscii-append}
 use Rattle.std.proofs.lemmas.Str.Ascii.{IsAscii-nil, IsAscii-cons, IsAscii-push}
-use Rattle.instants.specs.Digits.{fixed_digits}
-use Rattle.instants.proofs.FixedDigits.{last_two}
+use Rattle.date_times.specs.Digits.{fixed_digits}
+use Rattle.date_times.proofs.FixedDigits.{last_two}
 use Rattle.playlist_write.specs.declared.digits.TheConstants.{PAIRS}
 
 -- ---- the table of two digits

@@ -3,11 +3,12 @@ use Rattle.std.proofs.Common.{◌≡◌, List, [], ◌∷◌, Bool, true, false,
 use Rattle.std.specs.Prelude.{bytes_eq, codes, not, ◌&&◌}
 use Rattle.std.proofs.lemmas.Bool.{and_parts}
 use Rattle.std.proofs.lemmas.Slice.Eq.{bytes_eq-Decides}
-use Rattle.playlist_meaning.specs.declared.Key.{Key}
-use Rattle.playlist_meaning.specs.Same.{same_option, same_number}
-use Rattle.playlist_meaning.proofs.SameParts.{other_iv}
-use Rattle.playlist_write.specs.KeyParts.{is_identity}
-use Rattle.playlist_write.specs.Owed.{set_tags, keys_owed}
+use Rattle.playlist_model.specs.declared.Key.{Key}
+use Rattle.playlist_model.specs.Same.{same_option, same_number}
+use Rattle.playlist_model.proofs.SameParts.{other_iv}
+use Rattle.playlist_write.specs.Inner.KeyParts.{is_identity}
+use Rattle.playlist_write.specs.Owed.{keys_owed}
+use Rattle.playlist_write.specs.Inner.Owed.{set_tags}
 
 same_format : (a b : Key) → is_identity a ≡ true → is_identity b ≡ true → bytes_eq a.format b.format ≡ true
 same_format a b h g = (bytes_eq-Decides a.format b.format).1 ((bytes_eq-Decides a.format (codes "identity")).0 h ∙ sym ((bytes_eq-Decides b.format (codes "identity")).0 g))

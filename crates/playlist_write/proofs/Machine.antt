@@ -4,17 +4,17 @@ use Rattle.std.specs.Prelude.{◌||◌, ◌==◌, Option, is_some, is_none, unwr
 use Rattle.std.specs.List.{list_any}
 use Rattle.std.specs.Result.{result_unwrap_or}
 use Rattle.url.specs.Parts.{Parts}
-use Rattle.playlist_meaning.specs.declared.ByteRange.{ByteRange}
-use Rattle.playlist_meaning.specs.declared.Segment.{Segment}
-use Rattle.playlist_meaning.specs.declared.DateRange.{DateRange}
-use Rattle.instants.specs.Instant.{in_range}
-use Rattle.playlist_meaning.specs.Said.{Said, nothing, version, target, sequence, discontinuity_sequence, playlist_type, ended, independent, duration, byte_range, discontinuity, no_keys, key, section, time, date_range, media, Outcome, date_range_said}
-use Rattle.playlist_meaning.specs.LookBack.{is_media, is_discontinuity, put_key, effective_key, extent_with, byte_range_from, Standing, standing_at, segments_of, date_ranges_of}
-use Rattle.playlist_meaning.specs.Heading.{Heading, heading_at}
-use Rattle.playlist_meaning.specs.Reading.{said_by, said_from, at_line, unlimited, passes, needs_iv}
-use Rattle.playlist_meaning.proofs.SaidCounts.{counted_none}
+use Rattle.playlist_model.specs.declared.ByteRange.{ByteRange}
+use Rattle.playlist_model.specs.declared.Segment.{Segment}
+use Rattle.playlist_model.specs.declared.DateRange.{DateRange}
+use Rattle.date_times.specs.Instant.{in_range}
+use Rattle.playlist_model.specs.Said.{Said, nothing, version, target, sequence, discontinuity_sequence, playlist_type, ended, independent, duration, byte_range, discontinuity, no_keys, key, section, time, date_range, media, Outcome, date_range_said}
+use Rattle.playlist_model.specs.LookBack.{is_media, is_discontinuity, put_key, effective_key, extent_with, byte_range_from, Standing, standing_at, segments_of, date_ranges_of}
+use Rattle.playlist_model.specs.Inner.Heading.{Heading, heading_at}
+use Rattle.playlist_model.specs.Reading.{said_by, said_from, at_line, unlimited, passes, needs_iv}
+use Rattle.playlist_model.proofs.SaidCounts.{counted_none}
 use Rattle.playlist_write.specs.Spelling.{spelled}
-use Rattle.fitting.specs.Fitting.{is_clean, uri_fits, quoted_uri_fits, if_some, byte_range_fits, key_fits}
+use Rattle.writable.specs.Fitting.{is_clean, uri_fits, quoted_uri_fits, if_some, byte_range_fits, key_fits}
 use Rattle.playlist_write.proofs.CleanTexts.{Clean, AllClean}
 use Rattle.playlist_write.proofs.SaidLines as lines
 
@@ -34,56 +34,56 @@ known_at before = record {
 }
 
 abbrev pub number_known : Standing → ℕ
-number_known s = s.sequence + s.media_count
+number_known s = s.media_sequence + s.media_count
 
 abbrev pub discontinuity_known : Standing → ℕ
-discontinuity_known s = s.discontinuity_sequence + s.discontinuities
+discontinuity_known s = s.discontinuity_sequence + s.discontinuity_count
 
 abbrev pub byte_range_known : Standing → List ℕ → Outcome (Option ByteRange)
 byte_range_known s uri = byte_range_from s.byte_range uri s.extent
 
 abbrev pub segment_known : Standing → List ℕ → Segment
 segment_known s uri = record {
-  number = number_known s;
-  discontinuity = discontinuity_known s;
-  steps = s.steps;
+  media_sequence = number_known s;
+  discontinuity_sequence = discontinuity_known s;
+  discontinuities = s.discontinuities;
   uri = uri;
   byte_range = result_unwrap_or (byte_range_known s uri) None;
   keys = map (effective_key (number_known s)) s.keys;
-  section = s.section;
+  init_section = s.init_section;
   duration = (unwrap_or s.duration (0, [])).0;
   title = (unwrap_or s.duration (0, [])).1;
-  time = s.time;
+  program_date_time = s.program_date_time;
 }
 
 -- after one more line
 abbrev pub heading_after : Heading → Said → Heading
 heading_after h (version n) = record h { version = Some n }
-heading_after h (target n) = record h { target = Some n }
+heading_after h (target n) = record h { target_duration = Some n }
 heading_after h (sequence n) = record h { has_sequence = true }
 heading_after h (discontinuity_sequence n) = record h { has_discontinuity_sequence = true }
-heading_after h (playlist_type kind) = record h { kind = Some kind }
-heading_after h ended = record h { ended = true }
-heading_after h independent = record h { independent = true }
+heading_after h (playlist_type kind) = record h { playlist_type = Some kind }
+heading_after h ended = record h { end_list = true }
+heading_after h independent = record h { independent_segments = true }
 heading_after h (media uri) = record h { has_media = true }
 heading_after h _ = h
 
 abbrev pub standing_after : Standing → Said → Standing
-standing_after s (sequence n) = record s { sequence = n }
+standing_after s (sequence n) = record s { media_sequence = n }
 standing_after s (discontinuity_sequence n) = record s { discontinuity_sequence = n }
 standing_after s (duration n title) = record s { duration = Some (n, title) }
 standing_after s (byte_range n o) = record s { byte_range = Some (n, o) }
-standing_after s discontinuity = record s { discontinuities = s.discontinuities + 1; steps = s.steps + 1 }
+standing_after s discontinuity = record s { discontinuity_count = s.discontinuity_count + 1; discontinuities = s.discontinuities + 1 }
 standing_after s no_keys = record s { keys = [] }
 standing_after s (key j) = record s { keys = put_key j s.keys }
-standing_after s (section uri part) = record s { section = Some (record { uri = uri; byte_range = part; keys = s.keys }) }
-standing_after s (time t) = record s { time = Some t }
+standing_after s (section uri part) = record s { init_section = Some (record { uri = uri; byte_range = part; keys = s.keys }) }
+standing_after s (time t) = record s { program_date_time = Some t }
 standing_after s (media uri) = record s {
   media_count = s.media_count + 1;
-  steps = 0;
+  discontinuities = 0;
   duration = None;
   byte_range = None;
-  time = None;
+  program_date_time = None;
   extent = extent_with uri (result_unwrap_or (byte_range_known s uri) None);
 }
 standing_after s _ = s
@@ -142,12 +142,12 @@ known_onto (s ∷ later) before = known_onto later (s ∷ before) ∙ ap (λ k. 
 
 abbrev pub Allows : Known → Said → Type 0
 Allows k (version n) = is_some k.heading.version ≡ false
-Allows k (target n) = is_some k.heading.target ≡ false
+Allows k (target n) = is_some k.heading.target_duration ≡ false
 Allows k (sequence n) = (k.heading.has_sequence ≡ false) × (k.standing.media_count ≡ 0)
 Allows k (discontinuity_sequence n) =
-    (k.heading.has_discontinuity_sequence ≡ false) × (k.standing.media_count ≡ 0) × (k.standing.discontinuities ≡ 0)
-Allows k (playlist_type kind) = is_some k.heading.kind ≡ false
-Allows k ended = k.heading.ended ≡ false
+    (k.heading.has_discontinuity_sequence ≡ false) × (k.standing.media_count ≡ 0) × (k.standing.discontinuity_count ≡ 0)
+Allows k (playlist_type kind) = is_some k.heading.playlist_type ≡ false
+Allows k ended = k.heading.end_list ≡ false
 Allows k discontinuity = passes (discontinuity_known k.standing + 1) ≡ false
 Allows k (section uri part) = list_any needs_iv k.standing.keys ≡ false
 Allows k (media uri) =
@@ -166,7 +166,7 @@ Fits (byte_range n (Some o)) = n + o < 2 ^ 64
 Fits (key k) = key_fits k ≡ true
 Fits (section uri part) = (quoted_uri_fits uri ≡ true) × (if_some byte_range_fits part ≡ true)
 Fits (time t) = in_range t ≡ true
-Fits (date_range r) = (is_clean r.text ≡ true) × (date_range_said unlimited r.text ≡ Ok (date_range r))
+Fits (date_range r) = (is_clean r.attributes ≡ true) × (date_range_said unlimited r.attributes ≡ Ok (date_range r))
 Fits (media uri) = uri_fits uri ≡ true
 Fits _ = Unit {0}
 

@@ -6,8 +6,8 @@ use Rattle.std.proofs.lemmas.Bool.{and_parts, or_parts, not-true, eqb-true}
 use Rattle.attr_list.specs.declared.AttrFault.{AttrFault}
 use Rattle.attr_list.specs.Attributes.{Pair, attributes_of, attributes_text, are_attributes, is_named, pair_spelling, pieces}
 use Rattle.attr_list.proofs.Grammar.{pairs_are, read_is_list}
-use Rattle.playlist_meaning.specs.Carried.{after_commas, are_others, carried, is_carried, is_key_attribute}
-use Rattle.playlist_meaning.proofs.Carried.{attributes_are, commas_append}
+use Rattle.playlist_model.specs.Carried.{after_commas, are_others, carried, is_carried, is_key_attribute}
+use Rattle.playlist_model.proofs.Carried.{attributes_are, commas_append}
 
 pub record OtherPairs (text : List ℕ) : Type 0 where
   pub pairs : List Pair

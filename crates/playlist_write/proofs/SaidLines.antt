@@ -18,30 +18,31 @@ use Rattle.attr_list.proofs.Cuts.{before_at, after_at, any_at}
 use Rattle.attr_list.proofs.Grammar.{written_is_read}
 use Rattle.attr_list.proofs.NumberLemmas.{written_decimal}
 use Rattle.attr_list.proofs.Elements.{all_from, none_from}
-use Rattle.playlist_meaning.specs.declared.FaultKind.{FaultKind}
-use Rattle.playlist_meaning.specs.declared.FaultKind.TheVariants as fault
-use Rattle.playlist_meaning.specs.declared.Key.{Key}
-use Rattle.playlist_meaning.specs.declared.ByteRange.{ByteRange}
-use Rattle.playlist_meaning.specs.declared.DateRange.{DateRange}
-use Rattle.playlist_meaning.specs.declared.PlaylistKind.{PlaylistKind}
-use Rattle.playlist_meaning.specs.declared.PlaylistKind.TheVariants.{Event, Vod}
-use Rattle.playlist_meaning.specs.Lines.{has_control, is_printable, kind_of, uri}
-use Rattle.playlist_meaning.specs.Uri.{has_scheme, is_scheme_byte}
-use Rattle.instants.specs.Instant.{in_range, instant_of}
-use Rattle.playlist_meaning.specs.Said.{Said, version, target, sequence, discontinuity_sequence, playlist_type, ended, independent, duration, byte_range, discontinuity, no_keys, key, section, time, date_range, media, Outcome, ◌>>=◌, refuse_if, or_fault, duration_said, byte_range_of, byte_range_end_fits, uri_of, some_value, iv_of, optional, required, quoted_of, set_key, key_said, section_said, section_byte_range, number, version_of, date_range_said}
-use Rattle.playlist_meaning.specs.Carried.{after_commas, carried}
-use Rattle.playlist_meaning.specs.Reading.{said_by, unlimited, passes, said_by_kind, within_formats, needs_iv, with_ivs, is_set, has}
-use Rattle.playlist_meaning.specs.LookBack.{discontinuity_at, own_duration, number_at, byte_range_at, keys_at, the_version, the_target, the_sequence, the_discontinuity_sequence, the_type, is_media, is_discontinuity, is_ended}
-use Rattle.playlist_meaning.proofs.SameParts.{key_ext}
-use Rattle.instants.specs.Digits.{fixed_digits}
-use Rattle.instants.specs.Times.{time_text}
+use Rattle.playlist_model.specs.declared.FaultKind.{FaultKind}
+use Rattle.playlist_model.specs.declared.FaultKind.TheVariants as fault
+use Rattle.playlist_model.specs.declared.Key.{Key}
+use Rattle.playlist_model.specs.declared.ByteRange.{ByteRange}
+use Rattle.playlist_model.specs.declared.DateRange.{DateRange}
+use Rattle.playlist_model.specs.declared.PlaylistKind.{PlaylistKind}
+use Rattle.playlist_model.specs.declared.PlaylistKind.TheVariants.{Event, Vod}
+use Rattle.playlist_model.specs.Lines.{has_control, kind_of, uri}
+use Rattle.playlist_model.specs.Inner.Lines.{is_printable}
+use Rattle.playlist_model.specs.Uri.{has_scheme, is_scheme_byte}
+use Rattle.date_times.specs.Instant.{in_range, instant_of}
+use Rattle.playlist_model.specs.Said.{Said, version, target, sequence, discontinuity_sequence, playlist_type, ended, independent, duration, byte_range, discontinuity, no_keys, key, section, time, date_range, media, Outcome, ◌>>=◌, refuse_if, or_fault, duration_said, byte_range_of, byte_range_end_fits, uri_of, some_value, iv_of, optional, required, quoted_of, set_key, key_said, section_said, section_byte_range, number, version_of, date_range_said}
+use Rattle.playlist_model.specs.Carried.{after_commas, carried}
+use Rattle.playlist_model.specs.Reading.{said_by, unlimited, passes, said_by_kind, within_formats, needs_iv, with_ivs, is_set, has}
+use Rattle.playlist_model.specs.LookBack.{discontinuity_at, own_duration, media_sequence_at, byte_range_at, keys_at, the_version, the_target, the_sequence, the_discontinuity_sequence, the_type, is_media, is_discontinuity, is_ended}
+use Rattle.playlist_model.proofs.SameParts.{key_ext}
+use Rattle.date_times.specs.Digits.{fixed_digits}
+use Rattle.date_times.specs.Times.{time_text}
 use Rattle.playlist_write.specs.Spelling.{spelled, own_pairs, key_text, section_pairs, iv_pairs, format_pairs, in_quotes, part_pairs}
-use Rattle.fitting.specs.Fitting.{is_clean, value_fits, uri_fits, quoted_uri_fits, if_some, iv_fits, key_fits, byte_range_fits}
+use Rattle.writable.specs.Fitting.{is_clean, value_fits, uri_fits, quoted_uri_fits, if_some, iv_fits, key_fits, byte_range_fits}
 use Rattle.playlist_write.proofs.CleanTexts.{Clean, clean-append, clean_printable}
 use Rattle.playlist_write.proofs.WrittenNumbers.{is_number_byte, decimal_bytes, duration_bytes, hex_bytes, hex_read}
 use Rattle.playlist_write.proofs.OtherFields.{carried_others, none_found}
 use Rattle.playlist_write.proofs.TagFields.{KeyParts, key_parts, key_pairs, key_attributes, key_text_is, own_attributes, section_attributes}
-use Rattle.instants.proofs.TimeLaws.{time_reads}
+use Rattle.date_times.proofs.TimeLaws.{time_reads}
 use Rattle.playlist_write.proofs.WrittenTimes.{times_are_clean}
 
 pub clean_is : (bs : List ℕ) → is_clean bs ≡ true → Clean bs
@@ -147,7 +148,7 @@ module _ (base : Parts) (before : List Said) where
       let a : (is_ascii_alphabetic b ≡ true) × (slice_index (b ∷ rest) (prefix_len is_scheme_byte (b ∷ rest)) == 58 ≡ true) = and_parts _ _ h in
       let l = letter_is b a.0 in rw (l.0, l.1) refl
 
-  pub media_line : (text : List ℕ) (r : Option ByteRange) → uri_fits text ≡ true → is_none (own_duration before) ≡ false → passes (number_at before) ≡ false → byte_range_at before text ≡ Ok r → IsRead (media text)
+  pub media_line : (text : List ℕ) (r : Option ByteRange) → uri_fits text ≡ true → is_none (own_duration before) ≡ false → passes (media_sequence_at before) ≡ false → byte_range_at before text ≡ Ok r → IsRead (media text)
   media_line text r h d n e =
       let a : (is_clean text ≡ true) × (has_scheme text ≡ true) = and_parts _ _ h in
       as_written text (said_by_kind unlimited base before (kind_of text)) _ (clean_is text a.0)
@@ -219,7 +220,7 @@ module _ (base : Parts) (before : List Said) where
 
   set_key_by : (pairs : List Pair) (reference method resource : List ℕ) (iv : Option ℕ) (format : Option (List ℕ)) (others : List ℕ) → required true (attribute pairs (codes "URI")) ≡ Ok reference
       → optional iv_of (attribute pairs (codes "IV")) ≡ Ok iv → optional quoted_of (attribute pairs (codes "KEYFORMAT")) ≡ Ok format → uri_of base reference ≡ Ok resource → after_commas (carried pairs) ≡ others
-      → set_key base pairs method ≡ Ok (key (record { format = unwrap_or format (codes "identity"); method = method; uri = resource; iv = iv; other = others }))
+      → set_key base pairs method ≡ Ok (key (record { format = unwrap_or format (codes "identity"); method = method; uri = resource; iv = iv; other_attributes = others }))
   set_key_by pairs reference method resource iv format others a b c d e = rw (a, b, c, d, e) refl
 
   hex_printable : (b : ℕ) → is_ascii_hexdigit b ≡ true → is_printable b ≡ true
@@ -255,7 +256,7 @@ module _ (base : Parts) (before : List Said) where
       let iv = iv_part k.iv (format_pairs k.format ++ later) h.iv (past_format b k.format later ∙ no_iv_later) in
       let format = ap (optional quoted_of) (past_iv k.iv (format_pairs k.format ++ later)) ∙ format_step b k.format later no_format_later in
       let rest = carried_iv k.iv (format_pairs k.format ++ later) ∙ carried_format b k.format later ∙ carried_others later h.others.none_own in
-      set_key_by (key_pairs k later) k.uri k.method k.uri k.iv (format_read b k.format) k.other refl iv format (resolves k.uri (scheme_is k.uri h.uri)) (ap after_commas rest ∙ sym h.others.spelled)
+      set_key_by (key_pairs k later) k.uri k.method k.uri k.iv (format_read b k.format) k.other_attributes refl iv format (resolves k.uri (scheme_is k.uri h.uri)) (ap after_commas rest ∙ sym h.others.spelled)
       ∙ ap (λ x. Ok (key x)) (key_ext _ _ _ _ _ _ _ _ _ _ (format_back b k.format refl) refl refl refl refl)
     where
       past_format : (b : Bool) (format : List ℕ) (later : List Pair) → find (is_named (codes "IV")) (cond b [] (in_quotes (codes "KEYFORMAT") format ∷ []) ++ later) ≡ find (is_named (codes "IV")) later
@@ -266,7 +267,7 @@ module _ (base : Parts) (before : List Said) where
   key_line k h =
       let p = key_parts k h in let all = key_attributes k p in
       let pairs = key_pairs k p.others.pairs in
-      let text = clean-append (attributes_text (own_pairs k)) k.other (clean_attributes (own_pairs k) [] (own_attributes k p) (own_values_clean k p)) (clean_is k.other p.clean) in
+      let text = clean-append (attributes_text (own_pairs k)) k.other_attributes (clean_attributes (own_pairs k) [] (own_attributes k p) (own_values_clean k p)) (clean_is k.other_attributes p.clean) in
       as_written (codes "#EXT-X-KEY:" ++ key_text k) (key_said unlimited base (key_text k) >>= within_formats unlimited before) _ (clean-append (codes "#EXT-X-KEY:") _ (clean_printable _ refl) text)
       (key_by (key_text k) pairs k.method (key k) (ap (attributes_of None) (key_text_is k p) ∙ written_is_read pairs (some_pairs _ _) all) refl p.not_none (set_key_is k p))
 
@@ -367,6 +368,6 @@ module _ (base : Parts) (before : List Said) where
       as_written _ (or_fault fault.BadTime (instant_of (time_text t)) >>= λ x. Ok (time x)) _ (clean_line (codes "#EXT-X-PROGRAM-DATE-TIME:") (time_text t) refl (times_are_clean t))
       (ap (λ o. or_fault fault.BadTime o >>= λ x. Ok (time x)) (time_reads t h))
 
-  pub date_range_line : (r : DateRange) → is_clean r.text ≡ true → date_range_said unlimited r.text ≡ Ok (date_range r) → IsRead (date_range r)
+  pub date_range_line : (r : DateRange) → is_clean r.attributes ≡ true → date_range_said unlimited r.attributes ≡ Ok (date_range r) → IsRead (date_range r)
   date_range_line r h e =
-      as_written _ (date_range_said unlimited r.text) _ (clean_line (codes "#EXT-X-DATERANGE:") r.text refl (clean_is r.text h)) e
+      as_written _ (date_range_said unlimited r.attributes) _ (clean_line (codes "#EXT-X-DATERANGE:") r.attributes refl (clean_is r.attributes h)) e

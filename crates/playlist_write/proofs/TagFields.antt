@@ -9,12 +9,12 @@ use Rattle.std.proofs.lemmas.List.Folds.{list_any-append}
 use Rattle.std.proofs.lemmas.Slice.Eq.{bytes_eq-Decides}
 use Rattle.attr_list.specs.Attributes.{Pair, is_name, is_value, is_quote, ends_plain, is_named, is_pair, are_apart, are_attributes, attributes_text}
 use Rattle.attr_list.proofs.Elements.{none_from}
-use Rattle.playlist_meaning.specs.declared.Key.{Key}
-use Rattle.playlist_meaning.specs.declared.ByteRange.{ByteRange}
-use Rattle.playlist_meaning.specs.Carried.{are_others, is_key_attribute}
-use Rattle.instants.specs.Digits.{fixed_digits}
+use Rattle.playlist_model.specs.declared.Key.{Key}
+use Rattle.playlist_model.specs.declared.ByteRange.{ByteRange}
+use Rattle.playlist_model.specs.Carried.{are_others, is_key_attribute}
+use Rattle.date_times.specs.Digits.{fixed_digits}
 use Rattle.playlist_write.specs.Spelling.{plain, in_quotes, iv_text, iv_pairs, format_pairs, own_pairs, key_text, part_pairs, section_pairs, byte_range_text}
-use Rattle.fitting.specs.Fitting.{if_some, is_clean, value_fits, quoted_uri_fits, byte_range_fits, iv_fits, method_fits, key_fits}
+use Rattle.writable.specs.Fitting.{if_some, is_clean, value_fits, quoted_uri_fits, byte_range_fits, iv_fits, method_fits, key_fits}
 use Rattle.playlist_write.proofs.OtherFields.{IsOther, OtherPairs, other_pairs, is_other, others_after}
 use Rattle.playlist_write.proofs.WrittenNumbers.{is_number_byte, decimal_bytes, hex_bytes}
 
@@ -26,16 +26,16 @@ pub record KeyParts (k : Key) : Type 0 where
   pub not_none : bytes_eq k.method (codes "NONE") ≡ false
   pub uri : quoted_uri_fits k.uri ≡ true
   pub iv : if_some iv_fits k.iv ≡ true
-  pub clean : is_clean k.other ≡ true
-  pub others : OtherPairs k.other
+  pub clean : is_clean k.other_attributes ≡ true
+  pub others : OtherPairs k.other_attributes
 
 pub key_parts : (k : Key) → key_fits k ≡ true → KeyParts k
 key_parts k h =
     let a = and_parts _ _ h in let b = and_parts _ _ a.0 in let c = and_parts _ _ b.0 in
     let d : (value_fits true k.format ≡ true) × (method_fits k.method ≡ true) = and_parts _ _ c.0 in
     let m : (value_fits false k.method ≡ true) × (not (bytes_eq k.method (codes "NONE")) ≡ true) = and_parts _ _ d.1 in
-    let o : (is_clean k.other ≡ true) × (are_others k.other ≡ true) = and_parts _ _ a.1 in
-    record { format = d.0; method = m.0; not_none = not-true _ m.1; uri = c.1; iv = b.1; clean = o.0; others = other_pairs k.other o.1 }
+    let o : (is_clean k.other_attributes ≡ true) × (are_others k.other_attributes ≡ true) = and_parts _ _ a.1 in
+    record { format = d.0; method = m.0; not_none = not-true _ m.1; uri = c.1; iv = b.1; clean = o.0; others = other_pairs k.other_attributes o.1 }
 
 -- ---- values
 

@@ -2,15 +2,16 @@
 use Rattle.std.proofs.Common.{◌≡◌, ℕ, List, [], ◌∷◌, ◌++◌, ap, ◌∙◌, sym, append_assoc, append-nil, Some, false}
 use Rattle.std.specs.Prelude.{codes, bytes_eq, ℤ}
 use Rattle.attr_list.specs.Attributes.{pair_spelling}
-use Rattle.playlist_meaning.specs.declared.Key.{Key}
-use Rattle.playlist_meaning.specs.declared.InitSection.{InitSection}
-use Rattle.playlist_meaning.specs.Said.{duration, byte_range, time}
+use Rattle.playlist_model.specs.declared.Key.{Key}
+use Rattle.playlist_model.specs.declared.InitSection.{InitSection}
+use Rattle.playlist_model.specs.Said.{duration, byte_range, time}
 use Rattle.fixed_duration.specs.Duration.{duration_text}
-use Rattle.instants.specs.Times.{time_text}
-use Rattle.playlist_meaning.specs.Carried.{after_commas}
-use Rattle.playlist_meaning.proofs.Carried.{attributes_are, commas_append}
+use Rattle.date_times.specs.Times.{time_text}
+use Rattle.playlist_model.specs.Carried.{after_commas}
+use Rattle.playlist_model.proofs.Carried.{attributes_are, commas_append}
 use Rattle.playlist_write.specs.Spelling.{plain, in_quotes, iv_pairs, format_pairs, part_pairs, byte_range_text}
-use Rattle.playlist_write.specs.Owed.{line_of, with_feed, key_line, section_line}
+use Rattle.playlist_write.specs.Owed.{line_of, with_feed}
+use Rattle.playlist_write.specs.Inner.Owed.{key_line, section_line}
 
 assoc6 : (a b c d e f g : List ℕ) → a ++ (b ++ (c ++ (d ++ (e ++ (f ++ g))))) ≡ (a ++ (b ++ (c ++ (d ++ (e ++ f))))) ++ g
 assoc6 a b c d e f g = simp append_assoc
@@ -19,14 +20,14 @@ assoc5 : (a b c d e : List ℕ) → a ++ (b ++ (c ++ (d ++ e))) ≡ (a ++ (b ++ 
 assoc5 a b c d e = simp append_assoc
 
 pub key_parts : (k : Key) → codes "#EXT-X-KEY:" ++ (pair_spelling (plain (codes "METHOD") k.method) ++ (pair_spelling (in_quotes (codes ",URI") k.uri)
-    ++ (after_commas (iv_pairs k.iv) ++ (after_commas (format_pairs k.format) ++ (k.other ++ 10 ∷ []))))) ≡ key_line k
+    ++ (after_commas (iv_pairs k.iv) ++ (after_commas (format_pairs k.format) ++ (k.other_attributes ++ 10 ∷ []))))) ≡ key_line k
 unfolding line_of
 key_parts k =
     let method = plain (codes "METHOD") k.method in let uri = in_quotes (codes "URI") k.uri in
-    assoc6 (codes "#EXT-X-KEY:") (pair_spelling method) (pair_spelling (in_quotes (codes ",URI") k.uri)) (after_commas (iv_pairs k.iv)) (after_commas (format_pairs k.format)) k.other (10 ∷ [])
-    ∙ ap (λ t. with_feed (codes "#EXT-X-KEY:" ++ t)) (assoc5 (pair_spelling method) (pair_spelling (in_quotes (codes ",URI") k.uri)) (after_commas (iv_pairs k.iv)) (after_commas (format_pairs k.format)) k.other)
-    ∙ ap (λ t. with_feed (codes "#EXT-X-KEY:" ++ ((pair_spelling method ++ (pair_spelling (in_quotes (codes ",URI") k.uri) ++ t)) ++ k.other))) (sym (commas_append (iv_pairs k.iv) (format_pairs k.format)))
-    ∙ ap (λ t. with_feed (codes "#EXT-X-KEY:" ++ (t ++ k.other))) (sym (attributes_are method (uri ∷ (iv_pairs k.iv ++ format_pairs k.format))))
+    assoc6 (codes "#EXT-X-KEY:") (pair_spelling method) (pair_spelling (in_quotes (codes ",URI") k.uri)) (after_commas (iv_pairs k.iv)) (after_commas (format_pairs k.format)) k.other_attributes (10 ∷ [])
+    ∙ ap (λ t. with_feed (codes "#EXT-X-KEY:" ++ t)) (assoc5 (pair_spelling method) (pair_spelling (in_quotes (codes ",URI") k.uri)) (after_commas (iv_pairs k.iv)) (after_commas (format_pairs k.format)) k.other_attributes)
+    ∙ ap (λ t. with_feed (codes "#EXT-X-KEY:" ++ ((pair_spelling method ++ (pair_spelling (in_quotes (codes ",URI") k.uri) ++ t)) ++ k.other_attributes))) (sym (commas_append (iv_pairs k.iv) (format_pairs k.format)))
+    ∙ ap (λ t. with_feed (codes "#EXT-X-KEY:" ++ (t ++ k.other_attributes))) (sym (attributes_are method (uri ∷ (iv_pairs k.iv ++ format_pairs k.format))))
 
 assoc3 : (a b c d : List ℕ) → a ++ (b ++ (c ++ d)) ≡ (a ++ (b ++ c)) ++ d
 assoc3 a b c d = simp append_assoc

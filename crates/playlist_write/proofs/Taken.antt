@@ -4,8 +4,8 @@ use Rattle.std.proofs.lemmas.List.{take_at, take-append-drop}
 use Rattle.std.proofs.Math.Seq.{take-append-add}
 use Rattle.std.specs.Prelude.{Option, Some, None, Result, Ok, Err, OnOk, OnErr}
 use Rattle.std.specs.Io.KnownBytes.{Appends}
-use Rattle.devices.specs.Handed.{TookFront}
-use Rattle.playlist_write.specs.Taken.{TookAllBut}
+use Rattle.byte_streams.specs.Handed.{TookFront}
+use Rattle.playlist_write.specs.Inner.Taken.{TookAllBut}
 
 -- nothing was taken
 pub none_taken : (a : Option (List ℕ)) (text : List ℕ) → TookAllBut a a text text

@@ -6,20 +6,20 @@ use Rattle.std.proofs.lemmas.Bool.{and_parts, and_from, or_parts, or_cases, not-
 use Rattle.std.proofs.lemmas.List.{append-nil, append_assoc}
 use Rattle.std.proofs.lemmas.Str.{is_utf8-from_IsUtf8}
 use Rattle.url.specs.Parts.{Parts}
-use Rattle.playlist_meaning.specs.declared.PlaylistKind.{PlaylistKind}
-use Rattle.playlist_meaning.specs.declared.DateRange.{DateRange}
-use Rattle.playlist_meaning.specs.declared.Playlist.{Playlist}
-use Rattle.playlist_meaning.specs.declared.InitSection.{InitSection}
-use Rattle.playlist_meaning.specs.Said.{Said, nothing, date_range, date_range_said}
-use Rattle.playlist_meaning.specs.LookBack.{latest, the_target, is_media, segments_of}
-use Rattle.playlist_meaning.specs.Reading.{unlimited, whole, whole_fault, and_whole, of_lines, reading, are_mixed, has_section, Denotes, has}
-use Rattle.playlist_meaning.specs.Numbering.{follows, all_follow}
-use Rattle.playlist_meaning.proofs.SaidCounts.{counted_some}
+use Rattle.playlist_model.specs.declared.PlaylistKind.{PlaylistKind}
+use Rattle.playlist_model.specs.declared.DateRange.{DateRange}
+use Rattle.playlist_model.specs.declared.Playlist.{Playlist}
+use Rattle.playlist_model.specs.declared.InitSection.{InitSection}
+use Rattle.playlist_model.specs.Said.{Said, nothing, date_range, date_range_said}
+use Rattle.playlist_model.specs.LookBack.{latest, the_target, is_media, segments_of}
+use Rattle.playlist_model.specs.Reading.{unlimited, whole, whole_fault, and_whole, of_lines, reading, are_mixed, has_section, Denotes, has}
+use Rattle.playlist_model.specs.Numbering.{follows, all_follow}
+use Rattle.playlist_model.proofs.SaidCounts.{counted_some}
 use Rattle.stitcher.specs.declared.OutSegment.{OutSegment}
 use Rattle.playlist_write.specs.declared.OutPlaylist.{OutPlaylist}
 use Rattle.playlist_write.specs.Spelling.{spelled, date_range_line}
-use Rattle.playlist_write.specs.Owed.{none_yet, header_owed, type_owed, independent_owed, ended_owed, segments_owed, first_number, first_discontinuity, line_of, said_text, ended_date_range_line, date_ranges_text, text_of}
-use Rattle.fitting.specs.Fitting.{is_clean, says_date_range, date_range_fits}
+use Rattle.playlist_write.specs.Owed.{none_yet, header_owed, type_owed, independent_owed, ended_owed, segments_owed, first_media_sequence, first_discontinuity, line_of, said_text, ended_date_range_line, date_ranges_text, playlist_text}
+use Rattle.writable.specs.Fitting.{is_clean, says_date_range, date_range_fits}
 use Rattle.playlist_write.specs.WellFormed.{is_word, version_fits, segment_fits, out_numbers, numbers_fit, is_mapped, sections_agree, well_formed}
 use Rattle.playlist_write.specs.Denoted.{denoted, denoted_segment, denoted_date_range, date_range_told}
 use Rattle.playlist_write.specs.Laws.{TextDenotes}
@@ -33,14 +33,14 @@ abbrev date_ranges_owed : List (List ℕ) → List Said
 date_ranges_owed texts = map date_range (flat_map denoted_date_range texts)
 
 abbrev owed : OutPlaylist → List Said
-owed p = header_owed p ++ (date_ranges_owed p.date_ranges ++ (segments_owed none_yet p.segments ++ ended_owed p.ended))
+owed p = header_owed p ++ (date_ranges_owed p.date_ranges ++ (segments_owed none_yet p.segments ++ ended_owed p.end_list))
 
 -- ---- date ranges
 
-date_ranges_step : (text : List ℕ) (date_ranges : List DateRange) (r : DateRange) → date_ranges ≡ r ∷ [] → r.text ≡ text → is_clean text ≡ true → date_range_said unlimited text ≡ Ok (date_range r) → (k : Known) (rest : List Said) (to : Known)
+date_ranges_step : (text : List ℕ) (date_ranges : List DateRange) (r : DateRange) → date_ranges ≡ r ∷ [] → r.attributes ≡ text → is_clean text ≡ true → date_range_said unlimited text ≡ Ok (date_range r) → (k : Known) (rest : List Said) (to : Known)
     → Goes (record k { date_ranges = k.date_ranges ++ date_ranges }) rest to → Goes k (map date_range date_ranges ++ rest) to
 date_ranges_step text date_ranges r e t c says k rest to next =
-    let fits : (is_clean r.text ≡ true) × (date_range_said unlimited r.text ≡ Ok (date_range r)) = (ap is_clean t ∙ c, ap (date_range_said unlimited) t ∙ says) in
+    let fits : (is_clean r.attributes ≡ true) × (date_range_said unlimited r.attributes ≡ Ok (date_range r)) = (ap is_clean t ∙ c, ap (date_range_said unlimited) t ∙ says) in
     let here : Goes (record k { date_ranges = k.date_ranges ++ r ∷ [] }) rest to = subst (λ x. Goes (record k { date_ranges = k.date_ranges ++ x }) rest to) e next in
     rw e (record { allowed = (fits, tt, here.allowed); leads = here.leads })
 
@@ -67,40 +67,40 @@ start = known_at (nothing ∷ [])
 numbers_known : OutPlaylist → Known
 unfolding start
 numbers_known p = record start {
-  heading = record start.heading { version = Some p.version; target = Some p.target; has_sequence = true; has_discontinuity_sequence = true };
-  standing = record start.standing { sequence = first_number p.segments; discontinuity_sequence = first_discontinuity p.segments };
+  heading = record start.heading { version = Some p.version; target_duration = Some p.target_duration; has_sequence = true; has_discontinuity_sequence = true };
+  standing = record start.standing { media_sequence = first_media_sequence p.segments; discontinuity_sequence = first_discontinuity p.segments };
 }
 
 header_known : OutPlaylist → Known
 unfolding start numbers_known
 header_known p = record (numbers_known p) {
-  heading = record (numbers_known p).heading { kind = p.kind; independent = p.independent };
+  heading = record (numbers_known p).heading { playlist_type = p.playlist_type; independent_segments = p.independent_segments };
 }
 
-goes_type : (kind : Option PlaylistKind) (k : Known) → k.heading.kind ≡ None → Goes k (type_owed kind) (record k { heading = record k.heading { kind = kind } })
-goes_type None k e = record { allowed = tt; leads = ap (λ x. record k { heading = record k.heading { kind = x } }) e }
+goes_type : (kind : Option PlaylistKind) (k : Known) → k.heading.playlist_type ≡ None → Goes k (type_owed kind) (record k { heading = record k.heading { playlist_type = kind } })
+goes_type None k e = record { allowed = tt; leads = ap (λ x. record k { heading = record k.heading { playlist_type = x } }) e }
 goes_type (Some kind) k e = record { allowed = (tt, ap is_some e, tt); leads = refl }
 
-goes_independent : (b : Bool) (k : Known) → k.heading.independent ≡ false → Goes k (independent_owed b) (record k { heading = record k.heading { independent = b } })
-goes_independent false k e = record { allowed = tt; leads = ap (λ x. record k { heading = record k.heading { independent = x } }) e }
+goes_independent : (b : Bool) (k : Known) → k.heading.independent_segments ≡ false → Goes k (independent_owed b) (record k { heading = record k.heading { independent_segments = b } })
+goes_independent false k e = record { allowed = tt; leads = ap (λ x. record k { heading = record k.heading { independent_segments = x } }) e }
 goes_independent true k e = record { allowed = (tt, tt, tt); leads = refl }
 
-goes_ended : (b : Bool) (k : Known) → k.heading.ended ≡ false → Goes k (ended_owed b) (record k { heading = record k.heading { ended = b } })
-goes_ended false k e = record { allowed = tt; leads = ap (λ x. record k { heading = record k.heading { ended = x } }) e }
+goes_ended : (b : Bool) (k : Known) → k.heading.end_list ≡ false → Goes k (ended_owed b) (record k { heading = record k.heading { end_list = b } })
+goes_ended false k e = record { allowed = tt; leads = ap (λ x. record k { heading = record k.heading { end_list = x } }) e }
 goes_ended true k e = record { allowed = (tt, e, tt); leads = refl }
 
-goes_header : (p : OutPlaylist) → (p.version == 6 || p.version == 7) ≡ true → p.target < 2 ^ 64 → first_number p.segments < 2 ^ 64 → first_discontinuity p.segments < 2 ^ 64 → Goes start (header_owed p) (header_known p)
+goes_header : (p : OutPlaylist) → (p.version == 6 || p.version == 7) ≡ true → p.target_duration < 2 ^ 64 → first_media_sequence p.segments < 2 ^ 64 → first_discontinuity p.segments < 2 ^ 64 → Goes start (header_owed p) (header_known p)
 unfolding start numbers_known header_known
 goes_header p v t s d =
     let numbers = numbers_known p in
-    let rest = goes-append _ _ numbers _ _ (goes_type p.kind numbers refl) (goes_independent p.independent (record numbers { heading = record numbers.heading { kind = p.kind } }) refl) in
+    let rest = goes-append _ _ numbers _ _ (goes_type p.playlist_type numbers refl) (goes_independent p.independent_segments (record numbers { heading = record numbers.heading { playlist_type = p.playlist_type } }) refl) in
     record { allowed = (v, refl, (t, refl, (s, (refl, refl), (d, (refl, refl, refl), rest.allowed)))); leads = rest.leads }
 
 -- ---- the whole
 
-section_alike : (mapped : Bool) (out : OutSegment) → cond mapped (is_some out.segment.section) (is_none out.segment.section) ≡ true → has_section (denoted_segment out) ≡ mapped
+section_alike : (mapped : Bool) (out : OutSegment) → cond mapped (is_some out.segment.init_section) (is_none out.segment.init_section) ≡ true → has_section (denoted_segment out) ≡ mapped
 section_alike true out h = h
-section_alike false out h = by out.segment.section h
+section_alike false out h = by out.segment.init_section h
   where
     by : (s : Option InitSection) → is_none s ≡ true → is_some s ≡ false
     by None h = refl
@@ -122,42 +122,42 @@ unmixed false outs h = and_left _ _ (alike_any outs h)
 playlist_known : Known → Playlist
 playlist_known k = record {
   version = unwrap_or k.heading.version 1;
-  target = unwrap_or k.heading.target 0;
-  kind = k.heading.kind;
-  independent = k.heading.independent;
-  ended = k.heading.ended;
+  target_duration = unwrap_or k.heading.target_duration 0;
+  playlist_type = k.heading.playlist_type;
+  independent_segments = k.heading.independent_segments;
+  end_list = k.heading.end_list;
   date_ranges = k.date_ranges;
   segments = k.segments;
 }
 
-whole_reads : (said : List Said) (k : Known) → known_at said ≡ k → is_some k.heading.target ≡ true → 0 < k.standing.media_count → are_mixed k.segments ≡ false → whole (whole_fault said) said ≡ Ok (playlist_known k)
+whole_reads : (said : List Said) (k : Known) → known_at said ≡ k → is_some k.heading.target_duration ≡ true → 0 < k.standing.media_count → are_mixed k.segments ≡ false → whole (whole_fault said) said ≡ Ok (playlist_known k)
 unfolding playlist_known
 whole_reads said k e t n m =
-    let a : is_some (latest the_target said) ≡ true = ap (λ x. is_some x.heading.target) e ∙ t in
+    let a : is_some (latest the_target said) ≡ true = ap (λ x. is_some x.heading.target_duration) e ∙ t in
     let b : has is_media said ≡ true = counted_some is_media said (subst (λ x. 0 < x.standing.media_count) (sym e) n) in
     let c : are_mixed (segments_of said) ≡ false = ap (λ x. are_mixed x.segments) e ∙ m in
     rw (a, b, c) (ap (λ x. Ok (playlist_known x)) e)
 
-numbers_after : (previous : OutSegment) (outs : List OutSegment) → all_follow out_numbers previous outs ≡ true → numbers_go_on (previous.media + 1) previous.discontinuity outs ≡ true
+numbers_after : (previous : OutSegment) (outs : List OutSegment) → all_follow out_numbers previous outs ≡ true → numbers_go_on (previous.media_sequence + 1) previous.discontinuity_sequence outs ≡ true
 numbers_after previous [] h = refl
 numbers_after previous (out ∷ outs) h =
     let a : (follows (out_numbers previous) (out_numbers out) ≡ true) × (all_follow out_numbers out outs ≡ true) = and_parts _ _ h in
-    let b : ((out.media == previous.media + 1) ≡ true) × ((out.discontinuity == previous.discontinuity + out.steps) ≡ true) = and_parts _ _ a.0 in
-    let m : out.media ≡ previous.media + 1 = eqb-true _ _ b.0 in
-    and_from _ _ a.0 (subst (λ n. numbers_go_on (n + 1) out.discontinuity outs ≡ true) m (numbers_after out outs a.1))
+    let b : ((out.media_sequence == previous.media_sequence + 1) ≡ true) × ((out.discontinuity_sequence == previous.discontinuity_sequence + out.discontinuities) ≡ true) = and_parts _ _ a.0 in
+    let m : out.media_sequence ≡ previous.media_sequence + 1 = eqb-true _ _ b.0 in
+    and_from _ _ a.0 (subst (λ n. numbers_go_on (n + 1) out.discontinuity_sequence outs ≡ true) m (numbers_after out outs a.1))
 
-numbers_start : (outs : List OutSegment) → numbers_fit outs ≡ true → numbers_go_on (first_number outs) (first_discontinuity outs) outs ≡ true
+numbers_start : (outs : List OutSegment) → numbers_fit outs ≡ true → numbers_go_on (first_media_sequence outs) (first_discontinuity outs) outs ≡ true
 numbers_start [] h = refl
 numbers_start (out ∷ outs) h =
-    let a : (nat_le out.steps out.discontinuity ≡ true) × (all_follow out_numbers out outs ≡ true) = and_parts _ _ h in
-    let l : out.steps ≤ out.discontinuity = leb-true _ _ a.0 in
-    let d : (out.discontinuity == out.discontinuity - out.steps + out.steps) ≡ true = eq-eqb out.discontinuity (out.discontinuity - out.steps + out.steps) (omega arith) in
-    and_from _ _ (and_from _ _ (eq-eqb out.media out.media refl) d) (numbers_after out outs a.1)
+    let a : (nat_le out.discontinuities out.discontinuity_sequence ≡ true) × (all_follow out_numbers out outs ≡ true) = and_parts _ _ h in
+    let l : out.discontinuities ≤ out.discontinuity_sequence = leb-true _ _ a.0 in
+    let d : (out.discontinuity_sequence == out.discontinuity_sequence - out.discontinuities + out.discontinuities) ≡ true = eq-eqb out.discontinuity_sequence (out.discontinuity_sequence - out.discontinuities + out.discontinuities) (omega arith) in
+    and_from _ _ (and_from _ _ (eq-eqb out.media_sequence out.media_sequence refl) d) (numbers_after out outs a.1)
 
-first_fits : (outs : List OutSegment) → list_all segment_fits outs ≡ true → (first_number outs < 2 ^ 64) × (first_discontinuity outs < 2 ^ 64)
+first_fits : (outs : List OutSegment) → list_all segment_fits outs ≡ true → (first_media_sequence outs < 2 ^ 64) × (first_discontinuity outs < 2 ^ 64)
 first_fits [] h = (omega arith, omega arith)
 first_fits (out ∷ outs) h =
-    let p = segment_parts out (and_parts _ _ h).0 in let ms = p.media in let ds = p.discontinuity in (ms, omega arith)
+    let p = segment_parts out (and_parts _ _ h).0 in let ms = p.media_sequence in let ds = p.discontinuity_sequence in (ms, omega arith)
 
 some_segments : (outs : List OutSegment) → numbers_fit outs ≡ true → 0 < length outs
 some_segments [] h = cc
@@ -169,7 +169,7 @@ first_is_mapped (out ∷ later) = is_mapped out
 
 none_alike : (outs : List OutSegment) → list_any is_mapped outs ≡ false → sections_alike false outs ≡ true
 none_alike [] h = refl
-none_alike (out ∷ outs) h = let a = or_parts _ _ h in and_from _ _ (unmapped out.segment.section a.0) (none_alike outs a.1)
+none_alike (out ∷ outs) h = let a = or_parts _ _ h in and_from _ _ (unmapped out.segment.init_section a.0) (none_alike outs a.1)
   where
     unmapped : (s : Option InitSection) → is_some s ≡ false → is_none s ≡ true
     unmapped None h = refl
@@ -201,16 +201,16 @@ joined_date_ranges (line ∷ texts) rest h =
     ∙ ap (λ t. date_range_line line ++ 10 ∷ t) (joined_date_ranges texts rest a.1)
     ∙ by (denoted_date_range line) one.read (ap date_range_told one.says) (is_kept line one.read one.says)
   where
-    by : (date_ranges : List DateRange) (r : DateRange) → date_ranges ≡ r ∷ [] → r.text ≡ line → text (date_range_line line ∷ (map spelled (date_ranges_owed texts) ++ rest)) ≡ text (map spelled (map date_range (date_ranges ++ flat_map denoted_date_range texts)) ++ rest)
+    by : (date_ranges : List DateRange) (r : DateRange) → date_ranges ≡ r ∷ [] → r.attributes ≡ line → text (date_range_line line ∷ (map spelled (date_ranges_owed texts) ++ rest)) ≡ text (map spelled (map date_range (date_ranges ++ flat_map denoted_date_range texts)) ++ rest)
     by date_ranges r e t = rw e (ap (λ l. text (date_range_line l ∷ (map spelled (date_ranges_owed texts) ++ rest))) (sym t))
 
 map_spelled : (xs ys : List Said) → map spelled (xs ++ ys) ≡ map spelled xs ++ map spelled ys
 map_spelled [] ys = refl
 map_spelled (x ∷ xs) ys = ap (λ l. spelled x ∷ l) (map_spelled xs ys)
 
-text_in_lines : (p : OutPlaylist) → list_all date_range_fits p.date_ranges ≡ true → text_of p ≡ text (codes "#EXTM3U" ∷ map spelled (owed p))
+text_in_lines : (p : OutPlaylist) → list_all date_range_fits p.date_ranges ≡ true → playlist_text p ≡ text (codes "#EXTM3U" ∷ map spelled (owed p))
 text_in_lines p h =
-    let header = header_owed p in let segments = segments_owed none_yet p.segments in let ends = ended_owed p.ended in
+    let header = header_owed p in let segments = segments_owed none_yet p.segments in let ends = ended_owed p.end_list in
     let last : said_text ends ≡ text (map spelled ends) = sym (append-nil (said_text ends)) ∙ joined_text ends [] ∙ ap text (append-nil (map spelled ends)) in
     let four : said_text segments ++ said_text ends ≡ text (map spelled (segments ++ ends)) = ap (λ t. said_text segments ++ t) last ∙ joined_text segments (map spelled ends) ∙ ap text (sym (map_spelled segments ends)) in
     let three : date_ranges_text p.date_ranges ++ (said_text segments ++ said_text ends) ≡ text (map spelled (date_ranges_owed p.date_ranges ++ (segments ++ ends)))
@@ -224,7 +224,7 @@ module _ (base : Parts) (p : OutPlaylist) where
   record Arrives : Type 0 where
     end : Known
     goes : Goes start (owed p) end
-    target : is_some end.heading.target ≡ true
+    target_duration : is_some end.heading.target_duration ≡ true
     some : 0 < end.standing.media_count
     unmixed : are_mixed end.segments ≡ false
     playlist : playlist_known end ≡ denoted p
@@ -233,27 +233,27 @@ module _ (base : Parts) (p : OutPlaylist) where
   unfolding start numbers_known header_known playlist_known
   arrives w =
       let a = and_parts _ _ w in let b = and_parts _ _ a.0 in let c = and_parts _ _ b.0 in let d = and_parts _ _ c.0 in
-      let f : (version_fits p.version ≡ true) × (is_word p.target ≡ true) = and_parts _ _ d.0 in
+      let f : (version_fits p.version ≡ true) × (is_word p.target_duration ≡ true) = and_parts _ _ d.0 in
       let some = some_segments p.segments d.1 in
       let numbers = numbers_start p.segments d.1 in let firsts = first_fits p.segments c.1 in
       let same = alike p.segments b.1 in
       let h : Known = record (header_known p) { date_ranges = flat_map denoted_date_range p.date_ranges } in
       let one = goes_header p f.0 (ltb-true _ _ f.1) firsts.0 firsts.1 in
       let two = goes_date_ranges p.date_ranges (header_known p) a.1 in
-      let three = goes_segments h (first_is_mapped p.segments) p.segments none_yet 0 0 (first_number p.segments) (first_discontinuity p.segments) None [] c.1 same numbers (omega arith) (omega arith) refl (λ m. refl) in
-      let between : Known = ready h three.current three.count three.discontinuities three.last (map denoted_segment p.segments) in
-      let four = goes_ended p.ended between refl in
+      let three = goes_segments h (first_is_mapped p.segments) p.segments none_yet 0 0 (first_media_sequence p.segments) (first_discontinuity p.segments) None [] c.1 same numbers (omega arith) (omega arith) refl (λ m. refl) in
+      let between : Known = ready h three.current three.count three.discontinuity_count three.last (map denoted_segment p.segments) in
+      let four = goes_ended p.end_list between refl in
       let counted : 0 < three.count = omega (arith, three.counted) in
       record {
-        end = record between { heading = record between.heading { ended = p.ended } };
+        end = record between { heading = record between.heading { end_list = p.end_list } };
         goes = goes-append _ _ start (header_known p) _ one (goes-append _ _ (header_known p) h _ two (goes-append _ _ h between _ three.goes four));
-        target = refl;
+        target_duration = refl;
         some = counted;
         unmixed = unmixed (first_is_mapped p.segments) p.segments same;
         playlist = refl;
       }
 
-  denotes : list_all date_range_fits p.date_ranges ≡ true → Arrives → Denotes base (text_of p) (denoted p)
+  denotes : list_all date_range_fits p.date_ranges ≡ true → Arrives → Denotes base (playlist_text p) (denoted p)
   unfolding start
   denotes r h =
       let said = onto (nothing ∷ []) (owed p) in
@@ -263,7 +263,7 @@ module _ (base : Parts) (p : OutPlaylist) where
       let clean : AllClean texts = (clean_printable (codes "#EXTM3U") refl, read.0) in
       let utf8 = is_utf8-from_IsUtf8 (text texts) (utf8_text texts clean) in
       ap (reading unlimited base) (text_in_lines p r) ∙ cond-false _ _ _ (not_from_true _ utf8) ∙ ap (of_lines unlimited base) (lines_of_text texts clean) ∙ ap and_whole read.1
-      ∙ whole_reads said h.end known h.target h.some h.unmixed ∙ ap Ok h.playlist
+      ∙ whole_reads said h.end known h.target_duration h.some h.unmixed ∙ ap Ok h.playlist
 
 pub text_denotes : TextDenotes
 text_denotes base p w =

@@ -15,8 +15,8 @@ use Rattle.fixed_duration.specs.Duration.{fraction_text, duration_text}
 use Rattle.fixed_duration.proofs.Again.{Digits, digits_fraction}
 use Rattle.attr_list.specs.Numbers.{hex_of, has_up_to, has_hex_prefix}
 use Rattle.attr_list.proofs.Elements.{all_from}
-use Rattle.instants.proofs.FixedDigits.{fixed}
-use Rattle.instants.specs.Digits.{fixed_digits}
+use Rattle.date_times.proofs.FixedDigits.{fixed}
+use Rattle.date_times.specs.Digits.{fixed_digits}
 
 pub by_value : IsNumeralModel Digits (digits_value 10)
 by_value = numerals_by_value Digits (search rules)

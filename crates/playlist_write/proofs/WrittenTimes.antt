@@ -6,9 +6,9 @@ use Rattle.std.specs.Fmt.{digit_glyph}
 use Rattle.std.proofs.lemmas.Bool.{and_from}
 use Rattle.std.proofs.lemmas.Bool.Decides.{nat_tests}
 use Rattle.std.proofs.lemmas.List.Folds.{list_all-append}
-use Rattle.playlist_meaning.specs.Lines.{is_printable}
-use Rattle.instants.specs.Digits.{fixed_digits}
-use Rattle.instants.specs.Times.{from_1900, year_after, month_after, date_text, decimals, time_text}
+use Rattle.playlist_model.specs.Inner.Lines.{is_printable}
+use Rattle.date_times.specs.Digits.{fixed_digits}
+use Rattle.date_times.specs.Times.{from_1900, year_after, month_after, date_text, decimals, time_text}
 use Rattle.playlist_write.proofs.CleanTexts.{Clean, clean_printable}
 
 glyph_printable : (d : ℕ) → d < 10 → is_printable (digit_glyph true d) ≡ true

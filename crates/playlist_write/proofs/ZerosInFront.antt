@@ -3,8 +3,8 @@ use Rattle.std.proofs.Common.{◌≡◌, ℕ, zero, suc, ◌+◌, ◌<◌, ◌/�
 use Rattle.std.specs.Prelude.{codes}
 use Rattle.std.specs.Fmt.{digit_glyph}
 use Rattle.std.proofs.Math.Nat.{div-lt_iff_lt-mul, pow-suc, pow-zero}
-use Rattle.instants.specs.Digits.{fixed_digits}
-use Rattle.instants.proofs.FixedDigits.{last_two}
+use Rattle.date_times.specs.Digits.{fixed_digits}
+use Rattle.date_times.proofs.FixedDigits.{last_two}
 
 -- zeros stand before the digits of a number that has no more
 zeros_in_front : (m k n : ℕ) → n < 16 ^ k → fixed_digits 16 (m + k) n ≡ fixed_digits 16 m 0 ++ fixed_digits 16 k n

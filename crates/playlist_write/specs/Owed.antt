@@ -1,25 +1,20 @@
 -- The text of a playlist. Each line ends with a line feed (10).
 use Rattle.std.specs.Prelude.{ℕ, ◌-◌, Bool, List, [], ◌∷◌, ◌++◌, map, codes, replicate, ℤ, Option, Some, None, if◌then◌else◌}
 use Rattle.std.specs.List.{flat_map}
-use Rattle.playlist_meaning.specs.declared.Key.{Key}
-use Rattle.playlist_meaning.specs.declared.ByteRange.{ByteRange}
-use Rattle.playlist_meaning.specs.declared.InitSection.{InitSection}
-use Rattle.playlist_meaning.specs.declared.PlaylistKind.{PlaylistKind}
-use Rattle.playlist_meaning.specs.declared.Segment.{Segment}
-use Rattle.playlist_meaning.specs.LookBack.{or_earlier}
-use Rattle.playlist_meaning.specs.Said.{Said, version, target, sequence, discontinuity_sequence, playlist_type, ended, independent, duration, byte_range, discontinuity, key, key_tag_said, section, time, media}
-use Rattle.playlist_meaning.specs.declared.KeyTag.TheVariants.{Set}
+use Rattle.playlist_model.specs.declared.Key.{Key}
+use Rattle.playlist_model.specs.declared.ByteRange.{ByteRange}
+use Rattle.playlist_model.specs.declared.InitSection.{InitSection}
+use Rattle.playlist_model.specs.declared.PlaylistKind.{PlaylistKind}
+use Rattle.playlist_model.specs.declared.Segment.{Segment}
+use Rattle.playlist_model.specs.LookBack.{or_earlier}
+use Rattle.playlist_model.specs.Said.{Said, version, target, sequence, discontinuity_sequence, playlist_type, ended, independent, duration, byte_range, discontinuity, key_tag_said, section, time, media}
 use Rattle.stitcher.specs.declared.OutSegment.{OutSegment}
-use Rattle.playlist_meaning.specs.Same.{same_option, same_section}
+use Rattle.playlist_model.specs.Same.{same_option, same_section}
 use Rattle.stitcher.specs.KeyTags.{transition}
 use Rattle.playlist_write.specs.declared.OutPlaylist.{OutPlaylist}
 use Rattle.playlist_write.specs.Spelling.{spelled, date_range_line}
 
 -- ---- the lines of a segment
-
--- tags that set these keys
-abbrev pub set_tags : List Key → List Said
-set_tags keys = map key_tag_said (map Set keys)
 
 abbrev pub keys_owed : List Key → List Key → List Said
 keys_owed old new = map key_tag_said (transition old new)
@@ -27,10 +22,10 @@ keys_owed old new = map key_tag_said (transition old new)
 -- the keys and the section that are in force where a line is written
 pub record Current : Type 0 where
   pub keys : List Key
-  pub section : Option InitSection
+  pub init_section : Option InitSection
 
 abbrev pub none_yet : Current
-none_yet = record { keys = []; section = None }
+none_yet = record { keys = []; init_section = None }
 
 -- the section, where it is another than the one in force
 abbrev pub changed_section : Option InitSection → Option InitSection → Option InitSection
@@ -59,14 +54,14 @@ media_owed segment = duration segment.duration segment.title ∷ (byte_range_owe
 
 abbrev pub segment_owed : Current → OutSegment → List Said
 segment_owed current out =
-    let changed = changed_section current.section out.segment.section in
-    replicate out.steps discontinuity
+    let changed = changed_section current.init_section out.segment.init_section in
+    replicate out.discontinuities discontinuity
     ++ (section_owed current.keys changed
     ++ (keys_owed (keys_then current.keys changed) out.segment.keys
-    ++ (time_owed out.time ++ media_owed out.segment)))
+    ++ (time_owed out.program_date_time ++ media_owed out.segment)))
 
 abbrev pub after_segment : Current → OutSegment → Current
-after_segment current out = record { keys = out.segment.keys; section = or_earlier out.segment.section current.section }
+after_segment current out = record { keys = out.segment.keys; init_section = or_earlier out.segment.init_section current.init_section }
 
 abbrev pub segments_owed : Current → List OutSegment → List Said
 segments_owed current [] = []
@@ -84,21 +79,21 @@ independent_owed test = if test then independent ∷ [] else []
 abbrev pub ended_owed : Bool → List Said
 ended_owed test = if test then ended ∷ [] else []
 
-abbrev pub first_number : List OutSegment → ℕ
-first_number [] = 0
-first_number (out ∷ later) = out.media
+abbrev pub first_media_sequence : List OutSegment → ℕ
+first_media_sequence [] = 0
+first_media_sequence (out ∷ later) = out.media_sequence
 
 -- the number before the steps of the first segment
 abbrev pub first_discontinuity : List OutSegment → ℕ
 first_discontinuity [] = 0
-first_discontinuity (out ∷ later) = out.discontinuity - out.steps
+first_discontinuity (out ∷ later) = out.discontinuity_sequence - out.discontinuities
 
 abbrev pub numbers_owed : OutPlaylist → List Said
 numbers_owed p =
-    version p.version ∷ target p.target ∷ sequence (first_number p.segments) ∷ discontinuity_sequence (first_discontinuity p.segments) ∷ []
+    version p.version ∷ target p.target_duration ∷ sequence (first_media_sequence p.segments) ∷ discontinuity_sequence (first_discontinuity p.segments) ∷ []
 
 abbrev pub header_owed : OutPlaylist → List Said
-header_owed p = numbers_owed p ++ (type_owed p.kind ++ independent_owed p.independent)
+header_owed p = numbers_owed p ++ (type_owed p.playlist_type ++ independent_owed p.independent_segments)
 
 -- a line ends with a line feed
 abbrev pub with_feed : List ℕ → List ℕ
@@ -111,12 +106,6 @@ line_of said = with_feed (spelled said)
 abbrev pub said_text : List Said → List ℕ
 said_text says = flat_map line_of says
 
-abbrev pub key_line : Key → List ℕ
-key_line k = line_of (key k)
-
-abbrev pub section_line : InitSection → List ℕ
-section_line s = line_of (section s.uri s.byte_range)
-
 -- date ranges stand as they are
 unfoldable pub ended_date_range_line : List ℕ → List ℕ
 ended_date_range_line text = with_feed (date_range_line text)
@@ -125,10 +114,10 @@ abbrev pub date_ranges_text : List (List ℕ) → List ℕ
 date_ranges_text date_ranges = flat_map ended_date_range_line date_ranges
 
 -- the text of a playlist: the header, the date ranges, the segments and the end
-abbrev pub text_of : OutPlaylist → List ℕ
-text_of p =
+abbrev pub playlist_text : OutPlaylist → List ℕ
+playlist_text p =
     with_feed (codes "#EXTM3U")
     ++ (said_text (header_owed p)
     ++ (date_ranges_text p.date_ranges
     ++ (said_text (segments_owed none_yet p.segments)
-    ++ said_text (ended_owed p.ended))))
+    ++ said_text (ended_owed p.end_list))))

@@ -4,13 +4,13 @@ use Rattle.std.specs.Prelude.{ℕ, true, false, List, [], ◌∷◌, ◌++◌, c
 use Rattle.std.specs.Fmt.{decimal}
 use Rattle.fixed_duration.specs.Duration.{duration_text}
 use Rattle.attr_list.specs.Attributes.{Pair, attributes_text}
-use Rattle.playlist_meaning.specs.declared.PlaylistKind.{PlaylistKind}
-use Rattle.playlist_meaning.specs.declared.PlaylistKind.TheVariants.{Event, Vod}
-use Rattle.playlist_meaning.specs.declared.Key.{Key}
-use Rattle.playlist_meaning.specs.declared.ByteRange.{ByteRange}
-use Rattle.playlist_meaning.specs.Said.{Said, nothing, version, target, sequence, discontinuity_sequence, playlist_type, ended, independent, duration, byte_range, discontinuity, no_keys, key, section, time, date_range, media}
-use Rattle.instants.specs.Times.{time_text}
-use Rattle.instants.specs.Digits.{fixed_digits}
+use Rattle.playlist_model.specs.declared.PlaylistKind.{PlaylistKind}
+use Rattle.playlist_model.specs.declared.PlaylistKind.TheVariants.{Event, Vod}
+use Rattle.playlist_model.specs.declared.Key.{Key}
+use Rattle.playlist_model.specs.declared.ByteRange.{ByteRange}
+use Rattle.playlist_model.specs.Said.{Said, nothing, version, target, sequence, discontinuity_sequence, playlist_type, ended, independent, duration, byte_range, discontinuity, no_keys, key, section, time, date_range, media}
+use Rattle.date_times.specs.Times.{time_text}
+use Rattle.date_times.specs.Digits.{fixed_digits}
 
 abbrev pub byte_range_text : ℕ → ℕ → List ℕ
 byte_range_text length offset = decimal length ++ 64 ∷ decimal offset
@@ -59,7 +59,7 @@ offset_text (Some offset) = 64 ∷ decimal offset
 
 -- a key's other attributes stand as they are after these
 abbrev pub key_text : Key → List ℕ
-key_text k = attributes_text (own_pairs k) ++ k.other
+key_text k = attributes_text (own_pairs k) ++ k.other_attributes
 
 -- a date range's attributes stand as they are (4.3.2.7)
 abbrev pub date_range_line : List ℕ → List ℕ
@@ -82,5 +82,5 @@ spelled no_keys = codes "#EXT-X-KEY:METHOD=NONE"
 spelled (key k) = codes "#EXT-X-KEY:" ++ key_text k
 spelled (section uri part) = codes "#EXT-X-MAP:" ++ attributes_text (section_pairs uri part)
 spelled (time t) = codes "#EXT-X-PROGRAM-DATE-TIME:" ++ time_text t
-spelled (date_range r) = date_range_line r.text
+spelled (date_range r) = date_range_line r.attributes
 spelled (media uri) = uri

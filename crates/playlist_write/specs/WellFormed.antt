@@ -1,13 +1,13 @@
 -- Which playlists can be written so that the text says them.
 use Rattle.std.specs.Prelude.{ℕ, ◌^◌, Bool, not, ◌&&◌, ◌||◌, ◌==◌, nat_lt, List, is_some}
 use Rattle.std.specs.List.{list_any, list_all}
-use Rattle.instants.specs.Instant.{in_range}
-use Rattle.playlist_meaning.specs.declared.Segment.{Segment}
-use Rattle.playlist_meaning.specs.Numbering.{Numbers, numbers_rise}
+use Rattle.date_times.specs.Instant.{in_range}
+use Rattle.playlist_model.specs.declared.Segment.{Segment}
+use Rattle.playlist_model.specs.Numbering.{Numbers, numbers_rise}
 use Rattle.stitcher.specs.declared.OutSegment.{OutSegment}
 use Rattle.playlist_write.specs.declared.OutPlaylist.{OutPlaylist}
-pub use Rattle.fitting.specs.Fitting.{duration_fits}
-use Rattle.fitting.specs.Fitting.{if_some, is_clean, uri_fits, byte_range_fits, effective_keys_fit, section_fits, date_range_fits}
+pub use Rattle.writable.specs.Fitting.{duration_fits}
+use Rattle.writable.specs.Fitting.{if_some, is_clean, uri_fits, byte_range_fits, effective_keys_fit, section_fits, date_range_fits}
 
 -- a number of 64 bits
 abbrev pub is_word : ℕ → Bool
@@ -16,20 +16,20 @@ is_word n = nat_lt n (2 ^ 64)
 -- ---- a segment by itself
 
 abbrev pub numbers_are_words : OutSegment → Bool
-numbers_are_words out = is_word out.media && is_word out.discontinuity
+numbers_are_words out = is_word out.media_sequence && is_word out.discontinuity_sequence
 
 abbrev pub resource_fits : Segment → Bool
 resource_fits segment = uri_fits segment.uri && if_some byte_range_fits segment.byte_range
 
 abbrev pub segment_fits : OutSegment → Bool
 segment_fits out =
-    numbers_are_words out && resource_fits out.segment && effective_keys_fit out.segment.keys && if_some section_fits out.segment.section
-    && duration_fits out.segment.duration && is_clean out.segment.title && if_some in_range out.time
+    numbers_are_words out && resource_fits out.segment && effective_keys_fit out.segment.keys && if_some section_fits out.segment.init_section
+    && duration_fits out.segment.duration && is_clean out.segment.title && if_some in_range out.program_date_time
 
 -- ---- numbers (4.3.3.2, 4.3.3.3)
 
 abbrev pub out_numbers : OutSegment → Numbers
-out_numbers out = record { media = out.media; discontinuity = out.discontinuity; steps = out.steps }
+out_numbers out = record { media_sequence = out.media_sequence; discontinuity_sequence = out.discontinuity_sequence; discontinuities = out.discontinuities }
 
 abbrev pub numbers_fit : List OutSegment → Bool
 numbers_fit = numbers_rise out_numbers
@@ -37,7 +37,7 @@ numbers_fit = numbers_rise out_numbers
 -- ---- the whole
 
 abbrev pub is_mapped : OutSegment → Bool
-is_mapped out = is_some out.segment.section
+is_mapped out = is_some out.segment.init_section
 
 -- all have an initialisation section, or none has
 abbrev pub sections_agree : List OutSegment → Bool
@@ -48,7 +48,7 @@ version_fits version = version == 6 || version == 7
 
 abbrev pub fits_without_date_ranges : OutPlaylist → Bool
 fits_without_date_ranges p =
-    version_fits p.version && is_word p.target && numbers_fit p.segments && list_all segment_fits p.segments
+    version_fits p.version && is_word p.target_duration && numbers_fit p.segments && list_all segment_fits p.segments
     && sections_agree p.segments
 
 abbrev pub well_formed : OutPlaylist → Bool

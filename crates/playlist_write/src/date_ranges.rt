@@ -3,19 +3,19 @@ ghost use Rattle.std.specs.Prelude.{◌≡◌, ◌≢◌, map, IfOk, is_some, is
 ghost use Rattle.std.specs.Option.{option_copied};
 ghost use Rattle.attr_list.specs.Attrs.{attr_pair};
 ghost use Rattle.fixed_duration.specs.Duration.{duration_of};
-ghost use Rattle.instants.specs.Instant.{instant_of};
+ghost use Rattle.date_times.specs.Instant.{instant_of};
 ghost use Rattle.std.specs.List.{list_all};
-ghost use Rattle.playlist_meaning.specs.Said.{date_range_said};
-ghost use Rattle.playlist_meaning.specs.Reading.{limited};
-ghost use Rattle.fitting.specs.Fitting.{if_some, says_date_range, date_range_fits};
-ghost use Rattle.playlist_write.specs.DateRangeParts.{is_id, says_time, says_duration, is_date_range};
+ghost use Rattle.playlist_model.specs.Said.{date_range_said};
+ghost use Rattle.playlist_model.specs.Reading.{limited};
+ghost use Rattle.writable.specs.Fitting.{if_some, says_date_range, date_range_fits};
+ghost use Rattle.playlist_write.specs.Inner.DateRangeParts.{is_id, says_time, says_duration, is_date_range};
 
 use attr_list::{Attr, AttrFault, AttrList};
-use fitting::is_clean;
 use fixed_duration::Nanos;
-use playlist_meaning::read_instant;
+use playlist_model::read_instant;
 use std::alloc::{AllocError, Global};
-use stitcher::OriginText;
+use stitcher::TextRef;
+use writable::is_clean;
 
 fn is_time(text: &str) -> bool
     ensures { result ≡ is_some (instant_of text.now) }
@@ -99,7 +99,7 @@ pub fn date_range_fits(alloc: Global, text: &str) -> Result<bool, AllocError>
 }
 
 /// Whether all of these can.
-pub fn date_ranges_fit(alloc: Global, texts: &[OriginText<'_>]) -> Result<bool, AllocError>
+pub fn date_ranges_fit(alloc: Global, texts: &[TextRef<'_>]) -> Result<bool, AllocError>
     ensures { IfOk result (λ b. b ≡ list_all date_range_fits texts.now) }
 {
     for text in texts {

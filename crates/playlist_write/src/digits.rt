@@ -1,6 +1,6 @@
 //! Initialisation vectors as they are written (RFC 8216, section 4.3.2.4).
 ghost use Rattle.std.specs.Prelude.{◌≡◌, ◌++◌, ◌∷◌, [], ◌<◌, ◌≤◌, ◌+◌, take, codes, OnOk, string_bytes};
-ghost use Rattle.instants.specs.Digits.{fixed_digits};
+ghost use Rattle.date_times.specs.Digits.{fixed_digits};
 ghost use Rattle.fixed_duration.specs.Appended.{Appends};
 
 use std::alloc::AllocError;

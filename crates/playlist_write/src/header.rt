@@ -1,21 +1,21 @@
 //! The lines before and after the segments.
 ghost use Rattle.std.specs.Prelude.{◌≡◌, ◌++◌, OnOk, string_bytes};
-ghost use Rattle.playlist_meaning.specs.Said as Said;
+ghost use Rattle.playlist_model.specs.Said as Said;
 ghost use Rattle.playlist_write.specs.Spelling.{type_text};
-ghost use Rattle.playlist_write.specs.Owed.{line_of, ended_date_range_line, said_text, numbers_owed, header_owed, type_owed, independent_owed, ended_owed, first_number, first_discontinuity, date_ranges_text};
+ghost use Rattle.playlist_write.specs.Owed.{line_of, ended_date_range_line, said_text, numbers_owed, header_owed, type_owed, independent_owed, ended_owed, first_media_sequence, first_discontinuity, date_ranges_text};
 ghost use Rattle.fixed_duration.specs.Appended.{Appends};
 
 use crate::OutPlaylist;
 use crate::lines::{push_line, push_line_of, push_number_line};
-use playlist_meaning::PlaylistKind;
+use playlist_model::PlaylistKind;
 use std::alloc::AllocError;
-use stitcher::{OriginText, OutSegment};
+use stitcher::{OutSegment, TextRef};
 
-fn first_number(segments: &[OutSegment<'_>]) -> u64
-    ensures { result ≡ first_number segments.now }
+fn first_media_sequence(segments: &[OutSegment<'_>]) -> u64
+    ensures { result ≡ first_media_sequence segments.now }
 {
     match segments.first() {
-        Some(first) => first.media,
+        Some(first) => first.media_sequence,
         None => 0,
     }
 }
@@ -24,7 +24,9 @@ fn first_discontinuity(segments: &[OutSegment<'_>]) -> u64
     ensures { result ≡ first_discontinuity segments.now }
 {
     match segments.first() {
-        Some(first) => first.discontinuity.saturating_sub(first.steps),
+        Some(first) => first
+            .discontinuity_sequence
+            .saturating_sub(first.discontinuities),
         None => 0,
     }
 }
@@ -86,8 +88,8 @@ fn push_numbers(out: &mut String, playlist: &OutPlaylist<'_>) -> Result<(), Allo
 {
     let segments = playlist.segments.as_slice();
     push_version(out, playlist.version)?;
-    push_target(out, playlist.target)?;
-    push_sequence(out, first_number(segments))?;
+    push_target(out, playlist.target_duration)?;
+    push_sequence(out, first_media_sequence(segments))?;
     push_discontinuity_sequence(out, first_discontinuity(segments))
 }
 
@@ -106,8 +108,8 @@ pub fn push_header(out: &mut String, playlist: &OutPlaylist<'_>) -> Result<(), A
     ensures { Appends result out.old out.new (said_text (header_owed playlist.now)) }
 {
     push_numbers(out, playlist)?;
-    push_kind(out, playlist.kind)?;
-    push_independent(out, playlist.independent)
+    push_kind(out, playlist.playlist_type)?;
+    push_independent(out, playlist.independent_segments)
 }
 
 #[tactic(auto, unfolding(crate::specs::Owed::ended_date_range_line))]
@@ -119,7 +121,7 @@ pub fn push_date_range(out: &mut String, text: &str) -> Result<(), AllocError>
 }
 
 /// Appends the date ranges as they stand.
-pub fn push_date_ranges(out: &mut String, date_ranges: &[OriginText<'_>]) -> Result<(), AllocError>
+pub fn push_date_ranges(out: &mut String, date_ranges: &[TextRef<'_>]) -> Result<(), AllocError>
     ensures { Appends result out.old out.new (date_ranges_text date_ranges.now) }
 {
     for date_range in date_ranges {

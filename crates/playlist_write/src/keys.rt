@@ -2,19 +2,20 @@
 ghost use Rattle.std.specs.Prelude.{◌≡◌, ◌∷◌, ◌++◌, [], codes, filter, ◌&&◌, not};
 ghost use Rattle.attr_list.specs.Attributes.{pair_spelling};
 ghost use Rattle.playlist_write.specs.Spelling.{in_quotes, iv_pairs, format_pairs, part_pairs};
-ghost use Rattle.playlist_meaning.specs.Carried.{after_commas};
-ghost use Rattle.playlist_write.specs.KeyParts.{rest_of, is_identity};
-ghost use Rattle.playlist_meaning.specs.Said as Said;
-ghost use Rattle.playlist_write.specs.Owed.{line_of, said_text, keys_owed, set_tags, key_line, section_line};
-ghost use Rattle.playlist_meaning.specs.Same.{same_option, same_number};
-ghost use Rattle.stitcher.specs.KeyTags.{is_new};
+ghost use Rattle.playlist_model.specs.Carried.{after_commas};
+ghost use Rattle.playlist_write.specs.Inner.KeyParts.{rest_of, is_identity};
+ghost use Rattle.playlist_model.specs.Said as Said;
+ghost use Rattle.playlist_write.specs.Owed.{line_of, said_text, keys_owed};
+ghost use Rattle.playlist_write.specs.Inner.Owed.{set_tags, key_line, section_line};
+ghost use Rattle.playlist_model.specs.Same.{same_option, same_number};
+ghost use Rattle.stitcher.specs.KeyTags.{is_new_key};
 ghost use Rattle.fixed_duration.specs.Appended.{Appends};
 
 use crate::digits::{push_last_iv, push_quote_and_iv};
 use crate::lines::{push_byte_range, push_feed, push_line};
-use playlist_meaning::{ByteRange, InitSection, Key};
+use playlist_model::{ByteRange, InitSection, Key};
 use std::alloc::AllocError;
-use stitcher::{is_new, keeps_formats};
+use stitcher::{is_new_key, keeps_formats};
 
 // Appends `name="value"`.
 fn push_quoted(out: &mut String, name: &str, value: &str) -> Result<(), AllocError>
@@ -77,7 +78,7 @@ fn push_rest(out: &mut String, key: &Key) -> Result<(), AllocError>
 {
     push_iv(out, key.iv)?;
     push_format(out, key.format.as_str())?;
-    out.push_str(key.other.as_str())?;
+    out.push_str(key.other_attributes.as_str())?;
     push_feed(out)?;
     Ok(())
 }
@@ -86,7 +87,7 @@ fn push_rest(out: &mut String, key: &Key) -> Result<(), AllocError>
 fn push_short_rest(out: &mut String, key: &Key) -> Result<(), AllocError>
     ensures { Appends result out.old out.new (rest_of key.now) }
 {
-    if key.other.as_str().is_empty() && key.format.as_str() == "identity" {
+    if key.other_attributes.as_str().is_empty() && key.format.as_str() == "identity" {
         push_iv_and_feed(out, key.iv)?;
         return Ok(());
     }
@@ -112,10 +113,10 @@ fn push_keys(out: &mut String, keys: &[Key]) -> Result<(), AllocError>
 }
 
 fn push_new_keys(out: &mut String, old: &[Key], new: &[Key]) -> Result<(), AllocError>
-    ensures { Appends result out.old out.new (said_text (set_tags (filter (is_new old.now) new.now))) }
+    ensures { Appends result out.old out.new (said_text (set_tags (filter (is_new_key old.now) new.now))) }
 {
     for key in new {
-        if is_new(old, key) {
+        if is_new_key(old, key) {
             push_key(out, key)?;
         }
     }

@@ -1,6 +1,6 @@
 //! The line of EXTINF that was written last, since most segments of a playlist state the same one.
 ghost use Rattle.std.specs.Prelude.{◌≡◌, IfOk, IsTrue, ◌↔◌, string_bytes};
-ghost use Rattle.playlist_meaning.specs.Said as Said;
+ghost use Rattle.playlist_model.specs.Said as Said;
 ghost use Rattle.playlist_write.specs.Owed.{line_of};
 ghost use Rattle.fixed_duration.specs.Appended.{Appends};
 
@@ -20,7 +20,7 @@ pub struct LastDuration<'a> {
 
 impl<'a> Model for LastDuration<'a> {
     ghost use Rattle.std.specs.Prelude.{◌≡◌, ℕ, List, IfSome, string_bytes};
-    ghost use Rattle.playlist_meaning.specs.Said as Said;
+    ghost use Rattle.playlist_model.specs.Said as Said;
     ghost use Rattle.playlist_write.specs.Owed.{line_of};
 
     ghost Value = { ℕ × List ℕ };

@@ -4,22 +4,22 @@
 ghost use Rattle.std.specs.Prelude.{◌≡◌, ◌++◌, true, codes, OnOk, OnErr, IfOk, IsErrOf, string_bytes};
 ghost use Rattle.std.specs.Io.KnownBytes.{Appends};
 ghost use Rattle.url.specs.Parts.{Parts};
-ghost use Rattle.devices.specs.Devices.{FailedAtLast, NoneFailed};
-ghost use Rattle.playlist_meaning.specs.Reading.{Denotes};
-ghost use Rattle.playlist_write.specs.Owed.{text_of, said_text, header_owed, ended_owed, with_feed};
+ghost use Rattle.byte_streams.specs.Devices.{FailedAtLast, NoneFailed};
+ghost use Rattle.playlist_model.specs.Reading.{Denotes};
+ghost use Rattle.playlist_write.specs.Owed.{playlist_text, said_text, header_owed, ended_owed, with_feed};
 ghost use Rattle.playlist_write.specs.WellFormed.{well_formed};
 ghost use Rattle.playlist_write.specs.Denoted.{denoted};
-ghost use Rattle.devices.specs.Handed.{TookFront};
+ghost use Rattle.byte_streams.specs.Handed.{TookFront};
 
 use crate::header::{push_date_ranges, push_end, push_header};
 use crate::lines::push_line;
 use crate::pieces::{PIECE_ROOM, write_date_ranges, write_segments};
 use crate::room::room_for;
 use crate::segments::push_segments;
-use devices::{Sink, SinkFailed, hand_out};
-use playlist_meaning::{Items, PlaylistKind, Text};
+use byte_streams::{Sink, SinkFailed, hand_out};
+use playlist_model::{Items, PlaylistKind, Text};
 use std::alloc::{AllocError, Global};
-use stitcher::{OriginText, OutSegment};
+use stitcher::{OutSegment, TextRef};
 
 mod date_ranges;
 mod digits;
@@ -39,15 +39,15 @@ pub struct OutPlaylist<'a> {
     /// EXT-X-VERSION.
     pub version: u64,
     /// EXT-X-TARGETDURATION, in seconds.
-    pub target: u64,
+    pub target_duration: u64,
     /// EXT-X-PLAYLIST-TYPE, where it is stated.
-    pub kind: Option<PlaylistKind>,
+    pub playlist_type: Option<PlaylistKind>,
     /// Whether EXT-X-INDEPENDENT-SEGMENTS is stated.
-    pub independent: bool,
+    pub independent_segments: bool,
     /// Whether no segment will follow: EXT-X-ENDLIST.
-    pub ended: bool,
+    pub end_list: bool,
     /// What stands after `#EXT-X-DATERANGE:`, for each date range.
-    pub date_ranges: Items<OriginText<'a>>,
+    pub date_ranges: Items<TextRef<'a>>,
     /// The segments, in their order.
     pub segments: Items<OutSegment<'a>>,
 }
@@ -57,7 +57,7 @@ pub struct OutPlaylist<'a> {
 pub enum WriteFault {
     /// O1: the sink failed, or took nothing.
     Io,
-    /// O2: memory was refused.
+    /// O2: an allocation failed.
     OutOfMemory,
 }
 
@@ -93,18 +93,18 @@ fn front_of(alloc: Global, room: usize, playlist: &OutPlaylist<'_>) -> Result<St
 
 // The text of a playlist.
 fn make_text(alloc: Global, playlist: &OutPlaylist<'_>) -> Result<String, AllocError>
-    ensures { IfOk result (λ text. string_bytes text ≡ text_of playlist.now) }
+    ensures { IfOk result (λ text. string_bytes text ≡ playlist_text playlist.now) }
 {
     let mut text = front_of(alloc, room_for(playlist), playlist)?;
     push_date_ranges(&mut text, playlist.date_ranges.as_slice())?;
     push_segments(alloc, &mut text, playlist.segments.as_slice())?;
-    push_end(&mut text, playlist.ended)?;
+    push_end(&mut text, playlist.end_list)?;
     Ok(text)
 }
 
 /// The whole text of a playlist.
 pub fn written(alloc: Global, playlist: &OutPlaylist<'_>) -> Result<Text, AllocError>
-    ensures { IfOk result (λ text. text ≡ text_of playlist.now) }
+    ensures { IfOk result (λ text. text ≡ playlist_text playlist.now) }
 {
     Ok(Text::from_string(make_text(alloc, playlist)?))
 }
@@ -127,8 +127,8 @@ fn write_text<S: Sink>(
     playlist: &OutPlaylist<'_>,
     sink: &mut S,
 ) -> Result<(), WriteFault>
-    ensures ok { OnOk result (Appends (S.contents sink.old) (S.contents sink.new) (text_of playlist.now)) }
-    ensures err { OnErr result (TookFront (S.contents sink.old) (S.contents sink.new) (text_of playlist.now)) }
+    ensures ok { OnOk result (Appends (S.contents sink.old) (S.contents sink.new) (playlist_text playlist.now)) }
+    ensures err { OnErr result (TookFront (S.contents sink.old) (S.contents sink.new) (playlist_text playlist.now)) }
     ensures unfailed { OnOk result (NoneFailed (S.failed sink.old) (S.failed sink.new)) }
     ensures io { IsErrOf result WriteFault.Io → FailedAtLast (S.failed sink.old) (S.failed sink.new) }
     ensures memory { IsErrOf result WriteFault.OutOfMemory → NoneFailed (S.failed sink.old) (S.failed sink.new) }
@@ -136,25 +136,25 @@ fn write_text<S: Sink>(
     let mut held = front_of(alloc, PIECE_ROOM, playlist)?;
     write_date_ranges(&mut held, playlist.date_ranges.as_slice(), sink)?;
     write_segments(alloc, &mut held, playlist.segments.as_slice(), sink)?;
-    write_end(&mut held, playlist.ended, sink)
+    write_end(&mut held, playlist.end_list, sink)
 }
 
 #[tactic(auto, using(crate::proofs::Whole::text_denotes))]
-/// Writes a playlist: its whole text, or a front of it where the sink fails or memory is refused. It holds no more of
+/// Writes a playlist: its whole text, or a front of it where the sink fails or an allocation fails. It holds no more of
 /// the text than 64 KiB and the lines of one segment or date range.
 pub fn write<S: Sink>(
     alloc: Global,
     playlist: &OutPlaylist<'_>,
     sink: &mut S,
 ) -> Result<(), WriteFault>
-    ensures ok { OnOk result (Appends (S.contents sink.old) (S.contents sink.new) (text_of playlist.now)) }
-    ensures err { OnErr result (TookFront (S.contents sink.old) (S.contents sink.new) (text_of playlist.now)) }
+    ensures ok { OnOk result (Appends (S.contents sink.old) (S.contents sink.new) (playlist_text playlist.now)) }
+    ensures err { OnErr result (TookFront (S.contents sink.old) (S.contents sink.new) (playlist_text playlist.now)) }
 
     // The text of a playlist that is well formed is read as that playlist, whatever the base.
     ensures denotes { well_formed playlist.now ≡ true
-        → (base : Parts) → Denotes base (text_of playlist.now) (denoted playlist.now) }
+        → (base : Parts) → Denotes base (playlist_text playlist.now) (denoted playlist.now) }
 
-    // The sink is blamed exactly where a write failed or took nothing, and that write is the last: never for want of memory.
+    // The sink is blamed exactly where a write failed or took nothing, and that write is the last: never for a failed allocation.
     ensures unfailed { OnOk result (NoneFailed (S.failed sink.old) (S.failed sink.new)) }
     ensures io { IsErrOf result WriteFault.Io → FailedAtLast (S.failed sink.old) (S.failed sink.new) }
     ensures memory { IsErrOf result WriteFault.OutOfMemory → NoneFailed (S.failed sink.old) (S.failed sink.new) }

@@ -5,7 +5,7 @@ ghost use Rattle.playlist_write.specs.Owed.{with_feed};
 ghost use Rattle.fixed_duration.specs.Appended.{Appends};
 
 use itoa::Buffer;
-use playlist_meaning::ByteRange;
+use playlist_model::ByteRange;
 use std::alloc::AllocError;
 
 /// Appends a number.

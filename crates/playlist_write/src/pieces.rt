@@ -1,19 +1,19 @@
 //! The lines of date ranges and of segments, handed out in pieces while they are made.
 ghost use Rattle.std.specs.Prelude.{◌≡◌, ◌++◌, ◌<◌, length, OnOk, OnErr, IsErrOf, string_bytes};
-ghost use Rattle.devices.specs.Devices.{FailedAtLast, NoneFailed};
-ghost use Rattle.devices.specs.Handed.{TookFront};
+ghost use Rattle.byte_streams.specs.Devices.{FailedAtLast, NoneFailed};
+ghost use Rattle.byte_streams.specs.Handed.{TookFront};
 ghost use Rattle.playlist_write.specs.Owed.{none_yet, said_text, segments_owed, date_ranges_text};
-ghost use Rattle.playlist_write.specs.Taken.{TookAllBut};
+ghost use Rattle.playlist_write.specs.Inner.Taken.{TookAllBut};
 
 use crate::WriteFault;
 use crate::header::push_date_range;
 use crate::last_duration::LastDuration;
 use crate::segments::{push_segment, section_of};
-use devices::{Sink, SinkFailed, hand_out};
-use instants::TimeWriter;
-use playlist_meaning::{InitSection, Key};
+use byte_streams::{Sink, SinkFailed, hand_out};
+use date_times::TimeWriter;
+use playlist_model::{InitSection, Key};
 use std::alloc::Global;
-use stitcher::{OriginText, OutSegment};
+use stitcher::{OutSegment, TextRef};
 
 // What is held of a text is handed out once it is so many bytes, or more.
 const PIECE_BYTES: usize = 65_536;
@@ -42,7 +42,7 @@ fn hand_out_piece<S: Sink>(held: &mut String, sink: &mut S) -> Result<(), SinkFa
 /// Adds the date ranges as they stand to what is held, and hands out each piece.
 pub fn write_date_ranges<S: Sink>(
     held: &mut String,
-    date_ranges: &[OriginText<'_>],
+    date_ranges: &[TextRef<'_>],
     sink: &mut S,
 ) -> Result<(), WriteFault>
     ensures ok { OnOk result (TookAllBut (S.contents sink.old) (S.contents sink.new) (string_bytes held.new) (string_bytes held.old ++ date_ranges_text date_ranges.now)) }

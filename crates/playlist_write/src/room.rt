@@ -1,15 +1,15 @@
 //! How much room the text of a playlist is given before it is made.
 ghost use Rattle.std.specs.Prelude.{◌≤◌, map, sum};
-ghost use Rattle.playlist_write.specs.Room.{most_room, date_range_room, text_room};
+ghost use Rattle.playlist_write.specs.Inner.Room.{most_room, date_range_room, text_room};
 
 use crate::OutPlaylist;
-use stitcher::{OriginText, OutSegment};
+use stitcher::{OutSegment, TextRef};
 
 // So many segments are looked at to reckon how much room all of them take.
 const FEW: usize = 16;
 
 // No segment is given more room than this at first, so that one long text claims none for all the others.
-const MOST_ROOM: usize = 1024;
+const MAX_ROOM: usize = 1024;
 
 // The room that a segment takes, generously.
 fn room_of(next: &OutSegment<'_>) -> usize {
@@ -31,11 +31,11 @@ fn segment_room(segments: &[OutSegment<'_>]) -> usize
     for next in segments.iter().take(FEW) {
         most = most.max(room_of(next));
     }
-    most.min(MOST_ROOM)
+    most.min(MAX_ROOM)
 }
 
 // The room that the lines of date ranges are given.
-fn date_ranges_room(date_ranges: &[OriginText<'_>]) -> usize
+fn date_ranges_room(date_ranges: &[TextRef<'_>]) -> usize
     ensures { result ≤ sum (map date_range_room date_ranges.now) }
 {
     let mut room: usize = 0;

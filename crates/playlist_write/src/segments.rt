@@ -1,8 +1,8 @@
 //! The lines of segments (RFC 8216, section 4.3.2).
 ghost use Rattle.std.specs.Prelude.{◌≡◌, ◌++◌, ◌∷◌, [], OnOk, string_bytes, replicate, Some};
 ghost use Rattle.std.specs.Option.{option_copied};
-ghost use Rattle.playlist_meaning.specs.Said as Said;
-ghost use Rattle.playlist_meaning.specs.Same.{same_option, same_section};
+ghost use Rattle.playlist_model.specs.Said as Said;
+ghost use Rattle.playlist_model.specs.Same.{same_option, same_section};
 ghost use Rattle.playlist_write.specs.Owed.{none_yet, line_of, with_feed, said_text, changed_section, section_owed, keys_then, time_owed, byte_range_owed, media_owed, segment_owed, segments_owed};
 ghost use Rattle.fixed_duration.specs.Duration.{duration_text};
 ghost use Rattle.fixed_duration.specs.Appended.{Appends};
@@ -10,9 +10,9 @@ ghost use Rattle.fixed_duration.specs.Appended.{Appends};
 use crate::keys::{push_key_tags, push_section};
 use crate::last_duration::LastDuration;
 use crate::lines::{push_byte_range, push_feed, push_line};
+use date_times::TimeWriter;
 use fixed_duration::Nanos;
-use instants::TimeWriter;
-use playlist_meaning::{ByteRange, InitSection, Instant, Key, Segment, Shared, is_same_section};
+use playlist_model::{ByteRange, InitSection, Instant, Key, Segment, Shared, is_same_section};
 use std::alloc::{AllocError, Global};
 use stitcher::OutSegment;
 
@@ -177,23 +177,23 @@ pub fn push_segment<'a>(
     next: &'a OutSegment<'_>,
 ) -> Result<(), AllocError>
     ensures { OnOk result (string_bytes out.new ≡ string_bytes out.old
-        ++ said_text (segment_owed (record { keys = keys.now; section = option_copied section.entry }) next.now)) }
+        ++ said_text (segment_owed (record { keys = keys.now; init_section = option_copied section.entry }) next.now)) }
 {
     let segment: &Segment = &next.segment;
-    let changed = changed_section(section, &segment.section);
-    push_steps(out, next.steps)?;
+    let changed = changed_section(section, &segment.init_section);
+    push_steps(out, next.discontinuities)?;
     push_changed_section(out, keys, changed)?;
     push_key_tags(out, keys_then(keys, changed), segment.keys.as_slice())?;
-    push_time_tag(out, times, next.time)?;
+    push_time_tag(out, times, next.program_date_time)?;
     push_media(out, last, segment)?;
     Ok(())
 }
 
 /// The initialisation section of a segment.
 pub fn section_of<'a>(next: &'a OutSegment<'_>) -> Option<&'a InitSection>
-    ensures { option_copied result ≡ next.now.segment.section }
+    ensures { option_copied result ≡ next.now.segment.init_section }
 {
-    match &next.segment.section {
+    match &next.segment.init_section {
         Some(section) => Some(section),
         None => None,
     }

@@ -1,19 +1,19 @@
 //! Which playlists can be written so that the text says them.
 ghost use Rattle.std.specs.Prelude.{◌≡◌, ◌==◌, ◌+◌, IfOk, true, false};
 ghost use Rattle.std.specs.List.{list_all, list_any};
-ghost use Rattle.instants.specs.Instant.{in_range};
-ghost use Rattle.fitting.specs.Fitting.{if_some, section_fits};
-ghost use Rattle.playlist_meaning.specs.Numbering.{follows, all_follow};
+ghost use Rattle.date_times.specs.Instant.{in_range};
+ghost use Rattle.writable.specs.Fitting.{if_some, section_fits};
+ghost use Rattle.playlist_model.specs.Numbering.{follows, all_follow};
 ghost use Rattle.playlist_write.specs.WellFormed.{well_formed, fits_without_date_ranges, numbers_are_words, resource_fits, segment_fits, out_numbers, numbers_fit, is_mapped, sections_agree, version_fits, is_word};
 
 use crate::OutPlaylist;
 use crate::date_ranges::date_ranges_fit;
-use fitting::{
-    byte_range_fits, duration_fits, effective_keys_fit, is_clean, section_fits, uri_fits,
-};
-use playlist_meaning::{InitSection, Instant, Segment, Shared};
+use playlist_model::{InitSection, Instant, Segment, Shared};
 use std::alloc::{AllocError, Global};
 use stitcher::OutSegment;
+use writable::{
+    byte_range_fits, duration_fits, effective_keys_fit, is_clean, section_fits, uri_fits,
+};
 
 // A number of 64 bits is one by its type.
 fn is_word(number: u64) -> bool
@@ -25,7 +25,7 @@ fn is_word(number: u64) -> bool
 fn numbers_are_words(out: &OutSegment<'_>) -> bool
     ensures { result ≡ numbers_are_words out.now }
 {
-    is_word(out.media) && is_word(out.discontinuity)
+    is_word(out.media_sequence) && is_word(out.discontinuity_sequence)
 }
 
 fn resource_fits(segment: &Segment) -> bool
@@ -60,10 +60,10 @@ fn segment_fits(out: &OutSegment<'_>) -> bool
     numbers_are_words(out)
         && resource_fits(segment)
         && effective_keys_fit(segment.keys.as_slice())
-        && optional_section_fits(&segment.section)
+        && optional_section_fits(&segment.init_section)
         && duration_fits(segment.duration)
         && is_clean(segment.title.as_str())
-        && optional_time_fits(out.time)
+        && optional_time_fits(out.program_date_time)
 }
 
 fn segments_fit(segments: &[OutSegment<'_>]) -> bool
@@ -87,8 +87,12 @@ fn is_sum(sum: u64, one: u64, other: u64) -> bool
 fn follows(previous: &OutSegment<'_>, next: &OutSegment<'_>) -> bool
     ensures { result ≡ follows (out_numbers previous.now) (out_numbers next.now) }
 {
-    is_sum(next.media, previous.media, 1)
-        && is_sum(next.discontinuity, previous.discontinuity, next.steps)
+    is_sum(next.media_sequence, previous.media_sequence, 1)
+        && is_sum(
+            next.discontinuity_sequence,
+            previous.discontinuity_sequence,
+            next.discontinuities,
+        )
 }
 
 fn all_follow<'a>(first: &OutSegment<'a>, later: &[OutSegment<'a>]) -> bool
@@ -110,13 +114,13 @@ fn numbers_fit(segments: &[OutSegment<'_>]) -> bool
     let [first, later @ ..] = segments else {
         return false;
     };
-    first.steps <= first.discontinuity && all_follow(first, later)
+    first.discontinuities <= first.discontinuity_sequence && all_follow(first, later)
 }
 
 fn is_mapped(out: &OutSegment<'_>) -> bool
     ensures { result ≡ is_mapped out.now }
 {
-    out.segment.section.is_some()
+    out.segment.init_section.is_some()
 }
 
 fn all_are_mapped(segments: &[OutSegment<'_>]) -> bool
@@ -149,7 +153,7 @@ fn fits_without_date_ranges(playlist: &OutPlaylist<'_>) -> bool
 {
     let segments = playlist.segments.as_slice();
     version_fits(playlist.version)
-        && is_word(playlist.target)
+        && is_word(playlist.target_duration)
         && numbers_fit(segments)
         && segments_fit(segments)
         && sections_agree(segments)

@@ -5,10 +5,12 @@ use Rattle.std.proofs.lemmas.Slice.Eq.{bytes_eq-Decides}
 use Rattle.std.proofs.lemmas.Bool.{or_parts}
 use Rattle.std.proofs.lemmas.List.{take-map, length-map}
 use Rattle.std.proofs.Math.Seq.{take-append_seam}
-use Rattle.playlist_meaning.specs.LookBack.{or_earlier}
-use Rattle.playlist_meaning.specs.Pods.{Pod}
-use Rattle.pod_store.specs.Store.{Entry, Store, with_entries, has_id, pod_of, entry_for, has_own, own_pod, pod_for, is_one_of, copied_last, with_copy, with_copies, GrowsBy}
-use Rattle.pod_store.specs.Kept.{Pairs, entry_of}
+use Rattle.playlist_model.specs.LookBack.{or_earlier}
+use Rattle.pod_store.specs.Pods.{Pod}
+use Rattle.pod_store.specs.Store.{Entry, Store, with_entries, has_id, pod_of, entry_for, has_own, own_pod, pod_for, is_one_of, copied_last, with_copy, with_copies}
+use Rattle.pod_store.specs.Inner.Store.{GrowsBy}
+use Rattle.pod_store.specs.Kept.{entry_of}
+use Rattle.pod_store.specs.Inner.Kept.{Pairs}
 use Rattle.pod_store.proofs.KeptLaws.{store_of}
 
 -- ---- one copy

@@ -3,9 +3,10 @@ use Rattle.std.proofs.Common.{◌≡◌, ℕ, Bool, true, false, cond, List, [],
 use Rattle.std.specs.Prelude.{filter, String}
 use Rattle.std.specs.Map.Calls.{RetainsPairs}
 use Rattle.std.specs.declared.alloc.Global.{Global}
-use Rattle.pod_store.specs.declared.kept.Kept.{Kept}
+use Rattle.pod_store.specs.declared.kept.StoredPod.{StoredPod}
 use Rattle.pod_store.specs.Store.{Entry, is_one_of, is_held, held_in_use}
-use Rattle.pod_store.specs.Kept.{Pairs, entry_of, is_pair_held, used_if, pairs_in_use}
+use Rattle.pod_store.specs.Kept.{entry_of}
+use Rattle.pod_store.specs.Inner.Kept.{Pairs, is_pair_held, used_if, pairs_in_use}
 
 pushed : {A B : Type 0} (G : A → B) (b : Bool) (x : A) (xs : List A) → cond b (G x ∷ map G xs) (map G xs) ≡ map G (cond b (x ∷ xs) xs)
 pushed G true x xs = refl
@@ -22,13 +23,13 @@ module _ {K X F : Type 0} (T : F → K → X → Bool → X → F → Type 0) (t
       h.6 ∙ ((λ j. cond (s.0 j) ((e.0, s.1 j) ∷ rest j) (rest j)) ∙ pushed (λ (e : K × X). (e.0, set e.0 e.1)) (test e) e (filter test es))
 
 module _ (ids : List (List ℕ)) where
-  abbrev pair_now : String Global × Kept → String Global × Kept
+  abbrev pair_now : String Global × StoredPod → String Global × StoredPod
   pair_now pair = (pair.0, used_if ids pair.0 pair.1)
 
   abbrev entry_now : Entry → Entry
   entry_now e = record e { used = is_one_of ids e.id }
 
-  step : (pair : String Global × Kept) (pairs : Pairs) (entries : List Entry) (b : Bool) → map entry_of (map pair_now pairs) ≡ map entry_now entries
+  step : (pair : String Global × StoredPod) (pairs : Pairs) (entries : List Entry) (b : Bool) → map entry_of (map pair_now pairs) ≡ map entry_now entries
       → map entry_of (map pair_now (cond b (pair ∷ pairs) pairs)) ≡ map entry_now (cond b (entry_of pair ∷ entries) entries)
   step pair pairs entries true rec = ap (λ xs. entry_now (entry_of pair) ∷ xs) rec
   step pair pairs entries false rec = rec

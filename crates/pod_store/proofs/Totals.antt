@@ -3,8 +3,7 @@ use Rattle.std.proofs.Common.{◌≡◌, ℕ, suc, ◌+◌, ◌*◌, ◌<◌, �
 use Rattle.std.specs.List.{list_all}
 use Rattle.std.proofs.lemmas.List.Sums.{sum_by-cons}
 use Rattle.std.proofs.lemmas.Bool.{and_parts, leb-true, ltb-true}
-use Rattle.playlist_meaning.specs.Pods.{PodSegment, Ad}
-use Rattle.pod_store.specs.Pods.{duration_of_segment, segments_total, ad_total, ads_total, segment_count}
+use Rattle.pod_store.specs.Pods.{PodSegment, Ad, duration_of_segment, segments_total, ad_total, ads_total, segment_count}
 use Rattle.pod_store.specs.Rules.{segment_keeps, ad_keeps, ads_keep}
 
 -- the longest duration of so many segments

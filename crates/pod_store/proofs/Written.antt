@@ -10,16 +10,15 @@ use Rattle.std.proofs.lemmas.Slice.Eq.{bytes_eq-Decides}
 use Rattle.std.proofs.lemmas.Str.{IsUtf8-from_ascii, is_utf8-from_IsUtf8}
 use Rattle.attr_list.specs.Attributes.{is_name_byte, ends_plain}
 use Rattle.attr_list.proofs.Elements.{all_from, none_from}
-use Rattle.playlist_meaning.specs.declared.ByteRange.{ByteRange}
-use Rattle.playlist_meaning.specs.declared.InitSection.{InitSection}
-use Rattle.playlist_meaning.specs.declared.Key.{Key}
-use Rattle.playlist_meaning.specs.Lines.{is_printable}
-use Rattle.playlist_meaning.specs.Pods.{PodSegment, Ad}
-use Rattle.playlist_meaning.specs.Reading.{needs_iv}
-use Rattle.playlist_meaning.specs.Uri.{has_scheme}
-use Rattle.playlist_meaning.proofs.Printable.{ascii, printable_has_no_control}
-use Rattle.fitting.specs.Fitting as fit
-use Rattle.pod_store.specs.Pods.{is_quote, is_uri_byte, goes_on_from, is_web, is_uri, is_method}
+use Rattle.playlist_model.specs.declared.ByteRange.{ByteRange}
+use Rattle.playlist_model.specs.declared.InitSection.{InitSection}
+use Rattle.playlist_model.specs.declared.Key.{Key}
+use Rattle.playlist_model.specs.Inner.Lines.{is_printable}
+use Rattle.pod_store.specs.Pods.{PodSegment, Ad, is_quote, is_uri_byte, goes_on_from, is_web, is_uri, is_method}
+use Rattle.playlist_model.specs.Reading.{needs_iv}
+use Rattle.playlist_model.specs.Uri.{has_scheme}
+use Rattle.playlist_model.proofs.Printable.{ascii, printable_has_no_control}
+use Rattle.writable.specs.Fitting as fit
 use Rattle.pod_store.specs.Rules.{byte_range_fits, segment_keeps, iv_keeps, key_keeps, section_keeps, ad_keeps}
 use Rattle.pod_store.specs.Laws.{segment_can_be_written, ad_can_be_written, PodsCanBeWritten}
 
@@ -104,7 +103,7 @@ key_is_fit k h =
     let q = and_parts _ _ p.0 in
     let r = and_parts _ _ q.0 in
     let s = and_parts _ _ r.0 in
-    let none = nothing_other k.other p.1 in
+    let none = nothing_other k.other_attributes p.1 in
     let iv = iv_is_fit k.iv r.1 in
     record {
       fits = and_from _ _ (and_from _ _ (and_from _ _ (and_from _ _ (and_parts _ _ q.1).1 (method_is_fit k.method s.0)) (quoted_uri_is_fit k.uri s.1)) iv.0)
@@ -167,7 +166,7 @@ ad_is_fit ad h =
     let r = and_parts _ _ q.0 in
     let s = and_parts _ _ r.0 in
     let keys = keys_are_fit ad.keys s.1 r.1 in
-    and_from _ _ (and_from _ _ (and_from _ _ keys.fits keys.state_ivs) (section_is_fit ad.section s.0)) (all_from segment_keeps segment_can_be_written ad.segments p.1 segment_is_fit)
+    and_from _ _ (and_from _ _ (and_from _ _ keys.fits keys.state_ivs) (section_is_fit ad.init_section s.0)) (all_from segment_keeps segment_can_be_written ad.segments p.1 segment_is_fit)
 
 pub pods_can_be_written : PodsCanBeWritten
 pods_can_be_written ads h = all_from ad_keeps ad_can_be_written ads (and_parts _ _ h).1 ad_is_fit

@@ -1,13 +1,12 @@
 -- What holds of pods that keep the rules, and of the store, whatever was called.
 use Rattle.std.specs.Prelude.{◌≡◌, ℕ, ◌≤◌, Bool, true, not, ◌&&◌, List, [], ◌∷◌, length, filter, fold, Option, Some, None, Ok, Err, bytes_eq, if◌then◌else◌}
 use Rattle.std.specs.List.{list_any, list_all}
-use Rattle.playlist_meaning.specs.LookBack.{or_earlier}
-use Rattle.playlist_meaning.specs.Pods.{PodSegment, Ad, Pod}
-use Rattle.fitting.specs.Fitting.{if_some, uri_fits, byte_range_fits, duration_fits, effective_keys_fit, section_fits}
+use Rattle.playlist_model.specs.LookBack.{or_earlier}
+use Rattle.pod_store.specs.Pods.{PodSegment, Ad, Pod, Decision}
+use Rattle.writable.specs.Fitting.{if_some, uri_fits, byte_range_fits, duration_fits, effective_keys_fit, section_fits}
 use Rattle.pod_store.specs.declared.Decisions.{Decisions}
 use Rattle.pod_store.specs.declared.Decisions.TheVariants.{Breaks, Withdraw, Fallback, NoFallback}
 use Rattle.pod_store.specs.Outcome.{Outcome}
-use Rattle.pod_store.specs.Pods.{Decision}
 use Rattle.pod_store.specs.Rules.{ads_keep}
 use Rattle.pod_store.specs.Store.{Entry, Store, nothing_decided, has_id, is_named, entry_for, own_pod, is_used, with_all, withdrawn, decided, is_one_of, held_in_use, kept_in_use, adopted, with_entries}
 
@@ -100,7 +99,7 @@ segment_can_be_written s = uri_fits s.uri && if_some byte_range_fits s.byte_rang
 
 -- its segments, and its keys and section as those of a segment
 abbrev pub ad_can_be_written : Ad → Bool
-ad_can_be_written ad = effective_keys_fit ad.keys && if_some section_fits ad.section && list_all segment_can_be_written ad.segments
+ad_can_be_written ad = effective_keys_fit ad.keys && if_some section_fits ad.init_section && list_all segment_can_be_written ad.segments
 
 -- the ads of each pod can be written, with keys and sections or without
 abbrev pub PodsCanBeWritten : Type 0

@@ -1,12 +1,11 @@
 -- The rules that each decided pod keeps.
 use Rattle.std.specs.Prelude.{ℕ, false, ◌+◌, ◌^◌, Bool, true, ◌&&◌, ◌==◌, nat_le, nat_lt, List, map, sum, length, Option, Some, None}
 use Rattle.std.specs.List.{list_all}
-use Rattle.playlist_meaning.specs.declared.ByteRange.{ByteRange}
-use Rattle.playlist_meaning.specs.declared.InitSection.{InitSection}
-use Rattle.playlist_meaning.specs.declared.Key.{Key}
-use Rattle.playlist_meaning.specs.Pods.{PodSegment, Ad}
-use Rattle.fitting.specs.Fitting.{iv_fits, duration_fits}
-use Rattle.pod_store.specs.Pods.{is_uri, is_method, is_format, segment_count}
+use Rattle.playlist_model.specs.declared.ByteRange.{ByteRange}
+use Rattle.playlist_model.specs.declared.InitSection.{InitSection}
+use Rattle.playlist_model.specs.declared.Key.{Key}
+use Rattle.pod_store.specs.Pods.{PodSegment, Ad, is_uri, is_method, is_format, segment_count}
+use Rattle.writable.specs.Fitting.{iv_fits, duration_fits}
 
 abbrev pub byte_range_fits : Option ByteRange → Bool
 byte_range_fits None = true
@@ -22,7 +21,7 @@ iv_keeps None = false
 iv_keeps (Some iv) = iv_fits iv
 
 abbrev pub key_keeps : Key → Bool
-key_keeps k = is_method k.method && is_uri k.uri && iv_keeps k.iv && is_format k.format && length k.other == 0
+key_keeps k = is_method k.method && is_uri k.uri && iv_keeps k.iv && is_format k.format && length k.other_attributes == 0
 
 -- it has no other keys than an ad can have
 abbrev pub section_keeps : Option InitSection → Bool
@@ -31,7 +30,7 @@ section_keeps (Some s) = is_uri s.uri && byte_range_fits s.byte_range && nat_le 
 
 abbrev pub ad_keeps : Ad → Bool
 ad_keeps ad =
-    section_keeps ad.section && nat_le (length ad.keys) 1 && list_all key_keeps ad.keys
+    section_keeps ad.init_section && nat_le (length ad.keys) 1 && list_all key_keeps ad.keys
     && nat_lt 0 (length ad.segments) && list_all segment_keeps ad.segments
 
 -- at least one ad, and at most 500 segments in all

@@ -1,15 +1,13 @@
 -- The store of decided breaks, with a fallback for those that have no pod of their own.
 use Rattle.std.specs.Prelude.{◌≡◌, ℕ, ◌+◌, Bool, true, false, not, ◌&&◌, ◌||◌, ◌==◌, List, [], ◌∷◌, ◌++◌, map, filter, fold, find, length, nat_lt, Option, Some, None, option_map, is_some, is_none, Result, Ok, Err, MatchResult, bytes_eq, if◌then◌else◌}
 use Rattle.std.specs.List.{list_any}
-use Rattle.playlist_meaning.specs.LookBack.{or_earlier}
-use Rattle.playlist_meaning.specs.Pods.{Pod}
+use Rattle.playlist_model.specs.LookBack.{or_earlier}
+use Rattle.pod_store.specs.Pods.{Pod, Decision, pod_fits}
 use Rattle.pod_store.specs.declared.fault.DecisionFault.{DecisionFault}
 use Rattle.pod_store.specs.declared.fault.DecisionKind.TheVariants.{Used, Full, Unknown}
 use Rattle.pod_store.specs.declared.Decisions.{Decisions}
 use Rattle.pod_store.specs.declared.Decisions.TheVariants.{Breaks, Withdraw, Fallback, NoFallback}
 use Rattle.pod_store.specs.Outcome.{Outcome, nowhere, fault_at, refuse_if, Refuses}
-use Rattle.pod_store.specs.Pods.{Decision}
-use Rattle.pod_store.specs.Pods.{pod_fits}
 
 -- a break with its pod: one that a decision gave it, or a copy of the fallback that it was entered with; and whether the
 -- break is used
@@ -97,12 +95,12 @@ abbrev pub is_named_if_any : Option Entry → Bool
 is_named_if_any None = false
 is_named_if_any (Some e) = is_named e
 
-abbrev pub is_new : Store → Decision → Bool
-is_new store d = not (is_named_if_any (entry_for store d.0))
+abbrev pub is_new_decision : Store → Decision → Bool
+is_new_decision store d = not (is_named_if_any (entry_for store d.0))
 
 -- the breaks that decisions would have given pods, with those of a file; copies aren't counted
 abbrev pub count_with : Store → List Decision → ℕ
-count_with store decisions = length (filter (is_new store) decisions) + length (filter is_named store.entries)
+count_with store decisions = length (filter (is_new_decision store) decisions) + length (filter is_named store.entries)
 
 abbrev pub names_used : Store → Decision → Bool
 names_used store d = is_used store d.0
@@ -138,10 +136,6 @@ with_copy store id = if has_own store id then store else with_entries store (cop
 abbrev pub with_copies : Store → List (List ℕ) → Store
 with_copies store ids = fold with_copy store ids
 
--- entries may have come after those that were there
-abbrev pub GrowsBy : Store → Store → Type 0
-GrowsBy old new = (more : List Entry) × (new ≡ with_entries old (old.entries ++ more))
-
 -- a break is used with the pod that it is filled with
 abbrev pub adopted : Store → List ℕ → Store
 adopted store id = if has_own store id then with_used id store else with_copy store id
@@ -164,7 +158,7 @@ held_in_use ids entries = map (λ (e : Entry). record e { used = is_one_of ids e
 abbrev pub kept_in_use : List (List ℕ) → Store → Store
 kept_in_use ids store = with_entries store (held_in_use ids (with_copies store ids).entries)
 
--- the store is the one owed; or the fault is, want of memory apart, and the store is as it was
+-- the store is the one owed; or the fault is, a failed allocation apart, and the store is as it was
 abbrev pub Changes : Store → Store → Result (Unit {0}) DecisionFault → Outcome Store → Type 0
 Changes old new result outcome = MatchResult result (λ _. outcome ≡ Ok new) (λ e. (new ≡ old) × Refuses e outcome)
 

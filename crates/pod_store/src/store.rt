@@ -3,27 +3,28 @@ ghost use Rattle.std.specs.Prelude.{◌≡◌, ℕ, ◌+◌, ◌==◌, ◌≤◌
 ghost use Rattle.std.specs.List.{list_all, list_any};
 ghost use Rattle.std.specs.Option.{option_copied};
 ghost use Rattle.pod_store.specs.Pods.{section_fits, segment_fits, ad_fits, pod_fits};
-ghost use Rattle.pod_store.specs.Store.{nothing_decided, with_entries, names_used, put, without, entry_for, has_own, own_pod, pod_for, fits, is_empty, is_used, is_named, is_named_if_any, with_all, withdrawn, decided, held_in_use, with_used, with_copy, with_copies, adopted, GrowsBy, kept_in_use, count_with, is_new, Changes, ChangesExactly};
+ghost use Rattle.pod_store.specs.Store.{nothing_decided, with_entries, names_used, put, without, entry_for, has_own, own_pod, pod_for, fits, is_empty, is_used, is_named, is_named_if_any, with_all, withdrawn, decided, held_in_use, with_used, with_copy, with_copies, adopted, kept_in_use, count_with, is_new_decision, Changes, ChangesExactly};
+ghost use Rattle.pod_store.specs.Inner.Store.{GrowsBy};
 ghost use Rattle.pod_store.specs.Outcome.{no_memory};
 
 use crate::fault::{DecisionFault, DecisionKind, Place};
 use crate::kept::{
-    Kept, SharedDecision, copy, count_named, keep_in_use, kept_for, mark, put_all, remove,
+    SharedDecision, StoredPod, copy, count_named, keep_in_use, kept_for, mark, put_all, remove,
 };
 use crate::{Ad, Decision, Decisions, Pod, PodSegment};
 use indexmap::IndexMap;
-use playlist_meaning::{InitSection, Shared, Text};
+use playlist_model::{InitSection, Shared, Text};
 use std::alloc::{AllocError, Global};
 use std::marker::Model;
 
 /// How many breaks get their pods by decisions at most.
-const MOST_PODS: usize = 256;
+const MAX_PODS: usize = 256;
 
 /// The decided breaks with their pods, in the order in which they were decided, and the fallback: the pod of each break that
 /// has none of its own. A break that is entered with the fallback keeps a copy of it, whatever becomes of the fallback.
 #[derive(Drop)]
 pub struct PodStore {
-    kept: IndexMap<String, Kept>,
+    kept: IndexMap<String, StoredPod>,
     fallback: Option<Shared<Pod>>,
     alloc: Global,
 }
@@ -61,7 +62,7 @@ fn section_fits(map: &Option<InitSection>, mapped: bool) -> bool
 fn ad_fits(ad: &Ad, target: u64, mapped: bool) -> bool
     ensures { result ≡ ad_fits target mapped ad.now }
 {
-    section_fits(&ad.map, mapped) && segments_fit(ad.segments.as_slice(), target)
+    section_fits(&ad.init_section, mapped) && segments_fit(ad.segments.as_slice(), target)
 }
 
 impl Pod {
@@ -190,7 +191,7 @@ impl PodStore {
     }
 
     fn count_new(&self, decisions: &[Decision]) -> usize
-        ensures value { result ≡ length (filter (is_new self.now) decisions.now) }
+        ensures value { result ≡ length (filter (is_new_decision self.now) decisions.now) }
         ensures small { result ≤ length decisions.now }
     {
         let most = decisions.len();
@@ -230,7 +231,7 @@ impl PodStore {
         if self.is_any_used(decisions.as_slice()) {
             return Err(Place::nowhere().fault(DecisionKind::Used));
         }
-        if self.count_new(decisions.as_slice()) + self.count_named() > MOST_PODS {
+        if self.count_new(decisions.as_slice()) + self.count_named() > MAX_PODS {
             return Err(Place::nowhere().fault(DecisionKind::Full));
         }
         self.put_all(decisions)?;
@@ -248,7 +249,7 @@ impl PodStore {
 
     /// Takes decisions. `Used` where one of the breaks is used; then `Full` where decisions would have given pods to more than
     /// 256; a break that is decided already gets the new pod in its place. A withdrawal is `withdraw`'s. A fallback takes
-    /// the place of the one before, if any; want of memory alone refuses it. Where it fails the store is as it was.
+    /// the place of the one before, if any; a failed allocation alone refuses it. Where it fails the store is as it was.
     pub fn decide(&mut self, decisions: Decisions) -> Result<(), DecisionFault>
         ensures { Changes self.old self.new result (decided self.old decisions) }
     {
@@ -301,7 +302,7 @@ impl PodStore {
     }
 
     /// A break is used with the pod that it is filled with: its own, or a copy of the fallback, which is its own then. False
-    /// where it has neither. Where memory is refused the store is as it was.
+    /// where it has neither. Where an allocation fails the store is as it was.
     pub fn adopt(&mut self, id: &str) -> Result<bool, DecisionFault>
         ensures ok { IfOk result (λ there. (there ≡ is_some (pod_for self.old id.now)) × (self.new ≡ adopted self.old id.now)) }
         ensures err { IfErr result (λ e. (e ≡ no_memory) × (self.new ≡ self.old)) }
@@ -352,7 +353,7 @@ impl PodStore {
 
     #[tactic(auto, using(crate::proofs::Copies::fallback_stands))]
     /// These breaks are in use from now on: each of them that has no pod of its own keeps a copy of the fallback, where there
-    /// is one, and the pods of the used breaks that are none of these are dropped. Where memory is refused the store is as it
+    /// is one, and the pods of the used breaks that are none of these are dropped. Where an allocation fails the store is as it
     /// was.
     pub fn keep_in_use(&mut self, ids: &[Shared<Text>]) -> Result<(), AllocError>
         ensures ok { OnOk result (self.new ≡ kept_in_use ids.now self.old) }

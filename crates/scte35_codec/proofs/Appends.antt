@@ -11,7 +11,8 @@ use Rattle.scte35_codec.specs.Layout.{Is, Reserved, Field, width, bytes_of, IsBy
 use Rattle.scte35_codec.specs.declared.info.SpliceTime.{SpliceTime}
 use Rattle.scte35_codec.specs.declared.info.InsertBody.{InsertBody}
 use Rattle.scte35_codec.specs.Section.{bodies_of, cancel_fields, Command, Insert, Other, Section, command_fields, StatesLength, section, IsSection, Target, Components, component, target_fields}
-use Rattle.scte35_codec.specs.Writing.{Appends, command_length, written_fields, has_section}
+use Rattle.scte35_codec.specs.Writing.{command_length, written_fields, has_section}
+use Rattle.scte35_codec.specs.Inner.Writing.{Appends}
 use Rattle.scte35_codec.proofs.Fields.{bytes-bits, Holds-join}
 use Rattle.scte35_codec.proofs.Takes.{IsBytes-append}
 use Rattle.scte35_codec.proofs.Sections.{bytes_hold, width_of_bytes}

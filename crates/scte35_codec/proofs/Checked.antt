@@ -4,7 +4,8 @@ use Rattle.std.specs.Prelude.{◌&&◌, nat_le}
 use Rattle.std.specs.Int.{bytes_high_first}
 use Rattle.scte35_codec.specs.Layout.{Field, Is}
 use Rattle.scte35_codec.specs.Section.{Section, start_fields, heading_fields, command_fields, after_length, section}
-use Rattle.scte35_codec.specs.Writing.{fits, command_fits, command_length, section_length, has_section, front_fields, tail_fields, written_fields, Appends}
+use Rattle.scte35_codec.specs.Writing.{fits, command_fits, command_length, section_length, has_section, written_fields}
+use Rattle.scte35_codec.specs.Inner.Writing.{front_fields, tail_fields, Appends}
 use Rattle.scte35_codec.specs.Crc.{crc_of, with_crc, IsChecked}
 use Rattle.scte35_codec.proofs.Whole.{width-after}
 use Rattle.scte35_codec.proofs.Appends.{Appends-then, Appends-is, group_appends, Made, made, made_is, made_again}

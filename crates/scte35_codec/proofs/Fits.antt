@@ -5,7 +5,8 @@ use Rattle.std.specs.List.{list_all}
 use Rattle.std.proofs.lemmas.Bool.{and_parts, and_from, leb-true, ltb-true, eqb-false, not-true}
 use Rattle.scte35_codec.specs.declared.info.SpliceTime.{SpliceTime}
 use Rattle.scte35_codec.specs.Section.{Target, Program, Components, Body, Command, Insert, Other, Section, is_timed, target_is_timed, BodyIsTimed, IsProper}
-use Rattle.scte35_codec.specs.Writing.{time_fits, place_fits, target_fits, TargetFits, duration_fits, body_fits, command_fits, fits, section_length, has_section}
+use Rattle.scte35_codec.specs.Writing.{time_fits, place_fits, target_fits, duration_fits, body_fits, command_fits, fits, section_length, has_section}
+use Rattle.scte35_codec.specs.Inner.Writing.{TargetFits}
 
 abbrev Component : Type 0
 Component = ℕ × Option SpliceTime

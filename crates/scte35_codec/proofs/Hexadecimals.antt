@@ -19,7 +19,8 @@ use Rattle.scte35_codec.proofs.Takes.{bind_ok}
 use Rattle.scte35_codec.proofs.Whole.{reading_is, is_read}
 use Rattle.scte35_codec.specs.Layout.{IsBytes, number}
 use Rattle.scte35_codec.specs.Reading.{Gives, number_in, reading}
-use Rattle.scte35_codec.specs.Hexadecimal.{are_pairs, digits_of, decoded, hex_bytes, reading_digits, reading_hex}
+use Rattle.scte35_codec.specs.Hexadecimal.{are_pairs, digits_of, decoded, hex_bytes, reading_hex}
+use Rattle.scte35_codec.specs.Inner.Hexadecimal.{reading_digits}
 
 -- a digit in the sense of `u8::is_ascii_hexdigit` is one in the sense of `hex`
 digit-same : (c : ℕ) → is_ascii_hexdigit c ≡ true → is_hex_digit c ≡ true

@@ -5,7 +5,7 @@ use Rattle.std.proofs.lemmas.List.{length-append, length-take, take-append-drop,
 use Rattle.scte35_codec.specs.declared.fault.SpliceFault.{SpliceFault}
 use Rattle.scte35_codec.specs.declared.fault.SpliceFault.TheVariants.{CommandLength}
 use Rattle.scte35_codec.specs.Layout.{Content, Field, Is, width, bytes_of, Holds, IsRead}
-use Rattle.scte35_codec.specs.Section.{Event, Command, Insert, Other, splice_insert, command_fields, command_type, IsProper, StatesLength}
+use Rattle.scte35_codec.specs.Section.{SpliceEvent, Command, Insert, Other, splice_insert, command_fields, command_type, IsProper, StatesLength}
 use Rattle.scte35_codec.specs.Writing.{command_fits}
 use Rattle.scte35_codec.specs.Reading.{◌>>=◌, bytes_at, insert_at, whole_insert_at, unmeasured_at, measured_of, command_at}
 use Rattle.scte35_codec.specs.Layout.{IsBytes}
@@ -72,14 +72,14 @@ unmeasured_takes command_length kind bytes c rest said fits e =
     (record { takes = i.takes; type_is = sym five; stated = inr said; small = i.small })
 
 -- the splice_insert of all of these bytes
-whole_takes : (bytes : List ℕ) (i : Event) → IsBytes bytes → whole_insert_at bytes ≡ Ok i → Takes (splice_insert i) bytes [] × TakesEvent i bytes []
+whole_takes : (bytes : List ℕ) (i : SpliceEvent) → IsBytes bytes → whole_insert_at bytes ≡ Ok i → Takes (splice_insert i) bytes [] × TakesEvent i bytes []
 unfolding whole_insert_at
 whole_takes bytes i fits e =
     let b = bind_ok (insert_at bytes) (λ insert. cond (eqb (length insert.1) 0) (Ok insert.0) (Err CommandLength)) i e in
     let g = guard_ended (eqb (length b.0.1) 0) CommandLength b.0.0 i b.2 in
     let none : b.0.1 ≡ [] = nil_from_length b.0.1 (eqb-true (length b.0.1) 0 g.0) in
     let taken = insert_takes bytes b.0.0 b.0.1 fits b.1 in
-    let here : TakesEvent i bytes [] = subst (λ (x : Event). TakesEvent x bytes []) g.1 (subst (λ (r : List ℕ). TakesEvent b.0.0 bytes r) none taken) in
+    let here : TakesEvent i bytes [] = subst (λ (x : SpliceEvent). TakesEvent x bytes []) g.1 (subst (λ (r : List ℕ). TakesEvent b.0.0 bytes r) none taken) in
     (here.takes, here)
 
 pub whole_width : (fields : List Field) (bytes : List ℕ) → Takes fields bytes [] → 8 * length bytes ≡ width fields
@@ -130,20 +130,20 @@ pub command_takes : (command_length kind : ℕ) (bytes : List ℕ) (c : Command)
 unfolding command_at
 command_takes command_length kind bytes c rest fits e = command_by (eqb command_length 0xFFF) command_length kind bytes c rest refl fits e
 
-unmeasured_again : (i : Event) (after : List Field) (bytes : List ℕ) → IsProper (Insert i) → Lies (splice_insert i ++ after) bytes → Again (unmeasured_at 5 bytes) (Insert i) after
+unmeasured_again : (i : SpliceEvent) (after : List Field) (bytes : List ℕ) → IsProper (Insert i) → Lies (splice_insert i ++ after) bytes → Again (unmeasured_at 5 bytes) (Insert i) after
 unfolding unmeasured_at
 unmeasured_again i after bytes proper lies =
     let a = insert_again i after bytes proper lies in
     record { rest = a.rest; is = rw a.is refl; lies = a.lies }
 
-whole_again : (i : Event) (bytes : List ℕ) → IsProper (Insert i) → Lies (splice_insert i) bytes → whole_insert_at bytes ≡ Ok i
+whole_again : (i : SpliceEvent) (bytes : List ℕ) → IsProper (Insert i) → Lies (splice_insert i) bytes → whole_insert_at bytes ≡ Ok i
 unfolding whole_insert_at
 whole_again i bytes proper lies =
     let a = insert_again i [] bytes proper (subst (λ (fs : List Field). Lies fs bytes) (sym (append-nil (splice_insert i))) lies) in
     let none : eqb (length a.rest) 0 ≡ true = eq-eqb _ _ (omega (arith, a.lies.holds.count)) in
     rw (a.is, none) refl
 
-measured_insert_again : (unsaid : Bool) (i : Event) (command_length : ℕ) (after : List Field) (bytes : List ℕ) → eqb command_length 0xFFF ≡ unsaid → IsProper (Insert i) → 8 * command_length ≡ width (splice_insert i) → Lies (splice_insert i ++ after) bytes
+measured_insert_again : (unsaid : Bool) (i : SpliceEvent) (command_length : ℕ) (after : List Field) (bytes : List ℕ) → eqb command_length 0xFFF ≡ unsaid → IsProper (Insert i) → 8 * command_length ≡ width (splice_insert i) → Lies (splice_insert i ++ after) bytes
     → Again (command_at command_length 5 bytes) (Insert i) after
 unfolding command_at measured_of
 measured_insert_again true i command_length after bytes is proper size lies =

@@ -30,10 +30,6 @@ abbrev pub decoded : Result (List ℕ) FromHexError → Result (List ℕ) Splice
 decoded (Ok bytes) = Ok bytes
 decoded (Err e) = Err NotHex
 
--- what the bytes of pairs of digits say
-abbrev pub reading_digits : List ℕ → Result Section SpliceFault
-reading_digits digits = decoded (decode_of digits) >>= reading
-
 -- the bytes that a text stands for
 unfoldable pub hex_bytes : List ℕ → Result (List ℕ) SpliceFault
 hex_bytes text = digits_of text >>= λ digits. decoded (decode_of digits)

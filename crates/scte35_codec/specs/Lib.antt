@@ -5,3 +5,4 @@ pub mod Reading
 pub mod Writing
 pub mod Hexadecimal
 pub mod Crc
+pub mod Inner

@@ -5,7 +5,7 @@ use Rattle.scte35_codec.specs.declared.fault.SpliceFault.TheVariants.{TooShort, 
 use Rattle.scte35_codec.specs.declared.info.SpliceTime.{SpliceTime}
 use Rattle.scte35_codec.specs.declared.info.BreakDuration.{BreakDuration}
 use Rattle.scte35_codec.specs.Layout.{number}
-use Rattle.scte35_codec.specs.Section.{Target, Program, Components, Body, Event, Command, Insert, Other, Section}
+use Rattle.scte35_codec.specs.Section.{Target, Program, Components, Body, SpliceEvent, Command, Insert, Other, Section}
 
 infixl 10 ◌>>=◌
 abbrev pub ◌>>=◌ : {A B : Type 0} → Result A SpliceFault → (A → Result B SpliceFault) → Result B SpliceFault
@@ -35,19 +35,19 @@ abbrev pub bytes_at : ℕ → List ℕ → Result (List ℕ × List ℕ) SpliceF
 bytes_at count bytes = if nat_lt (length bytes) count then Err CommandLength else Ok (take count bytes, drop count bytes)
 
 -- the number in the first bytes, and the bytes after them
-abbrev pub number_at : ℕ → List ℕ → Result (ℕ × List ℕ) SpliceFault
-number_at count bytes = if nat_lt (length bytes) count then Err CommandLength else Ok (number (take count bytes), drop count bytes)
+abbrev pub media_sequence_at : ℕ → List ℕ → Result (ℕ × List ℕ) SpliceFault
+media_sequence_at count bytes = if nat_lt (length bytes) count then Err CommandLength else Ok (number (take count bytes), drop count bytes)
 
 -- ---- The parts of splice_insert
 
 unfoldable pub specified_time_at : List ℕ → Result (SpliceTime × List ℕ) SpliceFault
 specified_time_at bytes = do
-  time ← number_at 5 bytes
+  time ← media_sequence_at 5 bytes
   Ok (record { pts = Some (time.0 % 2 ^ 33) }, time.1)
 
 unfoldable pub time_at : List ℕ → Result (SpliceTime × List ℕ) SpliceFault
 time_at bytes = do
-  flags ← number_at 1 bytes
+  flags ← media_sequence_at 1 bytes
   if bit 7 flags.0 then specified_time_at bytes else Ok (record { pts = None }, flags.1)
 
 -- no time where the splice is immediate
@@ -59,7 +59,7 @@ optional_time_at false bytes = do
 
 unfoldable pub component_at : Bool → List ℕ → Result ((ℕ × Option SpliceTime) × List ℕ) SpliceFault
 component_at immediate bytes = do
-  tag ← number_at 1 bytes
+  tag ← media_sequence_at 1 bytes
   time ← optional_time_at immediate tag.1
   Ok ((tag.0, time.0), time.1)
 
@@ -75,22 +75,22 @@ target_at true immediate bytes = do
   time ← optional_time_at immediate bytes
   Ok (Program time.0, time.1)
 target_at false immediate bytes = do
-  count ← number_at 1 bytes
+  count ← media_sequence_at 1 bytes
   components ← components_at immediate count.0 count.1
   Ok (Components components.0, components.1)
 
 unfoldable pub optional_duration_at : Bool → List ℕ → Result (Option BreakDuration × List ℕ) SpliceFault
 optional_duration_at false bytes = Ok (None, bytes)
 optional_duration_at true bytes = do
-  duration ← number_at 5 bytes
+  duration ← media_sequence_at 5 bytes
   Ok (Some (record { auto_return = bit 39 duration.0; ticks = duration.0 % 2 ^ 33 }), duration.1)
 
 unfoldable pub body_at : List ℕ → Result (Body × List ℕ) SpliceFault
 body_at bytes = do
-  flags ← number_at 1 bytes
+  flags ← media_sequence_at 1 bytes
   target ← target_at (bit 6 flags.0) (bit 4 flags.0) flags.1
   duration ← optional_duration_at (bit 5 flags.0) target.1
-  ids ← number_at 4 duration.1
+  ids ← media_sequence_at 4 duration.1
   Ok (
     record {
       out_of_network = bit 7 flags.0;
@@ -111,17 +111,17 @@ optional_body_at false bytes = do
   body ← body_at bytes
   Ok (Some body.0, body.1)
 
-unfoldable pub insert_at : List ℕ → Result (Event × List ℕ) SpliceFault
+unfoldable pub insert_at : List ℕ → Result (SpliceEvent × List ℕ) SpliceFault
 insert_at bytes = do
-  event ← number_at 4 bytes
-  flags ← number_at 1 event.1
+  event ← media_sequence_at 4 bytes
+  flags ← media_sequence_at 1 event.1
   body ← optional_body_at (bit 7 flags.0) flags.1
   Ok (record { event_id = event.0; body = body.0 }, body.1)
 
 -- ---- The section
 
 -- a splice_insert that takes all of the bytes
-unfoldable pub whole_insert_at : List ℕ → Result Event SpliceFault
+unfoldable pub whole_insert_at : List ℕ → Result SpliceEvent SpliceFault
 whole_insert_at bytes = do
   insert ← insert_at bytes
   if length insert.1 == 0 then Ok insert.0 else Err CommandLength
@@ -151,7 +151,7 @@ ending_at bytes =
 -- the descriptors, the stuffing and the CRC, which stand after the command
 unfoldable pub tail_at : List ℕ → Result (List ℕ × List ℕ × ℕ) SpliceFault
 tail_at bytes = do
-  count ← number_at 2 bytes
+  count ← media_sequence_at 2 bytes
   descriptors ← bytes_at count.0 count.1
   ending ← ending_at descriptors.1
   Ok (descriptors.0, ending.0, ending.1)

@@ -28,12 +28,12 @@ pub record Body : Type 0 where
   pub avails_expected : ℕ
 
 -- a splice_insert, which has no body where it is cancelled
-pub record Event : Type 0 where
+pub record SpliceEvent : Type 0 where
   pub event_id : ℕ
   pub body : Option Body
 
 pub data Command : Type 0 where
-  Insert : Event → Command
+  Insert : SpliceEvent → Command
   Other : ℕ → List ℕ → Command
 
 pub record Section : Type 0 where
@@ -64,7 +64,7 @@ abbrev pub bodies_of : Option InsertBody → Option Body
 bodies_of None = None
 bodies_of (Some b) = Some (body_of b)
 
-abbrev pub event_of : SpliceInsert → Event
+abbrev pub event_of : SpliceInsert → SpliceEvent
 event_of i = record { event_id = i.event_id; body = bodies_of i.body }
 
 abbrev pub command_of : SpliceCommand → Command
@@ -137,7 +137,7 @@ abbrev pub cancel_fields : Bool → List Field
 cancel_fields is_cancelled = (1, Is (flag is_cancelled)) ∷ (7, Reserved 127) ∷ []
 
 -- splice_event_id, splice_event_cancel_indicator, and what follows unless the event is cancelled
-unfoldable pub splice_insert : Event → List Field
+unfoldable pub splice_insert : SpliceEvent → List Field
 splice_insert i = (32, Is i.event_id) ∷ cancel_fields (is_none i.body) ++ optional body_fields i.body
 
 abbrev pub command_fields : Command → List Field

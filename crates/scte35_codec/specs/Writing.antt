@@ -1,10 +1,10 @@
 -- Which values have a section that may be written, and what is added at the end of some bytes.
-use Rattle.std.specs.Prelude.{◌≡◌, ℕ, ◌/◌, ◌^◌, ◌≤◌, Bool, true, not, ◌&&◌, nat_lt, nat_le, ◌==◌, List, ◌∷◌, ◌++◌, length, Option, Some, None, IsTrue}
+use Rattle.std.specs.Prelude.{ℕ, ◌/◌, ◌^◌, Bool, true, not, ◌&&◌, nat_lt, nat_le, ◌==◌, List, length, Option, Some, None}
 use Rattle.std.specs.List.{list_all}
 use Rattle.scte35_codec.specs.declared.info.SpliceTime.{SpliceTime}
 use Rattle.scte35_codec.specs.declared.info.BreakDuration.{BreakDuration}
-use Rattle.scte35_codec.specs.Layout.{Field, Is, bytes_of, width, IsBytes, Holds, IsWritten}
-use Rattle.scte35_codec.specs.Section.{Target, Program, Components, Body, Command, Insert, Other, Section, command_fields, start_fields, heading_fields, after_length, section, is_timed}
+use Rattle.scte35_codec.specs.Layout.{Field, width}
+use Rattle.scte35_codec.specs.Section.{Target, Program, Components, Body, Command, Insert, Other, Section, command_fields, after_length, section, is_timed}
 
 -- whether a number fits a field of so many bits
 abbrev pub fits : ℕ → ℕ → Bool
@@ -25,16 +25,6 @@ place_fits immediate time = is_timed immediate time && time_fits time
 abbrev pub target_fits : Bool → Target → Bool
 target_fits immediate (Program time) = place_fits immediate time
 target_fits immediate (Components components) = nat_le (length components) 255 && list_all (λ c. place_fits immediate c.1) components
-
--- at most 255 components
-abbrev pub IsCounted : Target → Type 0
-IsCounted (Program time) = Unit {0}
-IsCounted (Components components) = length components ≤ 255
-
--- what a target's fields need, whether or not the splice is immediate
-abbrev pub TargetFits : Target → Type 0
-TargetFits (Program time) = IsTrue (time_fits time)
-TargetFits (Components components) = (length components ≤ 255) × IsTrue (list_all (λ c. time_fits c.1) components)
 
 abbrev pub duration_fits : Option BreakDuration → Bool
 duration_fits None = true
@@ -64,19 +54,3 @@ has_section s = fits 33 s.pts_adjustment && fits 12 s.tier && command_fits s.com
 -- the fields of a section that is written, with all its lengths counted
 abbrev pub written_fields : Section → List Field
 written_fields s = section s (command_length s)
-
--- descriptor_loop_length, the descriptors, the stuffing
-abbrev pub tail_fields : Section → List Field
-tail_fields s = (16, Is (length s.descriptors)) ∷ bytes_of s.descriptors ++ bytes_of s.stuffing
-
--- the fields of a section that is written, up to CRC_32
-abbrev pub front_fields : Section → List Field
-front_fields s =
-    start_fields (section_length s) ++ (heading_fields s (command_length s) ++ command_fields s.command ++ tail_fields s)
-
--- new is old with these fields at its end, reserved bits as they are written
-pub record Appends (fields : List Field) (old new : List ℕ) : Type 0 where
-  pub added : List ℕ
-  pub whole : new ≡ old ++ added
-  pub bytes : IsBytes added
-  pub holds : Holds IsWritten fields added

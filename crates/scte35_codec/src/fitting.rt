@@ -4,14 +4,15 @@ ghost use Rattle.std.specs.Prelude.{◌≡◌, ◌+◌, ◌*◌, ◌-◌, ◌^�
 ghost use Rattle.std.specs.List.{flat_map, list_all};
 ghost use Rattle.scte35_codec.specs.Layout.{width};
 ghost use Rattle.scte35_codec.specs.Section.{optional, splice_time, component, target_of, target_fields, bodies_of, body_fields, splice_insert, command_of, command_fields, break_duration, section_of};
-ghost use Rattle.scte35_codec.specs.Writing.{place_fits, IsCounted, target_fits, duration_fits, body_fits, command_fits, section_length, has_section};
+ghost use Rattle.scte35_codec.specs.Writing.{place_fits, target_fits, duration_fits, body_fits, command_fits, section_length, has_section};
+ghost use Rattle.scte35_codec.specs.Inner.Writing.{IsCounted};
 
 use crate::info::{
     BreakDuration, InsertBody, SPLICE_INSERT, SpliceCommand, SpliceInfo, SpliceTarget, SpliceTime,
     TICKS,
 };
 
-const MOST_COMPONENTS: usize = 255;
+const MAX_COMPONENTS: usize = 255;
 
 // section_length is at most this in what is written.
 const LONGEST: usize = 4093;
@@ -36,7 +37,7 @@ fn target_fits(immediate: bool, target: &SpliceTarget) -> bool
     match target {
         SpliceTarget::Program(time) => place_fits(immediate, *time),
         SpliceTarget::Components(components) => {
-            components.len() <= MOST_COMPONENTS && components_fit(immediate, components)
+            components.len() <= MAX_COMPONENTS && components_fit(immediate, components)
         }
     }
 }

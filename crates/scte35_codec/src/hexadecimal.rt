@@ -8,7 +8,8 @@ ghost use Rattle.scte35_codec.specs.Section.{Section, section_of, IsSection};
 ghost use Rattle.scte35_codec.specs.Reading.{Gives};
 ghost use Rattle.scte35_codec.specs.declared.fault.SpliceFault.{SpliceFault};
 ghost use Rattle.scte35_codec.specs.declared.fault.SpliceFault.TheVariants.{NotHex, CommandLength, TooLarge};
-ghost use Rattle.scte35_codec.specs.Hexadecimal.{are_pairs, is_hex_text, digits_of, reading_digits, hex_bytes, reading_hex};
+ghost use Rattle.scte35_codec.specs.Hexadecimal.{are_pairs, is_hex_text, digits_of, hex_bytes, reading_hex};
+ghost use Rattle.scte35_codec.specs.Inner.Hexadecimal.{reading_digits};
 
 use crate::fault::SpliceFault;
 use crate::info::SpliceInfo;

@@ -2,8 +2,8 @@
 use Rattle.std.proofs.Common.{◌≡◌, ◌+◌, Bool, true, false, not, cond, List, [], ◌∷◌, refl, ap, arith, suc, sym, length}
 use Rattle.std.specs.Prelude.{insert}
 use Rattle.std.specs.List.{position_or_len}
-use Rattle.playlist_meaning.specs.declared.Key.{Key}
-use Rattle.playlist_meaning.specs.LookBack.{is_before, insert_key, put_key, without_format}
+use Rattle.playlist_model.specs.declared.Key.{Key}
+use Rattle.playlist_model.specs.LookBack.{is_before, insert_key, put_key, without_format}
 
 insert_step : (k j : Key) (keys : List Key) (b : Bool) → insert_key k keys ≡ insert keys (position_or_len (is_before k) keys) k
     → cond b (k ∷ j ∷ keys) (j ∷ insert_key k keys) ≡ insert (j ∷ keys) (cond (not b) (1 + position_or_len (is_before k) keys) 0) k

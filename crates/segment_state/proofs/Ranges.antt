@@ -4,9 +4,9 @@ use Rattle.std.specs.Prelude.{◌==◌}
 use Rattle.std.specs.List.{position_or_len, before_first, after_first}
 use Rattle.std.proofs.lemmas.List.{take_all}
 use Rattle.attr_list.specs.Numbers.{decimal_of}
-use Rattle.playlist_meaning.specs.declared.FaultKind.TheVariants as fault
-use Rattle.playlist_meaning.specs.Said.{byte_range_of, stated_byte_range, or_fault, ◌>>=◌}
-use Rattle.playlist_meaning.proofs.ListTests.{none_passes, some_passes}
+use Rattle.playlist_model.specs.declared.FaultKind.TheVariants as fault
+use Rattle.playlist_model.specs.Said.{byte_range_of, stated_byte_range, or_fault, ◌>>=◌}
+use Rattle.playlist_model.proofs.ListTests.{none_passes, some_passes}
 
 -- without an `@`, the whole text is the length
 pub byte_range_without_offset : (text : List ℕ) (n : ℕ) → position_or_len (λ b. b == 64) text ≡ length text → or_fault fault.BadRange (decimal_of text) ≡ Ok n → byte_range_of text ≡ Ok (n, None)

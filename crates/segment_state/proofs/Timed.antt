@@ -3,11 +3,11 @@ use Rattle.std.proofs.Common.{◌≡◌, List, refl, ap, ◌∙◌, Ok, Err, Som
 use Rattle.std.specs.Prelude.{ℕ, ℤ, Option, Result, IsOk}
 use Rattle.std.specs.Option.{ok_or}
 use Rattle.url.specs.Parts.{Parts}
-use Rattle.playlist_meaning.specs.declared.FaultKind.TheVariants as fault
-use Rattle.instants.specs.Instant.{instant_of}
-use Rattle.playlist_meaning.specs.Said.{Said, time, time_tag, or_fault, ◌>>=◌}
-use Rattle.playlist_meaning.specs.LookBack.{standing_at, with_said}
-use Rattle.playlist_meaning.specs.Reading.{said_by_tag, limited}
+use Rattle.playlist_model.specs.declared.FaultKind.TheVariants as fault
+use Rattle.date_times.specs.Instant.{instant_of}
+use Rattle.playlist_model.specs.Said.{Said, time, time_tag, or_fault, ◌>>=◌}
+use Rattle.playlist_model.specs.LookBack.{standing_at, with_said}
+use Rattle.playlist_model.specs.Reading.{said_by_tag, limited}
 use Rattle.segment_state.specs.Running.{Running, running_at}
 
 pub stated : {E : Type 0} (o : Option ℤ) (e : E) (t : ℤ) → Ok t ≡ ok_or o e → o ≡ Some t
@@ -20,7 +20,7 @@ unstated (Some t) e r h n = absurd (n t h)
 
 -- the state with the instant of the next segment
 abbrev pub with_time : ℤ → Running → Running
-with_time t old = record old { standing = record old.standing { time = Some t } }
+with_time t old = record old { standing = record old.standing { program_date_time = Some t } }
 
 taken : (base : Parts) (before : List Said) (o : Option ℤ) (t : ℤ) → o ≡ Some t
     → IsOk (or_fault fault.BadTime o >>= λ x. Ok (time x)) × (with_time t (running_at base before) ≡ running_at base (with_said before (or_fault fault.BadTime o >>= λ x. Ok (time x))))

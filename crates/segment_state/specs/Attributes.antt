@@ -3,8 +3,8 @@ use Rattle.std.specs.Prelude.{ℕ, Bool, List, map, Option}
 use Rattle.attr_list.specs.declared.attr.Attr.{Attr}
 use Rattle.attr_list.specs.Attributes.{Pair}
 use Rattle.attr_list.specs.Attrs.{attr_pair}
-use Rattle.playlist_meaning.specs.Said as said
-use Rattle.playlist_meaning.specs.Said.{Outcome, value_if}
+use Rattle.playlist_model.specs.Said as said
+use Rattle.playlist_model.specs.Said.{Outcome, value_if}
 
 abbrev pub pairs_of : List Attr → List Pair
 pairs_of attrs = map attr_pair attrs

@@ -1,7 +1,7 @@
 -- What is kept of a line, with what it said.
 use Rattle.std.specs.Prelude.{◌≡◌, ℕ, List, Option, Some, None, Ok, ⊤, if◌then◌else◌}
 use Rattle.url.specs.Parts.{Parts}
-use Rattle.playlist_meaning.specs.Said.{duration, duration_said, uri_of}
+use Rattle.playlist_model.specs.Said.{duration, duration_said, uri_of}
 use Rattle.segment_state.specs.declared.durations.Durations.TheInside.{Inside}
 use Rattle.segment_state.specs.declared.references.Resolved.{Resolved}
 

@@ -2,4 +2,4 @@ pub mod Attributes
 pub mod Kept
 pub mod Running
 pub mod Views
-pub mod Tags
+pub mod Inner

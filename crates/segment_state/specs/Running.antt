@@ -1,12 +1,11 @@
 -- A state, and what a line does to it.
-use Rattle.std.specs.Prelude.{◌≡◌, ◌+◌, ℕ, map, Option, None, List, ◌∷◌, Result, Ok, Err, MatchResult, IsOk}
+use Rattle.std.specs.Prelude.{◌≡◌, List, ◌∷◌, Result, Ok, Err, MatchResult, IsOk}
 use Rattle.url.specs.Parts.{Parts}
-use Rattle.playlist_meaning.specs.declared.FaultKind.{FaultKind}
-use Rattle.playlist_meaning.specs.declared.Segment.{Segment}
-use Rattle.playlist_meaning.specs.Said.{Said, media, Outcome}
-use Rattle.playlist_meaning.specs.declared.ByteRange.{ByteRange}
-use Rattle.playlist_meaning.specs.LookBack.{Standing, Extent, effective_key, standing_at, with_said, segment_at}
-use Rattle.playlist_meaning.specs.Refusals.{Refuses}
+use Rattle.playlist_model.specs.declared.FaultKind.{FaultKind}
+use Rattle.playlist_model.specs.declared.Segment.{Segment}
+use Rattle.playlist_model.specs.Said.{Said, media, Outcome}
+use Rattle.playlist_model.specs.LookBack.{Standing, standing_at, with_said, segment_at}
+use Rattle.playlist_model.specs.Refusals.{Refuses}
 
 -- the base of the playlist's references, and what stands at a line
 pub record Running : Type 0 where
@@ -16,34 +15,6 @@ pub record Running : Type 0 where
 -- the state after lines that say this, the last first
 abbrev pub running_at : Parts → List Said → Running
 running_at base before = record { base = base; standing = standing_at before }
-
--- the segment of what stands, of this resource, byte range, and duration with its title
-abbrev pub segment_from : Standing → List ℕ → Option ByteRange → ℕ × List ℕ → Segment
-segment_from s uri byte_range own = record {
-  number = s.sequence + s.media_count;
-  discontinuity = s.discontinuity_sequence + s.discontinuities;
-  steps = s.steps;
-  uri = uri;
-  byte_range = byte_range;
-  keys = map (effective_key (s.sequence + s.media_count)) s.keys;
-  section = s.section;
-  duration = own.0;
-  title = own.1;
-  time = s.time;
-}
-
--- what stands after a URI line: the tags of its segment stand no more
-abbrev pub after_segment : Running → Option Extent → Running
-after_segment old last = record old {
-  standing = record old.standing {
-    media_count = old.standing.media_count + 1;
-    steps = 0;
-    duration = None;
-    byte_range = None;
-    time = None;
-    extent = last;
-  };
-}
 
 -- after any lines that leave what stands, this is said too
 abbrev pub Follows : Said → Running → Running → Type 0

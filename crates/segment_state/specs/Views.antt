@@ -1,8 +1,8 @@
 -- What the fields of a state mean.
 use Rattle.std.specs.Prelude.{Option, Some, None}
-use Rattle.playlist_meaning.specs.declared.Segment.{Segment}
-use Rattle.playlist_meaning.specs.LookBack.{Extent, extent_with}
-use Rattle.segment_state.specs.declared.State.TheInside.{Inside}
+use Rattle.playlist_model.specs.declared.Segment.{Segment}
+use Rattle.playlist_model.specs.LookBack.{Extent, extent_with}
+use Rattle.segment_state.specs.declared.ReaderState.TheInside.{Inside}
 use Rattle.segment_state.specs.Running.{Running}
 
 -- the last segment's resource, and its byte range of it, where it has one
@@ -14,16 +14,16 @@ abbrev pub running_of : Inside → Running
 running_of a = record {
   base = a.references;
   standing = record {
-    sequence = a.sequence;
+    media_sequence = a.media_sequence;
     discontinuity_sequence = a.discontinuity_sequence;
-    media_count = a.media;
+    media_count = a.media_count;
+    discontinuity_count = a.discontinuity_count;
     discontinuities = a.discontinuities;
-    steps = a.steps;
     duration = a.durations;
     byte_range = a.byte_range;
-    time = a.time;
+    program_date_time = a.program_date_time;
     keys = a.keys.items;
-    section = a.section;
+    init_section = a.init_section;
     extent = extent_after a.last;
   };
 }

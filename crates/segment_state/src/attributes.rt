@@ -1,17 +1,17 @@
 //! The attributes of a tag (RFC 8216, section 4.2), as the tags of 4.3 read them.
 ghost use Rattle.std.specs.Prelude.{option_map};
 ghost use Rattle.attr_list.specs.Attributes.{attribute};
-ghost use Rattle.playlist_meaning.specs.Said.{attributes, required};
-ghost use Rattle.playlist_meaning.specs.Reading.{limited};
-ghost use Rattle.playlist_meaning.specs.Refusals.{Gives, GivesExactly};
+ghost use Rattle.playlist_model.specs.Said.{attributes, required};
+ghost use Rattle.playlist_model.specs.Reading.{limited};
+ghost use Rattle.playlist_model.specs.Refusals.{Gives, GivesExactly};
 ghost use Rattle.segment_state.specs.Attributes.{pairs_of, optional};
 
 use attr_list::{AttrFault, AttrList};
-use playlist_meaning::FaultKind;
+use playlist_model::FaultKind;
 use std::alloc::Global;
 
 /// The attributes that stand after a tag's colon. `BadAttributes` exactly where that text is no
-/// attribute list of at most 64 attributes; want of memory apart.
+/// attribute list of at most 64 attributes; a failed allocation apart.
 pub fn attributes_of(alloc: Global, rest: &str) -> Result<AttrList<'_>, FaultKind>
     ensures { Gives pairs_of result (attributes limited rest.now) }
 {

@@ -2,12 +2,12 @@
 ghost use Rattle.std.specs.Prelude.{◌≡◌, Some, None, Ok, IfOk, IfErr, OnOk, OnErr};
 ghost use Rattle.std.specs.List.{before_first, after_first};
 ghost use Rattle.std.specs.Prelude.{◌==◌};
-ghost use Rattle.playlist_meaning.specs.Said.{duration, duration_said};
-ghost use Rattle.playlist_meaning.specs.Refusals.{Gives, Refuses};
+ghost use Rattle.playlist_model.specs.Said.{duration, duration_said};
+ghost use Rattle.playlist_model.specs.Refusals.{Gives, Refuses};
 ghost use Rattle.segment_state.specs.Kept.{IsDue};
 
 use fixed_duration::Nanos;
-use playlist_meaning::{FaultKind, Shared, ShortText};
+use playlist_model::{FaultKind, Shared, ShortText};
 use std::alloc::{AllocError, Global};
 use std::marker::Model;
 

@@ -1,14 +1,14 @@
 //! The keys in force (RFC 8216, 4.3.2.4 and 5.2).
 ghost use Rattle.std.specs.Prelude.{◌≡◌, ◌≤◌, ◌<◌, Ok, IfOk, IfErr, OnOk, length, map, filter, vec_len, vec_capacity};
 ghost use Rattle.std.specs.List.{position_or_len};
-ghost use Rattle.playlist_meaning.specs.LookBack.{effective_key, is_before, without_format};
-ghost use Rattle.playlist_meaning.specs.Refusals.{Refuses};
-ghost use Rattle.segment_state.specs.Tags.{with_key};
+ghost use Rattle.playlist_model.specs.LookBack.{effective_key, is_before, without_format};
+ghost use Rattle.playlist_model.specs.Refusals.{Refuses};
+ghost use Rattle.segment_state.specs.Inner.Tags.{with_key};
 
-use playlist_meaning::{FaultKind, Key, MOST_FORMATS};
+use playlist_model::{FaultKind, Key, MAX_FORMATS};
 use std::alloc::{AllocError, Global};
 
-/// A copy of keys, which shares their texts. Fails only where memory is refused.
+/// A copy of keys, which shares their texts. Fails only where an allocation fails.
 pub fn copied_keys(alloc: Global, keys: &[Key]) -> Result<Vec<Key>, AllocError>
     ensures { IfOk result (λ v. v.items ≡ keys.now) }
 {
@@ -35,7 +35,7 @@ fn effective_key(key: &Key, number: u64) -> Result<Key, AllocError>
         method: key.method.clone()?,
         uri: key.uri.clone()?,
         iv: effective_iv(key, number),
-        other: key.other.clone()?,
+        other_attributes: key.other_attributes.clone()?,
     })
 }
 
@@ -85,7 +85,7 @@ pub fn put_key(keys: &mut Vec<Key>, key: Key) -> Result<(), FaultKind>
     ensures err { IfErr result (λ e. Refuses e (with_key key keys.old.items)) }
     ensures kept { IfErr result (λ e. keys.new.items ≡ keys.old.items) }
 {
-    if others_count(keys.as_slice(), key.format.as_str()) >= MOST_FORMATS {
+    if others_count(keys.as_slice(), key.format.as_str()) >= MAX_FORMATS {
         return Err(FaultKind::TooMany);
     }
     keys.reserve(1)?;

@@ -4,26 +4,27 @@
 
 ghost use Rattle.std.specs.Prelude.{◌≡◌, ◌+◌, ◌^◌, ◌<◌, ◌≤◌, [], map, Some, None, Ok, Err, IfOk, nat_lt, length};
 ghost use Rattle.std.specs.Option.{SomeIff};
-ghost use Rattle.playlist_meaning.specs.LookBack.{byte_range_from, byte_range_after, effective_key, extent_with};
-ghost use Rattle.playlist_meaning.specs.Reading.{limited, said_by_tag, said_by_uri};
-ghost use Rattle.playlist_meaning.specs.Said as said;
-ghost use Rattle.playlist_meaning.specs.Said.{uri_of};
-ghost use Rattle.playlist_meaning.specs.Refusals.{Gives};
-ghost use Rattle.segment_state.specs.Running.{running_at, after_segment, segment_from, Follows, Takes, TakesExactly, TakesSegment};
+ghost use Rattle.playlist_model.specs.LookBack.{byte_range_from, byte_range_after, effective_key, extent_with};
+ghost use Rattle.playlist_model.specs.Reading.{limited, said_by_tag, said_by_uri};
+ghost use Rattle.playlist_model.specs.Said as said;
+ghost use Rattle.playlist_model.specs.Said.{uri_of};
+ghost use Rattle.playlist_model.specs.Refusals.{Gives};
+ghost use Rattle.segment_state.specs.Running.{running_at, Follows, Takes, TakesExactly, TakesSegment};
+ghost use Rattle.segment_state.specs.Inner.Running.{after_segment, segment_from};
 ghost use Rattle.segment_state.specs.Views.{extent_after};
 
 use crate::durations::Durations;
 use crate::keys::{copied_keys, effective_keys, put_key};
 use crate::references::References;
 use crate::tags::{byte_range_of, key_said, section_said};
-use base_uris::Base;
 use fixed_duration::Nanos;
-use playlist_meaning::{
-    ByteRange, FaultKind, InitSection, Instant, Items, Key, KeyTag, Keys, MOST_SEGMENTS, Segment,
+use playlist_model::{
+    ByteRange, FaultKind, InitSection, Instant, Items, Key, KeyTag, Keys, MAX_SEGMENTS, Segment,
     Shared, ShortText, is_iv_needed,
 };
 use std::alloc::{AllocError, Global};
 use std::marker::Model;
+use uri_resolver::Base;
 
 pub mod attributes;
 mod durations;
@@ -34,25 +35,25 @@ mod times;
 
 /// What stands at a line of a playlist, after the lines before it: with its base, and a slice of its text.
 #[derive(Drop)]
-pub struct State<'a> {
+pub struct ReaderState<'a> {
     alloc: Global,
     references: References<'a>,
     durations: Durations<'a>,
-    sequence: u64,
+    media_sequence: u64,
     discontinuity_sequence: u64,
-    media: u64,
+    media_count: u64,
+    discontinuity_count: u64,
     discontinuities: u64,
-    steps: u64,
     byte_range: Option<(u64, Option<u64>)>,
-    time: Option<Instant>,
+    program_date_time: Option<Instant>,
     keys: Vec<Key>,
-    section: Option<Shared<InitSection>>,
+    init_section: Option<Shared<InitSection>>,
     last: Option<Shared<Segment>>,
 }
 
-impl<'a> Model for State<'a> {
+impl<'a> Model for ReaderState<'a> {
     ghost use Rattle.std.specs.Prelude.{◌+◌, ◌^◌, ◌<◌, ◌≤◌};
-    ghost use Rattle.playlist_meaning.specs.declared.limits.TheConstants.{MOST_SEGMENTS};
+    ghost use Rattle.playlist_model.specs.declared.limits.TheConstants.{MAX_SEGMENTS};
     ghost use Rattle.segment_state.specs.Running.{Running};
     ghost use Rattle.segment_state.specs.Views.{running_of};
 
@@ -60,27 +61,27 @@ impl<'a> Model for State<'a> {
 
     ghost view = { running_of };
 
-    ghost invariant = { λ a. (a.discontinuity_sequence + a.discontinuities < 2 ^ 64) × (a.steps ≤ a.discontinuities) × (a.media ≤ MOST_SEGMENTS) };
+    ghost invariant = { λ a. (a.discontinuity_sequence + a.discontinuity_count < 2 ^ 64) × (a.discontinuities ≤ a.discontinuity_count) × (a.media_count ≤ MAX_SEGMENTS) };
 }
 
-impl<'a> State<'a> {
+impl<'a> ReaderState<'a> {
     /// The state before any line.
-    pub fn new(alloc: Global, base: &'a Base) -> State<'a>
+    pub fn new(alloc: Global, base: &'a Base) -> ReaderState<'a>
         ensures { result ≡ running_at base.now [] }
     {
-        State {
+        ReaderState {
             alloc,
             references: References::new(alloc, base),
             durations: Durations::new(alloc),
-            sequence: 0,
+            media_sequence: 0,
             discontinuity_sequence: 0,
-            media: 0,
+            media_count: 0,
+            discontinuity_count: 0,
             discontinuities: 0,
-            steps: 0,
             byte_range: None,
-            time: None,
+            program_date_time: None,
             keys: Vec::new(alloc),
-            section: None,
+            init_section: None,
             last: None,
         }
     }
@@ -89,12 +90,12 @@ impl<'a> State<'a> {
     pub fn sequence(&mut self, number: u64)
         ensures { Follows (said.sequence number) self.old self.new }
     {
-        self.sequence = number;
+        self.media_sequence = number;
     }
 
     /// Sets the Discontinuity Sequence Number before any discontinuity (4.3.3.3).
     pub fn discontinuity_sequence(&mut self, number: u64)
-        requires { self.old.standing.discontinuities ≡ 0 }
+        requires { self.old.standing.discontinuity_count ≡ 0 }
         ensures { Follows (said.discontinuity_sequence number) self.old self.new }
     {
         self.discontinuity_sequence = number;
@@ -102,9 +103,9 @@ impl<'a> State<'a> {
 
     /// Whether a discontinuity stood on a line before.
     pub fn has_discontinuity(&self) -> bool
-        ensures { result ≡ nat_lt 0 self.now.standing.discontinuities }
+        ensures { result ≡ nat_lt 0 self.now.standing.discontinuity_count }
     {
-        self.discontinuities > 0
+        self.discontinuity_count > 0
     }
 
     /// A discontinuity before the next segment (4.3.2.3). `BadValue` where its number passes 2^64 - 1. Takes no
@@ -112,14 +113,14 @@ impl<'a> State<'a> {
     pub fn discontinuity(&mut self) -> Result<(), FaultKind>
         ensures { TakesExactly (λ base before. said_by_tag limited base before said.discontinuity_tag []) self.old self.new result }
     {
-        let Some(total) = self.discontinuities.checked_add(1) else {
+        let Some(total) = self.discontinuity_count.checked_add(1) else {
             return Err(FaultKind::BadValue);
         };
         if self.discontinuity_sequence.checked_add(total).is_none() {
             return Err(FaultKind::BadValue);
         }
-        self.discontinuities = total;
-        self.steps += 1;
+        self.discontinuity_count = total;
+        self.discontinuities += 1;
         Ok(())
     }
 
@@ -159,7 +160,7 @@ impl<'a> State<'a> {
             byte_range: tag.byte_range,
             keys: Items::from_vec(keys),
         };
-        self.section = Some(Shared::new(self.alloc, section)?);
+        self.init_section = Some(Shared::new(self.alloc, section)?);
         Ok(())
     }
 
@@ -174,15 +175,15 @@ impl<'a> State<'a> {
 
     // Whether one more segment is one too many.
     fn is_full(&self) -> bool
-        ensures { result ≡ nat_lt MOST_SEGMENTS (self.now.standing.media_count + 1) }
+        ensures { result ≡ nat_lt MAX_SEGMENTS (self.now.standing.media_count + 1) }
     {
-        self.media + 1 > MOST_SEGMENTS
+        self.media_count + 1 > MAX_SEGMENTS
     }
 
     fn number(&self) -> Option<u64>
-        ensures { SomeIff result (self.now.standing.sequence + self.now.standing.media_count < 2 ^ 64) (self.now.standing.sequence + self.now.standing.media_count) }
+        ensures { SomeIff result (self.now.standing.media_sequence + self.now.standing.media_count < 2 ^ 64) (self.now.standing.media_sequence + self.now.standing.media_count) }
     {
-        self.sequence.checked_add(self.media)
+        self.media_sequence.checked_add(self.media_count)
     }
 
     // The byte range of a segment of this resource here.
@@ -197,9 +198,9 @@ impl<'a> State<'a> {
     }
 
     fn discontinuity_number(&self) -> u64
-        ensures { result ≡ self.now.standing.discontinuity_sequence + self.now.standing.discontinuities }
+        ensures { result ≡ self.now.standing.discontinuity_sequence + self.now.standing.discontinuity_count }
     {
-        self.discontinuity_sequence + self.discontinuities
+        self.discontinuity_sequence + self.discontinuity_count
     }
 
     // The keys in force, as they decrypt the segment of this media number.
@@ -217,9 +218,9 @@ impl<'a> State<'a> {
 
     // The initialisation section in force.
     fn section(&self) -> Result<Option<Shared<InitSection>>, AllocError>
-        ensures { IfOk result (λ section. section ≡ self.now.standing.section) }
+        ensures { IfOk result (λ section. section ≡ self.now.standing.init_section) }
     {
-        self.section.clone()
+        self.init_section.clone()
     }
 
     // The next segment, of this resource, byte range, and duration with its title.
@@ -231,21 +232,21 @@ impl<'a> State<'a> {
         byte_range: Option<ByteRange>,
         own: (Nanos, Shared<ShortText>),
     ) -> Result<Shared<Segment>, AllocError>
-        requires { number ≡ self.now.standing.sequence + self.now.standing.media_count }
+        requires { number ≡ self.now.standing.media_sequence + self.now.standing.media_count }
         ensures { IfOk result (λ segment. segment ≡ segment_from self.now.standing uri byte_range own) }
     {
         let (duration, title) = own;
         let segment = Segment {
-            number,
-            discontinuity: self.discontinuity_number(),
-            steps: self.steps,
+            media_sequence: number,
+            discontinuity_sequence: self.discontinuity_number(),
+            discontinuities: self.discontinuities,
             uri,
             byte_range,
             keys: self.effective_keys(number)?,
-            section: self.section()?,
+            init_section: self.section()?,
             duration,
             title,
-            time: self.time,
+            program_date_time: self.program_date_time,
         };
         Shared::new(self.alloc, segment)
     }
@@ -253,14 +254,14 @@ impl<'a> State<'a> {
     // What stands after a URI line, of whose segment this is kept.
     #[inline(always)]
     fn segment_stands(&mut self, last: Option<Shared<Segment>>)
-        requires { self.old.standing.media_count < MOST_SEGMENTS }
+        requires { self.old.standing.media_count < MAX_SEGMENTS }
         ensures { self.new ≡ after_segment self.old (extent_after last) }
     {
-        self.media += 1;
-        self.steps = 0;
+        self.media_count += 1;
+        self.discontinuities = 0;
         self.durations.end();
         self.byte_range = None;
-        self.time = None;
+        self.program_date_time = None;
         self.last = last;
     }
 

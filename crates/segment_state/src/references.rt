@@ -1,13 +1,13 @@
 //! The references of a playlist, resolved against its base (RFC 3986, section 5).
 ghost use Rattle.std.specs.Prelude.{◌≡◌};
-ghost use Rattle.playlist_meaning.specs.Said.{uri_of};
-ghost use Rattle.playlist_meaning.specs.Refusals.{Gives};
+ghost use Rattle.playlist_model.specs.Said.{uri_of};
+ghost use Rattle.playlist_model.specs.Refusals.{Gives};
 
 use crate::tags::short_uri_of;
-use base_uris::Base;
-use playlist_meaning::{FaultKind, ShortText, Text};
+use playlist_model::{FaultKind, ShortText, Text};
 use std::alloc::Global;
 use std::marker::Model;
+use uri_resolver::Base;
 
 /// A reference, and the resource that it names.
 #[derive(Drop)]

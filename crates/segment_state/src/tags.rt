@@ -1,21 +1,19 @@
 //! What a key, map or byte range tag says by itself (RFC 8216, 4.3.2.2, 4.3.2.4, 4.3.2.5).
 ghost use Rattle.std.specs.Prelude.{◌≡◌, codes};
 ghost use Rattle.attr_list.specs.Attributes.{attribute};
-ghost use Rattle.playlist_meaning.specs.Said as said;
-ghost use Rattle.playlist_meaning.specs.Said.{iv_of, key_tag_said, uri_of, set_key, key_said, section_said, section_byte_range, byte_range_of, stated_byte_range, or_fault};
+ghost use Rattle.playlist_model.specs.Said as said;
+ghost use Rattle.playlist_model.specs.Said.{iv_of, key_tag_said, uri_of, set_key, key_said, section_said, section_byte_range, byte_range_of, stated_byte_range, or_fault};
 ghost use Rattle.attr_list.specs.Numbers.{decimal_of};
-ghost use Rattle.playlist_meaning.specs.Reading.{limited};
-ghost use Rattle.playlist_meaning.specs.Refusals.{Gives};
+ghost use Rattle.playlist_model.specs.Reading.{limited};
+ghost use Rattle.playlist_model.specs.Refusals.{Gives};
 ghost use Rattle.segment_state.specs.Attributes.{pairs_of};
-ghost use Rattle.segment_state.specs.Tags.{section_tag_said};
+ghost use Rattle.segment_state.specs.Inner.Tags.{section_tag_said};
 
 use crate::attributes::{attributes_of, optional, required};
 use attr_list::{AttrList, read_decimal, read_hex_u128};
-use base_uris::{Base, BaseFault};
-use playlist_meaning::{
-    ByteRange, FaultKind, Key, KeyTag, OtherAttributes, Shared, ShortText, Text,
-};
+use playlist_model::{ByteRange, FaultKind, Key, KeyTag, OtherAttributes, Shared, ShortText, Text};
 use std::alloc::Global;
+use uri_resolver::{Base, BaseFault};
 
 /// The format of a key that states none.
 const IDENTITY: &str = "identity";
@@ -86,7 +84,7 @@ fn set_key(alloc: Global, base: &Base, list: &AttrList<'_>, method: &str) -> Res
         method: Shared::copy_of(alloc, method)?,
         uri,
         iv,
-        other: Shared::new(alloc, other)?,
+        other_attributes: Shared::new(alloc, other)?,
     })
 }
 

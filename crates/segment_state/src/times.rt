@@ -1,12 +1,12 @@
 //! The instants that a playlist states (RFC 8216, 4.3.2.6).
-ghost use Rattle.playlist_meaning.specs.Reading.{limited, said_by_tag};
-ghost use Rattle.playlist_meaning.specs.Said as said;
+ghost use Rattle.playlist_model.specs.Reading.{limited, said_by_tag};
+ghost use Rattle.playlist_model.specs.Said as said;
 ghost use Rattle.segment_state.specs.Running.{TakesExactly};
 
-use crate::State;
-use playlist_meaning::{FaultKind, read_instant};
+use crate::ReaderState;
+use playlist_model::{FaultKind, read_instant};
 
-impl<'a> State<'a> {
+impl<'a> ReaderState<'a> {
     /// The instant at which the next segment begins (4.3.2.6). Of several, the last stands. `BadTime`
     /// where the text says none. Takes no memory.
     pub fn time_tag(&mut self, rest: &str) -> Result<(), FaultKind>
@@ -15,7 +15,7 @@ impl<'a> State<'a> {
         let Ok(instant) = read_instant(rest) else {
             return Err(FaultKind::BadTime);
         };
-        self.time = Some(instant);
+        self.program_date_time = Some(instant);
         Ok(())
     }
 }

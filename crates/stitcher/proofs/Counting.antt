@@ -2,15 +2,15 @@
 use Rattle.std.proofs.Common.{◌≡◌, ℕ, ◌-◌, Bool, true, false, cond, List, [], ◌∷◌, refl, ap, ◌∙◌}
 use Rattle.std.specs.Prelude.{reverse, Some, None}
 use mathlib.Core.List.{reverse_aux}
-use Rattle.playlist_meaning.specs.Stitched.{Piece, is_kept, Numbers, steps_between, next_numbers, numbers_at, numbered}
-use Rattle.stitcher.specs.Making.{steps_back, steps_of, last_of, counted}
+use Rattle.stitcher.specs.Stitched.{Piece, is_kept, Numbers, steps_between, next_numbers, numbers_at, numbered}
+use Rattle.stitcher.specs.Inner.Making.{steps_back, steps_of, last_of, counted}
 
 same_back : (kept : Bool) (before discontinuity : ℕ) → cond kept (discontinuity - before) 1 ≡ steps_back (cond kept (Some before) None) discontinuity
 same_back true before discontinuity = refl
 same_back false before discontinuity = refl
 
 same_steps : (q p : Piece) (n : Numbers) → steps_between q p ≡ steps_of (Some (last_of q n)) p
-same_steps q p n = ap (λ k. cond (is_kept p) k (cond p.first_of_ad 1 0)) (same_back (is_kept q) q.segment.discontinuity p.segment.discontinuity)
+same_steps q p n = ap (λ k. cond (is_kept p) k (cond p.first_of_ad 1 0)) (same_back (is_kept q) q.segment.discontinuity_sequence p.segment.discontinuity_sequence)
 
 -- after the numbers `n` of the newest, q
 counted_on : (first : Numbers) (later : List Piece) (q : Piece) (before : List Piece)

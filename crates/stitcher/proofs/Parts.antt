@@ -2,10 +2,10 @@
 use Rattle.std.proofs.Common.{◌≡◌, ℕ, ◌-◌, Bool, true, false, cond, not, ◌&&◌, ◌||◌, zero, suc, List, [], ◌∷◌, ◌++◌, refl, ap, sym, ◌∙◌, append_assoc, drop, arith}
 use Rattle.std.specs.Prelude.{nat_le}
 use Rattle.std.proofs.lemmas.Bool.{eqb-true}
-use Rattle.playlist_meaning.specs.Stitched.{Piece}
-use Rattle.playlist_meaning.specs.Paced.{due}
+use Rattle.stitcher.specs.Stitched.{Piece}
+use Rattle.stitcher.specs.Paced.{due}
 use Rattle.stitcher.specs.declared.making.Part.{Part}
-use Rattle.stitcher.specs.Making.{is_nothing, shows_next, part_here, part_after_one, part_of, part_after, whole_from}
+use Rattle.stitcher.specs.Inner.Making.{is_nothing, shows_next, part_here, part_after_one, part_of, part_after, whole_from}
 
 pub part_append : (part : Part) (xs ys : List Piece) → part_of part (xs ++ ys) ≡ part_of part xs ++ part_of (part_after part xs) ys
 part_append part [] ys = refl

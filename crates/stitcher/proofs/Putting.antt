@@ -4,10 +4,10 @@ use Rattle.std.specs.Prelude.{Some, ◌&&◌}
 use Rattle.std.specs.List.{list_all}
 use Rattle.std.proofs.lemmas.List.{append-nil}
 use Rattle.std.proofs.lemmas.List.Folds.{list_all-append}
-use Rattle.playlist_meaning.specs.Stitched.{Piece, Numbers, Item}
+use Rattle.stitcher.specs.Stitched.{Piece, Numbers, Item}
 use Rattle.stitcher.specs.Written.{written_item, written_segment}
 use Rattle.stitcher.specs.StitchedSegments.{item_fits}
-use Rattle.stitcher.specs.Making.{Made, numbers_fit, numbers_after, last_of, origin_of, counted, comes_to, Puts, Passes, pushed}
+use Rattle.stitcher.specs.Inner.Making.{Made, numbers_fit, numbers_after, last_of, origin_of, counted, comes_to, Puts, Passes, pushed}
 
 false_and : (a b c : Bool) → a ≡ true → b ≡ true → (a && (b && true)) ≡ true
 false_and true true c p q = refl

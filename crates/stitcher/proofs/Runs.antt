@@ -4,18 +4,18 @@ use Rattle.std.specs.Prelude.{reverse, Option, Some, None, is_none, option_map, 
 use mathlib.Core.List.{reverse_aux}
 use Rattle.std.proofs.lemmas.Grind.{reverse_onto}
 use Rattle.std.proofs.lemmas.List.{reverse-reverse, reverse-append}
-use Rattle.playlist_meaning.specs.Pods.{Pod}
-use Rattle.playlist_meaning.specs.Marks.{Mark, newest_mark, are_one, continues}
-use Rattle.playlist_meaning.specs.Marks.{Marked as Meant}
-use Rattle.playlist_meaning.specs.Stitched.{Piece, Numbers, stitched, run_pieces, pod_pieces, numbered}
-use Rattle.playlist_meaning.specs.Paced.{newest_pieces, due_with, or_zero, rest_pieces, stitched_with}
+use Rattle.pod_store.specs.Pods.{Pod}
+use Rattle.pod_store.specs.Marks.{Mark, newest_mark, are_one, continues, Marked as Meant}
+use Rattle.stitcher.specs.Stitched.{Piece, Numbers, stitched, run_pieces, pod_pieces, numbered}
+use Rattle.stitcher.specs.Paced.{newest_pieces, due_with, or_zero, rest_pieces, stitched_with}
 use Rattle.pod_store.specs.Store.{Store, pod_for}
-use Rattle.stitcher.specs.declared.marked.Marked.{Marked}
+use Rattle.stitcher.specs.declared.marked.MarkedSegment.{MarkedSegment}
 use Rattle.stitcher.specs.declared.ends.Rest.{Rest}
 use Rattle.stitcher.specs.declared.ends.Ends.{Ends}
 use Rattle.stitcher.specs.Written.{written_item}
 use Rattle.stitcher.specs.StitchedSegments.{mark_with, mark_in, meant, IsDecided, AreDecided, rest_from, rest_in, ends_in, stitched_segments}
-use Rattle.stitcher.specs.Making.{counted, is_same_run, pod_with, begun_with, part_of, part_at, part_due, whole_from, goes_on_to_last, pieces_at, pieces_on, rest_on, pieces_between}
+use Rattle.stitcher.specs.Making.{is_same_run, pod_with}
+use Rattle.stitcher.specs.Inner.Making.{counted, begun_with, part_of, part_at, part_due, whole_from, goes_on_to_last, pieces_at, pieces_on, rest_on, pieces_between}
 use Rattle.stitcher.proofs.Counting.{numbers_count_on}
 use Rattle.stitcher.proofs.Parts.{whole_is_part, due_is_part, rest_is_part}
 
@@ -44,23 +44,23 @@ same_run store (Some id) (Some other) h k = both id other (pod_for store id) (po
 
 -- ---- what stands for a run
 
-pod_stands : (store : Store) (m : Marked) (id : List ℕ) (o : Option Pod) → IsSome o → run_pieces (meant store m) (mark_with id o) ≡ reverse (part_of (whole_from 0) (pod_with id o))
+pod_stands : (store : Store) (m : MarkedSegment) (id : List ℕ) (o : Option Pod) → IsSome o → run_pieces (meant store m) (mark_with id o) ≡ reverse (part_of (whole_from 0) (pod_with id o))
 pod_stands store m id None h = absurd (cc)
 pod_stands store m id (Some pod) h = ap reverse (sym (whole_is_part (pod_pieces (record { id = id; pod = pod }))))
 
-stands : (store : Store) (m : Marked) (mark : Option (List ℕ)) → IsDecided store mark → run_pieces (meant store m) (mark_in store mark) ≡ reverse (begun_with store (whole_from 0) m mark)
+stands : (store : Store) (m : MarkedSegment) (mark : Option (List ℕ)) → IsDecided store mark → run_pieces (meant store m) (mark_in store mark) ≡ reverse (begun_with store (whole_from 0) m mark)
 stands store m None h = refl
 stands store m (Some id) h = pod_stands store m id (pod_for store id) h
 
 abbrev newest : Option ℕ → Meant → Option Mark → List Piece
 newest so_far s mark = newest_pieces (is_none so_far) (or_zero so_far) s mark
 
-pod_due : (store : Store) (so_far : Option ℕ) (m : Marked) (id : List ℕ) (o : Option Pod) → IsSome o → newest so_far (meant store m) (mark_with id o) ≡ reverse (part_of (part_due so_far) (pod_with id o))
+pod_due : (store : Store) (so_far : Option ℕ) (m : MarkedSegment) (id : List ℕ) (o : Option Pod) → IsSome o → newest so_far (meant store m) (mark_with id o) ≡ reverse (part_of (part_due so_far) (pod_with id o))
 pod_due store so_far m id None h = absurd (cc)
 pod_due store None m id (Some pod) h = ap reverse (sym (whole_is_part (pod_pieces (record { id = id; pod = pod }))))
 pod_due store (Some length) m id (Some pod) h = ap reverse (sym (due_is_part length (pod_pieces (record { id = id; pod = pod }))))
 
-stands_due : (store : Store) (so_far : Option ℕ) (m : Marked) (mark : Option (List ℕ)) → IsDecided store mark → newest so_far (meant store m) (mark_in store mark) ≡ reverse (begun_with store (part_due so_far) m mark)
+stands_due : (store : Store) (so_far : Option ℕ) (m : MarkedSegment) (mark : Option (List ℕ)) → IsDecided store mark → newest so_far (meant store m) (mark_in store mark) ≡ reverse (begun_with store (part_due so_far) m mark)
 stands_due store so_far m None h = refl
 stands_due store so_far m (Some id) h = pod_due store so_far m id (pod_for store id) h
 
@@ -81,7 +81,7 @@ due_begins : (so_far : Option ℕ) (here : Meant) (before : List Meant) → cont
 due_begins so_far here [] e = rw e refl
 due_begins so_far here (t ∷ before) e = rw e refl
 
-one_more : (store : Store) (so_far : Option ℕ) (m : Marked) (before : List Meant) → IsDecided store m.mark → (same last : Bool) → continues (meant store m) before ≡ same
+one_more : (store : Store) (so_far : Option ℕ) (m : MarkedSegment) (before : List Meant) → IsDecided store m.mark → (same last : Bool) → continues (meant store m) before ≡ same
     → cond last (list_due so_far (meant store m ∷ before)) (stitched (meant store m ∷ before))
     ≡ reverse (cond same [] (begun_with store (cond last (part_due so_far) (whole_from 0)) m m.mark)) ++ cond (same && last) (list_due so_far before) (stitched before)
 one_more store so_far m before d true true e = due_goes_on so_far (meant store m) before e
@@ -92,7 +92,7 @@ one_more store so_far m before d false false e =
 
 -- ---- all segments
 
-due_on : (store : Store) (so_far : Option ℕ) (previous : Option (List ℕ)) (marked : List Marked) (before : List Meant) → newest_mark before ≡ mark_in store previous
+due_on : (store : Store) (so_far : Option ℕ) (previous : Option (List ℕ)) (marked : List MarkedSegment) (before : List Meant) → newest_mark before ≡ mark_in store previous
     → IsDecided store previous → AreDecided store marked → list_due so_far (reverse_aux (map (meant store) marked) before)
     ≡ reverse_aux (pieces_on store so_far previous marked) (cond (goes_on_to_last previous marked) (list_due so_far before) (stitched before))
 due_on store so_far previous [] before h k d = refl
@@ -119,7 +119,7 @@ pub rest_in_order : (store : Store) (rest : Option Rest) → rest_pieces (rest_i
 rest_in_order store None = refl
 rest_in_order store (Some rest) = rest_stands rest.place rest.id (pod_for store rest.id)
 
-whole_in_order : (store : Store) (ends : Ends) (marked : List Marked) → AreDecided store marked
+whole_in_order : (store : Store) (ends : Ends) (marked : List MarkedSegment) → AreDecided store marked
     → stitched_with (ends_in store ends) (reverse (map (meant store) marked)) ≡ reverse (pieces_between store ends marked)
 whole_in_order store ends marked d =
     let segments = pieces_on store ends.so_far None marked in
@@ -130,7 +130,7 @@ whole_in_order store ends marked d =
     ∙ (ap (λ t. reverse segments ++ t) (rest_in_order store ends.rest) ∙ sym (reverse-append rest segments))
 
 -- the stitched list is the pieces in order, counted on
-pub in_order : (store : Store) (first : Numbers) (ends : Ends) (marked : List Marked) → AreDecided store marked
+pub in_order : (store : Store) (first : Numbers) (ends : Ends) (marked : List MarkedSegment) → AreDecided store marked
     → stitched_segments store first ends marked ≡ map written_item (counted first None (pieces_between store ends marked))
 in_order store first ends marked d =
     let pieces = pieces_between store ends marked in
@@ -139,7 +139,7 @@ in_order store first ends marked d =
     ∙ ap (map written_item) (reverse-reverse (counted first None pieces)))
 
 -- where a run begins, a part of its pod stands
-pub run_begins : (store : Store) (so_far : Option ℕ) (previous : Option (List ℕ)) (m : Marked) (later : List Marked) (id : List ℕ) (pod : Pod)
+pub run_begins : (store : Store) (so_far : Option ℕ) (previous : Option (List ℕ)) (m : MarkedSegment) (later : List MarkedSegment) (id : List ℕ) (pod : Pod)
     → is_same_run m.mark previous ≡ false → m.mark ≡ Some id → pod_for store id ≡ Some pod
     → pieces_at store so_far previous m later ≡ part_of (part_at so_far m.mark later) (pod_pieces (record { id = id; pod = pod }))
 run_begins store so_far previous m later id pod same is found =

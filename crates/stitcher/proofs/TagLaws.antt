@@ -5,14 +5,14 @@ use Rattle.std.specs.List.{list_any, list_all}
 use Rattle.std.proofs.lemmas.Bool.{and_parts, and_from, or_cases}
 use Rattle.std.proofs.lemmas.Slice.Eq.{bytes_eq-Decides}
 use Rattle.attr_list.proofs.Elements.{all_from, none_from}
-use Rattle.playlist_meaning.specs.declared.Key.{Key}
-use Rattle.playlist_meaning.specs.LookBack.{put_key, insert_key, is_before, are_sorted}
-use Rattle.playlist_meaning.proofs.ListTests.{all_with, all_filter, filter_like, filter_all}
-use Rattle.playlist_meaning.proofs.KeyOrder.{not_back, differ_back, differ, like, like_after, chained}
-use Rattle.playlist_meaning.specs.declared.KeyTag.TheVariants.{End, Set}
-use Rattle.playlist_meaning.specs.Same.{same_key}
-use Rattle.stitcher.specs.KeyTags.{has_its_format, is_new, keeps_formats, transition, after_tags}
-use Rattle.playlist_meaning.proofs.SameParts.{key_is}
+use Rattle.playlist_model.specs.declared.Key.{Key}
+use Rattle.playlist_model.specs.LookBack.{put_key, insert_key, is_before, are_sorted}
+use Rattle.playlist_model.proofs.ListTests.{all_with, all_filter, filter_like, filter_all}
+use Rattle.playlist_model.proofs.KeyOrder.{not_back, differ_back, differ, like, like_after, chained}
+use Rattle.playlist_model.specs.declared.KeyTag.TheVariants.{End, Set}
+use Rattle.playlist_model.specs.Same.{same_key}
+use Rattle.stitcher.specs.KeyTags.{has_its_format, is_new_key, keeps_formats, transition, after_tags}
+use Rattle.playlist_model.proofs.SameParts.{key_is}
 
 -- ---- the same key
 
@@ -73,15 +73,15 @@ without_first : (y : Key) (ys keys : List Key) → list_all (is_before y) keys �
 without_first y ys keys h g = all_with (is_before y) (has_its_format (y ∷ ys)) (has_its_format ys) keys h g (λ k b f. dropped_step k y ys (differ_back y k b) f)
 
 -- a key apart from all of them is new
-new_among : (y : Key) (keys : List Key) → list_all (is_before y) keys ≡ true → is_new keys y ≡ true
+new_among : (y : Key) (keys : List Key) → list_all (is_before y) keys ≡ true → is_new_key keys y ≡ true
 new_among y keys h = ap not (none_from (is_before y) (same_key y) keys h (λ k b. other_format y k _ refl (differ y k b)))
 
 -- ---- the keys that the tags lead to
 
 Leads : List Key → List Key → Type 0
-Leads old new = put_all old (filter (is_new old) new) ≡ new
+Leads old new = put_all old (filter (is_new_key old) new) ≡ new
 
-same_new_step : (k x : Key) (xs : List Key) → is_before x k ≡ true → is_new (x ∷ xs) k ≡ is_new xs k
+same_new_step : (k x : Key) (xs : List Key) → is_before x k ≡ true → is_new_key (x ∷ xs) k ≡ is_new_key xs k
 same_new_step k x xs h = let e : same_key k x ≡ false = other_format k x _ refl (differ_back x k h) in rw e refl
 
 -- a new first key
@@ -89,8 +89,8 @@ leads_new : (y : Key) (ys old : List Key) → list_all (is_before y) ys ≡ true
 unfolding Leads put_all
 leads_new y ys old h g ih =
     let n = new_among y old g in
-    rw n (ap (λ ks. put_all ks (filter (is_new old) ys)) (put_first y old g)
-    ∙ put_all_past y (filter (is_new old) ys) old (all_filter (is_before y) (is_new old) ys h) ∙ ap (λ ks. y ∷ ks) ih)
+    rw n (ap (λ ks. put_all ks (filter (is_new_key old) ys)) (put_first y old g)
+    ∙ put_all_past y (filter (is_new_key old) ys) old (all_filter (is_before y) (is_new_key old) ys h) ∙ ap (λ ks. y ∷ ks) ih)
 
 -- a first key of the same format
 leads_same : (y x : Key) (ys xs : List Key) → bytes_eq x.format y.format ≡ true → list_all (is_before y) ys ≡ true → list_all (is_before x) xs ≡ true
@@ -99,16 +99,16 @@ unfolding Leads put_all
 leads_same y x ys xs e h g same ih true s =
     let one : y ≡ x = same y x s in
     let hx : list_all (is_before x) ys ≡ true = subst (λ k. list_all (is_before k) ys ≡ true) one h in
-    let f = filter_like (is_before x) (is_new (x ∷ xs)) (is_new xs) ys hx (λ k b. same_new_step k x xs b) in
-    rw (s, f) (put_all_past x (filter (is_new xs) ys) xs (all_filter (is_before x) (is_new xs) ys hx) ∙ ap (λ ks. x ∷ ks) ih ∙ ap (λ k. k ∷ ys) (sym one))
+    let f = filter_like (is_before x) (is_new_key (x ∷ xs)) (is_new_key xs) ys hx (λ k b. same_new_step k x xs b) in
+    rw (s, f) (put_all_past x (filter (is_new_key xs) ys) xs (all_filter (is_before x) (is_new_key xs) ys hx) ∙ ap (λ ks. x ∷ ks) ih ∙ ap (λ k. k ∷ ys) (sym one))
 leads_same y x ys xs e h g same ih false s =
     let f : bytes_eq y.format x.format ≡ true = (bytes_eq-Decides y.format x.format).1 (sym ((bytes_eq-Decides x.format y.format).0 e)) in
     let hx : list_all (is_before x) ys ≡ true = all_from (is_before y) (is_before x) ys h (λ k b. like x y k f b) in
     let gy : list_all (is_before y) xs ≡ true = all_from (is_before x) (is_before y) xs g (λ k b. like y x k e b) in
     let n : list_any (same_key y) xs ≡ false = none_from (is_before y) (same_key y) xs gy (λ k b. other_format y k _ refl (differ y k b)) in
-    let t = filter_like (is_before x) (is_new (x ∷ xs)) (is_new xs) ys hx (λ k b. same_new_step k x xs b) in
-    rw (s, n, t) (ap (λ ks. put_all ks (filter (is_new xs) ys)) (put_same y x xs e g)
-    ∙ put_all_past y (filter (is_new xs) ys) xs (all_filter (is_before y) (is_new xs) ys h) ∙ ap (λ ks. y ∷ ks) ih)
+    let t = filter_like (is_before x) (is_new_key (x ∷ xs)) (is_new_key xs) ys hx (λ k b. same_new_step k x xs b) in
+    rw (s, n, t) (ap (λ ks. put_all ks (filter (is_new_key xs) ys)) (put_same y x xs e g)
+    ∙ put_all_past y (filter (is_new_key xs) ys) xs (all_filter (is_before y) (is_new_key xs) ys h) ∙ ap (λ ks. y ∷ ks) ih)
 
 -- ---- all
 
@@ -159,9 +159,9 @@ sets [] old = refl
 sets (k ∷ keys) old = sets keys (put_key k old)
 
 leads_to : (old new : List Key) → are_sorted old ≡ true → are_sorted new ≡ true
-    → (b : Bool) → keeps_formats old new ≡ b → after_tags old (cond b (map Set (filter (is_new old) new)) (End ∷ map Set new)) ≡ new
+    → (b : Bool) → keeps_formats old new ≡ b → after_tags old (cond b (map Set (filter (is_new_key old) new)) (End ∷ map Set new)) ≡ new
 unfolding Leads
-leads_to old new so sn true f = sets (filter (is_new old) new) old ∙ leads new old sn so f
+leads_to old new so sn true f = sets (filter (is_new_key old) new) old ∙ leads new old sn so f
 leads_to old new so sn false f = sets new [] ∙ all_put new sn
 
 -- the tags owed lead from these keys to those

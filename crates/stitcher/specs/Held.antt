@@ -1,5 +1,5 @@
 -- The segment that an item plays, wherever it is held.
-use Rattle.playlist_meaning.specs.declared.Segment.{Segment}
+use Rattle.playlist_model.specs.declared.Segment.{Segment}
 use Rattle.stitcher.specs.declared.played.Held.{Held}
 use Rattle.stitcher.specs.declared.played.Held.TheVariants as held
 

@@ -1,7 +1,7 @@
 -- What holds of key tags.
 use Rattle.std.specs.Prelude.{◌≡◌, true, List}
-use Rattle.playlist_meaning.specs.declared.Key.{Key}
-use Rattle.playlist_meaning.specs.LookBack.{are_sorted}
+use Rattle.playlist_model.specs.declared.Key.{Key}
+use Rattle.playlist_model.specs.LookBack.{are_sorted}
 use Rattle.stitcher.specs.KeyTags.{transition, after_tags}
 
 -- the tags between two sets of keys, each sorted with one key for each format, lead from the one to the other

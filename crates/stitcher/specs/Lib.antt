@@ -5,3 +5,6 @@ pub mod Written
 pub mod StitchedSegments
 pub mod Held
 pub mod Making
+pub mod Stitched
+pub mod Paced
+pub mod Inner

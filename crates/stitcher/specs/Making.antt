@@ -1,90 +1,10 @@
 -- A stitched list as it is made, item by item, in the order of a playlist. Its words serve proofs and inner contracts: those
--- of `stitch`, and of the place of a window in the list (`live_window`).
-use Rattle.std.specs.Prelude.{◌≡◌, ℕ, ◌-◌, ◌^◌, ◌==◌, Bool, true, false, not, ◌&&◌, ◌||◌, nat_le, nat_lt, List, [], ◌∷◌, ◌++◌, map, ℤ, Option, Some, None, bytes_eq, if◌then◌else◌}
-use Rattle.std.specs.List.{list_all}
-use Rattle.playlist_meaning.specs.declared.Segment.{Segment}
-use Rattle.playlist_meaning.specs.Pods.{Pod}
-use Rattle.playlist_meaning.specs.Stitched.{Piece, is_kept, kept_piece, pod_pieces, Numbers, next_numbers, Item}
+-- of `stitch`, and of the place of a window in the list (`channel_window`).
+use Rattle.std.specs.Prelude.{ℕ, Bool, false, List, [], ◌∷◌, Option, Some, None, bytes_eq}
+use Rattle.pod_store.specs.Pods.{Pod}
+use Rattle.stitcher.specs.Stitched.{Piece, kept_piece, pod_pieces}
 use Rattle.pod_store.specs.Store.{Store, pod_for}
-use Rattle.stitcher.specs.declared.OutSegment.{OutSegment}
-use Rattle.stitcher.specs.declared.marked.Marked.{Marked}
-use Rattle.stitcher.specs.declared.making.Last.{Last}
-use Rattle.stitcher.specs.declared.ends.Rest.{Rest}
-use Rattle.stitcher.specs.declared.ends.Ends.{Ends}
-use Rattle.stitcher.specs.declared.making.Part.{Part}
-use Rattle.stitcher.specs.StitchedSegments.{item_fits}
-use Rattle.stitcher.specs.Written.{written_item}
-
--- ---- the list so far
-
--- the numbers of the first item, the last item, and the items so far
-pub record Made : Type 0 where
-  pub first : Numbers
-  pub last : Option Last
-  pub items : List OutSegment
-
-abbrev pub numbers_fit : Numbers → Bool
-numbers_fit n = nat_lt n.media (2 ^ 64) && nat_lt n.discontinuity (2 ^ 64)
-
--- the origin's discontinuity number, of a piece that is kept
-abbrev pub origin_of : Piece → Option ℕ
-origin_of p = if is_kept p then Some p.segment.discontinuity else None
-
--- the steps to a kept segment of this discontinuity number, from the piece before it
-abbrev pub steps_back : Option ℕ → ℕ → ℕ
-steps_back None discontinuity = 1
-steps_back (Some before) discontinuity = discontinuity - before
-
--- the numbers of an item so many steps after the last; without a last, those of the first
-abbrev pub numbers_with : Numbers → Option Last → ℕ → Numbers
-numbers_with first None steps = first
-numbers_with first (Some last) steps = next_numbers last.numbers steps
-
--- the steps to a kept segment; those of the first are its own
-abbrev pub steps_from : Option Last → ℕ → ℕ
-steps_from None discontinuity = 0
-steps_from (Some last) discontinuity = steps_back last.origin discontinuity
-
-abbrev pub ad_steps : Bool → ℕ
-ad_steps first = if first then 1 else 0
-
-abbrev pub steps_of : Option Last → Piece → ℕ
-steps_of last p = if is_kept p then steps_from last p.segment.discontinuity else ad_steps p.first_of_ad
-
-abbrev pub numbers_after : Numbers → Option Last → Piece → Numbers
-numbers_after first last p = numbers_with first last (steps_of last p)
-
--- the list with one more item
-abbrev pub pushed : Made → Segment → Option ℤ → Numbers → Option ℕ → Made
-pushed made s time n origin = record {
-  first = made.first;
-  last = Some (record { numbers = n; origin = origin });
-  items = made.items ++ record { segment = s; media = n.media; discontinuity = n.discontinuity; steps = n.steps; time = time } ∷ [];
-}
-
-abbrev pub last_of : Piece → Numbers → Last
-last_of p n = record { numbers = n; origin = origin_of p }
-
--- pieces in order, with the numbers counted on
-abbrev pub counted : Numbers → Option Last → List Piece → List Item
-counted first last [] = []
-counted first last (p ∷ later) =
-    record { piece = p; numbers = numbers_after first last p }
-    ∷ counted first (Some (last_of p (numbers_after first last p))) later
-
--- what it comes to with these pieces after it
-abbrev pub comes_to : Made → List Piece → List OutSegment
-comes_to made pieces = made.items ++ map written_item (counted made.first made.last pieces)
-
--- these pieces were put after it: it comes to the same, and its numbers fit where they did
-pub record Puts (old new : Made) (pieces : List Piece) : Type 0 where
-  pub first : new.first ≡ old.first
-  pub comes : (later : List Piece) → comes_to old (pieces ++ later) ≡ comes_to new later
-  pub fit : list_all item_fits old.items ≡ true → list_all item_fits new.items ≡ true
-
--- a number does not fit, whatever stands after these pieces
-abbrev pub Passes : Made → List Piece → Type 0
-Passes made pieces = (later : List Piece) → list_all item_fits (comes_to made (pieces ++ later)) ≡ false
+use Rattle.stitcher.specs.declared.marked.MarkedSegment.{MarkedSegment}
 
 -- ---- pieces
 
@@ -93,32 +13,8 @@ is_same_run (Some id) (Some other) = bytes_eq id other
 is_same_run (Some id) None = false
 is_same_run None other = false
 
-abbrev pub plain : Marked → Piece
+abbrev pub plain : MarkedSegment → Piece
 plain m = kept_piece (record { segment = m.segment; instant = m.instant; mark = None })
-
-abbrev pub is_nothing : ℕ → Bool
-is_nothing n = n == 0
-
--- whether the next piece is shown
-abbrev pub shows_next : Part → Bool
-shows_next part = is_nothing part.skip && not part.done
-
--- the part that is shown of what stands after a piece of this duration
-abbrev pub part_after_one : Part → ℕ → Part
-part_after_one part duration =
-    if is_nothing part.skip then record { skip = 0; whole = part.whole; left = part.left - duration; done = part.done || (not part.whole && nat_le part.left duration) }
-    else record { skip = part.skip - 1; whole = part.whole; left = part.left; done = part.done }
-
-abbrev pub part_here : Part → Piece → List Piece
-part_here part p = if shows_next part then p ∷ [] else []
-
-abbrev pub part_of : Part → List Piece → List Piece
-part_of part [] = []
-part_of part (p ∷ later) = part_here part p ++ part_of (part_after_one part p.segment.duration) later
-
-abbrev pub part_after : Part → List Piece → Part
-part_after part [] = part
-part_after part (p ∷ later) = part_after (part_after_one part p.segment.duration) later
 
 -- the whole of a pod
 abbrev pub pod_with : List ℕ → Option Pod → List Piece
@@ -126,43 +22,6 @@ pod_with id None = []
 pod_with id (Some pod) = pod_pieces (record { id = id; pod = pod })
 
 -- what stands where a run begins that is shown whole
-abbrev pub begun : Store → Marked → Option (List ℕ) → List Piece
+abbrev pub begun : Store → MarkedSegment → Option (List ℕ) → List Piece
 begun store m None = plain m ∷ []
 begun store m (Some id) = pod_with id (pod_for store id)
-
--- a whole pod, from this place on
-abbrev pub whole_from : ℕ → Part
-whole_from place = record { skip = place; whole = true; left = 0; done = false }
-
--- what is due of the pod of a run that is so long so far, where it is open; else all of it
-abbrev pub part_due : Option ℕ → Part
-part_due None = whole_from 0
-part_due (Some length) = record { skip = 0; whole = false; left = length; done = false }
-
--- the run goes on to the last of these
-abbrev pub goes_on_to_last : Option (List ℕ) → List Marked → Bool
-goes_on_to_last previous [] = true
-goes_on_to_last previous (m ∷ later) = is_same_run m.mark previous && goes_on_to_last m.mark later
-
-abbrev pub part_at : Option ℕ → Option (List ℕ) → List Marked → Part
-part_at so_far mark later = if goes_on_to_last mark later then part_due so_far else whole_from 0
-
-abbrev pub begun_with : Store → Part → Marked → Option (List ℕ) → List Piece
-begun_with store part m None = plain m ∷ []
-begun_with store part m (Some id) = part_of part (pod_with id (pod_for store id))
-
--- what stands for a segment after one of this mark, before these
-abbrev pub pieces_at : Store → Option ℕ → Option (List ℕ) → Marked → List Marked → List Piece
-pieces_at store so_far previous m later = if is_same_run m.mark previous then [] else begun_with store (part_at so_far m.mark later) m m.mark
-
-abbrev pub pieces_on : Store → Option ℕ → Option (List ℕ) → List Marked → List Piece
-pieces_on store so_far previous [] = []
-pieces_on store so_far previous (m ∷ later) = pieces_at store so_far previous m later ++ pieces_on store so_far m.mark later
-
-abbrev pub rest_on : Store → Option Rest → List Piece
-rest_on store None = []
-rest_on store (Some rest) = part_of (whole_from rest.place) (pod_with rest.id (pod_for store rest.id))
-
--- all of them, in order
-abbrev pub pieces_between : Store → Ends → List Marked → List Piece
-pieces_between store ends marked = rest_on store ends.rest ++ pieces_on store ends.so_far None marked

@@ -1,14 +1,13 @@
 -- What `stitch` answers: the stitched list of marked segments, told by IDs and a store of pods.
 use Rattle.std.specs.Prelude.{ℕ, ◌^◌, Bool, ◌&&◌, nat_lt, List, map, reverse, Option, Some, None, IsSome, option_map}
 use Rattle.std.specs.List.{AllByRecursion}
-use Rattle.playlist_meaning.specs.Pods.{Pod}
-use Rattle.playlist_meaning.specs.Marks.{Mark}
-use Rattle.playlist_meaning.specs.Marks.{Marked as Meant}
-use Rattle.playlist_meaning.specs.Stitched.{Numbers, numbered}
-use Rattle.playlist_meaning.specs.Paced.{Rest as MeantRest, Ends as MeantEnds, stitched_with}
+use Rattle.pod_store.specs.Pods.{Pod}
+use Rattle.pod_store.specs.Marks.{Mark, Marked as Meant}
+use Rattle.stitcher.specs.Stitched.{Numbers, numbered}
+use Rattle.stitcher.specs.Paced.{Rest as MeantRest, Ends as MeantEnds, stitched_with}
 use Rattle.pod_store.specs.Store.{Store, pod_for}
 use Rattle.stitcher.specs.declared.OutSegment.{OutSegment}
-use Rattle.stitcher.specs.declared.marked.Marked.{Marked}
+use Rattle.stitcher.specs.declared.marked.MarkedSegment.{MarkedSegment}
 use Rattle.stitcher.specs.declared.ends.Rest.{Rest}
 use Rattle.stitcher.specs.declared.ends.Ends.{Ends}
 use Rattle.stitcher.specs.declared.fault.StitchFault.{StitchFault}
@@ -24,7 +23,7 @@ abbrev pub mark_in : Store → Option (List ℕ) → Option Mark
 mark_in store None = None
 mark_in store (Some id) = mark_with id (pod_for store id)
 
-abbrev pub meant : Store → Marked → Meant
+abbrev pub meant : Store → MarkedSegment → Meant
 meant store m = record { segment = m.segment; instant = m.instant; mark = mark_in store m.mark }
 
 -- the mark, if any, has a pod
@@ -32,8 +31,8 @@ abbrev pub IsDecided : Store → Option (List ℕ) → Type 0
 IsDecided store None = Unit {0}
 IsDecided store (Some id) = IsSome (pod_for store id)
 
-abbrev pub AreDecided : Store → List Marked → Type 0
-AreDecided store marked = AllByRecursion (λ (m : Marked). IsDecided store m.mark) marked
+abbrev pub AreDecided : Store → List MarkedSegment → Type 0
+AreDecided store marked = AllByRecursion (λ (m : MarkedSegment). IsDecided store m.mark) marked
 
 -- the rest of a pod that the store has
 abbrev pub rest_from : ℕ → Mark → MeantRest
@@ -47,13 +46,13 @@ abbrev pub ends_in : Store → Ends → MeantEnds
 ends_in store ends = record { rest = rest_in store ends.rest; so_far = ends.so_far }
 
 -- the stitched list of these segments between these ends, whose first item has these numbers, in the order of a playlist
-abbrev pub stitched_segments : Store → Numbers → Ends → List Marked → List OutSegment
+abbrev pub stitched_segments : Store → Numbers → Ends → List MarkedSegment → List OutSegment
 stitched_segments store first ends marked = map written_item (reverse (numbered first (stitched_with (ends_in store ends) (reverse (map (meant store) marked)))))
 
 abbrev pub item_fits : OutSegment → Bool
-item_fits out = nat_lt out.media (2 ^ 64) && nat_lt out.discontinuity (2 ^ 64)
+item_fits out = nat_lt out.media_sequence (2 ^ 64) && nat_lt out.discontinuity_sequence (2 ^ 64)
 
--- a number does not fit, or memory was refused
+-- a number does not fit, or an allocation failed
 abbrev pub RefusesNumber : StitchFault → Type 0 → Type 0
 RefusesNumber NumberRange OutOfRange = OutOfRange
 RefusesNumber OutOfMemory OutOfRange = Unit {0}

@@ -1,11 +1,11 @@
 //! Copies of what is put into a list. They share texts and sections, and take memory of their own for lists alone.
 ghost use Rattle.std.specs.Prelude.{◌≡◌, Bool, IfOk, [], option_map};
-ghost use Rattle.playlist_meaning.specs.Marks.{Mark};
-ghost use Rattle.playlist_meaning.specs.Stitched.{ad_piece, with_keys};
+ghost use Rattle.pod_store.specs.Marks.{Mark};
+ghost use Rattle.stitcher.specs.Stitched.{ad_piece, with_keys};
 ghost use Rattle.stitcher.specs.Written.{written_segment};
 
 use crate::marked::Numbers;
-use playlist_meaning::{InitSection, Items, Key, Keys, Segment, Shared, ShortText};
+use playlist_model::{InitSection, Items, Key, Keys, Segment, Shared, ShortText};
 use pod_store::{Ad, PodSegment};
 use std::alloc::{AllocError, Global};
 use std::marker::Model;
@@ -33,26 +33,26 @@ fn shared_section(
 /// What the segments of an ad share: its section under the ad's keys, and the title, which is empty.
 #[derive(Drop)]
 pub struct AdParts {
-    section: Option<Shared<InitSection>>,
+    init_section: Option<Shared<InitSection>>,
     title: Shared<ShortText>,
 }
 
 impl Model for AdParts {
     ghost use Rattle.std.specs.Prelude.{◌≡◌, Option, []};
-    ghost use Rattle.playlist_meaning.specs.declared.InitSection.{InitSection};
+    ghost use Rattle.playlist_model.specs.declared.InitSection.{InitSection};
 
     ghost Value = { Option InitSection };
 
-    ghost view = { λ a. a.section };
+    ghost view = { λ a. a.init_section };
 
     ghost invariant = { λ a. a.title ≡ [] };
 }
 
 /// The section of an ad's segments, under the ad's keys.
 fn ad_section(alloc: Global, ad: &Ad) -> Result<Option<Shared<InitSection>>, AllocError>
-    ensures { IfOk result (λ s. s ≡ option_map (with_keys ad.now.keys) ad.now.section) }
+    ensures { IfOk result (λ s. s ≡ option_map (with_keys ad.now.keys) ad.now.init_section) }
 {
-    let Some(section) = &ad.map else {
+    let Some(section) = &ad.init_section else {
         return Ok(None);
     };
     let keys = copied_keys(alloc, ad.keys.as_slice())?;
@@ -72,10 +72,10 @@ fn no_title(alloc: Global) -> Result<Shared<ShortText>, AllocError>
 
 /// What the segments of this ad share.
 pub fn ad_parts(alloc: Global, ad: &Ad) -> Result<AdParts, AllocError>
-    ensures { IfOk result (λ parts. parts ≡ option_map (with_keys ad.now.keys) ad.now.section) }
+    ensures { IfOk result (λ parts. parts ≡ option_map (with_keys ad.now.keys) ad.now.init_section) }
 {
     Ok(AdParts {
-        section: ad_section(alloc, ad)?,
+        init_section: ad_section(alloc, ad)?,
         title: no_title(alloc)?,
     })
 }
@@ -88,19 +88,19 @@ pub fn ad_segment(
     segment: &PodSegment,
     numbers: Numbers,
 ) -> Result<Segment, AllocError>
-    requires { parts.now ≡ option_map (with_keys ad.now.keys) ad.now.section }
+    requires { parts.now ≡ option_map (with_keys ad.now.keys) ad.now.init_section }
     ensures { IfOk result (λ s. (mark : Mark) (first : Bool) → s ≡ written_segment (ad_piece mark first ad.now segment.now) numbers) }
 {
     Ok(Segment {
-        number: numbers.media,
-        discontinuity: numbers.discontinuity,
-        steps: numbers.steps,
+        media_sequence: numbers.media_sequence,
+        discontinuity_sequence: numbers.discontinuity_sequence,
+        discontinuities: numbers.discontinuities,
         uri: ShortText::copy_of(alloc, segment.uri.as_str())?,
         byte_range: segment.byte_range,
         keys: copied_keys(alloc, ad.keys.as_slice())?,
-        section: shared_section(&parts.section)?,
+        init_section: shared_section(&parts.init_section)?,
         duration: segment.duration,
         title: parts.title.clone()?,
-        time: None,
+        program_date_time: None,
     })
 }

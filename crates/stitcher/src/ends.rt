@@ -1,6 +1,6 @@
 //! What stands at the two ends of a part of a stitched list.
 use fixed_duration::Nanos;
-use playlist_meaning::{Shared, Text};
+use playlist_model::{Shared, Text};
 
 /// The rest of a break's pod, from a place in it on.
 #[derive(Drop)]

@@ -12,7 +12,7 @@ use std::fmt;
 pub enum StitchFault {
     /// K1: a media or discontinuity sequence number would pass 2^64 - 1.
     NumberRange,
-    /// K2: memory was refused.
+    /// K2: an allocation failed.
     OutOfMemory,
 }
 

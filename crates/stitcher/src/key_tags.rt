@@ -1,12 +1,12 @@
 //! The key tags that lead from keys to keys.
 ghost use Rattle.std.specs.Prelude.{◌≡◌, ◌∷◌, true, map, filter, IfErr, IfOk};
 ghost use Rattle.std.specs.List.{list_any};
-ghost use Rattle.playlist_meaning.specs.LookBack.{has_format, are_sorted};
-ghost use Rattle.playlist_meaning.specs.Same.{same_key};
-ghost use Rattle.stitcher.specs.KeyTags.{is_new, keeps_formats, transition, after_tags};
+ghost use Rattle.playlist_model.specs.LookBack.{has_format, are_sorted};
+ghost use Rattle.playlist_model.specs.Same.{same_key};
+ghost use Rattle.stitcher.specs.KeyTags.{is_new_key, keeps_formats, transition, after_tags};
 
 use crate::StitchFault;
-use playlist_meaning::{Key, KeyTag, is_same_key};
+use playlist_model::{Key, KeyTag, is_same_key};
 use std::alloc::{AllocError, Global};
 
 fn has_format(keys: &[Key], format: &str) -> bool
@@ -29,8 +29,8 @@ fn is_among(keys: &[Key], key: &Key) -> bool
 }
 
 /// Whether a key is not among these, as it is.
-pub fn is_new(keys: &[Key], key: &Key) -> bool
-    ensures { result ≡ is_new keys.now key.now }
+pub fn is_new_key(keys: &[Key], key: &Key) -> bool
+    ensures { result ≡ is_new_key keys.now key.now }
 {
     !is_among(keys, key)
 }
@@ -43,11 +43,11 @@ fn tag_of(key: &Key) -> Result<KeyTag, AllocError>
 
 // A tag for each key that is not among the old ones as it is.
 fn tags_of_new(alloc: Global, old: &[Key], new: &[Key]) -> Result<Vec<KeyTag>, AllocError>
-    ensures { IfOk result (λ tags. tags.items ≡ map KeyTag.Set (filter (is_new old.now) new.now)) }
+    ensures { IfOk result (λ tags. tags.items ≡ map KeyTag.Set (filter (is_new_key old.now) new.now)) }
 {
     let mut tags = Vec::new(alloc);
     for key in new {
-        if is_new(old, key) {
+        if is_new_key(old, key) {
             tags.push(tag_of(key)?)?;
         }
     }

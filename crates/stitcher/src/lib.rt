@@ -1,7 +1,7 @@
 //! What is put into a playlist: segments with their numbers, runs replaced by their pods, and the key tags between them.
 #![tactic(auto)]
 
-use playlist_meaning::Instant;
+use playlist_model::Instant;
 
 mod copies;
 mod ends;
@@ -12,26 +12,27 @@ mod making;
 mod marked;
 mod origin_text;
 mod played;
+mod stitched_rows;
 
 pub use ends::{Ends, Rest};
 pub use fault::StitchFault;
-pub use key_tags::{is_new, keeps_formats, transition};
+pub use key_tags::{is_new_key, keeps_formats, transition};
 pub use making::{is_same_run, stitch};
-pub use marked::{Marked, Numbers};
-pub use origin_text::OriginText;
-pub use played::Played;
+pub use marked::{MarkedSegment, Numbers};
+pub use origin_text::TextRef;
+pub use played::SegmentRef;
 
 /// A segment as it stands in a written playlist. Its own numbers and time are not those of `segment`.
 #[derive(Drop)]
 pub struct OutSegment<'a> {
     /// What is played.
-    pub segment: Played<'a>,
+    pub segment: SegmentRef<'a>,
     /// Its media sequence number.
-    pub media: u64,
+    pub media_sequence: u64,
     /// Its discontinuity sequence number.
-    pub discontinuity: u64,
+    pub discontinuity_sequence: u64,
     /// How many discontinuities stand between it and the segment before.
-    pub steps: u64,
+    pub discontinuities: u64,
     /// The instant that is written before it, if one is.
-    pub time: Option<Instant>,
+    pub program_date_time: Option<Instant>,
 }

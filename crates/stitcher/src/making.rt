@@ -1,20 +1,21 @@
 //! The stitched list of marked segments, as it is made.
 ghost use Rattle.std.specs.Prelude.{◌≡◌, Bool, true, false, List, [], ◌∷◌, None, OnOk, IfOk, IfErr, option_map};
 ghost use Rattle.std.specs.List.{list_all};
-ghost use Rattle.playlist_meaning.specs.Marks.{Mark};
-ghost use Rattle.playlist_meaning.specs.Pods.{Pod};
-ghost use Rattle.playlist_meaning.specs.Stitched.{ad_piece, ad_pieces, next_numbers, pieces_of_ads, with_keys};
+ghost use Rattle.pod_store.specs.Marks.{Mark};
+ghost use Rattle.pod_store.specs.Pods.{Pod};
+ghost use Rattle.stitcher.specs.Stitched.{ad_piece, ad_pieces, next_numbers, pieces_of_ads, with_keys};
 ghost use Rattle.stitcher.specs.StitchedSegments.{AreDecided, RefusesNumber, item_fits, stitched_segments};
-ghost use Rattle.stitcher.specs.Making.{Passes, Puts, goes_on_to_last, is_same_run, numbers_fit, numbers_with, part_after, part_after_one, part_at, part_here, part_of, pieces_at, plain, pushed, rest_on, shows_next, steps_from, whole_from};
+ghost use Rattle.stitcher.specs.Making.{is_same_run, plain};
+ghost use Rattle.stitcher.specs.Inner.Making.{Passes, Puts, goes_on_to_last, numbers_fit, numbers_with, part_after, part_after_one, part_at, part_here, part_of, pieces_at, pushed, rest_on, shows_next, steps_from, whole_from};
 
 use crate::OutSegment;
 use crate::copies::{AdParts, ad_parts, ad_segment};
 use crate::ends::{Ends, Rest};
 use crate::fault::StitchFault;
-use crate::marked::{Marked, Numbers};
-use crate::played::Played;
+use crate::marked::{MarkedSegment, Numbers};
+use crate::played::SegmentRef;
 use fixed_duration::Nanos;
-use playlist_meaning::{Instant, Shared, Text};
+use playlist_model::{Instant, Shared, Text};
 use pod_store::{Ad, Pod, PodSegment, PodStore};
 use std::alloc::{AllocError, Global};
 use std::marker::Model;
@@ -50,7 +51,7 @@ pub struct Stitching<'a> {
 }
 
 impl<'a> Model for Stitching<'a> {
-    ghost use Rattle.stitcher.specs.Making.{Made};
+    ghost use Rattle.stitcher.specs.Inner.Making.{Made};
 
     ghost Value = { Made };
 
@@ -58,13 +59,13 @@ impl<'a> Model for Stitching<'a> {
 }
 
 fn numbers_of(media: u64, discontinuity: u64, steps: u64) -> Numbers
-    ensures value { result ≡ record { media = media; discontinuity = discontinuity; steps = steps } }
+    ensures value { result ≡ record { media_sequence = media; discontinuity_sequence = discontinuity; discontinuities = steps } }
     ensures fit { numbers_fit result ≡ true }
 {
     Numbers {
-        media,
-        discontinuity,
-        steps,
+        media_sequence: media,
+        discontinuity_sequence: discontinuity,
+        discontinuities: steps,
     }
 }
 
@@ -73,10 +74,10 @@ fn next_numbers(numbers: Numbers, steps: u64) -> Result<Numbers, StitchFault>
     ensures ok { IfOk result (λ n. (n ≡ next_numbers numbers steps) × (numbers_fit n ≡ true)) }
     ensures err { IfErr result (λ e. (e ≡ StitchFault.NumberRange) × (numbers_fit (next_numbers numbers steps) ≡ false)) }
 {
-    let Some(media) = numbers.media.checked_add(1) else {
+    let Some(media) = numbers.media_sequence.checked_add(1) else {
         return Err(StitchFault::NumberRange);
     };
-    let Some(discontinuity) = numbers.discontinuity.checked_add(steps) else {
+    let Some(discontinuity) = numbers.discontinuity_sequence.checked_add(steps) else {
         return Err(StitchFault::NumberRange);
     };
     Ok(numbers_of(media, discontinuity, steps))
@@ -119,7 +120,7 @@ fn shows_next(part: &Part) -> bool
 }
 
 // Whether a run goes on to the last of these segments.
-fn goes_on_to_last(mark: &Option<Shared<Text>>, later: &[Marked]) -> bool
+fn goes_on_to_last(mark: &Option<Shared<Text>>, later: &[MarkedSegment]) -> bool
     ensures { result ≡ goes_on_to_last mark.now later.now }
 {
     let mut previous = mark;
@@ -147,7 +148,7 @@ fn from_place(place: usize) -> Part
 }
 
 // What is shown of the pod of a run that begins with a segment of this mark, before these.
-fn part_at(ends: &Ends, mark: &Option<Shared<Text>>, later: &[Marked]) -> Part
+fn part_at(ends: &Ends, mark: &Option<Shared<Text>>, later: &[MarkedSegment]) -> Part
     ensures { result ≡ part_at ends.now.so_far mark.now later.now }
 {
     let Some(length) = ends.so_far else {
@@ -203,7 +204,7 @@ impl<'a> Stitching<'a> {
 
     fn push(
         &mut self,
-        segment: Played<'a>,
+        segment: SegmentRef<'a>,
         time: Option<Instant>,
         numbers: Numbers,
         origin: Option<u64>,
@@ -212,10 +213,10 @@ impl<'a> Stitching<'a> {
         ensures err { IfErr result (λ e. e ≡ StitchFault.OutOfMemory) }
     {
         self.items.push(OutSegment {
-            media: numbers.media,
-            discontinuity: numbers.discontinuity,
-            steps: numbers.steps,
-            time,
+            media_sequence: numbers.media_sequence,
+            discontinuity_sequence: numbers.discontinuity_sequence,
+            discontinuities: numbers.discontinuities,
+            program_date_time: time,
             segment,
         })?;
         self.last = Some(Last { numbers, origin });
@@ -223,14 +224,14 @@ impl<'a> Stitching<'a> {
     }
 
     // Puts a segment of the origin at the end.
-    fn keep(&mut self, marked: &'a Marked) -> Result<(), StitchFault>
+    fn keep(&mut self, marked: &'a MarkedSegment) -> Result<(), StitchFault>
         requires { numbers_fit self.old.first ≡ true }
         ensures ok { OnOk result (Puts self.old self.new (plain marked.now ∷ [])) }
         ensures err { IfErr result (λ e. RefusesNumber e (Passes self.old (plain marked.now ∷ []))) }
     {
-        let origin = marked.segment.discontinuity;
+        let origin = marked.segment.discontinuity_sequence;
         let numbers = self.numbers_with(self.steps_to(origin))?;
-        let segment = Played::of_origin(&marked.segment);
+        let segment = SegmentRef::of_origin(&marked.segment);
         self.push(segment, marked.instant, numbers, Some(origin))
     }
 
@@ -244,14 +245,14 @@ impl<'a> Stitching<'a> {
         first: bool,
     ) -> Result<(), StitchFault>
         requires fits { numbers_fit self.old.first ≡ true }
-        requires parts { parts.now ≡ option_map (with_keys ad.now.keys) ad.now.section }
+        requires parts { parts.now ≡ option_map (with_keys ad.now.keys) ad.now.init_section }
         ensures ok { OnOk result ((mark : Mark) → Puts self.old self.new (ad_piece mark first ad.now segment.now ∷ [])) }
         ensures err { IfErr result (λ e. RefusesNumber e ((mark : Mark) → Passes self.old (ad_piece mark first ad.now segment.now ∷ []))) }
     {
         let numbers = self.numbers_with(u64::from(first))?;
         let segment = ad_segment(alloc, ad, parts, segment, numbers)?;
         let shared = Shared::new(alloc, segment)?;
-        self.push(Played::of_ad(shared), None, numbers, None)
+        self.push(SegmentRef::of_ad(shared), None, numbers, None)
     }
 
     // Puts a segment of an ad at the end, where it is shown. Answers the part of those after it.
@@ -265,7 +266,7 @@ impl<'a> Stitching<'a> {
         part: &Part,
     ) -> Result<Part, StitchFault>
         requires fits { numbers_fit self.old.first ≡ true }
-        requires parts { parts.now ≡ option_map (with_keys ad.now.keys) ad.now.section }
+        requires parts { parts.now ≡ option_map (with_keys ad.now.keys) ad.now.init_section }
         ensures ok { OnOk result ((mark : Mark) → Puts self.old self.new (part_here part.now (ad_piece mark first ad.now segment.now))) }
         ensures part { IfOk result (λ after. after ≡ part_after_one part.now segment.now.duration) }
         ensures err { IfErr result (λ e. RefusesNumber e ((mark : Mark) → Passes self.old (part_here part.now (ad_piece mark first ad.now segment.now)))) }
@@ -339,8 +340,8 @@ impl<'a> Stitching<'a> {
     fn put_marked(
         &mut self,
         alloc: Global,
-        marked: &'a Marked,
-        later: &'a [Marked],
+        marked: &'a MarkedSegment,
+        later: &'a [MarkedSegment],
         previous: &Option<Shared<Text>>,
         store: &PodStore,
         ends: &Ends,
@@ -365,11 +366,11 @@ impl<'a> Stitching<'a> {
 
 /// The stitched list of these segments between these ends, in the order of a playlist, whose first item has these numbers:
 /// the rest of a pod first, and each run of one mark replaced by the pod that the break has in the store, of which as much is
-/// shown as is due where the run is the last one and open. `NumberRange` exactly where a number would pass 2^64 - 1, want of
-/// memory apart.
+/// shown as is due where the run is the last one and open. `NumberRange` exactly where a number would pass 2^64 - 1, a failed
+/// allocation apart.
 pub fn stitch<'a>(
     alloc: Global,
-    marked: &'a [Marked],
+    marked: &'a [MarkedSegment],
     store: &PodStore,
     first: Numbers,
     ends: &Ends,

@@ -1,16 +1,16 @@
 //! Texts that are written as they were read.
 ghost use Rattle.std.specs.Prelude.{◌≡◌};
 
-use playlist_meaning::Text;
+use playlist_model::Text;
 use std::marker::Model;
 
 /// A text of the origin's playlist, which stays where it is.
 #[derive(Drop)]
-pub struct OriginText<'a> {
+pub struct TextRef<'a> {
     text: &'a Text,
 }
 
-impl<'a> Model for OriginText<'a> {
+impl<'a> Model for TextRef<'a> {
     ghost use Rattle.std.specs.Prelude.{List, ℕ};
 
     ghost Value = { List ℕ };
@@ -18,12 +18,12 @@ impl<'a> Model for OriginText<'a> {
     ghost view = { λ a. a.text.now };
 }
 
-impl<'a> OriginText<'a> {
+impl<'a> TextRef<'a> {
     /// This text.
-    pub fn new(text: &'a Text) -> OriginText<'a>
+    pub fn new(text: &'a Text) -> TextRef<'a>
         ensures { result ≡ text.now }
     {
-        OriginText { text }
+        TextRef { text }
     }
 
     /// Its characters.

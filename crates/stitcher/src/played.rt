@@ -1,7 +1,7 @@
 //! What an item of a stitched list plays.
 ghost use Rattle.std.specs.Prelude.{◌≡◌};
 
-use playlist_meaning::{Segment, Shared};
+use playlist_model::{Segment, Shared};
 use std::marker::Model;
 use std::ops::Deref;
 
@@ -13,12 +13,12 @@ enum Held<'a> {
 
 /// The segment that an item plays: one of the origin, which stays where it is, or one of an ad.
 #[derive(Drop)]
-pub struct Played<'a> {
+pub struct SegmentRef<'a> {
     held: Held<'a>,
 }
 
-impl<'a> Model for Played<'a> {
-    ghost use Rattle.playlist_meaning.specs.declared.Segment.{Segment};
+impl<'a> Model for SegmentRef<'a> {
+    ghost use Rattle.playlist_model.specs.declared.Segment.{Segment};
     ghost use Rattle.stitcher.specs.Held.{held_segment};
 
     ghost Value = { Segment };
@@ -26,27 +26,27 @@ impl<'a> Model for Played<'a> {
     ghost view = { λ played. held_segment played.held };
 }
 
-impl<'a> Played<'a> {
+impl<'a> SegmentRef<'a> {
     /// A segment of the origin.
-    pub fn of_origin(segment: &'a Segment) -> Played<'a>
+    pub fn of_origin(segment: &'a Segment) -> SegmentRef<'a>
         ensures { result ≡ segment.now }
     {
-        Played {
+        SegmentRef {
             held: Held::Origin(segment),
         }
     }
 
     /// A segment of an ad.
-    pub fn of_ad(segment: Shared<Segment>) -> Played<'a>
+    pub fn of_ad(segment: Shared<Segment>) -> SegmentRef<'a>
         ensures { result ≡ segment }
     {
-        Played {
+        SegmentRef {
             held: Held::Ad(segment),
         }
     }
 }
 
-impl<'a> Deref for Played<'a> {
+impl<'a> Deref for SegmentRef<'a> {
     type Target = Segment;
 
     ghost deref_gives = { λ played segment. segment ≡ played };

@@ -1,8 +1,8 @@
 //! Live channels, and the events that go to them.
 use crate::escapes::bytes_of;
 use fixed_duration::Nanos;
-use live_counters::{Channel, ChannelFault};
-use live_edge::{refresh_fault_text, why_word};
+use http_edge::{refresh_fault_text, why_word};
+use live_channel::{Channel, ChannelFault};
 use std::alloc::Global;
 use std::io;
 use std::io::Print;

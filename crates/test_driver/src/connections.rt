@@ -3,8 +3,8 @@ ghost use Rattle.std.specs.Prelude.{◌<◌};
 
 use crate::escapes::bytes_of;
 use crate::words::{number_in, split_word};
-use devices::{Pieces, Taken};
-use live_edge::{Edge, serve};
+use byte_streams::{TestSink, TestSource};
+use http_edge::{Edge, serve};
 use std::alloc::Global;
 use std::io;
 use std::io::Print;
@@ -51,8 +51,8 @@ fn print_outcome(
     rt: &impl Print,
     alloc: Global,
     edge: &mut Edge,
-    source: &mut Pieces<'_>,
-    sink: &mut Taken,
+    source: &mut TestSource<'_>,
+    sink: &mut TestSink,
 ) -> io::Result<()> {
     match serve(alloc, edge, source, sink) {
         Ok(served) => println!(rt; "{}", served.status),
@@ -69,8 +69,8 @@ pub(crate) fn print_served(
 ) -> io::Result<()> {
     let (moves, body) = moves_of(words);
     let bytes = bytes_of(alloc, body)?;
-    let mut source = Pieces::new(bytes.as_slice(), moves.most_read, 0, moves.failing_read);
-    let mut sink = Taken::new(alloc, ROOM, moves.most_written, moves.failing_write)?;
+    let mut source = TestSource::new(bytes.as_slice(), moves.most_read, 0, moves.failing_read);
+    let mut sink = TestSink::new(alloc, ROOM, moves.most_written, moves.failing_write)?;
     print_outcome(rt, alloc, edge, &mut source, &mut sink)?;
     println!(rt; "{}", std::str::from_utf8(sink.bytes()).unwrap_or("?"))
 }

@@ -62,7 +62,7 @@ use channels::{Channels, print_event, print_made};
 use connections::print_served;
 use decisions::print_decisions;
 use escapes::bytes_of;
-use live_edge::Edge;
+use http_edge::Edge;
 use scte35_codec::crc_of;
 use std::alloc::Global;
 use std::io;

@@ -1,9 +1,9 @@
 -- What is before the first instant stays there.
 use Rattle.std.proofs.Common.{◌≡◌, ℕ, true, List, [], ◌∷◌, ◌++◌, refl, ap, arith, ℤ, pos}
 use Rattle.std.specs.Prelude.{◌-ℤ◌, int_lt, Option, None}
-use Rattle.playlist_meaning.specs.declared.Segment.{Segment}
-use Rattle.instants.specs.Instant.{first_instant}
-use Rattle.timeline.specs.Reckoned.{Walked}
+use Rattle.playlist_model.specs.declared.Segment.{Segment}
+use Rattle.date_times.specs.Instant.{first_instant}
+use Rattle.timeline.specs.Inner.Reckoned.{Walked}
 
 lower : (x : ℤ) (d : ℕ) → int_lt x first_instant ≡ true → int_lt (x -ℤ pos d) first_instant ≡ true
 lower x d h = grind (arith)

@@ -2,13 +2,13 @@
 #![tactic(auto)]
 
 ghost use Rattle.std.specs.Prelude.{◌≡◌, ℤ, [], ◌∷◌, IfOk, IfErr, MatchOption, option_map, pos, ◌-ℤ◌};
-ghost use Rattle.playlist_meaning.specs.Instants.{bounded, ends_at, instants_after};
-ghost use Rattle.playlist_meaning.specs.LookBack.{or_earlier};
+ghost use Rattle.playlist_model.specs.Instants.{bounded, ends_at, instants_after};
+ghost use Rattle.playlist_model.specs.LookBack.{or_earlier};
 ghost use Rattle.timeline.specs.Reckoned.{clamped, stack_of};
 
+use date_times::FIRST_INSTANT;
 use fixed_duration::Nanos;
-use instants::FIRST_INSTANT;
-use playlist_meaning::{Instant, Segment, Shared};
+use playlist_model::{Instant, Segment, Shared};
 use std::alloc::{AllocError, Global};
 use std::marker::Model;
 
@@ -43,9 +43,9 @@ fn earlier(nanos: i128, duration: u64) -> i128
 
 // The first time that is stated from this segment on, less the durations before it.
 fn reckoned_here(segment: &Segment, after: Option<i128>) -> Option<i128>
-    ensures { result ≡ option_map clamped (or_earlier segment.now.time (option_map (λ nanos. nanos -ℤ pos segment.now.duration) after)) }
+    ensures { result ≡ option_map clamped (or_earlier segment.now.program_date_time (option_map (λ nanos. nanos -ℤ pos segment.now.duration) after)) }
 {
-    if let Some(time) = segment.time {
+    if let Some(time) = segment.program_date_time {
         return Some(i128::from(time.0).max(FIRST_INSTANT - 1));
     }
     match after {
@@ -67,9 +67,9 @@ pub fn ends_at(begun: &Option<Instant>, duration: Nanos) -> Option<i128>
 // Where a segment begins: at its stated time, else where the one before it ended, else back from the
 // first time that is stated later.
 fn begins_at(ended: Option<i128>, segment: &Segment, reckoned: Option<i128>) -> Option<Instant>
-    ensures { result ≡ bounded (or_earlier segment.now.time (or_earlier ended reckoned)) }
+    ensures { result ≡ bounded (or_earlier segment.now.program_date_time (or_earlier ended reckoned)) }
 {
-    bounded(nanos_of(segment.time).or(ended).or(reckoned))
+    bounded(nanos_of(segment.program_date_time).or(ended).or(reckoned))
 }
 
 // For each segment the first time that is stated from it on, less the durations before it: the first
@@ -103,7 +103,7 @@ pub struct Beginnings<'a> {
 
 impl<'a> Model for Beginnings<'a> {
     ghost use Rattle.std.specs.Prelude.{◌≡◌, ℤ, List, Option, IfSome, option_map};
-    ghost use Rattle.playlist_meaning.specs.Instants.{instants_after};
+    ghost use Rattle.playlist_model.specs.Instants.{instants_after};
     ghost use Rattle.timeline.specs.Reckoned.{stack_of};
 
     ghost Value = { List (Option ℤ) };
@@ -131,7 +131,7 @@ impl<'a> Beginnings<'a> {
         }
     }
 
-    /// Where the next segment begins, if there is one. Where memory is refused, all are still to come.
+    /// Where the next segment begins, if there is one. Where an allocation fails, all are still to come.
     #[inline(always)]
     pub fn next(&mut self) -> Result<Option<Option<Instant>>, AllocError>
         ensures next { IfOk result (λ next. MatchOption next ((self.old ≡ []) × (self.new ≡ [])) (λ begun. self.old ≡ begun ∷ self.new)) }
@@ -142,7 +142,7 @@ impl<'a> Beginnings<'a> {
             return Ok(None);
         };
         // Most segments state a time or follow one that begins somewhere, so that nothing is reckoned back.
-        if self.stack.is_none() && segment.time.is_none() && self.ended.is_none() {
+        if self.stack.is_none() && segment.program_date_time.is_none() && self.ended.is_none() {
             self.stack = Some(reckoned_stack(self.alloc, segments)?);
         }
         let reckoned = match &mut self.stack {

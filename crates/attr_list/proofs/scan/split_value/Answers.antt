@@ -1,7 +1,7 @@
 use Rattle.std.proofs.Common.{◌≡◌, ◌≢◌, ℕ, false, List, [], ◌∷◌, refl, ap, lit<, None}
 use Rattle.std.proofs.lemmas.Str.Pattern.{strip_prefix_char}
 use Rattle.std.proofs.lemmas.Bool.{ne_eqb}
-use Rattle.attr_list.specs.Scanning.{begins_quoted}
+use Rattle.attr_list.specs.Inner.Scanning.{begins_quoted}
 use Rattle.attr_list.proofs.scan.split_value.Goals as goal
 
 unquoted : (text : List ℕ) → ((rest : List ℕ) → text ≢ 34 ∷ rest) → begins_quoted text ≡ false

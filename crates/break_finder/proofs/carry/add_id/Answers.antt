@@ -1,6 +1,6 @@
 use Rattle.std.proofs.Common.{◌||◌, ap, ◌∙◌}
 use Rattle.std.specs.Prelude.{bytes_eq}
-use Rattle.break_finder.specs.Kept.{has_text}
+use Rattle.break_finder.specs.Inner.Kept.{has_text}
 use Rattle.break_finder.proofs.TagIds.{noted}
 use Rattle.break_finder.proofs.carry.add_id.Goals as goal
 

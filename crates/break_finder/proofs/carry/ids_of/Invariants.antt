@@ -1,6 +1,6 @@
 use Rattle.std.proofs.Common.{◌≡◌, ◌||◌, ℕ, List, length}
 use Rattle.std.specs.List.{list_any}
-use Rattle.break_finder.specs.Kept.{has_text}
+use Rattle.break_finder.specs.Inner.Kept.{has_text}
 use Rattle.break_finder.specs.Known.{is_tag_of}
 use Rattle.break_finder.proofs.carry.ids_of.Given as goal
 

@@ -1,8 +1,8 @@
 use Rattle.std.proofs.Common.{◌++◌, subst, sym}
 use Rattle.http_messages.specs.Arriving.{IsArrived}
 use Rattle.http_messages.specs.Received.{IsAsked}
-use Rattle.live_edge.specs.Served.{IsServed}
-use Rattle.live_edge.proofs.Connections.{turned_away}
+use Rattle.http_edge.specs.Served.{IsServed}
+use Rattle.http_edge.proofs.Connections.{turned_away}
 use Rattle.connections.specs.declared.conversation.Conversation.TheVariants.{Answering}
 use Rattle.connections.specs.Conversing.{Goes}
 use Rattle.connections.proofs.conversation.give.Goals as goal

@@ -5,10 +5,10 @@ use Rattle.http_messages.specs.Requests.{framing_of}
 use Rattle.http_messages.proofs.HeadReads.{head_is_at, too_many, is_token_of}
 use Rattle.http_messages.proofs.head.read_head.Goals as goal
 
-pub returns-then-request-gt-FIELD_LIMIT : goal.returns-then-request-gt-FIELD_LIMIT
-returns-then-request-gt-FIELD_LIMIT c =
+pub returns-then-request-gt-MAX_FIELDS : goal.returns-then-request-gt-MAX_FIELDS
+returns-then-request-gt-MAX_FIELDS c =
     let p = rw c.in-Complete.is at c.in-Ok.ensures.complete in
-    too_many c.args.bytes.now c.parse.new.self c.in-Complete.len (omega (arith, c.if-request-gt-FIELD_LIMIT.true)) p
+    too_many c.args.bytes.now c.parse.new.self c.in-Complete.len (omega (arith, c.if-request-gt-MAX_FIELDS.true)) p
 
 pub returns-in-Err-Invalid : goal.returns-in-Err-Invalid
 returns-in-Err-Invalid c more h rest b =
@@ -22,7 +22,7 @@ returns c =
     let p = rw c.in-Complete.is at c.in-Ok.ensures.complete in
     let method = c.as_bytes.ensures.value in
     let made = c.in-Ok-from_bytes.ensures.ok in
-    head_is_at c.args.bytes.now c.parse.new.self _ c.requires (omega (arith, c.if-request-gt-FIELD_LIMIT.false)) p (record {
+    head_is_at c.args.bytes.now c.parse.new.self _ c.requires (omega (arith, c.if-request-gt-MAX_FIELDS.false)) p (record {
       method = ap option_copied c.in-Some-Some.is-0 ∙ ap Some (sym (made ∙ method));
       target = ap option_copied c.in-Some-Some.is-1 ∙ ap Some (sym c.in_ok-target.ensures);
       framing = c.framing_of-framing.ensures ∙ ap (λ m. framing_of m (map header_parts c.parse.new.self.headers.now)) (sym (made ∙ method));

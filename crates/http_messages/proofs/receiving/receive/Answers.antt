@@ -1,7 +1,7 @@
 use Rattle.std.proofs.Common.{◌++◌, [], append-nil, take, length, length-append, subst, sym, ap, refl, ◌∙◌, arith}
 use Rattle.std.specs.Io.KnownBytes.{Consumes}
 use Rattle.std.proofs.KnownBytes.{Consumes-trans}
-use Rattle.devices.specs.Devices.{Failures}
+use Rattle.byte_streams.specs.Devices.{Failures}
 use Rattle.http_messages.specs.Requests.{IsUnfinished}
 use Rattle.http_messages.specs.Arriving.{IsArrived}
 use Rattle.http_messages.proofs.Whole.{has_asked, held_is_asked}

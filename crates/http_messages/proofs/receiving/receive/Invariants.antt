@@ -1,6 +1,6 @@
 use Rattle.std.proofs.Common.{◌+◌, ◌≤◌, length}
 use Rattle.std.specs.Io.KnownBytes.{Consumes}
-use Rattle.devices.specs.Devices.{CalledAll, NoneFailed}
+use Rattle.byte_streams.specs.Devices.{CalledAll, NoneFailed}
 use Rattle.http_messages.specs.Requests.{IsUnfinished}
 use Rattle.http_messages.proofs.receiving.receive.Given as goal
 

@@ -1,7 +1,7 @@
 use Rattle.std.proofs.Common.{subst}
 use Rattle.std.specs.Prelude.{OnOk, OnErr}
 use Rattle.std.specs.Io.KnownBytes.{Appends}
-use Rattle.devices.specs.Handed.{TookFront}
+use Rattle.byte_streams.specs.Handed.{TookFront}
 use Rattle.http_messages.proofs.Sent.{same_text}
 use Rattle.http_messages.proofs.sending.send.Goals as goal
 

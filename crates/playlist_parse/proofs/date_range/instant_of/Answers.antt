@@ -1,4 +1,4 @@
-use Rattle.instants.specs.declared.reading.TimeFault.TheVariants.{BadTime}
+use Rattle.date_times.specs.declared.reading.TimeFault.TheVariants.{BadTime}
 use Rattle.attr_list.specs.Attrs.{attr_pair}
 use Rattle.playlist_parse.proofs.DateRangeLemmas.{time_found, time_refused}
 use Rattle.playlist_parse.proofs.date_range.instant_of.Goals as goal

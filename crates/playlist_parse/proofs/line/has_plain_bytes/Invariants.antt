@@ -1,6 +1,6 @@
 use Rattle.std.proofs.Common.{◌≡◌, take}
 use Rattle.std.specs.List.{list_all}
-use Rattle.playlist_parse.specs.LineViews.{is_plain_byte}
+use Rattle.playlist_parse.specs.Inner.LineViews.{is_plain_byte}
 use Rattle.playlist_parse.proofs.line.has_plain_bytes.Given as goal
 
 -- so far

@@ -1,6 +1,6 @@
 use Rattle.std.proofs.Common.{rules, ◌≡◌, true, ap, sym, ◌∙◌, ◌≤◌, length}
 use Rattle.std.specs.List.{list_all}
-use Rattle.playlist_parse.specs.LineViews.{is_plain_byte}
+use Rattle.playlist_parse.specs.Inner.LineViews.{is_plain_byte}
 use Rattle.playlist_parse.proofs.Places.{few_left}
 use Rattle.playlist_parse.proofs.PlainLines.{later_lines}
 use Rattle.playlist_parse.proofs.reader.read.Goals as goal

@@ -1,7 +1,7 @@
 use Rattle.std.proofs.Common.{◌≡◌, ◌∷◌, true, ap, map, subst}
 use Rattle.std.specs.List.{list_all}
 use Rattle.std.proofs.lemmas.Bool.{and_parts, not-true}
-use Rattle.playlist_parse.specs.LineViews.{is_free, line_text}
+use Rattle.playlist_parse.specs.Inner.LineViews.{is_free, line_text}
 use Rattle.playlist_parse.proofs.Reached.{Reached, begun, next, taken_ok}
 use Rattle.playlist_parse.proofs.reader.read_lines.Goals as goal
 

@@ -1,6 +1,6 @@
 use Rattle.std.proofs.Common.{◌≡◌, true, map, length}
 use Rattle.std.specs.List.{list_all}
-use Rattle.playlist_parse.specs.LineViews.{is_free, line_text}
+use Rattle.playlist_parse.specs.Inner.LineViews.{is_free, line_text}
 use Rattle.playlist_parse.proofs.Reached.{Reached}
 use Rattle.playlist_parse.proofs.reader.read_lines.Given as goal
 

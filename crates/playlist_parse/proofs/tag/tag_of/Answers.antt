@@ -1,5 +1,5 @@
 use Rattle.std.proofs.Common.{refl, ap, ◌∙◌}
-use Rattle.playlist_parse.specs.LineViews.{tag_view}
+use Rattle.playlist_parse.specs.Inner.LineViews.{tag_view}
 use Rattle.playlist_parse.specs.declared.tag.Tag.TheVariants as tag_name
 use Rattle.playlist_parse.proofs.TagNames.{unnamed, flagged}
 use Rattle.playlist_parse.proofs.tag.tag_of.Goals as goal

@@ -1,6 +1,6 @@
 use Rattle.std.proofs.Common.{◌≡◌, drop}
 use Rattle.std.specs.List.{list_all}
-use Rattle.fitting.specs.Fitting.{date_range_fits}
+use Rattle.writable.specs.Fitting.{date_range_fits}
 use Rattle.playlist_write.proofs.date_ranges.date_ranges_fit.Given as goal
 
 abbrev pub invariant-loop-text : goal.invariant-loop-text

@@ -1,7 +1,7 @@
 use Rattle.std.proofs.Common.{ap, ◌∙◌}
 use Rattle.std.specs.Prelude.{is_ok}
-use Rattle.instants.specs.declared.reading.TimeFault.TheVariants.{BadTime}
-use Rattle.instants.specs.Instant.{instant_of}
+use Rattle.date_times.specs.declared.reading.TimeFault.TheVariants.{BadTime}
+use Rattle.date_times.specs.Instant.{instant_of}
 use Rattle.playlist_write.proofs.DateRangeReads.{told}
 use Rattle.playlist_write.proofs.date_ranges.is_time.Goals as goal
 

@@ -2,7 +2,7 @@ use Rattle.std.proofs.Common.{◌∷◌, [], ◌++◌, ap, ◌∙◌, sym, subst
 use Rattle.std.specs.Prelude.{IsUtf8}
 use Rattle.std.proofs.lemmas.Str.{IsUtf8-from_ascii}
 use Rattle.std.proofs.lemmas.List.{take_all}
-use Rattle.instants.proofs.Chains.{as_text}
+use Rattle.date_times.proofs.Chains.{as_text}
 use Rattle.playlist_write.proofs.HexPairs.{last_iv_ascii}
 use Rattle.playlist_write.proofs.digits.push_last_iv.Goals as goal
 

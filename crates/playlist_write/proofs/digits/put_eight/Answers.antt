@@ -1,6 +1,6 @@
 use Rattle.std.proofs.Common.{◌≡◌, ◌+◌, ◌/◌, take, ap, ◌∙◌, sym, arith}
-use Rattle.instants.specs.Digits.{fixed_digits}
-use Rattle.instants.proofs.Chains.{grown2, as_text}
+use Rattle.date_times.specs.Digits.{fixed_digits}
+use Rattle.date_times.proofs.Chains.{grown2, as_text}
 use Rattle.playlist_write.proofs.ZerosInFront.{last_eight}
 use Rattle.playlist_write.proofs.digits.put_eight.Goals as goal
 

@@ -1,8 +1,8 @@
 use Rattle.std.proofs.Common.{◌≡◌, ◌++◌, ◌/◌, take, ap, ◌∙◌, sym, arith}
 use Rattle.std.specs.Prelude.{codes}
-use Rattle.instants.specs.Digits.{fixed_digits}
+use Rattle.date_times.specs.Digits.{fixed_digits}
 use Rattle.std.proofs.lemmas.List.{take-take}
-use Rattle.instants.proofs.Chains.{grown2}
+use Rattle.date_times.proofs.Chains.{grown2}
 use Rattle.playlist_write.proofs.ZerosInFront.{zeros_of_small}
 use Rattle.playlist_write.proofs.HexPairs.{all_digits}
 use Rattle.playlist_write.proofs.digits.put_iv.Goals as goal

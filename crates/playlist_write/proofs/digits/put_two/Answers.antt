@@ -1,6 +1,6 @@
 use Rattle.std.proofs.Common.{◌≡◌, ◌∷◌, [], ◌+◌, ◌*◌, ◌%◌, take, get_or, ap, ◌∙◌, arith}
 use Rattle.playlist_write.specs.declared.digits.TheConstants.{PAIRS}
-use Rattle.instants.proofs.Chains.{grown2, as_text}
+use Rattle.date_times.proofs.Chains.{grown2, as_text}
 use Rattle.playlist_write.proofs.HexPairs.{last_in_table}
 use Rattle.playlist_write.proofs.digits.put_two.Goals as goal
 

@@ -1,5 +1,5 @@
 use Rattle.std.proofs.Common.{sym, string_bytes}
-use Rattle.instants.proofs.Chains.{as_text}
+use Rattle.date_times.proofs.Chains.{as_text}
 use Rattle.playlist_write.proofs.TagLines.{format_part}
 use Rattle.playlist_write.proofs.keys.push_format.Goals as goal
 

@@ -1,5 +1,6 @@
 use Rattle.std.proofs.Common.{◌≡◌, ◌++◌, take, string_bytes}
-use Rattle.playlist_write.specs.Owed.{said_text, set_tags}
+use Rattle.playlist_write.specs.Owed.{said_text}
+use Rattle.playlist_write.specs.Inner.Owed.{set_tags}
 use Rattle.playlist_write.proofs.keys.push_keys.Given as goal
 
 abbrev pub invariant-loop-key : goal.invariant-loop-key

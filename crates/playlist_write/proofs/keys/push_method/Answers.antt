@@ -1,7 +1,7 @@
 use Rattle.std.proofs.Common.{◌++◌, ap, sym, string_bytes}
 use Rattle.std.specs.Prelude.{codes}
 use Rattle.std.proofs.lemmas.Slice.Eq.{bytes_eq-Decides}
-use Rattle.instants.proofs.Chains.{grown3, as_text}
+use Rattle.date_times.proofs.Chains.{grown3, as_text}
 use Rattle.playlist_write.proofs.keys.push_method.Goals as goal
 
 pub returns-then-eq : goal.returns-then-eq

@@ -1,9 +1,9 @@
 use Rattle.std.proofs.Common.{◌∙◌, ◌∷◌, [], string_bytes}
 use Rattle.std.specs.Prelude.{codes}
 use Rattle.attr_list.specs.Attributes.{pair_spelling}
-use Rattle.playlist_meaning.specs.Carried.{after_commas}
+use Rattle.playlist_model.specs.Carried.{after_commas}
 use Rattle.playlist_write.specs.Spelling.{in_quotes, part_pairs}
-use Rattle.instants.proofs.Chains.{grown4, as_text}
+use Rattle.date_times.proofs.Chains.{grown4, as_text}
 use Rattle.playlist_write.proofs.TagLines.{section_parts}
 use Rattle.playlist_write.proofs.keys.push_section.Goals as goal
 

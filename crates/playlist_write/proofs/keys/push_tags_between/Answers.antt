@@ -1,6 +1,7 @@
 use Rattle.std.proofs.Common.{◌≡◌, ◌∷◌, [], ap, ◌∙◌, sym, append-nil, string_bytes, arith}
-use Rattle.instants.proofs.Chains.{as_text}
-use Rattle.playlist_write.specs.Owed.{said_text, keys_owed, key_line}
+use Rattle.date_times.proofs.Chains.{as_text}
+use Rattle.playlist_write.specs.Owed.{said_text, keys_owed}
+use Rattle.playlist_write.specs.Inner.Owed.{key_line}
 use Rattle.playlist_write.proofs.KeyFormats.{next_tags, only}
 use Rattle.playlist_write.proofs.keys.push_tags_between.Goals as goal
 

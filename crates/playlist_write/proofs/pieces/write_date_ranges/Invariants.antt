@@ -1,7 +1,7 @@
 use Rattle.std.proofs.Common.{◌++◌, drop, string_bytes}
-use Rattle.devices.specs.Devices.{NoneFailed}
+use Rattle.byte_streams.specs.Devices.{NoneFailed}
 use Rattle.playlist_write.specs.Owed.{date_ranges_text}
-use Rattle.playlist_write.specs.Taken.{TookAllBut}
+use Rattle.playlist_write.specs.Inner.Taken.{TookAllBut}
 use Rattle.playlist_write.proofs.pieces.write_date_ranges.Given as goal
 
 abbrev pub invariant-loop-date_range : goal.invariant-loop-date_range

@@ -1,14 +1,14 @@
 use Rattle.std.proofs.Common.{◌++◌, drop, string_bytes}
 use Rattle.std.specs.Option.{option_copied}
-use Rattle.devices.specs.Devices.{NoneFailed}
+use Rattle.byte_streams.specs.Devices.{NoneFailed}
 use Rattle.playlist_write.specs.Owed.{said_text, segments_owed, none_yet}
-use Rattle.playlist_write.specs.Taken.{TookAllBut}
+use Rattle.playlist_write.specs.Inner.Taken.{TookAllBut}
 use Rattle.playlist_write.proofs.pieces.write_segments.Given as goal
 
 abbrev pub invariant-loop-next : goal.invariant-loop-next
 invariant-loop-next g l = record {
   taken : TookAllBut (g.S.Sink.contents l.fn.sink) (g.S.Sink.contents l.sink)
-      (string_bytes l.held ++ said_text (segments_owed (record { keys = l.keys; section = option_copied l.section }) (drop l.next-index l.segments)))
+      (string_bytes l.held ++ said_text (segments_owed (record { keys = l.keys; init_section = option_copied l.section }) (drop l.next-index l.segments)))
       (string_bytes l.fn.held ++ said_text (segments_owed none_yet l.segments));
   failed : NoneFailed (g.S.Sink.failed l.fn.sink) (g.S.Sink.failed l.sink);
 }

@@ -1,5 +1,5 @@
 use Rattle.std.proofs.Common.{◌≤◌, map, sum, take}
-use Rattle.playlist_write.specs.Room.{date_range_room}
+use Rattle.playlist_write.specs.Inner.Room.{date_range_room}
 use Rattle.playlist_write.proofs.room.date_ranges_room.Given as goal
 
 abbrev pub invariant-loop-date_range : goal.invariant-loop-date_range

@@ -1,7 +1,7 @@
 use Rattle.std.proofs.Common.{◌∷◌, [], string_bytes}
 use Rattle.std.specs.Prelude.{codes}
 use Rattle.playlist_write.specs.Spelling.{byte_range_text}
-use Rattle.instants.proofs.Chains.{grown3, as_text}
+use Rattle.date_times.proofs.Chains.{grown3, as_text}
 use Rattle.playlist_write.proofs.TagLines.{byte_range_parts}
 use Rattle.playlist_write.proofs.segments.push_byte_range_line.Goals as goal
 

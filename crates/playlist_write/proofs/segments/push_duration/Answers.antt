@@ -2,7 +2,7 @@ use Rattle.std.proofs.Common.{◌∷◌, string_bytes}
 use Rattle.std.specs.Prelude.{codes}
 use Rattle.fixed_duration.specs.Duration.{duration_text}
 use Rattle.playlist_write.specs.Owed.{with_feed}
-use Rattle.instants.proofs.Chains.{grown3, as_text}
+use Rattle.date_times.proofs.Chains.{grown3, as_text}
 use Rattle.playlist_write.proofs.TagLines.{duration_parts}
 use Rattle.playlist_write.proofs.segments.push_duration.Goals as goal
 

@@ -5,5 +5,5 @@ use Rattle.playlist_write.proofs.segments.push_segments.Given as goal
 
 abbrev pub invariant-loop-next : goal.invariant-loop-next
 invariant-loop-next l =
-    string_bytes l.out ++ said_text (segments_owed (record { keys = l.keys; section = option_copied l.section }) (drop l.next-index l.segments))
+    string_bytes l.out ++ said_text (segments_owed (record { keys = l.keys; init_section = option_copied l.section }) (drop l.next-index l.segments))
     ≡ string_bytes l.initial.out ++ said_text (segments_owed none_yet l.segments)

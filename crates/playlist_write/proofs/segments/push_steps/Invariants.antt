@@ -1,5 +1,5 @@
 use Rattle.std.proofs.Common.{◌≡◌, ◌++◌, replicate, string_bytes}
-use Rattle.playlist_meaning.specs.Said.{discontinuity}
+use Rattle.playlist_model.specs.Said.{discontinuity}
 use Rattle.playlist_write.specs.Owed.{said_text}
 use Rattle.playlist_write.proofs.segments.push_steps.Given as goal
 

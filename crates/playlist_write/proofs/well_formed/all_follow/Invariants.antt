@@ -1,5 +1,5 @@
 use Rattle.std.proofs.Common.{◌≡◌, drop}
-use Rattle.playlist_meaning.specs.Numbering.{all_follow}
+use Rattle.playlist_model.specs.Numbering.{all_follow}
 use Rattle.playlist_write.specs.WellFormed.{out_numbers}
 use Rattle.playlist_write.proofs.well_formed.all_follow.Given as goal
 

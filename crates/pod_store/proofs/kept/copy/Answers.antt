@@ -1,5 +1,5 @@
 use Rattle.std.proofs.Common.{ap, ◌∙◌, map, ◌++◌, ◌∷◌, [], true}
-use Rattle.playlist_meaning.specs.Pods.{Pod}
+use Rattle.pod_store.specs.Pods.{Pod}
 use Rattle.pod_store.specs.Kept.{entry_of}
 use Rattle.pod_store.proofs.KeptLaws.{last_kept}
 use Rattle.pod_store.proofs.kept.copy.Goals as goal

@@ -1,5 +1,5 @@
 use Rattle.std.proofs.Common.{rules}
-use Rattle.pod_store.specs.Kept.{is_pair_held, used_if}
+use Rattle.pod_store.specs.Inner.Kept.{is_pair_held, used_if}
 use Rattle.pod_store.proofs.InUse.{mapped-RetainsPairs}
 use Rattle.pod_store.proofs.kept.keep_in_use.Goals as goal
 

@@ -1,7 +1,8 @@
 use Rattle.std.proofs.Common.{◌≡◌, subst, sym, ap, ◌∙◌}
 use Rattle.scte35_codec.specs.Section.{section_of}
 use Rattle.scte35_codec.specs.Reading.{Gives, reading, ◌>>=◌}
-use Rattle.scte35_codec.specs.Hexadecimal.{decoded, reading_digits}
+use Rattle.scte35_codec.specs.Hexadecimal.{decoded}
+use Rattle.scte35_codec.specs.Inner.Hexadecimal.{reading_digits}
 use Rattle.scte35_codec.proofs.hexadecimal.read_few.Goals as goal
 
 pub returns-clause-exact : goal.returns-clause-exact

@@ -1,6 +1,7 @@
 use Rattle.std.proofs.Common.{◌≡◌, true, sym, subst, List, ℕ, arith}
 use Rattle.scte35_codec.specs.Section.{section_of}
-use Rattle.scte35_codec.specs.Writing.{has_section, front_fields, Appends}
+use Rattle.scte35_codec.specs.Writing.{has_section}
+use Rattle.scte35_codec.specs.Inner.Writing.{front_fields, Appends}
 use Rattle.scte35_codec.proofs.Fits.{kept}
 use Rattle.scte35_codec.proofs.writing.front_of.Goals as goal
 

@@ -1,6 +1,6 @@
 use Rattle.std.proofs.Common.{arith}
 use Rattle.scte35_codec.specs.Layout.{bytes_of}
-use Rattle.scte35_codec.specs.Writing.{Appends}
+use Rattle.scte35_codec.specs.Inner.Writing.{Appends}
 use Rattle.scte35_codec.proofs.Appends.{on_added, bytes_append}
 use Rattle.scte35_codec.proofs.writing.put_bytes.Goals as goal
 

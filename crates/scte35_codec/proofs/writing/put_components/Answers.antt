@@ -1,6 +1,6 @@
 use Rattle.std.proofs.Common.{None, List, sym, subst}
 use Rattle.scte35_codec.specs.Layout.{Field}
-use Rattle.scte35_codec.specs.Writing.{Appends}
+use Rattle.scte35_codec.specs.Inner.Writing.{Appends}
 use Rattle.scte35_codec.proofs.Lengths.{components_more}
 use Rattle.scte35_codec.proofs.Appends.{Appends-then}
 use Rattle.scte35_codec.proofs.writing.put_components.Goals as goal

@@ -1,7 +1,7 @@
 use Rattle.std.proofs.Common.{take}
 use Rattle.std.specs.List.{flat_map}
 use Rattle.scte35_codec.specs.Section.{component}
-use Rattle.scte35_codec.specs.Writing.{Appends}
+use Rattle.scte35_codec.specs.Inner.Writing.{Appends}
 use Rattle.scte35_codec.proofs.writing.put_components.Given as goal
 
 abbrev pub invariant-loop-component : goal.invariant-loop-component

@@ -1,7 +1,7 @@
 use Rattle.std.proofs.Common.{rules, not}
 use Rattle.std.specs.Prelude.{bytes_eq}
 use Rattle.std.proofs.lemmas.Fn.{filter_same}
-use Rattle.playlist_meaning.specs.declared.Key.{Key}
+use Rattle.playlist_model.specs.declared.Key.{Key}
 use Rattle.segment_state.proofs.keys.remove_format.Goals as goal
 
 pub returns-clause-items : goal.returns-clause-items

@@ -1,5 +1,5 @@
 use Rattle.std.proofs.Common.{◌≡◌, ◌∷◌, map, take}
-use Rattle.playlist_meaning.specs.declared.KeyTag.TheVariants.{End, Set}
+use Rattle.playlist_model.specs.declared.KeyTag.TheVariants.{End, Set}
 use Rattle.stitcher.proofs.key_tags.tags_after_end.Given as goal
 
 abbrev pub invariant-loop-key : goal.invariant-loop-key

@@ -1,5 +1,5 @@
 use Rattle.std.proofs.Common.{◌≡◌, length}
-use Rattle.stitcher.specs.Making.{goes_on_to_last}
+use Rattle.stitcher.specs.Inner.Making.{goes_on_to_last}
 use Rattle.stitcher.proofs.making.goes_on_to_last.Given as goal
 
 abbrev pub invariant-loop-here : goal.invariant-loop-here

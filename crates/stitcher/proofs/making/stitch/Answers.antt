@@ -1,10 +1,10 @@
 use Rattle.std.proofs.Common.{rules, [], ◌++◌, List, refl, sym, subst, ap, ◌∙◌}
 use Rattle.std.specs.Prelude.{None}
 use Rattle.std.specs.List.{list_all}
-use Rattle.playlist_meaning.specs.Stitched.{Numbers}
-use Rattle.stitcher.specs.declared.marked.Marked.{Marked}
+use Rattle.stitcher.specs.Stitched.{Numbers}
+use Rattle.stitcher.specs.declared.marked.MarkedSegment.{MarkedSegment}
 use Rattle.stitcher.specs.StitchedSegments.{item_fits}
-use Rattle.stitcher.specs.Making.{Made, Passes, Puts, numbers_fit, pieces_at, pieces_between, pieces_on, rest_on}
+use Rattle.stitcher.specs.Inner.Making.{Made, Passes, Puts, numbers_fit, pieces_at, pieces_between, pieces_on, rest_on}
 use Rattle.stitcher.proofs.Outcomes.{handed_on}
 use Rattle.stitcher.proofs.Putting.{Walks, walks_none, walks_on, comes_whole, passes_whole, none_left}
 use Rattle.stitcher.proofs.Runs.{in_order}
@@ -43,7 +43,7 @@ returns-in_err-put_marked-clause-err c =
     let all = pieces_between store ends c.args.marked.now in
     let here = c.in-Some.here.now in
     let later = c.in-Some.later.now in
-    let walks = subst (λ (ms : List Marked). Walks (nothing c.args.first) c.loop-here.stitching all (pieces_on store ends.so_far c.loop-here.previous.now ms)) c.in-Some.ensures.cases.0 c.loop-here.invariant.walks in
+    let walks = subst (λ (ms : List MarkedSegment). Walks (nothing c.args.first) c.loop-here.stitching all (pieces_on store ends.so_far c.loop-here.previous.now ms)) c.in-Some.ensures.cases.0 c.loop-here.invariant.walks in
     handed_on c.from_residual-in_err-put_marked.result c.in_err-put_marked.field-0.0 c.from_residual-in_err-put_marked.ensures.1 c.in_err-put_marked.ensures.err
     (λ p. ap (list_all item_fits) (in_order store c.args.first ends c.args.marked.now c.requires)
     ∙ passes_whole (nothing c.args.first) c.loop-here.stitching all (pieces_at store ends.so_far c.loop-here.previous.now here later) (pieces_on store ends.so_far here.mark later) walks p)
@@ -53,7 +53,7 @@ returns-clause-ok c =
     let store = c.args.store.now in
     let ends = c.args.ends.now in
     let all = pieces_between store ends c.args.marked.now in
-    let walks = subst (λ (ms : List Marked). Walks (nothing c.args.first) c.loop-here.stitching all (pieces_on store ends.so_far c.loop-here.previous.now ms)) (none_left c.loop-here.rest.now c.in_default.ensures.cases) c.loop-here.invariant.walks in
+    let walks = subst (λ (ms : List MarkedSegment). Walks (nothing c.args.first) c.loop-here.stitching all (pieces_on store ends.so_far c.loop-here.previous.now ms)) (none_left c.loop-here.rest.now c.in_default.ensures.cases) c.loop-here.invariant.walks in
     let items = ap (λ (m : Made). m.items) c.stitching-2.view_is in
     let whole = in_order store c.args.first ends c.args.marked.now c.requires ∙ comes_whole (nothing c.args.first) c.loop-here.stitching all walks in
     (items ∙ sym whole, ap (list_all item_fits) items ∙ c.loop-here.invariant.fit)

@@ -2,7 +2,7 @@ use Rattle.std.proofs.Common.{◌≡◌, true, length, []}
 use Rattle.std.specs.Prelude.{None}
 use Rattle.std.specs.List.{list_all}
 use Rattle.stitcher.specs.StitchedSegments.{item_fits}
-use Rattle.stitcher.specs.Making.{numbers_fit, pieces_on, pieces_between}
+use Rattle.stitcher.specs.Inner.Making.{numbers_fit, pieces_on, pieces_between}
 use Rattle.stitcher.proofs.Putting.{Walks}
 use Rattle.stitcher.proofs.making.stitch.Given as goal
 

@@ -1,5 +1,5 @@
 use Rattle.std.proofs.Common.{◌∙◌, sym, ap, option_copied}
-use Rattle.break_finder.specs.Entering.{Moment, entered}
+use Rattle.break_finder.specs.Entering.{EntryLimits, entered}
 use Rattle.break_finder.specs.Entrances.{taken}
 use Rattle.break_finder.proofs.FirstEntered.{first_entered}
 use Rattle.break_finder.proofs.entering.Entrances.entered.Goals as goal
@@ -8,5 +8,5 @@ pub returns-in-Some-clause-entered : goal.returns-in-Some-clause-entered
 returns-in-Some-clause-entered c = λ target mapped store breaks these.
     let last = option_copied c.args.last in
     let tolerance = c.args.self.now.tolerance in
-    let m : Moment = record { tolerance = tolerance; target = target; mapped = mapped; last = last } in
+    let m : EntryLimits = record { tolerance = tolerance; target_duration = target; mapped = mapped; last = last } in
     c.first.ensures.taken ∙ ap (taken tolerance last c.in-Some.instant) these ∙ first_entered m store breaks c.in-Some.instant ∙ ap (entered m store breaks) (sym c.in-Some.is)

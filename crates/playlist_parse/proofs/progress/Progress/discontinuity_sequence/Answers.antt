@@ -1,5 +1,5 @@
 use Rattle.std.proofs.Common.{rules}
-use Rattle.playlist_meaning.specs.LookBack.{is_discontinuity}
+use Rattle.playlist_model.specs.LookBack.{is_discontinuity}
 use Rattle.playlist_parse.proofs.HasCount.{has_count}
 use Rattle.playlist_parse.proofs.progress.Progress.discontinuity_sequence.Goals as goal
 

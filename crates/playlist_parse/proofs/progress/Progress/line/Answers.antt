@@ -1,8 +1,8 @@
 use Rattle.std.proofs.Common.{◌≡◌, ◌++◌, ap, sym, ◌∙◌, subst}
 use Rattle.std.specs.Prelude.{IsOk, MatchResult, codes}
-use Rattle.playlist_meaning.specs.Refusals.{Refuses}
-use Rattle.playlist_meaning.specs.LookBack.{with_said}
-use Rattle.playlist_parse.specs.Progress.{progress_at}
+use Rattle.playlist_model.specs.Refusals.{Refuses}
+use Rattle.playlist_model.specs.LookBack.{with_said}
+use Rattle.playlist_parse.specs.Inner.Progress.{progress_at}
 use Rattle.playlist_parse.proofs.LineLemmas.{duration_line}
 use Rattle.playlist_parse.proofs.progress.Progress.line.Goals as goal
 

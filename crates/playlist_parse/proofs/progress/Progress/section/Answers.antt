@@ -1,7 +1,7 @@
-use Rattle.playlist_meaning.specs.Said as said
-use Rattle.playlist_meaning.specs.Reading.{said_by_tag}
-use Rattle.playlist_meaning.specs.Reading.{limited}
-use Rattle.playlist_parse.specs.Views.{progress_of}
+use Rattle.playlist_model.specs.Said as said
+use Rattle.playlist_model.specs.Reading.{said_by_tag}
+use Rattle.playlist_model.specs.Reading.{limited}
+use Rattle.playlist_parse.specs.Inner.Views.{progress_of}
 use Rattle.playlist_parse.proofs.Kept.{takes_tag, map_tag_says}
 use Rattle.playlist_parse.proofs.progress.Progress.section.Goals as goal
 

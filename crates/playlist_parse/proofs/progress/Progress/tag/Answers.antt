@@ -1,6 +1,6 @@
 use Rattle.std.proofs.Common.{sym, ap, ◌∙◌}
-use Rattle.playlist_meaning.specs.Said as said
-use Rattle.playlist_parse.specs.LineViews.{tag_view}
+use Rattle.playlist_model.specs.Said as said
+use Rattle.playlist_parse.specs.Inner.LineViews.{tag_view}
 use Rattle.playlist_parse.proofs.TagNames.{takes_named}
 use Rattle.playlist_parse.proofs.progress.Progress.tag.Goals as goal
 

@@ -1,5 +1,5 @@
 use Rattle.std.proofs.Common.{refl, sym, ◌∙◌}
-use Rattle.pod_store.specs.Kept.{kept_for}
+use Rattle.pod_store.specs.Inner.Kept.{kept_for}
 use Rattle.pod_store.proofs.KeptLaws.{there_kept}
 use Rattle.pod_store.proofs.store.PodStore.copy.Goals as goal
 

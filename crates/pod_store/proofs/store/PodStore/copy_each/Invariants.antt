@@ -1,5 +1,6 @@
 use Rattle.std.proofs.Common.{◌≡◌, drop}
-use Rattle.pod_store.specs.Store.{with_copies, GrowsBy}
+use Rattle.pod_store.specs.Store.{with_copies}
+use Rattle.pod_store.specs.Inner.Store.{GrowsBy}
 use Rattle.pod_store.proofs.store.PodStore.copy_each.Given as goal
 
 abbrev pub invariant-loop-id : goal.invariant-loop-id

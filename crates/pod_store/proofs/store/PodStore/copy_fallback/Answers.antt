@@ -1,5 +1,5 @@
 use Rattle.std.proofs.Common.{ap, ◌∙◌}
-use Rattle.pod_store.specs.Kept.{Pairs}
+use Rattle.pod_store.specs.Inner.Kept.{Pairs}
 use Rattle.pod_store.proofs.KeptLaws.{store_of}
 use Rattle.pod_store.proofs.Copies.{truncated}
 use Rattle.pod_store.proofs.store.PodStore.copy_fallback.Goals as goal

@@ -1,6 +1,6 @@
 use Rattle.std.proofs.Common.{List, sym, subst, ◌∙◌}
-use Rattle.playlist_meaning.specs.Stitched.{Piece, ad_piece}
-use Rattle.stitcher.specs.Making.{Puts, Passes}
+use Rattle.stitcher.specs.Stitched.{Piece, ad_piece}
+use Rattle.stitcher.specs.Inner.Making.{Puts, Passes}
 use Rattle.stitcher.proofs.Outcomes.{handed_on}
 use Rattle.stitcher.proofs.Parts.{is_here}
 use Rattle.stitcher.proofs.making.Stitching.offer.Goals as goal

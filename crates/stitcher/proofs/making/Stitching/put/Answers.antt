@@ -1,7 +1,7 @@
 use Rattle.std.proofs.Common.{◌≡◌, [], ◌∷◌, sym, subst, ◌∙◌, ap, Bool, true, false}
 use Rattle.std.specs.Prelude.{None, ℕ}
-use Rattle.playlist_meaning.specs.Stitched.{ad_piece}
-use Rattle.stitcher.specs.Making.{Made, Puts, ad_steps, numbers_with, pushed}
+use Rattle.stitcher.specs.Stitched.{ad_piece}
+use Rattle.stitcher.specs.Inner.Making.{Made, Puts, ad_steps, numbers_with, pushed}
 use Rattle.stitcher.proofs.Outcomes.{on_ok}
 use Rattle.stitcher.proofs.Putting.{puts_one}
 use Rattle.stitcher.proofs.making.Stitching.put.Goals as goal

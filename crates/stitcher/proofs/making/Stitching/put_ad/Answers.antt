@@ -1,9 +1,9 @@
 use Rattle.std.proofs.Common.{[], ◌∷◌, List, map, sym, subst, ap, ◌∙◌, true, false}
-use Rattle.playlist_meaning.specs.Marks.{Mark}
-use Rattle.playlist_meaning.specs.Pods.{Ad, PodSegment}
-use Rattle.playlist_meaning.specs.Stitched.{ad_piece, ad_pieces}
+use Rattle.pod_store.specs.Marks.{Mark}
+use Rattle.pod_store.specs.Pods.{Ad, PodSegment}
+use Rattle.stitcher.specs.Stitched.{ad_piece, ad_pieces}
 use Rattle.stitcher.specs.declared.making.Part.{Part}
-use Rattle.stitcher.specs.Making.{Passes, numbers_fit, part_here, part_of, part_after, part_after_one}
+use Rattle.stitcher.specs.Inner.Making.{Passes, numbers_fit, part_here, part_of, part_after, part_after_one}
 use Rattle.stitcher.proofs.Outcomes.{handed_on}
 use Rattle.stitcher.proofs.Putting.{Walks, walks_none, walks_on, walked, passes_there, passes_longer, none_left}
 use Rattle.stitcher.proofs.making.Stitching.put_ad.Goals as goal

@@ -1,9 +1,9 @@
 use Rattle.std.proofs.Common.{sym, subst, ap, ◌∙◌}
 use Rattle.std.specs.Option.{option_copied}
 use Rattle.pod_store.specs.Store.{pod_for}
-use Rattle.playlist_meaning.specs.Stitched.{pod_pieces}
+use Rattle.stitcher.specs.Stitched.{pod_pieces}
 use Rattle.stitcher.specs.declared.making.Part.{Part}
-use Rattle.stitcher.specs.Making.{Puts, part_of}
+use Rattle.stitcher.specs.Inner.Making.{Puts, part_of}
 use Rattle.stitcher.proofs.Outcomes.{on_ok}
 use Rattle.stitcher.proofs.Runs.{run_begins}
 use Rattle.stitcher.proofs.making.Stitching.put_marked.Goals as goal

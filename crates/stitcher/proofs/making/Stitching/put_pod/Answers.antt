@@ -1,9 +1,9 @@
 use Rattle.std.proofs.Common.{[], List, sym, subst, ap, ◌∙◌}
-use Rattle.playlist_meaning.specs.Marks.{Mark}
-use Rattle.playlist_meaning.specs.Pods.{Ad}
-use Rattle.playlist_meaning.specs.Stitched.{Piece, ad_pieces, pieces_of_ads}
+use Rattle.pod_store.specs.Marks.{Mark}
+use Rattle.pod_store.specs.Pods.{Ad}
+use Rattle.stitcher.specs.Stitched.{Piece, ad_pieces, pieces_of_ads}
 use Rattle.stitcher.specs.declared.making.Part.{Part}
-use Rattle.stitcher.specs.Making.{numbers_fit, part_of, part_after}
+use Rattle.stitcher.specs.Inner.Making.{numbers_fit, part_of, part_after}
 use Rattle.stitcher.proofs.Outcomes.{handed_on}
 use Rattle.stitcher.proofs.Parts.{part_append, done_of}
 use Rattle.stitcher.proofs.Putting.{Walks, walks_none, walks_on, walked, passes_there, none_left}

@@ -1,7 +1,7 @@
 use Rattle.std.proofs.Common.{◌≡◌, true, length}
-use Rattle.playlist_meaning.specs.Marks.{Mark}
-use Rattle.playlist_meaning.specs.Stitched.{pieces_of_ads}
-use Rattle.stitcher.specs.Making.{numbers_fit, part_of}
+use Rattle.pod_store.specs.Marks.{Mark}
+use Rattle.stitcher.specs.Stitched.{pieces_of_ads}
+use Rattle.stitcher.specs.Inner.Making.{numbers_fit, part_of}
 use Rattle.stitcher.proofs.Putting.{Walks}
 use Rattle.stitcher.proofs.making.Stitching.put_pod.Given as goal
 

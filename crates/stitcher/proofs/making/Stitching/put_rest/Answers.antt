@@ -1,9 +1,10 @@
 use Rattle.std.proofs.Common.{sym, subst, ap, ◌∙◌}
 use Rattle.std.specs.Option.{option_copied}
-use Rattle.playlist_meaning.specs.Stitched.{pod_pieces}
+use Rattle.stitcher.specs.Stitched.{pod_pieces}
 use Rattle.pod_store.specs.Store.{pod_for}
 use Rattle.stitcher.specs.declared.making.Part.{Part}
-use Rattle.stitcher.specs.Making.{Puts, part_of, pod_with, rest_on, whole_from}
+use Rattle.stitcher.specs.Making.{pod_with}
+use Rattle.stitcher.specs.Inner.Making.{Puts, part_of, rest_on, whole_from}
 use Rattle.stitcher.proofs.Outcomes.{on_ok}
 use Rattle.stitcher.proofs.making.Stitching.put_rest.Goals as goal
 

@@ -1,0 +1,5 @@
+pub mod Known
+pub mod Entering
+pub mod Entrances
+pub mod Kept
+pub mod WorkedExamples

@@ -1,0 +1,16 @@
+-- What proofs and inner functions say with the definitions of `Entrances`.
+use Rattle.break_finder.specs.Entrances.{Entrance, but}
+use Rattle.std.specs.Prelude.{ℕ, Bool, ◌&&◌, List, ℤ, Option, Some, None}
+use Rattle.std.specs.Option.{option_or}
+use Rattle.break_finder.specs.Breaks.{is_not_past, is_near}
+
+-- ---- spans
+
+-- a segment at this instant enters the break, whichever was entered last
+abbrev pub is_enterable : ℕ → ℤ → Entrance → Bool
+is_enterable tolerance instant e = is_near instant tolerance (Some e.start) && is_not_past instant tolerance e.end
+
+-- of breaks with this first and first other, and later ones with those, the first other
+abbrev pub second_of : Option (List ℕ) → Option (List ℕ) → Option (List ℕ) → Option (List ℕ) → Option (List ℕ)
+second_of None second later_first later_second = later_second
+second_of (Some id) second later_first later_second = option_or second (but later_first later_second (Some id))

@@ -1,0 +1,137 @@
+//! Devices that count their calls, and how many of them failed.
+ghost use Rattle.std.specs.Prelude.{◌≡◌, ℕ, ◌<◌, ◌≤◌, List, None, Option, length};
+ghost use Rattle.std.specs.Io.{ReadsAtMost, WritesAtMost};
+ghost use Rattle.std.specs.Io.KnownBytes.{ReadConsumes, WriteAppends};
+ghost use Rattle.byte_streams.specs.Devices.{Failures, no_failures, next_count, failures_after_read, failures_after_write};
+
+use std::io;
+use std::io::{Read, Write};
+use std::marker::Model;
+
+/// The room that a read offers at least.
+pub const READ_ROOM: usize = 8192;
+
+/// What bytes come from. Its counters stay at 2^64 - 1.
+pub trait Source {
+    /// The bytes that it has left, where they are known.
+    ghost remaining: { Self → Option (List ℕ) } = { λ _. None };
+
+    /// How many of its reads failed, and whether the last one did.
+    ghost failed: { Self → Failures };
+
+    /// How many reads there were.
+    ghost called: { Self → ℕ };
+
+    /// Gives a front of the bytes that are left: none only at the end.
+    fn read(&mut self, buf: &mut [u8]) -> io::Result<usize>
+        requires { READ_ROOM ≤ length buf.old }
+        ensures bound { ReadsAtMost result buf.new }
+        ensures bytes { ReadConsumes (remaining self.old) (remaining self.new) result buf.new }
+        ensures failures { failed self.new ≡ failures_after_read result (failed self.old) }
+        ensures calls { called self.new ≡ next_count (called self.old) };
+
+    /// How many reads failed.
+    fn failures(&self) -> u64
+        ensures { result ≡ (failed self.now).count };
+
+    /// How many reads there were.
+    fn calls(&self) -> u64
+        ensures { result ≡ called self.now };
+}
+
+/// What bytes go to. Its counter stays at 2^64 - 1.
+pub trait Sink {
+    /// The bytes that it has taken, where they are known.
+    ghost contents: { Self → Option (List ℕ) } = { λ _. None };
+
+    /// How many of its writes failed or took nothing, and whether the last one did.
+    ghost failed: { Self → Failures };
+
+    /// Takes a front of these bytes, of which there is at least one.
+    fn write(&mut self, buf: &[u8]) -> io::Result<usize>
+        requires { 0 < length buf.now }
+        ensures bound { WritesAtMost result buf.now }
+        ensures bytes { WriteAppends (contents self.old) (contents self.new) result buf.now }
+        ensures failures { failed self.new ≡ failures_after_write result (failed self.old) };
+
+    /// How many writes failed or took nothing.
+    fn failures(&self) -> u64
+        ensures { result ≡ (failed self.now).count };
+}
+
+/// A reader or a writer of std, with counters.
+#[derive(Drop)]
+pub struct Counted<T> {
+    inner: T,
+    failures: u64,
+    failed_last: bool,
+    calls: u64,
+}
+
+impl<T> Model for Counted<T> {
+    ghost use Rattle.std.specs.Prelude.{ℕ};
+    ghost use Rattle.byte_streams.specs.Devices.{Failures};
+
+    ghost Value = { T × Failures × ℕ };
+
+    ghost view = { λ c. (c.inner, record { count = c.failures; last = c.failed_last }, c.calls) };
+}
+
+impl<T> Counted<T> {
+    /// A device of which no call was counted yet.
+    pub fn new(inner: T) -> Counted<T>
+        ensures { result ≡ (inner, no_failures, 0) }
+    {
+        Counted {
+            inner,
+            failures: 0,
+            failed_last: false,
+            calls: 0,
+        }
+    }
+}
+
+impl<R: Read> Source for Counted<R> {
+    ghost remaining = { λ c. R.remaining c.0 };
+
+    ghost failed = { λ c. c.1 };
+
+    ghost called = { λ c. c.2 };
+
+    fn read(&mut self, buf: &mut [u8]) -> io::Result<usize> {
+        self.calls = self.calls.saturating_add(1);
+        let answer = self.inner.read(buf);
+        self.failed_last = answer.is_err();
+        if self.failed_last {
+            self.failures = self.failures.saturating_add(1);
+        }
+        answer
+    }
+
+    fn failures(&self) -> u64 {
+        self.failures
+    }
+
+    fn calls(&self) -> u64 {
+        self.calls
+    }
+}
+
+impl<W: Write> Sink for Counted<W> {
+    ghost contents = { λ c. W.contents c.0 };
+
+    ghost failed = { λ c. c.1 };
+
+    fn write(&mut self, buf: &[u8]) -> io::Result<usize> {
+        let answer = self.inner.write(buf);
+        self.failed_last = !matches!(&answer, Ok(n) if *n != 0);
+        if self.failed_last {
+            self.failures = self.failures.saturating_add(1);
+        }
+        answer
+    }
+
+    fn failures(&self) -> u64 {
+        self.failures
+    }
+}

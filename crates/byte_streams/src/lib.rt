@@ -1,0 +1,10 @@
+//! Devices: what bytes come from and what they go to. Their counters say in a contract who failed.
+#![tactic(auto)]
+
+mod device;
+mod output;
+mod pieces;
+
+pub use device::{Counted, READ_ROOM, Sink, Source};
+pub use output::{SinkFailed, hand_out};
+pub use pieces::{TestSink, TestSource};

@@ -1,0 +1,32 @@
+//! Bytes handed to a sink.
+ghost use Rattle.std.specs.Prelude.{◌≡◌, OnOk, OnErr};
+ghost use Rattle.std.specs.Io.KnownBytes.{Appends};
+ghost use Rattle.byte_streams.specs.Devices.{FailedAtLast, NoneFailed};
+ghost use Rattle.byte_streams.specs.Handed.{TookFront};
+
+use crate::device::Sink;
+
+/// A write failed, or took nothing.
+#[derive(Clone, Copy, PartialEq, Eq, Debug)]
+pub struct SinkFailed;
+
+/// Hands out all bytes, by as many writes as it takes, or a front of them where the sink fails: the
+/// write that failed is the last.
+pub fn hand_out<S: Sink>(bytes: &[u8], sink: &mut S) -> Result<(), SinkFailed>
+    ensures ok { OnOk result (Appends (S.contents sink.old) (S.contents sink.new) bytes.now) }
+    ensures err { OnErr result (TookFront (S.contents sink.old) (S.contents sink.new) bytes.now) }
+    ensures unfailed { OnOk result (NoneFailed (S.failed sink.old) (S.failed sink.new)) }
+    ensures failed { OnErr result (FailedAtLast (S.failed sink.old) (S.failed sink.new)) }
+{
+    let mut rest = bytes;
+    while !rest.is_empty() {
+        let Ok(count) = sink.write(rest) else {
+            return Err(SinkFailed);
+        };
+        if count == 0 {
+            return Err(SinkFailed);
+        }
+        rest = &rest[count..];
+    }
+    Ok(())
+}

@@ -1,0 +1,86 @@
+-- The replies, no channel among them.
+use Rattle.std.specs.Prelude.{ℕ, List, [], ◌∷◌, ◌++◌, codes, map, Option, Some, None, Ok, Err}
+use Rattle.std.specs.List.{flat_map}
+use Rattle.pod_store.specs.declared.fault.DecisionKind.{DecisionKind}
+use Rattle.pod_store.specs.declared.fault.DecisionKind.TheVariants as decision
+use Rattle.pod_store.specs.FaultTexts.{fault_text}
+use Rattle.pod_store.specs.Outcome.{Outcome}
+use Rattle.pod_store.specs.Store.{Store}
+use Rattle.break_finder.specs.declared.why.Why.{Why}
+use Rattle.break_finder.specs.Breaks.{Break}
+use Rattle.break_finder.specs.Entering.{id_of}
+use Rattle.channel_spec.specs.declared.fault.RefreshFault.{RefreshFault}
+use Rattle.channel_spec.specs.declared.fault.RefreshFault.TheVariants as fault
+use Rattle.http_messages.specs.declared.message.Reply.{Reply}
+use Rattle.http_messages.specs.declared.message.ContentType.TheVariants.{Playlist}
+use Rattle.http_messages.specs.declared.message.Allow.{Allow}
+use Rattle.http_messages.specs.Replies.{bare, plain}
+use Rattle.channel_api.specs.declared.channel_body.BodyFault.{BodyFault}
+use Rattle.channel_api.specs.declared.channel_body.BodyFault.TheVariants as body
+use Rattle.channel_api.specs.FaultTexts.{refresh_fault_text, why_word}
+
+-- a text and a line feed
+abbrev pub line : ℕ → List ℕ → Reply
+line status text = plain status (text ++ 10 ∷ [])
+
+abbrev pub not_found : Reply
+not_found = line 404 (codes "not found")
+
+abbrev pub not_allowed : Allow → Reply
+not_allowed allow = record (line 405 (codes "method not allowed")) { allow = Some allow }
+
+-- ---- making a channel
+
+abbrev pub body_fault_reply : BodyFault → Reply
+body_fault_reply body.NotJson = line 422 (codes "J1 NotJson")
+body_fault_reply body.Shape = line 422 (codes "J2 Shape")
+body_fault_reply body.OutOfMemory = bare 503
+
+abbrev pub bad_base : Reply
+bad_base = line 422 (codes "C1 BadBase")
+
+abbrev pub bad_tolerance : Reply
+bad_tolerance = line 422 (codes "C2 BadTolerance")
+
+abbrev pub exists : Reply
+exists = line 409 (codes "channel exists")
+
+-- ---- refreshes
+
+-- a text that can't be read is 422 (RFC 9110, 15.5.21), one that may not follow is 409 (15.5.10)
+abbrev pub refresh_status : RefreshFault → ℕ
+refresh_status (fault.Playlist unread) = 422
+refresh_status _ = 409
+
+abbrev pub refused_refresh : RefreshFault → Reply
+refused_refresh fault = line (refresh_status fault) (refresh_fault_text fault)
+
+-- ---- decisions
+
+abbrev pub decision_status : DecisionKind → ℕ
+decision_status decision.Used = 409
+decision_status decision.Full = 409
+decision_status decision.Unknown = 409
+decision_status _ = 422
+
+abbrev pub decisions_reply : Outcome Store → Reply
+decisions_reply (Ok store) = bare 204
+decisions_reply (Err fault) = line (decision_status fault.kind) (fault_text fault)
+
+-- ---- reads
+
+abbrev pub live_reply : Option (List ℕ) → Reply
+live_reply None = not_found
+live_reply (Some text) = record { status = 200; allow = None; content = Some (record { media = Playlist; text = text }) }
+
+-- a known ID, a tab (9), why its break is filled or not, and a line feed
+abbrev pub why_line : (List ℕ → Why) → List ℕ → List ℕ
+why_line reason id = id ++ 9 ∷ why_word (reason id) ++ 10 ∷ []
+
+abbrev pub why_text : (List ℕ → Why) → List Break → List ℕ
+why_text reason breaks = flat_map (why_line reason) (map id_of breaks)
+
+-- a text, or no content where that is empty
+abbrev pub text_reply : List ℕ → Reply
+text_reply [] = bare 200
+text_reply (b ∷ text) = plain 200 (b ∷ text)

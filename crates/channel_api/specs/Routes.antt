@@ -1,0 +1,60 @@
+-- What a target names.
+use Rattle.std.specs.Prelude.{ℕ, Bool, ◌≡◌, ◌&&◌, ◌||◌, ◌==◌, nat_le, List, [], ◌∷◌, ◌++◌, codes, length, drop, Option, Some, None, option_and_then, if◌then◌else◌}
+use Rattle.std.specs.Borrow.{Bor}
+use Rattle.std.specs.List.{list_all, before_first}
+use Rattle.std.specs.Char.{is_ascii_digit, is_ascii_lowercase}
+use Rattle.matchit.specs.Rows.{RowsOf}
+use Rattle.matchit.specs.Router.{RouteOf}
+use Rattle.matchit.specs.Seek.{first}
+use Rattle.matchit.specs.declared.error.InsertError.{InsertError}
+use Rattle.matchit.specs.declared.error.InsertError.TheVariants.{OutOfMemory}
+use Rattle.channel_api.specs.declared.routes.Resource.{Resource}
+use Rattle.channel_api.specs.declared.routes.Resource.TheVariants.{Channel, Origin, Decisions, Live, Why}
+
+abbrev pub is_name_byte : ℕ → Bool
+is_name_byte b = is_ascii_lowercase b || is_ascii_digit b || b == 45
+
+-- 1 to 32 of a to z, 0 to 9 and the hyphen
+abbrev pub is_channel_name : List ℕ → Bool
+is_channel_name name = nat_le 1 (length name) && nat_le (length name) 32 && list_all is_name_byte name
+
+-- the path of a target: all up to the first question mark
+abbrev pub path_of : List ℕ → List ℕ
+path_of target = before_first (λ b. b == 63) target
+
+-- the text of a front of a path, before the name
+abbrev pub front : List ℕ
+front = codes "/channels/"
+
+-- a route as the router keeps it: its pattern, in which 256 stands for the name, and its text
+abbrev pub row : List ℕ → Resource → List ℕ × RouteOf Resource
+row tail resource = (
+  front ++ 256 ∷ tail,
+  record { pattern = front ++ 256 ∷ tail; text = codes "/channels/{name}" ++ tail; names = (11, 15) ∷ []; value = resource },
+)
+
+abbrev pub route_rows : RowsOf (RouteOf Resource)
+route_rows =
+    row (codes "/decisions") Decisions ∷ row (codes "/live.m3u8") Live ∷ row (codes "/origin") Origin ∷ row (codes "/why") Why ∷ row [] Channel ∷ []
+
+-- an allocation failed, and no route was in another one's way
+abbrev pub IsWantOfMemory : InsertError → Type 0
+IsWantOfMemory e = e ≡ OutOfMemory
+
+-- what the router finds for a path
+abbrev pub found_at : List ℕ → Option (RouteOf Resource)
+found_at path = first route_rows path
+
+-- the name in a path that has a route
+abbrev pub name_in : List ℕ → List ℕ
+name_in path = before_first (λ b. b == 47) (drop (length front) path)
+
+abbrev pub named : List ℕ → RouteOf Resource → Option (List ℕ × Resource)
+named path route = if is_channel_name (name_in path) then Some (name_in path, route.value) else None
+
+abbrev pub pair : Bor (List ℕ) × Resource → List ℕ × Resource
+pair found = (found.0.now, found.1)
+
+-- the channel's name and what of it a path names
+abbrev pub route_of : List ℕ → Option (List ℕ × Resource)
+route_of path = option_and_then (named path) (found_at path)

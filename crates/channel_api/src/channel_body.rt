@@ -1,0 +1,108 @@
+//! The body of a request that makes a channel.
+ghost use Rattle.std.specs.Prelude.{◌≡◌, Ok, Err, Some, None, IfOk, IfErr, MatchResult, option_map, option_and_then, codes};
+ghost use Rattle.serde_json.specs.View.{view};
+ghost use Rattle.serde_json.specs.Find.{get, as_str};
+ghost use Rattle.fixed_duration.specs.Duration.{duration_of};
+ghost use Rattle.channel_api.specs.ChannelBody.{json_said, value_said, body_said, tolerance_said, nanos_or_most, RefusesBody};
+
+use channel_spec::DEFAULT_TOLERANCE;
+use fixed_duration::Nanos;
+use playlist_model::{Text, text_of};
+use serde_json::Value;
+use std::alloc::Global;
+
+/// Why a body is none of a channel.
+#[derive(Clone, Copy, Debug, PartialEq, Eq)]
+pub enum BodyFault {
+    /// J1: it is no JSON.
+    NotJson,
+    /// J2: it isn't an object with a base that is a text, or its tolerance is no text.
+    Shape,
+    /// An allocation failed.
+    OutOfMemory,
+}
+
+/// What a body says.
+#[derive(Drop)]
+pub struct Wanted {
+    pub base: Text,
+    pub tolerance: Nanos,
+}
+
+// The text at a name, where there is one.
+fn text_at<'a>(value: &'a Value, name: &str) -> Option<&'a str>
+    ensures { option_map (λ text. text.now) result ≡ option_and_then as_str (get name.now (view value.now)) }
+{
+    match value.get(name) {
+        Some(found) => found.as_str(),
+        None => None,
+    }
+}
+
+// A text that is no duration is longer than any tolerance.
+fn nanos_of(text: &str) -> Nanos
+    ensures { result ≡ nanos_or_most (duration_of text.now) }
+{
+    match Nanos::read(text) {
+        Ok(nanos) => nanos,
+        Err(_) => Nanos(u64::MAX),
+    }
+}
+
+// The tolerance that a value says.
+fn tolerance_said(value: &Value) -> Option<Nanos>
+    ensures { result ≡ tolerance_said (get (codes "tolerance") (view value.now)) }
+{
+    match value.get("tolerance") {
+        Some(tolerance) => match tolerance.as_str() {
+            Some(text) => Some(nanos_of(text)),
+            None => None,
+        },
+        None => Some(Nanos(DEFAULT_TOLERANCE)),
+    }
+}
+
+// The JSON value of a body.
+fn json_of(alloc: Global, body: &[u8]) -> Result<Value, BodyFault>
+    ensures ok { IfOk result (λ value. json_said body.now ≡ Some (view value)) }
+    ensures none { result ≡ Err BodyFault.NotJson → json_said body.now ≡ None }
+    ensures kind { result ≡ Err BodyFault.Shape → ⊥ }
+{
+    let Ok(text) = text_of(body) else {
+        return Err(BodyFault::NotJson);
+    };
+    match Value::from_str(alloc, text) {
+        Ok(value) => Ok(value),
+        Err(e) => {
+            if e.is_memory() {
+                return Err(BodyFault::OutOfMemory);
+            }
+            Err(BodyFault::NotJson)
+        }
+    }
+}
+
+// What a JSON value says.
+fn value_said(alloc: Global, value: &Value) -> Result<Wanted, BodyFault>
+    ensures { MatchResult result (λ w. value_said (view value.now) ≡ Ok (w.base, w.tolerance)) (λ e. RefusesBody e (value_said (view value.now))) }
+{
+    let Some(base) = text_at(value, "base") else {
+        return Err(BodyFault::Shape);
+    };
+    let Some(tolerance) = tolerance_said(value) else {
+        return Err(BodyFault::Shape);
+    };
+    let Ok(base) = Text::copy_of(alloc, base) else {
+        return Err(BodyFault::OutOfMemory);
+    };
+    Ok(Wanted { base, tolerance })
+}
+
+/// Reads the body of a request that makes a channel. A tolerance that is no duration is one that is too long.
+pub fn read_body(alloc: Global, body: &[u8]) -> Result<Wanted, BodyFault>
+    ensures ok { IfOk result (λ w. body_said body.now ≡ Ok (w.base, w.tolerance)) }
+    ensures err { IfErr result (λ e. RefusesBody e (body_said body.now)) }
+{
+    let value = json_of(alloc, body)?;
+    value_said(alloc, &value)
+}

@@ -1,0 +1,136 @@
+//! What a path names.
+ghost use Rattle.std.specs.Prelude.{◌≡◌, [], drop, option_map, false, MatchOption, OnOk, IfErr};
+ghost use Rattle.std.specs.List.{list_all};
+ghost use Rattle.channel_api.specs.Routes.{is_name_byte, is_channel_name, path_of, route_rows, name_in, found_at, route_of, pair, IsWantOfMemory};
+
+use matchit::{InsertError, Router};
+use std::alloc::Global;
+use std::marker::Model;
+
+/// What a path names, of the channel that it names.
+#[derive(Clone, Copy, Debug, PartialEq, Eq)]
+pub enum Resource {
+    Channel,
+    Origin,
+    Decisions,
+    Live,
+    Why,
+}
+
+/// The routes.
+#[derive(Drop)]
+pub struct Routes {
+    router: Router<Resource>,
+}
+
+impl Model for Routes {
+    ghost use Rattle.std.specs.Prelude.{◌≡◌};
+    ghost use Rattle.channel_api.specs.Routes.{route_rows};
+
+    ghost Value = { Unit {0} };
+
+    ghost view = { λ r. tt };
+
+    ghost invariant = { λ r. r.router ≡ route_rows };
+}
+
+const FRONT: usize = 10;
+
+// The path of a target.
+fn path_of(target: &str) -> &str
+    ensures { result.now ≡ path_of target.now }
+{
+    match target.split_once('?') {
+        Some((front, _)) => front,
+        None => target,
+    }
+}
+
+// What stands after the front of a path, where it may be cut there; elsewhere there is no name.
+fn after_front(path: &str) -> Option<&str>
+    ensures { MatchOption result (is_channel_name (name_in path.now) ≡ false) (λ rest. rest.now ≡ drop 10 path.now) }
+{
+    path.get(FRONT..)
+}
+
+// The name in a path, where there can be one.
+fn name_in(path: &str) -> Option<&str>
+    ensures { MatchOption result (is_channel_name (name_in path.now) ≡ false) (λ name. name.now ≡ name_in path.now) }
+{
+    let rest = after_front(path)?;
+    match rest.split_once('/') {
+        Some((front, _)) => Some(front),
+        None => Some(rest),
+    }
+}
+
+fn is_name_byte(byte: u8) -> bool
+    ensures { result ≡ is_name_byte byte }
+{
+    byte.is_ascii_lowercase() || byte.is_ascii_digit() || byte == b'-'
+}
+
+fn are_name_bytes(bytes: &[u8]) -> bool
+    ensures { result ≡ list_all is_name_byte bytes.now }
+{
+    bytes.iter().all(|byte| is_name_byte(*byte))
+}
+
+/// Whether a text can be the name of a channel.
+pub fn is_channel_name(name: &str) -> bool
+    ensures { result ≡ is_channel_name name.now }
+{
+    if name.is_empty() || name.len() > 32 {
+        return false;
+    }
+    are_name_bytes(name.as_bytes())
+}
+
+// The routes go into a router that has none.
+fn insert_routes(router: &mut Router<Resource>) -> Result<(), InsertError>
+    requires { router.old ≡ [] }
+    ensures rows { OnOk result (router.new ≡ route_rows) }
+    ensures memory { IfErr result IsWantOfMemory }
+{
+    router.insert("/channels/{name}", Resource::Channel)?;
+    router.insert("/channels/{name}/origin", Resource::Origin)?;
+    router.insert("/channels/{name}/decisions", Resource::Decisions)?;
+    router.insert("/channels/{name}/live.m3u8", Resource::Live)?;
+    router.insert("/channels/{name}/why", Resource::Why)?;
+    Ok(())
+}
+
+impl Routes {
+    /// The routes of the edge. Fails for a failed allocation alone: none of them is in another one's way.
+    pub fn new(alloc: Global) -> Result<Routes, InsertError>
+        ensures { IfErr result IsWantOfMemory }
+    {
+        let mut router = Router::new(alloc);
+        insert_routes(&mut router)?;
+        Ok(Routes { router })
+    }
+
+    // The resource of the route that a path has.
+    fn resource_at(&self, path: &str) -> Option<Resource>
+        ensures { result ≡ option_map (λ route. route.value) (found_at path.now) }
+    {
+        match self.router.at(path) {
+            Ok(found) => Some(*found.value),
+            Err(_) => None,
+        }
+    }
+
+    /// The channel's name and what of it a target names, its query aside.
+    pub fn find<'t>(&self, target: &'t str) -> Option<(&'t str, Resource)>
+        ensures { option_map pair result ≡ route_of (path_of target.now) }
+    {
+        let path = path_of(target);
+        let resource = self.resource_at(path)?;
+        let name = name_in(path)?;
+        if is_channel_name(name) {
+            Some((name, resource))
+        } else {
+            None
+        }
+    }
+}

@@ -1,0 +1,247 @@
+-- A first refresh without decisions is owed as it was read.
+use Rattle.std.proofs.Common.{◌≡◌, ℕ, ◌+◌, ◌-◌, Bool, true, false, cond, not, ◌&&◌, ◌||◌, List, [], ◌∷◌, ◌++◌, map, filter, length, reverse, refl, ap, sym, ◌∙◌, subst, append_assoc, arith}
+use Rattle.std.proofs.lemmas.Bool.{and_parts, eqb-true}
+use Rattle.std.proofs.lemmas.List.{append-nil, take_all}
+use Rattle.std.specs.Prelude.{ℤ, Option, Some, None, is_none, find, option_map}
+use Rattle.std.specs.List.{AllByRecursion, list_any}
+use Rattle.playlist_model.specs.declared.Segment.{Segment}
+use Rattle.playlist_model.specs.declared.DateRange.{DateRange}
+use Rattle.playlist_model.specs.declared.Playlist.{Playlist}
+use Rattle.playlist_model.specs.LookBack.{or_earlier}
+use Rattle.playlist_model.specs.Instants.{instants_after}
+use Rattle.playlist_model.specs.Numbering.{Numbers, segment_numbers, follows, all_follow, numbers_rise}
+use Rattle.pod_store.specs.Marks.{Mark, Marked, newest_mark, continues, are_one}
+use Rattle.stitcher.specs.Stitched.{Item, kept_piece, run_pieces, stitched, numbered, numbers_at, next_numbers, steps_between, numbers_from, first_numbers, newest_place, up_to, from_place}
+use Rattle.stitcher.specs.Paced.{older, run_length, newest_pieces, due_stitched, due_list}
+use Rattle.pod_store.specs.Store.{Store, nothing_decided}
+use Rattle.break_finder.specs.Breaks.{Break}
+use Rattle.break_finder.specs.Entering.{enters_break}
+use Rattle.break_finder.specs.Entering as entering
+use Rattle.break_finder.specs.Known.{is_this}
+use Rattle.channel_spec.specs.declared.fault.RefreshFault.{RefreshFault}
+use Rattle.channel_spec.specs.Marking.{Moment, limits, continued, entered, instant_of, last_entered, newest_end, next_shown, show_all}
+use Rattle.channel_spec.specs.Successor.{first_number, end_number}
+use Rattle.channel_spec.specs.Live.{refreshed, Told, told, nothing_told, last_playlist, refusal, place_of, after_refresh, moment, item_segment, window_after}
+use Rattle.channel_spec.specs.LiveLaws.{Linked}
+use Rattle.channel_spec.specs.Sound.{IsSoundPlaylist}
+use Rattle.channel_spec.specs.BreakLaws.{is_of_pod}
+use Rattle.channel_spec.specs.OwedLaws.{states_time, is_played, with_times, NothingDecidedNothingChanged}
+use Rattle.channel_spec.proofs.Windows.{reverse-cons}
+use Rattle.channel_spec.proofs.Growth.{history_grows, first_numbers_stay}
+use Rattle.channel_spec.proofs.Risen.{FallFrom}
+use Rattle.channel_spec.proofs.Runs.{nothing_continues}
+use Rattle.channel_spec.proofs.Fills.{IsPodOrNone, HavePods, IsStore}
+use Rattle.channel_spec.proofs.LiveState.{first_standing, all_new}
+use Rattle.channel_spec.proofs.Linked.{link_all}
+use Rattle.channel_spec.proofs.DueCut.{due_newest}
+use Rattle.channel_spec.proofs.Starts.{up_bottom}
+use Rattle.channel_spec.proofs.OwedLaws.{owed_is, same_left, date_ranges_are_the_origins}
+use Rattle.channel_spec.proofs.WrittenPods.{any_reverse}
+
+empty_store : IsStore nothing_decided
+unfolding HavePods IsPodOrNone
+empty_store = record { entries = tt; fallback = tt }
+
+-- ---- nothing is marked
+
+none_enters : (m : entering.EntryLimits) (breaks : List Break) (instant : ℤ) → find (enters_break m nothing_decided instant) breaks ≡ None
+none_enters m [] instant = refl
+none_enters m (b ∷ breaks) instant = none_enters m breaks instant
+
+none_entered : (m : Moment) (instant : Option ℤ) (last : Option (List ℕ)) → m.store ≡ nothing_decided → entered m instant last ≡ None
+none_entered m None last e = refl
+none_entered m (Some instant) last e =
+    ap (λ (s : Store). entering.mark_of s (entering.entered (limits m last) s m.breaks (Some instant))) e
+    ∙ ap (λ b. entering.mark_of nothing_decided (option_map entering.id_of b)) (none_enters (limits m last) m.breaks instant)
+
+unmarked_next : (m : Moment) (before : List Marked) (s : Segment) (later : List Segment) → m.store ≡ nothing_decided → newest_mark before ≡ None → (next_shown m before s later).mark ≡ None
+unmarked_next m before s later e n =
+    ap (λ o. or_earlier (continued m (instant_of before s later) o) (entered m (instant_of before s later) (last_entered before))) n ∙ none_entered m (instant_of before s later) (last_entered before) e
+
+abbrev Unmarked : List Marked → Type 0
+Unmarked history = AllByRecursion (λ (s : Marked). s.mark ≡ None) history
+
+newest_none : (history : List Marked) → Unmarked history → newest_mark history ≡ None
+newest_none [] u = refl
+newest_none (s ∷ before) u = u.0
+
+unmarked_all : (m : Moment) (history : List Marked) (segments : List Segment) → m.store ≡ nothing_decided → Unmarked history → Unmarked (show_all m history segments)
+unmarked_all m history [] e u = u
+unmarked_all m history (s ∷ later) e u = unmarked_all m (next_shown m history s later ∷ history) later e (unmarked_next m history s later e (newest_none history u), u)
+
+none_last : (history : List Marked) → Unmarked history → last_entered history ≡ None
+none_last [] u = refl
+none_last (s ∷ before) u = ap (λ o. last_with o before) u.0 ∙ none_last before u.1
+  where
+    last_with : Option Mark → List Marked → Option (List ℕ)
+    last_with o before = last_entered (record s { mark = o } ∷ before)
+
+runs_alone : (s : Marked) (before : List Marked) → s.mark ≡ None → continues s before ≡ false
+runs_alone s before e = ap (λ o. are_one o (newest_mark before)) e
+
+stitched_plain : (history : List Marked) → Unmarked history → stitched history ≡ map kept_piece history
+stitched_plain [] u = refl
+stitched_plain (s ∷ before) u =
+    ap (λ b. cond b [] (run_pieces s s.mark) ++ stitched before) (runs_alone s before u.0)
+    ∙ (ap (λ o. run_pieces s o ++ stitched before) u.0 ∙ ap (λ ps. kept_piece s ∷ ps) (stitched_plain before u.1))
+
+due_plain : (ended : Bool) (history : List Marked) → Linked history → Unmarked history → due_stitched ended history ≡ map kept_piece history
+due_plain ended [] l u = refl
+due_plain ended (s ∷ before) l u =
+    due_newest ended (run_length (s ∷ before)) s before l
+    ∙ (ap (λ o. newest_pieces ended (run_length (s ∷ before)) s o ++ stitched (older (s ∷ before))) u.0
+    ∙ (ap (λ b. kept_piece s ∷ stitched (cond b (older before) before)) (runs_alone s before u.0) ∙ ap (λ ps. kept_piece s ∷ ps) (stitched_plain before u.1)))
+
+-- ---- the numbers are the segments' own
+
+same_numbers : (media discontinuity number own steps : ℕ) → number ≡ media + 1 → own ≡ discontinuity + steps
+    → ◌≡◌ {A = Numbers} (record { media_sequence = media + 1; discontinuity_sequence = discontinuity + (own - discontinuity); discontinuities = own - discontinuity }) (record { media_sequence = number; discontinuity_sequence = own; discontinuities = steps })
+same_numbers media discontinuity number own steps e f =
+    let a : media + 1 ≡ number = omega (arith, e) in
+    let b : discontinuity + (own - discontinuity) ≡ own = omega (arith, f) in
+    let c : own - discontinuity ≡ steps = omega (arith, f) in
+    cc
+
+as_segment : (s : Segment) (instant : Option ℤ) (mark : Option Mark) (n : Numbers) → n ≡ segment_numbers s
+    → item_segment (record { piece = kept_piece (record { segment = s; instant = instant; mark = mark }); numbers = n }) ≡ record s { program_date_time = instant }
+as_segment s instant mark n e = ap (λ k. item_segment (record { piece = kept_piece (record { segment = s; instant = instant; mark = mark }); numbers = k })) e
+
+abbrev written : Numbers → List Marked → List Segment
+written first history = map item_segment (reverse (numbered first (map kept_piece history)))
+
+written-cons : (first : Numbers) (s : Marked) (before : List Marked) → numbers_at first (kept_piece s) (map kept_piece before) ≡ segment_numbers s.segment
+    → written first (s ∷ before) ≡ written first before ++ (record s.segment { program_date_time = s.instant } ∷ [])
+written-cons first s before e =
+    let item : Item = record { piece = kept_piece s; numbers = numbers_at first (kept_piece s) (map kept_piece before) } in
+    ap (map item_segment) (reverse-cons item (numbered first (map kept_piece before)))
+    ∙ (map-append (reverse (numbered first (map kept_piece before))) item ∙ ap (λ x. written first before ++ (x ∷ [])) (as_segment s.segment s.instant s.mark (numbers_at first (kept_piece s) (map kept_piece before)) e))
+  where
+    map-append : (xs : List Item) (x : Item) → map item_segment (xs ++ (x ∷ [])) ≡ map item_segment xs ++ (item_segment x ∷ [])
+    map-append [] x = refl
+    map-append (y ∷ xs) x = ap (λ ys. item_segment y ∷ ys) (map-append xs x)
+
+-- the segments that come after these
+written_on : (m : Moment) (first : Numbers) (x : Marked) (rest : List Marked) (segments : List Segment) → numbers_at first (kept_piece x) (map kept_piece rest) ≡ segment_numbers x.segment
+    → all_follow segment_numbers x.segment segments ≡ true
+    → written first (show_all m (x ∷ rest) segments) ≡ written first (x ∷ rest) ++ with_times segments (instants_after (newest_end (x ∷ rest)) segments)
+written_on m first x rest [] e f = sym (append-nil (written first (x ∷ rest)))
+written_on m first x rest (s ∷ later) e f =
+    let before = x ∷ rest in
+    let here = next_shown m before s later in
+    let a = and_parts (follows (segment_numbers x.segment) (segment_numbers s)) (all_follow segment_numbers s later) f in
+    let b = and_parts _ _ a.0 in
+    let number : s.media_sequence ≡ x.segment.media_sequence + 1 = eqb-true s.media_sequence (x.segment.media_sequence + 1) b.0 in
+    let own : s.discontinuity_sequence ≡ x.segment.discontinuity_sequence + s.discontinuities = eqb-true s.discontinuity_sequence (x.segment.discontinuity_sequence + s.discontinuities) b.1 in
+    let numbers : numbers_at first (kept_piece here) (map kept_piece before) ≡ segment_numbers s =
+    ap (λ n. next_numbers n (steps_between (kept_piece x) (kept_piece here))) e ∙ same_numbers x.segment.media_sequence x.segment.discontinuity_sequence s.media_sequence s.discontinuity_sequence s.discontinuities number own in
+    written_on m first here before later numbers a.1
+    ∙ (ap (λ ss. ss ++ with_times later (instants_after (newest_end (here ∷ before)) later)) (written-cons first here before numbers)
+    ∙ append_assoc (written first before) (record s { program_date_time = here.instant } ∷ []) (with_times later (instants_after (newest_end (here ∷ before)) later)))
+
+-- ---- a first refresh
+
+abbrev here_of : Moment → Segment → List Segment → Marked
+here_of m s later = next_shown m [] s later
+
+first_written : (m : Moment) (s : Segment) (later : List Segment) → m.store ≡ nothing_decided → numbers_rise segment_numbers (s ∷ later) ≡ true
+    → written (first_numbers (show_all m (here_of m s later ∷ []) later)) (show_all m (here_of m s later ∷ []) later) ≡ with_times (s ∷ later) (instants_after None (s ∷ later))
+first_written m s later e r =
+    let here = here_of m s later in
+    let g = history_grows m (here ∷ []) later in
+    let n = first_numbers (show_all m (here ∷ []) later) in
+    let first : n ≡ segment_numbers s = ap first_numbers g.1 ∙ (first_numbers_stay g.0 here [] ∙ ap (numbers_from s) (unmarked_next m [] s later e refl)) in
+    written_on m n here [] later first (and_parts _ _ r).1 ∙ ap (λ ss. ss ++ with_times later (instants_after (newest_end (here ∷ [])) later)) (written-cons n here [] first)
+
+place_first : (m : Moment) (s : Segment) (later : List Segment) (end : ℕ) → FallFrom end (show_all m (here_of m s later ∷ []) later) → place_of s.media_sequence (show_all m (here_of m s later ∷ []) later) ≡ 0
+place_first m s later end f =
+    let here = here_of m s later in
+    let g = history_grows m (here ∷ []) later in
+    ap (λ h. newest_place (up_to s.media_sequence h)) g.1 ∙ (ap newest_place (up_bottom end g.0 here [] (subst (λ h. FallFrom end h) g.1 f)) ∙ ap (λ b. cond b 0 0) (nothing_continues here))
+
+whole_list : (first : Numbers) (ended : Bool) (history : List Marked) (place : ℕ) → place ≡ 0 → Linked history → Unmarked history
+    → reverse (from_place place (numbered first (due_stitched ended history))) ≡ reverse (numbered first (map kept_piece history))
+whole_list first ended history place e l u =
+    let items = numbered first (due_stitched ended history) in
+    ap (λ k. reverse (from_place k items)) e ∙ (ap (λ xs. reverse xs) (take_all (length items - 0) items (omega arith)) ∙ ap (λ ps. reverse (numbered first ps)) (due_plain ended history l u))
+
+module _ (tolerance : ℕ) (p : Playlist) (s : Segment) (later : List Segment) (sound : IsSoundPlaylist p) (segments : p.segments ≡ s ∷ later) where
+  abbrev m : Moment
+  m = moment tolerance nothing_told p
+
+  abbrev hist : List Marked
+  hist = show_all m (here_of m s later ∷ []) later
+
+  abbrev then : Told
+  then = after_refresh tolerance nothing_told p
+
+  history_is : then.history ≡ hist
+  history_is = ap (show_all m []) (all_new p.segments ∙ segments)
+
+  unmarked : Unmarked hist
+  unmarked = unmarked_all m (here_of m s later ∷ []) later refl (unmarked_next m [] s later refl refl, tt)
+
+  linked : Linked hist
+  linked = link_all m [] (s ∷ later) tt
+
+  falls : FallFrom (end_number p.segments) hist
+  falls = subst (λ h. FallFrom (end_number p.segments) h) history_is (first_standing m p sound refl empty_store).falls
+
+  window_is : window_after then p ≡ reverse (numbered (first_numbers hist) (map kept_piece hist))
+  window_is =
+      ap (λ h. reverse (from_place (place_of (first_number p.segments) h) (due_list p.end_list h))) history_is
+      ∙ whole_list (first_numbers hist) p.end_list hist (place_of (first_number p.segments) hist)
+      (ap (λ ss. place_of (first_number ss) hist) segments ∙ place_first m s later (end_number p.segments) falls) linked unmarked
+
+  segments_are : numbers_rise segment_numbers p.segments ≡ true → map item_segment (window_after then p) ≡ with_times p.segments (instants_after None p.segments)
+  segments_are r =
+      ap (map item_segment) window_is
+      ∙ (first_written m s later refl (sym (ap (numbers_rise segment_numbers) segments) ∙ r) ∙ sym (ap (λ ss. with_times ss (instants_after None ss)) segments))
+
+  none_of_pod : (id : List ℕ) (first : Numbers) (history : List Marked) → list_any (is_of_pod id) (numbered first (map kept_piece history)) ≡ false
+  none_of_pod id first [] = refl
+  none_of_pod id first (x ∷ history) = none_of_pod id first history
+
+  none_played : (id : List ℕ) → is_played then p id ≡ false
+  none_played id =
+      ap (λ items. list_any (is_of_pod id) items || is_this id (last_entered then.history)) window_is
+      ∙ (ap (λ b. b || is_this id (last_entered then.history)) (any_reverse (is_of_pod id) (numbered (first_numbers hist) (map kept_piece hist)) ∙ none_of_pod id (first_numbers hist) hist)
+      ∙ ap (is_this id) (ap last_entered history_is ∙ none_last hist unmarked))
+
+all_stay : (date_ranges : List DateRange) → filter (λ (r : DateRange). true) date_ranges ≡ date_ranges
+all_stay [] = refl
+all_stay (r ∷ date_ranges) = ap (λ rs. r ∷ rs) (all_stay date_ranges)
+
+none_stay : (date_ranges : List DateRange) → filter (λ (r : DateRange). false) date_ranges ≡ []
+none_stay [] = refl
+none_stay (r ∷ date_ranges) = none_stay date_ranges
+
+stay_by : (b : Bool) (date_ranges : List DateRange) (f : DateRange → Bool) → ((r : DateRange) → f r ≡ false) → filter (λ (r : DateRange). b && not (f r)) date_ranges ≡ cond b date_ranges []
+stay_by b date_ranges f h = same_left date_ranges (λ (r : DateRange). b && not (f r)) (λ (r : DateRange). b && true) (λ r. ap (λ x. b && not x) (h r)) ∙ by b
+  where
+    by : (b : Bool) → filter (λ (r : DateRange). b && true) date_ranges ≡ cond b date_ranges []
+    by true = all_stay date_ranges
+    by false = none_stay date_ranges
+
+was_accepted : (tolerance : ℕ) (p : Playlist) (o : Option RefreshFault) → last_playlist (cond (is_none o) (after_refresh tolerance nothing_told p) nothing_told).accepted ≡ Some p → o ≡ None
+was_accepted tolerance p None e = refl
+was_accepted tolerance p (Some fault) e = absurd (cc)
+
+told_first : (tolerance : ℕ) (p : Playlist) → last_playlist (told tolerance (refreshed p ∷ [])).accepted ≡ Some p → told tolerance (refreshed p ∷ []) ≡ after_refresh tolerance nothing_told p
+told_first tolerance p e = ap (λ o. cond (is_none o) (after_refresh tolerance nothing_told p) nothing_told) (was_accepted tolerance p (refusal tolerance nothing_told p) e)
+
+pub nothing_decided_nothing_changed : NothingDecidedNothingChanged
+nothing_decided_nothing_changed tolerance p now h r = by p.segments refl
+  where
+    by : (segments : List Segment) → p.segments ≡ segments
+        → (now.segments ≡ with_times p.segments (instants_after None p.segments)) × (now.date_ranges ≡ cond (list_any states_time now.segments) p.date_ranges [])
+    by [] e = let no : false ≡ true = sym (ap (numbers_rise segment_numbers) e) ∙ r in absurd (cc)
+    by (s ∷ later) e =
+        let owed = owed_is tolerance (refreshed p ∷ []) p now h in
+        let same = told_first tolerance p h.accepted in
+        let segments : now.segments ≡ with_times p.segments (instants_after None p.segments) =
+        ap (λ (q : Playlist). q.segments) (sym owed) ∙ (ap (λ u. map item_segment (window_after u p)) same ∙ segments_are tolerance p s later h.sound.0 e r) in (
+          segments,
+          date_ranges_are_the_origins tolerance (refreshed p ∷ []) p now h
+              ∙ stay_by (list_any states_time now.segments) p.date_ranges (λ (d : DateRange). is_played (told tolerance (refreshed p ∷ [])) p d.id)
+              (λ d. ap (λ u. is_played u p d.id) same ∙ none_played tolerance p s later h.sound.0 e d.id),
+        )

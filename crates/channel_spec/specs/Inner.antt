@@ -1,0 +1,3 @@
+pub mod WorkedExamples
+pub mod Kept
+pub mod FallbackExamples

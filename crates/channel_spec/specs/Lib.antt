@@ -1,0 +1,12 @@
+pub mod Marking
+pub mod Successor
+pub mod Live
+pub mod Sound
+pub mod LiveLaws
+pub mod Kept
+pub mod KeptLaws
+pub mod BreakLaws
+pub mod OwedLaws
+pub mod Unread
+pub mod Limits
+pub mod Inner

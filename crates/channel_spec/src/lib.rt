@@ -1,0 +1,156 @@
+//! What is owed for a live playlist whose breaks are filled, after all decisions and refreshes so far, and the laws of
+//! it. The definitions look back over the whole history; what is kept between refreshes is proved to follow it. Each
+//! function's contract is its law; calling it does nothing.
+#![tactic(auto)]
+
+ghost use Rattle.channel_spec.specs.BreakLaws.{InUseIsWritten, RunsKeepTheirPods, FallbackFills, WrittenEndIsNear, WindowsFollow};
+ghost use Rattle.channel_spec.specs.KeptLaws.{KeptFollows, KeptHavePods};
+ghost use Rattle.channel_spec.specs.OwedLaws.{HeaderIsTheLast, DateRangesAreTheOrigins, WindowIsStitched, UnmarkedStandOnce, SegmentsPlayTheWindow, NothingDecidedNothingChanged, PodsAreKept, StoreStaysSmall};
+ghost use Rattle.channel_spec.specs.LiveLaws.{OnlyGrows, EachSucceeds, MarksFollow, HistoriesAreLinked, MarksAreKnown, NoFaultSucceeds, NewestFits, MarksHavePods, UsedAreInUse};
+ghost use Rattle.std.specs.Prelude.{◌≡◌};
+ghost use Rattle.channel_spec.specs.Limits.{default_tolerance, max_tolerance};
+
+mod fallback_examples;
+mod fault;
+mod paced_examples;
+mod worked_examples;
+
+pub use fault::RefreshFault;
+
+/// How far from the start of a break an instant may lie and still enter it, and how far before its end it must lie, where
+/// nothing else is asked: 100 ms, in nanoseconds.
+pub const DEFAULT_TOLERANCE: u64 = 100_000_000;
+
+/// The most that may be asked: 10 s, in nanoseconds.
+pub const MAX_TOLERANCE: u64 = 10_000_000_000;
+
+/// These constants are the tolerances of the definitions.
+pub fn tolerances_are_the_limits()
+    ensures default { default_tolerance ≡ DEFAULT_TOLERANCE }
+    ensures most { max_tolerance ≡ MAX_TOLERANCE }
+{}
+
+/// The stitched list only grows, whatever events come.
+pub fn only_grows()
+    ensures { OnlyGrows }
+{}
+
+/// Each written playlist succeeds the one written before it.
+pub fn each_succeeds()
+    ensures { EachSucceeds }
+{}
+
+/// A segment's instant and mark follow from the refresh, the segment before and the last break entered.
+pub fn marks_follow()
+    ensures { MarksFollow }
+{}
+
+/// A segment that goes on a run has its pod.
+pub fn histories_are_linked()
+    ensures { HistoriesAreLinked }
+{}
+
+/// A mark that a refresh carries was known before it.
+pub fn marks_are_known()
+    ensures { MarksAreKnown }
+{}
+
+/// A playlist succeeds another exactly where it has no fault.
+pub fn no_fault_succeeds()
+    ensures { NoFaultSucceeds }
+{}
+
+/// A number passes its range only where the newest item's does.
+pub fn newest_fits()
+    ensures { NewestFits }
+{}
+
+/// The store has the pod of each mark of a shown segment, of the last break entered, and of the rest of a pod that the
+/// window starts with, used.
+pub fn marks_have_pods()
+    ensures { MarksHavePods }
+{}
+
+/// A break is used in the store exactly where it marks a shown segment, was entered last, or the window starts with the
+/// rest of its pod.
+pub fn used_are_in_use()
+    ensures { UsedAreInUse }
+{}
+
+/// A break is in use exactly where a segment of its pod is written, or where it is the last one entered.
+pub fn in_use_is_written()
+    ensures { InUseIsWritten }
+{}
+
+/// A run keeps the pod that it was entered with, whatever comes later.
+pub fn runs_keep_their_pods()
+    ensures { RunsKeepTheirPods }
+{}
+
+/// A signalled break that has no pod of its own is filled with the fallback, where that fits.
+pub fn fallback_fills()
+    ensures { FallbackFills }
+{}
+
+/// While a run is open, the written end is later than the end of the run's own segments by at most one segment of its pod.
+pub fn written_end_is_near()
+    ensures { WrittenEndIsNear }
+{}
+
+/// A window follows from the window before, the store, what is known of breaks, the shown segments with their marks, the break
+/// that was entered last, the length of the newest run, the rest of a pod, and the refresh.
+pub fn windows_follow()
+    ensures { WindowsFollow }
+{}
+
+/// The header of the owed playlist is that of the one that was accepted last, of version 6 at least.
+pub fn header_is_the_last()
+    ensures { HeaderIsTheLast }
+{}
+
+/// A date range of the origin is written word for word exactly where its break isn't played and a written segment states a time.
+pub fn date_ranges_are_the_origins()
+    ensures { DateRangesAreTheOrigins }
+{}
+
+/// The window is what stands for the shown segments, of the pod of an open run as much as is due, after the rest of one pod.
+pub fn window_is_stitched()
+    ensures { WindowIsStitched }
+{}
+
+/// The origin's segments in the window are the unmarked ones of those that are shown, each once and in their order.
+pub fn unmarked_stand_once()
+    ensures { UnmarkedStandOnce }
+{}
+
+/// The owed segments play what the window's pieces play, one for one.
+pub fn segments_play_the_window()
+    ensures { SegmentsPlayTheWindow }
+{}
+
+/// Without decisions a first refresh is owed as it was read, but that each segment states the instant at which it begins, where
+/// it has one.
+pub fn nothing_decided_nothing_changed()
+    ensures { NothingDecidedNothingChanged }
+{}
+
+/// After an accepted refresh a break has a pod of its own exactly where it is in use and was filled, or where a decision gave it
+/// one and it wasn't entered.
+pub fn pods_are_kept()
+    ensures { PodsAreKept }
+{}
+
+/// No break stands twice in the store, and at most 256 have pods that decisions gave them.
+pub fn store_stays_small()
+    ensures { StoreStaysSmall }
+{}
+
+/// What is kept of all events, and what is owed, follow from what was kept before.
+pub fn kept_follows()
+    ensures { KeptFollows }
+{}
+
+/// The store has the pod of each mark that is kept, used.
+pub fn kept_have_pods()
+    ensures { KeptHavePods }
+{}

@@ -1,0 +1,107 @@
+-- The segments that a channel holds, the oldest first, and what is kept, the newest first.
+use Rattle.std.proofs.Common.{◌≡◌, ℕ, ◌+◌, ◌<◌, ℤ, true, cond, List, [], ◌∷◌, ◌++◌, map, length, refl, ap, sym, ◌∙◌, subst, arith}
+use Rattle.std.specs.Prelude.{Option, filter, nat_lt}
+use Rattle.std.specs.List.{AllByRecursion}
+use Rattle.std.proofs.lemmas.Bool.Decides.{nat_tests}
+use mathlib.Core.List.{reverse_aux}
+use Rattle.playlist_model.specs.declared.Segment.{Segment}
+use Rattle.pod_store.specs.Marks.{Marked, newest_mark}
+use Rattle.playlist_model.specs.Instants.{ends_at, instants_after}
+use Rattle.pod_store.specs.Store.{Store}
+use Rattle.stitcher.specs.declared.marked.MarkedSegment.{MarkedSegment as Held}
+use Rattle.stitcher.specs.StitchedSegments.{meant, mark_in, IsDecided, AreDecided}
+use Rattle.channel_spec.specs.Sound.{RiseFrom}
+use Rattle.channel_spec.specs.Marking.{Moment, newest_end, is_new}
+use Rattle.channel_spec.specs.Kept.{show_on, length_on}
+use Rattle.channel_window.specs.Marking.{so_far, mark_on, length_after}
+use Rattle.channel_window.specs.Inner.Listed.{is_after}
+use Rattle.channel_window.proofs.Marked.{marks_are_shown, lengths_are_kept}
+
+-- ---- one list after another
+
+onto : (store : Store) (xs ys : List Held) (acc : List Marked) → reverse_aux (map (meant store) (xs ++ ys)) acc ≡ reverse_aux (map (meant store) ys) (reverse_aux (map (meant store) xs) acc)
+onto store [] ys acc = refl
+onto store (x ∷ xs) ys acc = onto store xs ys (meant store x ∷ acc)
+
+pub seen_after : (store : Store) (xs ys : List Held) → so_far store (xs ++ ys) ≡ reverse_aux (map (meant store) ys) (so_far store xs)
+seen_after store xs ys = onto store xs ys []
+
+-- the newest of some segments
+pub last_seen : (store : Store) (shown rest : List Held) (m : Held) → shown ≡ rest ++ m ∷ [] → so_far store shown ≡ meant store m ∷ so_far store rest
+last_seen store shown rest m e = ap (so_far store) e ∙ seen_after store rest (m ∷ [])
+
+empty : (xs : List Held) → length xs ≡ 0 → xs ≡ []
+empty [] h = refl
+empty (x ∷ xs) h = absurd (cc)
+
+pub none_seen : (store : Store) (shown : List Held) → length shown ≡ 0 → so_far store shown ≡ []
+none_seen store shown h = ap (so_far store) (empty shown h)
+
+pub all_after : (P : Held → Type 0) (xs ys : List Held) → AllByRecursion P (xs ++ ys) → AllByRecursion P xs × AllByRecursion P ys
+all_after P [] ys h = (tt, h)
+all_after P (x ∷ xs) ys h = let k = all_after P xs ys h.1 in ((h.0, k.0), k.1)
+
+both : (P : Held → Type 0) (xs ys : List Held) → AllByRecursion P xs → AllByRecursion P ys → AllByRecursion P (xs ++ ys)
+both P [] ys h k = k
+both P (x ∷ xs) ys h k = (h.0, both P xs ys h.1 k)
+
+-- ---- the newest segment
+
+pub newest_seen : (store : Store) (shown rest : List Held) (m : Held) → shown ≡ rest ++ m ∷ [] → newest_mark (so_far store shown) ≡ mark_in store m.mark
+newest_seen store shown rest m e = ap newest_mark (last_seen store shown rest m e)
+
+pub newest_decided : (store : Store) (shown rest : List Held) (m : Held) → shown ≡ rest ++ m ∷ [] → AreDecided store shown → IsDecided store m.mark
+newest_decided store shown rest m e d = (all_after (λ (h : Held). IsDecided store h.mark) rest (m ∷ []) (subst (AreDecided store) e d)).1.0
+
+pub newest_ends : (store : Store) (shown rest : List Held) (m : Held) → shown ≡ rest ++ m ∷ [] → newest_end (so_far store shown) ≡ ends_at m.instant m.segment.duration
+newest_ends store shown rest m e = ap newest_end (last_seen store shown rest m e)
+
+-- ---- the fresh segments
+
+over : (n k : ℕ) → n < k → nat_lt n k ≡ true
+over n k h = grind (arith, nat_tests)
+
+pub rest_after : (n k : ℕ) (segments : List Segment) → n < k → RiseFrom k segments → filter (is_after n) segments ≡ segments
+rest_after n k [] h r = refl
+rest_after n k (s ∷ later) h r =
+    let here : nat_lt n s.media_sequence ≡ true = ap (nat_lt n) r.0 ∙ over n k h in
+    ap (λ b. cond b (s ∷ filter (is_after n) later) (filter (is_after n) later)) here
+    ∙ ap (λ xs. s ∷ xs) (rest_after n (k + 1) later (omega (arith, h)) r.1)
+
+pub same_new : (store : Store) (shown rest : List Held) (m : Held) (segments : List Segment) → shown ≡ rest ++ m ∷ [] → filter (is_new (so_far store shown)) segments ≡ filter (is_after m.segment.media_sequence) segments
+same_new store shown rest m segments e = ap (λ (before : List Marked). filter (is_new before) segments) (last_seen store shown rest m e)
+
+every_new : (segments : List Segment) → filter (is_new []) segments ≡ segments
+every_new [] = refl
+every_new (s ∷ later) = ap (λ xs. s ∷ xs) (every_new later)
+
+pub all_new : (store : Store) (shown : List Held) (segments : List Segment) → length shown ≡ 0 → filter (is_new (so_far store shown)) segments ≡ segments
+all_new store shown segments h = ap (λ (before : List Marked). filter (is_new before) segments) (none_seen store shown h) ∙ every_new segments
+
+-- ---- the list
+
+module _ (m : Moment) (shown : List Held) (newest entered : Option (List ℕ)) (segments fresh : List Segment) (ended : Option ℤ) (begun : List (Option ℤ)) (marked list : List Held)
+    (mark_is : newest_mark (so_far m.store shown) ≡ mark_in m.store newest) (newest_is : IsDecided m.store newest) (decided : AreDecided m.store shown)
+    (ended_is : ended ≡ newest_end (so_far m.store shown)) (fresh_is : fresh ≡ filter (is_new (so_far m.store shown)) segments) (begun_is : begun ≡ instants_after ended fresh)
+    (marked_is : marked ≡ mark_on m newest entered fresh begun) (list_is : list ≡ shown ++ marked) where
+  laid : marked ≡ mark_on m newest entered fresh (instants_after (newest_end (so_far m.store shown)) fresh)
+  laid = marked_is ∙ ap (mark_on m newest entered fresh) (begun_is ∙ ap (λ e. instants_after e fresh) ended_is)
+
+  pub is_listed : so_far m.store list ≡ show_on m (so_far m.store shown) entered (filter (is_new (so_far m.store shown)) segments)
+  is_listed =
+      ap (so_far m.store) list_is ∙ seen_after m.store shown marked
+      ∙ ap (λ held. reverse_aux (map (meant m.store) held) (so_far m.store shown)) laid
+      ∙ (marks_are_shown m newest entered (so_far m.store shown) fresh newest_is mark_is).0
+      ∙ ap (show_on m (so_far m.store shown) entered) fresh_is
+
+  pub is_decided : AreDecided m.store list
+  is_decided =
+      subst (AreDecided m.store) (sym list_is)
+      (both (λ (h : Held). IsDecided m.store h.mark) shown marked decided
+      (subst (AreDecided m.store) (sym laid) (marks_are_shown m newest entered (so_far m.store shown) fresh newest_is mark_is).1))
+
+  pub is_long : (before length : ℕ) → length ≡ length_after m.store newest before marked → length ≡ length_on m (so_far m.store shown) entered before (filter (is_new (so_far m.store shown)) segments)
+  is_long before length e =
+      e ∙ ap (length_after m.store newest before) laid
+      ∙ lengths_are_kept m newest entered (so_far m.store shown) before fresh newest_is mark_is
+      ∙ ap (length_on m (so_far m.store shown) entered before) fresh_is

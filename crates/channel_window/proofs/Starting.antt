@@ -1,0 +1,147 @@
+-- Where a window starts, the rest that it starts with, and the window itself, from the segments that a channel holds.
+use Rattle.std.proofs.Common.{◌≡◌, ℕ, ◌+◌, ◌-◌, ◌<◌, ◌≤◌, ◌^◌, Bool, true, false, cond, List, [], ◌∷◌, ◌++◌, map, min, drop, length, reverse, refl, ap, sym, ◌∙◌, arith, length-append}
+use Rattle.std.specs.Prelude.{◌==◌, nat_lt, Some, None, option_map, Result, Ok, Err, IfErr}
+use Rattle.std.specs.Result.{IsErrAnd}
+use Rattle.channel_spec.specs.declared.fault.RefreshFault.{RefreshFault}
+use Rattle.channel_spec.specs.declared.fault.RefreshFault.TheVariants.{NumberRange, OutOfMemory}
+use Rattle.std.specs.List.{list_all}
+use Rattle.std.proofs.lemmas.Bool.{lt-ltb, ltb-true, eqb-true}
+use Rattle.playlist_model.specs.declared.Playlist.{Playlist}
+use Rattle.pod_store.specs.Marks.{Mark, Marked, newest_mark}
+use Rattle.stitcher.specs.Stitched.{Numbers, Item, fits, numbered, newest_place, up_to, from_place}
+use Rattle.stitcher.specs.Paced.{Rest as MeantRest, Ends as MeantEnds, rest_pieces, due_with, stitched_with}
+use Rattle.pod_store.specs.Store.{Store, pod_for}
+use Rattle.stitcher.specs.declared.marked.MarkedSegment.{MarkedSegment as Held}
+use Rattle.stitcher.specs.declared.OutSegment.{OutSegment}
+use Rattle.stitcher.specs.declared.ends.Ends.{Ends}
+use Rattle.stitcher.specs.Written.{written_item}
+use Rattle.stitcher.specs.StitchedSegments.{mark_in, mark_with, rest_from, rest_in, ends_in, item_fits, stitched_segments, AreDecided}
+use Rattle.channel_spec.specs.Successor.{first_number}
+use Rattle.channel_spec.specs.Live.{place_of, gone_before, rest_over}
+use Rattle.channel_spec.specs.Kept.{stitched_on, items_on, numbers_on, start_on, window_on}
+use Rattle.channel_spec.specs.Inner.Kept.{ends_of}
+use Rattle.channel_spec.proofs.EndsLaws.{between_ends}
+use Rattle.channel_window.specs.declared.state.ChannelState.{ChannelState}
+use Rattle.channel_window.specs.Marking.{so_far, place_on}
+use Rattle.channel_window.specs.Listed.{IsFront, RefusesList}
+use Rattle.channel_window.specs.Placing.{run_count, rest_count}
+use Rattle.channel_window.specs.Inner.Placing.{HasRoom}
+use Rattle.channel_window.specs.Showing.{kept_in}
+use Rattle.channel_window.proofs.Listed.{newest_seen, newest_decided}
+use Rattle.channel_window.proofs.Placed.{place_is_counted}
+use Rattle.channel_window.proofs.Passing.{within, front_decided}
+use Rattle.channel_window.proofs.Rest.{window_is_stitched, number_range_is_stitched}
+use Rattle.channel_window.proofs.Runs.{list_long}
+
+-- ---- where the item of a number stands
+
+pub place_found : (store : Store) (number place : ℕ) (list front : List Held) → AreDecided store list → IsFront front list → so_far store front ≡ up_to number (so_far store list) → place ≡ place_on store None 0 0 front
+    → place_of number (so_far store list) ≡ place
+place_found store number place list front d f seen is = ap newest_place (sym seen) ∙ (place_is_counted store front (front_decided store list front d f) ∙ sym is)
+
+-- ---- the last window
+
+-- how many items it came to, no more of them than can be told
+pub written_long : (state : ChannelState) (ended : Bool) (rest : List Held) (m : Held) (before place run first most : ℕ) → state.shown ≡ rest ++ m ∷ [] → AreDecided state.store state.shown
+    → before ≡ rest_count state.store state.rest → place ≡ place_on state.store None 0 0 state.shown → run ≡ run_count state.store ended state.so_far m.mark
+    → first ≡ min (before + place) (2 ^ 64 - 1) → most ≡ min (first + run) (2 ^ 64 - 1)
+    → most ≡ min (length (stitched_on ended state.so_far (so_far state.store state.shown) (rest_in state.store state.rest))) (2 ^ 64 - 1)
+written_long state ended rest m before place run first most e d b p r f g =
+    let seen = so_far state.store state.shown in
+    let size = length-append (due_with ended state.so_far seen) (rest_pieces (rest_in state.store state.rest)) in
+    let list = list_long state.store ended state.so_far state.shown rest m e (newest_decided state.store state.shown rest m e d) in
+    let at = place_is_counted state.store state.shown d in
+    omega (arith, size, list, at, b, p, r, f, g)
+
+-- ---- where the next one starts
+
+module _ (state : ChannelState) (p : Playlist) (list : List Held) (place : ℕ) (item : place_of (first_number p.segments) (so_far state.store list) ≡ place) where
+  abbrev number : ℕ
+  number = first_number p.segments
+
+  pub start_first : state.last ≡ None → place ≡ start_on state.last number (kept_in state) (so_far state.store list)
+  start_first e = sym (ap (λ o. start_on o number (kept_in state) (so_far state.store list)) e ∙ item)
+
+  pub start_later : (last : Playlist) (base most start : ℕ) → state.last ≡ Some last → (number == first_number last.segments) ≡ false → base ≡ rest_count state.store state.rest
+      → most ≡ min (length (stitched_on last.end_list state.so_far (so_far state.store state.shown) (rest_in state.store state.rest))) (2 ^ 64 - 1) → place + base < 2 ^ 64 → start ≡ min (place + base) most
+      → start ≡ start_on state.last number (kept_in state) (so_far state.store list)
+  start_later last base most start e other b m room is =
+      let old = length (stitched_on last.end_list state.so_far (so_far state.store state.shown) (rest_in state.store state.rest)) in
+      let here = place_of number (so_far state.store list) + rest_count state.store state.rest in
+      let same : start ≡ min here old = omega (arith, item, b, m, room, is) in
+      same ∙ sym (ap (λ o. start_on o number (kept_in state) (so_far state.store list)) e ∙ ap (λ t. cond t 0 (min here old)) other)
+
+pub not_equal : (a b : ℕ) → (a ≡ b → ⊥) → (a == b) ≡ false
+not_equal a b h = step (a == b) refl
+  where
+    step : (t : Bool) → (a == b) ≡ t → t ≡ false
+    step true e = absurd (h (eqb-true a b e))
+    step false e = refl
+
+-- ---- the rest that it starts with
+
+pub rest_none : (base start number place before : ℕ) (seen : List Marked) → place_of number seen ≡ place → base ≡ before → place + before ≤ start → None ≡ rest_over base start number seen
+rest_none base start number place before seen item b h = step (nat_lt start (place_of number seen + base)) refl
+  where
+    there : Mark → MeantRest
+    there mark = record { mark = mark; place = start - (newest_place (gone_before number seen) + base) }
+
+    step : (t : Bool) → nat_lt start (place_of number seen + base) ≡ t → None ≡ cond t (option_map there (newest_mark (gone_before number seen))) None
+    step true e = absurd (omega (arith, ltb-true start (place_of number seen + base) e, item, b, h))
+    step false e = refl
+
+pub rest_some : (store : Store) (base start number place before behind from : ℕ) (list gone rest : List Held) (m : Held) (id copy : List ℕ) → AreDecided store list → place_of number (so_far store list) ≡ place → base ≡ before → start < place + before
+    → so_far store gone ≡ gone_before number (so_far store list) → IsFront gone list → gone ≡ rest ++ m ∷ [] → m.mark ≡ Some id → copy ≡ id → behind ≡ place_on store None 0 0 gone → from ≡ start - (behind + before)
+    → option_map (rest_from from) (mark_with copy (pod_for store copy)) ≡ rest_over base start number (so_far store list)
+rest_some store base start number place before behind from list gone rest m id copy d item b h seen front cut is same counted is_from =
+    let far = so_far store list in
+    let at : newest_place (gone_before number far) ≡ behind = ap newest_place (sym seen) ∙ (place_is_counted store gone (front_decided store list gone d front) ∙ sym counted) in
+    let place_is : from ≡ start - (newest_place (gone_before number far) + base) = omega (arith, is_from, at, b) in
+    let mark : mark_with copy (pod_for store copy) ≡ newest_mark (gone_before number far) =
+    ap (λ i. mark_in store (Some i)) same ∙ (ap (mark_in store) (sym is) ∙ (sym (newest_seen store gone rest m cut) ∙ ap newest_mark seen)) in
+    let lower : nat_lt start (place_of number far + base) ≡ true = lt-ltb start (place_of number far + base) (omega (arith, h, item, b)) in
+    let there : ℕ → Mark → MeantRest = λ k mark. record { mark = mark; place = k } in
+    ap (λ k. option_map (there k) (mark_with copy (pod_for store copy))) place_is
+    ∙ (ap (λ o. option_map (there (start - (newest_place (gone_before number far) + base))) o) mark
+    ∙ sym (ap (λ t. cond t (option_map (there (start - (newest_place (gone_before number far) + base))) (newest_mark (gone_before number far))) None) lower))
+
+-- ---- the window
+
+-- a fault is handed on
+pub handed_on : {A : Type 0} (r : Result A RefreshFault) (e : RefreshFault) {P Q : Type 0} → IsErrAnd r (λ d. d ≡ e) → RefusesList e P → (P → Q) → IfErr r (λ d. RefusesList d Q)
+handed_on (Ok x) e h p f = absurd h
+handed_on (Err d) e h p f = rw h (more e p f)
+  where
+    more : (e : RefreshFault) {P Q : Type 0} → RefusesList e P → (P → Q) → RefusesList e Q
+    more NumberRange p f = f p
+    more OutOfMemory p f = p
+    more _ p f = absurd p
+
+module _ (state : ChannelState) (p : Playlist) (list : List Held) (n : ℕ) (ends : Ends) (first : Numbers) (decided : AreDecided state.store list)
+    (ends_are : ends_in state.store ends ≡ ends_of p.end_list n (rest_in state.store state.rest)) (first_is : first ≡ numbers_on state.last state.numbers (so_far state.store list)) where
+  abbrev seen : List Marked
+  seen = so_far state.store list
+
+  items_are : numbered first (stitched_with (ends_in state.store ends) seen) ≡ items_on (kept_in state) p seen n
+  items_are =
+      ap (λ (f : Numbers). numbered f (stitched_with (ends_in state.store ends) seen)) first_is
+      ∙ ap (numbered (numbers_on state.last state.numbers seen)) (ap (λ (e : MeantEnds). stitched_with e seen) ends_are ∙ sym (between_ends p.end_list n seen (rest_in state.store state.rest)))
+
+  pub fit_is : list_all item_fits (stitched_segments state.store first ends list) ≡ list_all fits (items_on (kept_in state) p seen n)
+  fit_is = number_range_is_stitched state.store first ends list ∙ ap (list_all fits) items_are
+
+  pub window_left : (items : List OutSegment) (start : ℕ) → items ≡ stitched_segments state.store first ends list → start ≤ length items → start ≡ start_on state.last (first_number p.segments) (kept_in state) seen
+      → drop start items ≡ map written_item (window_on (kept_in state) p seen n)
+  window_left items start items_is h start_is =
+      ap (drop start) items_is
+      ∙ (sym (window_is_stitched state.store first ends list start (omega (arith, h, ap length items_is)))
+      ∙ (ap (λ (xs : List Item). map written_item (reverse (from_place start xs))) items_are
+      ∙ ap (λ k. map written_item (reverse (from_place k (items_on (kept_in state) p seen n)))) start_is))
+
+  pub room_left : (items : List OutSegment) → items ≡ stitched_segments state.store first ends list → (front : List Held) → IsFront front list → place_on state.store None 0 0 front + rest_count state.store state.rest ≤ length items
+  room_left items items_is front f =
+      let same : rest_count state.store ends.rest ≡ rest_count state.store state.rest = ap (λ (e : MeantEnds). length (rest_pieces e.rest)) ends_are in
+      omega (arith, within state.store first ends list front decided f, same, ap length items_is)
+
+  pub has_room : (items : List OutSegment) → items ≡ stitched_segments state.store first ends list → length items < 2 ^ 64 → HasRoom state.store state.rest list
+  has_room items items_is h front f = omega (arith, room_left items items_is front f, h)

@@ -1,0 +1,3 @@
+pub mod Checked
+pub mod Listed
+pub mod Placing

@@ -1,0 +1,36 @@
+-- What proofs and inner functions say with the definitions of `Listed`.
+use Rattle.std.specs.Prelude.{ℕ, ◌+◌, if◌then◌else◌, Some, None, true, Bool, not, nat_lt, map, filter, List, ◌∷◌, [], Option, is_some}
+use Rattle.std.specs.Borrow.{Bor}
+use Rattle.playlist_model.specs.declared.Segment.{Segment}
+use Rattle.stitcher.specs.Stitched.{Numbers}
+use Rattle.pod_store.specs.Rules.{ads_keep}
+use Rattle.pod_store.specs.Pods.{Pod}
+use Rattle.playlist_model.specs.declared.DateRange.{DateRange}
+use Rattle.break_finder.specs.Inner.Kept.{has_text}
+use Rattle.stitcher.specs.declared.marked.MarkedSegment.{MarkedSegment as Held}
+use Rattle.channel_spec.specs.Live.{date_range_text}
+
+-- the segment is numbered after this one
+abbrev pub is_after : ℕ → Segment → Bool
+is_after number s = nat_lt number s.media_sequence
+
+-- the texts of the date ranges of other breaks than these
+abbrev pub texts_left : List (Bor (List ℕ)) → List DateRange → List (List ℕ)
+texts_left ids date_ranges = map date_range_text (filter (λ (r : DateRange). not (has_text ids r.id)) date_ranges)
+
+-- ---- the numbers of the first item
+
+-- one discontinuity more where a pod stands in front
+abbrev pub first_alone : Segment → Bool → Numbers
+first_alone s marked =
+    if marked then (record { media_sequence = s.media_sequence; discontinuity_sequence = s.discontinuity_sequence + 1; discontinuities = 1 })
+    else (record { media_sequence = s.media_sequence; discontinuity_sequence = s.discontinuity_sequence; discontinuities = s.discontinuities })
+
+abbrev pub first_numbers_of : List Held → Numbers
+first_numbers_of [] = record { media_sequence = 0; discontinuity_sequence = 0; discontinuities = 0 }
+first_numbers_of (m ∷ later) = first_alone m.segment (is_some m.mark)
+
+-- the pod, if any, keeps the rules of pods
+abbrev pub pod_keeps : Option Pod → Bool
+pod_keeps None = true
+pod_keeps (Some pod) = ads_keep pod.ads

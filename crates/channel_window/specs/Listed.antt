@@ -1,0 +1,33 @@
+-- What is kept, as the segments stand that a channel holds, the oldest first.
+use Rattle.std.specs.Prelude.{◌≡◌, Some, None, Bool, List, ◌∷◌, ◌++◌, [], Option, is_some}
+use Rattle.stitcher.specs.Stitched.{Numbers}
+use Rattle.stitcher.specs.declared.OutSegment.{OutSegment}
+use Rattle.stitcher.specs.declared.marked.MarkedSegment.{MarkedSegment as Held}
+use Rattle.stitcher.specs.declared.ends.Rest.{Rest}
+use Rattle.stitcher.specs.StitchedSegments.{IsDecided}
+use Rattle.pod_store.specs.Store.{Store}
+use Rattle.channel_spec.specs.declared.fault.RefreshFault.{RefreshFault}
+use Rattle.channel_spec.specs.declared.fault.RefreshFault.TheVariants.{NumberRange, OutOfMemory}
+
+-- the store has the pod of the rest, if there is one
+abbrev pub IsRestDecided : Store → Option Rest → Type 0
+IsRestDecided store None = Unit {0}
+IsRestDecided store (Some rest) = IsDecided store (Some rest.id)
+
+abbrev pub states_time : OutSegment → Bool
+states_time out = is_some out.program_date_time
+
+-- the numbers of the first of these
+abbrev pub head_of : List OutSegment → Numbers
+head_of [] = record { media_sequence = 0; discontinuity_sequence = 0; discontinuities = 0 }
+head_of (out ∷ later) = record { media_sequence = out.media_sequence; discontinuity_sequence = out.discontinuity_sequence; discontinuities = out.discontinuities }
+
+-- a number does not fit, or an allocation failed
+abbrev pub RefusesList : RefreshFault → Type 0 → Type 0
+RefusesList NumberRange OutOfRange = OutOfRange
+RefusesList OutOfMemory OutOfRange = Unit {0}
+RefusesList _ OutOfRange = ⊥
+
+-- these stand in front of the others
+abbrev pub IsFront : List Held → List Held → Type 0
+IsFront front list = (tail : List Held) × (list ≡ front ++ tail)

@@ -1,0 +1,24 @@
+//! Laws of marks and of windows. Each function's contract is its law; calling it does nothing.
+ghost use Rattle.channel_window.specs.MarkingLaws.{LengthsAreKept, MarksAreShown, PlaceIsCounted};
+ghost use Rattle.channel_window.specs.WindowLaws.{WindowIsStitched, NumberRangeIsStitched};
+
+/// The segments that are marked after others are those that are shown after them.
+pub fn marks_are_shown()
+    ensures { MarksAreShown }
+{}
+
+/// The newest run has lasted as long with them.
+pub fn lengths_are_kept()
+    ensures { LengthsAreKept }
+{}
+
+/// The place of the newest segment is counted from the oldest on.
+pub fn place_is_counted()
+    ensures { PlaceIsCounted }
+{}
+
+/// The window is the rest of the stitched list from a place on.
+pub fn window_is_stitched()
+    ensures window { WindowIsStitched }
+    ensures number_range { NumberRangeIsStitched }
+{}

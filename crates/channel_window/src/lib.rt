@@ -1,0 +1,20 @@
+//! What a live channel shows with a playlist: which playlist may follow which, which break marks each new segment, and
+//! the window of the stitched list that is written. What a channel keeps for it is one window and a few numbers.
+#![tactic(auto)]
+
+pub mod laws;
+mod listing;
+mod marking;
+mod placing;
+mod showing;
+mod state;
+mod successor;
+mod writing;
+
+pub use listing::{Listing, count_before, fresh_of, from_place, last_entered};
+pub use marking::{Limits, mark_on, text_in};
+pub use placing::{place_of, rest_count, run_count};
+pub use showing::{Showing, shown_with};
+pub use state::ChannelState;
+pub use successor::{check_successor, first_number, is_mapped};
+pub use writing::{Window, date_ranges_left, head_of, window_of};

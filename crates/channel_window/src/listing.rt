@@ -1,0 +1,277 @@
+//! The segments that a refresh shows, after those that were shown.
+ghost use Rattle.std.specs.Prelude.{◌≡◌, ◌≤◌, ◌+◌, ◌++◌, List, IfOk, length, filter, drop};
+ghost use Rattle.pod_store.specs.Marks.{newest_mark};
+ghost use Rattle.playlist_model.specs.LookBack.{or_earlier};
+ghost use Rattle.stitcher.specs.Stitched.{up_to};
+ghost use Rattle.pod_store.specs.Store.{Store};
+ghost use Rattle.stitcher.specs.StitchedSegments.{mark_in, IsDecided, AreDecided};
+ghost use Rattle.channel_spec.specs.Marking.{newest_end, is_new, last_entered};
+ghost use Rattle.channel_spec.specs.Live.{gone_before};
+ghost use Rattle.channel_spec.specs.Kept.{show_on, length_on, shown_from};
+ghost use Rattle.channel_window.specs.Checked.{AreContiguous};
+ghost use Rattle.channel_window.specs.Marking.{so_far, capped_in, length_after};
+ghost use Rattle.channel_window.specs.Listed.{IsFront};
+ghost use Rattle.channel_window.specs.Inner.Listed.{is_after};
+
+use crate::marking::{Limits, copied_text, mark_on};
+use break_finder::Knowledge;
+use fixed_duration::Nanos;
+use playlist_model::{Segment, Shared, Text};
+use pod_store::PodStore;
+use std::alloc::{AllocError, Global};
+use stitcher::{MarkedSegment, is_same_run};
+use timeline::{Beginnings, ends_at};
+
+#[tactic(auto, using(crate::proofs::Listed::newest_seen, crate::proofs::Listed::newest_decided, crate::proofs::Listed::none_seen))]
+/// The mark of the newest of these segments.
+pub fn newest_mark(shown: &[MarkedSegment]) -> Result<Option<Shared<Text>>, AllocError>
+    ensures mark { IfOk result (λ id. (store : Store) → newest_mark (so_far store shown.now) ≡ mark_in store id) }
+    ensures decided { IfOk result (λ id. (store : Store) → AreDecided store shown.now → IsDecided store id) }
+{
+    match shown.split_last() {
+        Some((newest, _)) => copied_text(&newest.mark),
+        None => Ok(None),
+    }
+}
+
+#[tactic(auto, using(crate::proofs::Listed::newest_ends, crate::proofs::Listed::none_seen))]
+/// Where the newest of these segments ends.
+pub fn newest_end(shown: &[MarkedSegment]) -> Option<i128>
+    ensures { (store : Store) → result ≡ newest_end (so_far store shown.now) }
+{
+    match shown.split_last() {
+        Some((newest, _)) => ends_at(&newest.instant, newest.segment.duration),
+        None => None,
+    }
+}
+
+#[tactic(auto, using(crate::proofs::Listed::rest_after))]
+// Those of a playlist's segments that are numbered after this.
+fn after(number: u64, segments: &[Shared<Segment>]) -> &[Shared<Segment>]
+    requires { AreContiguous segments.now }
+    ensures { result.now ≡ filter (is_after number) segments.now }
+{
+    let mut rest = segments;
+    while let Some((segment, later)) = rest.split_first() {
+        if segment.media_sequence > number {
+            return rest;
+        }
+        rest = later;
+    }
+    rest
+}
+
+#[tactic(auto, using(crate::proofs::Listed::same_new, crate::proofs::Listed::all_new))]
+/// The segments of a playlist that weren't shown before.
+pub fn fresh_of<'a>(
+    shown: &[MarkedSegment],
+    segments: &'a [Shared<Segment>],
+) -> &'a [Shared<Segment>]
+    requires { AreContiguous segments.now }
+    ensures { (store : Store) → result.now ≡ filter (is_new (so_far store shown.now)) segments.now }
+{
+    match shown.split_last() {
+        Some((newest, _)) => after(newest.segment.media_sequence, segments),
+        None => segments,
+    }
+}
+
+fn copied(marked: &MarkedSegment) -> Result<MarkedSegment, AllocError>
+    ensures { IfOk result (λ m. m ≡ marked.now) }
+{
+    Ok(MarkedSegment {
+        segment: marked.segment.clone()?,
+        instant: marked.instant,
+        mark: copied_text(&marked.mark)?,
+    })
+}
+
+// Copies of these segments, with room for so many more.
+fn copies(
+    alloc: Global,
+    shown: &[MarkedSegment],
+    more: usize,
+) -> Result<Vec<MarkedSegment>, AllocError>
+    ensures { IfOk result (λ v. v.items ≡ shown.now) }
+{
+    let mut done = Vec::with_capacity(alloc, shown.len().saturating_add(more))?;
+    let mut rest = shown;
+    while let Some((marked, later)) = rest.split_first() {
+        done.push(copied(marked)?)?;
+        rest = later;
+    }
+    Ok(done)
+}
+
+// These segments, and others after them.
+fn joined(
+    alloc: Global,
+    shown: &[MarkedSegment],
+    fresh: Vec<MarkedSegment>,
+) -> Result<Vec<MarkedSegment>, AllocError>
+    ensures { IfOk result (λ v. v.items ≡ shown.now ++ fresh.items) }
+{
+    if shown.is_empty() {
+        return Ok(fresh);
+    }
+    let mut list = copies(alloc, shown, fresh.len())?;
+    let mut fresh = fresh;
+    list.append(&mut fresh)?;
+    Ok(list)
+}
+
+// The length of a run with one more segment, no more of it than a nanosecond above its pod's total.
+fn capped(store: &PodStore, mark: &Option<Shared<Text>>, duration: Nanos, so_far: u64) -> u64
+    ensures { result ≡ capped_in store.now mark.now (duration + so_far) }
+{
+    let Some(id) = mark else {
+        return 0;
+    };
+    match store.pod_for(id.as_str()) {
+        Some(pod) => duration.0.saturating_add(so_far).min(pod.total().0 + 1),
+        None => 0,
+    }
+}
+
+// How long the newest run has lasted with these segments, after one of this mark and a run that had lasted so long.
+fn length_after(
+    store: &PodStore,
+    newest: &Option<Shared<Text>>,
+    so_far: Nanos,
+    marked: &[MarkedSegment],
+) -> Nanos
+    ensures { result ≡ length_after store.now newest.now so_far marked.now }
+{
+    let mut previous = newest;
+    let mut length = so_far.0;
+    let mut rest = marked;
+    while let Some((here, later)) = rest.split_first() {
+        let before = if is_same_run(&here.mark, previous) {
+            length
+        } else {
+            0
+        };
+        length = capped(store, &here.mark, here.segment.duration, before);
+        previous = &here.mark;
+        rest = later;
+    }
+    Nanos(length)
+}
+
+/// Segments with their marks, and how long their newest run has lasted.
+#[derive(Drop)]
+pub struct Listing {
+    /// The segments.
+    pub list: Vec<MarkedSegment>,
+    /// How long the newest run has lasted.
+    pub so_far: Nanos,
+}
+
+/// The segments that were shown, with the fresh ones and their marks after them, and how long the newest run has lasted then.
+pub fn listed(
+    alloc: Global,
+    limits: &Limits,
+    knowledge: &Knowledge,
+    store: &PodStore,
+    shown: &[MarkedSegment],
+    entered: &Option<Shared<Text>>,
+    before: Nanos,
+    segments: &[Shared<Segment>],
+) -> Result<Listing, AllocError>
+    requires numbers { AreContiguous segments.now }
+    requires decided { AreDecided store.now shown.now }
+    ensures list { IfOk result (λ v. so_far store.now v.list.items ≡ show_on (record { tolerance = limits.now.tolerance; target_duration = limits.now.target_duration; mapped = limits.now.mapped; breaks = knowledge.now; store = store.now }) (so_far store.now shown.now) entered.now (filter (is_new (so_far store.now shown.now)) segments.now)) }
+    ensures front { IfOk result (λ v. IsFront shown.now v.list.items) }
+    ensures marks { IfOk result (λ v. AreDecided store.now v.list.items) }
+    ensures length { IfOk result (λ v. v.so_far ≡ length_on (record { tolerance = limits.now.tolerance; target_duration = limits.now.target_duration; mapped = limits.now.mapped; breaks = knowledge.now; store = store.now }) (so_far store.now shown.now) entered.now before (filter (is_new (so_far store.now shown.now)) segments.now)) }
+{
+    let newest = newest_mark(shown)?;
+    let fresh = fresh_of(shown, segments);
+    let instants = Beginnings::new(alloc, newest_end(shown), fresh);
+    let marked = mark_on(
+        alloc, limits, knowledge, store, &newest, entered, fresh, instants,
+    )?;
+    let length = length_after(store, &newest, before, marked.as_slice());
+    Ok(Listing {
+        list: joined(alloc, shown, marked)?,
+        so_far: length,
+    })
+}
+
+#[tactic(auto, using(crate::proofs::Counted::front_whole, crate::proofs::Counted::front_less, crate::proofs::Counted::front_seen, crate::proofs::Counted::front_stops, crate::proofs::Counted::front_ends))]
+/// These segments up to the one of this number.
+pub fn front_to(number: u64, list: &[MarkedSegment]) -> &[MarkedSegment]
+    ensures seen { (store : Store) → so_far store result.now ≡ up_to number (so_far store list.now) }
+    ensures front { IsFront result.now list.now }
+{
+    let mut rest = list;
+    while let Some((newest, before)) = rest.split_last() {
+        if newest.segment.media_sequence <= number {
+            return rest;
+        }
+        rest = before;
+    }
+    rest
+}
+
+#[tactic(auto, using(crate::proofs::Counted::front_whole, crate::proofs::Counted::front_less, crate::proofs::Counted::gone_seen, crate::proofs::Counted::gone_stops, crate::proofs::Counted::gone_ends))]
+/// Those of these segments that stand before this number.
+pub fn front_before(number: u64, list: &[MarkedSegment]) -> &[MarkedSegment]
+    ensures seen { (store : Store) → so_far store result.now ≡ gone_before number (so_far store list.now) }
+    ensures front { IsFront result.now list.now }
+{
+    let mut rest = list;
+    while let Some((newest, before)) = rest.split_last() {
+        if newest.segment.media_sequence < number {
+            return rest;
+        }
+        rest = before;
+    }
+    rest
+}
+
+#[tactic(auto, using(crate::proofs::Counted::none_counted, crate::proofs::Counted::counted_on, crate::proofs::Counted::counted_there, crate::proofs::Counted::counted_within, crate::proofs::Counted::counted_all))]
+/// How many of these segments stand before those from this number on.
+pub fn count_before(number: u64, list: &[MarkedSegment]) -> usize
+    ensures seen { (store : Store) → so_far store (drop result list.now) ≡ shown_from number (so_far store list.now) }
+    ensures within { result ≤ length list.now }
+{
+    let mut rest = list;
+    while let Some((newest, before)) = rest.split_last() {
+        if newest.segment.media_sequence < number {
+            return rest.len();
+        }
+        rest = before;
+    }
+    0
+}
+
+/// The values of a list from a place on.
+pub fn from_place<T: Drop>(list: Vec<T>, place: usize) -> Result<Vec<T>, AllocError>
+    requires { place ≤ length list.items }
+    ensures { IfOk result (λ v. v.items ≡ drop place list.items) }
+{
+    if place == 0 {
+        return Ok(list);
+    }
+    let mut list = list;
+    list.split_off(place)
+}
+
+#[tactic(auto, using(crate::proofs::Counted::none_passed, crate::proofs::Counted::one_passed, crate::proofs::Counted::passed_to, crate::proofs::Counted::passed_all))]
+/// The last break entered: that of the newest of these segments that has a mark, else this one.
+pub fn last_entered(
+    list: &[MarkedSegment],
+    entered: &Option<Shared<Text>>,
+) -> Result<Option<Shared<Text>>, AllocError>
+    ensures { IfOk result (λ id. (store : Store) → AreDecided store list.now → id ≡ or_earlier (last_entered (so_far store list.now)) entered.now) }
+{
+    let mut rest = list;
+    while let Some((newest, before)) = rest.split_last() {
+        if newest.mark.is_some() {
+            return Ok(copied_text(&newest.mark)?);
+        }
+        rest = before;
+    }
+    Ok(copied_text(entered)?)
+}

@@ -1,0 +1,327 @@
+//! The new segments of a refresh, with the breaks that they are marked with.
+ghost use Rattle.std.specs.Prelude.{◌≡◌, ◌++◌, ℕ, true, List, Option, IfOk, OnOk, Some, None};
+ghost use Rattle.std.specs.Option.{option_copied};
+ghost use Rattle.playlist_model.specs.LookBack.{or_earlier};
+ghost use Rattle.pod_store.specs.Store.{is_empty, pod_for};
+ghost use Rattle.break_finder.specs.Entering.{entered};
+ghost use Rattle.channel_spec.specs.Marking.{limits};
+ghost use Rattle.channel_window.specs.Marking.{is_still_inside, stays, next_id, mark_on};
+
+use break_finder::{Entrances, Knowledge};
+use fixed_duration::Nanos;
+use playlist_model::{Instant, Segment, Shared, Text};
+use pod_store::PodStore;
+use std::alloc::{AllocError, Global};
+use std::marker::Model;
+use stitcher::MarkedSegment;
+use timeline::Beginnings;
+
+/// What marks are decided by, the known breaks and the store apart.
+#[derive(Clone, Copy)]
+pub struct Limits {
+    /// How far an instant may be from the start of a break, and must be before its end.
+    pub tolerance: Nanos,
+    /// The target duration, in seconds.
+    pub target_duration: u64,
+    /// Whether the origin's segments have initialisation sections.
+    pub mapped: bool,
+}
+
+/// The text, where there is one.
+pub fn text_in(text: &Option<Shared<Text>>) -> Option<&str>
+    ensures { option_copied result ≡ text.now }
+{
+    match text {
+        Some(text) => Some(text.as_str()),
+        None => None,
+    }
+}
+
+/// Another owner of a text, where there is one.
+pub fn copied_text(text: &Option<Shared<Text>>) -> Result<Option<Shared<Text>>, AllocError>
+    ensures { IfOk result (λ t. t ≡ text.now) }
+{
+    match text {
+        Some(text) => Ok(Some(text.clone()?)),
+        None => Ok(None),
+    }
+}
+
+// What decides the marks of a refresh's segments, with the breaks that can be entered in it.
+#[derive(Drop)]
+struct Marker<'a> {
+    limits: Limits,
+    knowledge: &'a Knowledge,
+    store: &'a PodStore,
+    entrances: Entrances<'a>,
+}
+
+impl<'a> Model for Marker<'a> {
+    ghost use Rattle.std.specs.Prelude.{◌≡◌};
+    ghost use Rattle.break_finder.specs.Entrances.{entrances_in};
+    ghost use Rattle.channel_spec.specs.Marking.{Moment};
+
+    ghost Value = { Moment };
+
+    ghost view = { λ a. record { tolerance = a.limits.tolerance; target_duration = a.limits.target_duration; mapped = a.limits.mapped; breaks = a.knowledge.now; store = a.store.now } };
+
+    ghost invariant = { λ a. a.entrances ≡ record { tolerance = a.limits.tolerance; found = entrances_in a.limits.target_duration a.limits.mapped a.store.now a.knowledge.now } };
+}
+
+// What decides them for about so many segments.
+fn marker_of<'a>(
+    alloc: Global,
+    limits: &Limits,
+    knowledge: &'a Knowledge,
+    store: &'a PodStore,
+    segments: usize,
+) -> Result<Marker<'a>, AllocError>
+    ensures { IfOk result (λ marker. marker ≡ record { tolerance = limits.now.tolerance; target_duration = limits.now.target_duration; mapped = limits.now.mapped; breaks = knowledge.now; store = store.now }) }
+{
+    Ok(Marker {
+        limits: *limits,
+        knowledge,
+        store,
+        entrances: knowledge.entrances(
+            alloc,
+            limits.tolerance,
+            limits.target_duration,
+            limits.mapped,
+            store,
+            segments,
+        )?,
+    })
+}
+
+impl<'a> Marker<'a> {
+    fn is_still_inside(&self, id: &str, instant: Option<Instant>) -> bool
+        ensures { result ≡ is_still_inside self.now id.now instant (pod_for self.now.store id.now) }
+    {
+        match self.store.pod_for(id) {
+            Some(pod) => self
+                .knowledge
+                .inside(id, instant, self.limits.tolerance, pod),
+            None => false,
+        }
+    }
+
+    fn stays(&self, newest: &Option<Shared<Text>>, instant: Option<Instant>) -> bool
+        ensures { result ≡ stays self.now newest.now instant }
+    {
+        match newest {
+            Some(id) => self.is_still_inside(id.as_str(), instant),
+            None => false,
+        }
+    }
+
+    #[tactic(auto, using(crate::proofs::Marked::none_entered))]
+    // The first break that is entered at an instant, after this last one.
+    fn entered(
+        &mut self,
+        alloc: Global,
+        last: Option<&str>,
+        instant: Option<Instant>,
+    ) -> Result<Option<Shared<Text>>, AllocError>
+        ensures entered { IfOk result (λ id. id ≡ entered (limits self.old (option_copied last.entry)) self.old.store self.old.breaks instant) }
+        ensures kept { self.new ≡ self.old }
+    {
+        // Most playlists have no decided break and no fallback, and then each segment comes here.
+        if self.store.is_empty() {
+            return Ok(None);
+        }
+        match self.entrances.entered(instant, last) {
+            Some(id) => Ok(Some(Shared::copy_of(alloc, id)?)),
+            None => Ok(None),
+        }
+    }
+
+    // The first break but this one that is entered at an instant.
+    fn entered_since(
+        &mut self,
+        alloc: Global,
+        last: &str,
+        instant: Option<Instant>,
+    ) -> Result<Option<Shared<Text>>, AllocError>
+        ensures entered { IfOk result (λ id. id ≡ entered (limits self.old (Some last.now)) self.old.store self.old.breaks instant) }
+        ensures kept { self.new ≡ self.old }
+    {
+        self.entered(alloc, Some(last), instant)
+    }
+
+    fn entered_after(
+        &mut self,
+        alloc: Global,
+        last: &Option<Shared<Text>>,
+        instant: Option<Instant>,
+    ) -> Result<Option<Shared<Text>>, AllocError>
+        ensures entered { IfOk result (λ id. id ≡ entered (limits self.old last.now) self.old.store self.old.breaks instant) }
+        ensures kept { self.new ≡ self.old }
+    {
+        match last {
+            Some(last) => self.entered_since(alloc, last.as_str(), instant),
+            None => self.entered(alloc, None, instant),
+        }
+    }
+
+    // The break that marks a segment, by whether it stays on the run of the one before it.
+    fn next_id(
+        &mut self,
+        alloc: Global,
+        staying: bool,
+        newest: &Option<Shared<Text>>,
+        last: &Option<Shared<Text>>,
+        instant: Option<Instant>,
+    ) -> Result<Option<Shared<Text>>, AllocError>
+        requires { staying ≡ stays self.old newest.now instant }
+        ensures id { IfOk result (λ id. id ≡ next_id self.old newest.now last.now instant) }
+        ensures kept { self.new ≡ self.old }
+    {
+        if staying {
+            return copied_text(newest);
+        }
+        self.entered_after(alloc, last, instant)
+    }
+}
+
+// Notes the break that marks a segment, where one does, as the last one entered.
+fn enter(entered: &mut Option<Shared<Text>>, mark: &Option<Shared<Text>>) -> Result<(), AllocError>
+    ensures { OnOk result (entered.new ≡ or_earlier mark.now entered.old) }
+{
+    if mark.is_some() {
+        *entered = copied_text(mark)?;
+    }
+    Ok(())
+}
+
+// How far the marks are: the mark of the segment before, and the last break entered.
+#[derive(Drop)]
+struct Run {
+    before: Option<Shared<Text>>,
+    entered: Option<Shared<Text>>,
+}
+
+fn run_of(newest: &Option<Shared<Text>>, last: &Option<Shared<Text>>) -> Result<Run, AllocError>
+    ensures { IfOk result (λ run. run ≡ record { before = newest.now; entered = last.now }) }
+{
+    Ok(Run {
+        before: copied_text(newest)?,
+        entered: copied_text(last)?,
+    })
+}
+
+fn marked_with(
+    segment: &Shared<Segment>,
+    instant: &Option<Instant>,
+    mark: Option<Shared<Text>>,
+) -> Result<MarkedSegment, AllocError>
+    ensures { IfOk result (λ marked. marked ≡ record { segment = segment.now; instant = instant.now; mark = mark }) }
+{
+    Ok(MarkedSegment {
+        segment: segment.clone()?,
+        instant: *instant,
+        mark,
+    })
+}
+
+impl<'a> Marker<'a> {
+    // The next segment with its mark; how far the marks are is told after it.
+    fn next(
+        &mut self,
+        alloc: Global,
+        run: &mut Run,
+        segment: &Shared<Segment>,
+        instant: &Option<Instant>,
+    ) -> Result<MarkedSegment, AllocError>
+        ensures marked { IfOk result (λ m. m ≡ record { segment = segment.now; instant = instant.now; mark = next_id self.old run.old.before run.old.entered instant.now }) }
+        ensures run { IfOk result (λ m. run.new ≡ record { before = m.mark; entered = or_earlier m.mark run.old.entered }) }
+        ensures kept { self.new ≡ self.old }
+    {
+        let staying = self.stays(&run.before, *instant);
+        let mark = self.next_id(alloc, staying, &run.before, &run.entered, *instant)?;
+        enter(&mut run.entered, &mark)?;
+        run.before = copied_text(&mark)?;
+        marked_with(segment, instant, mark)
+    }
+
+    // Puts these segments, which begin at these instants, after those that are done, with their marks.
+    fn all(
+        &mut self,
+        alloc: Global,
+        run: &mut Run,
+        segments: &[Shared<Segment>],
+        instants: &mut Beginnings<'_>,
+        done: &mut Vec<MarkedSegment>,
+    ) -> Result<(), AllocError>
+        ensures { OnOk result (done.new.items ≡ done.old.items ++ mark_on self.old run.old.before run.old.entered segments.now instants.old) }
+    {
+        let mut rest = segments;
+        while let Some((segment, later)) = rest.split_first() {
+            let Some(instant) = instants.next()? else {
+                return Ok(());
+            };
+            done.push(self.next(alloc, run, segment, &instant)?)?;
+            rest = later;
+        }
+        Ok(())
+    }
+
+    // The same where no break is decided, with no fallback, and the segment before has no mark: none of these has one.
+    fn all_unmarked(
+        &self,
+        segments: &[Shared<Segment>],
+        instants: &mut Beginnings<'_>,
+        done: &mut Vec<MarkedSegment>,
+    ) -> Result<(), AllocError>
+        requires { is_empty self.now.store ≡ true }
+        ensures { OnOk result ((last : Option (List ℕ)) → done.new.items ≡ done.old.items ++ mark_on self.now None last segments.now instants.old) }
+    {
+        let mut rest = segments;
+        while let Some((segment, later)) = rest.split_first() {
+            let Some(begun) = instants.next()? else {
+                return Ok(());
+            };
+            done.push(marked_with(segment, &begun, None)?)?;
+            rest = later;
+        }
+        Ok(())
+    }
+
+    // These segments, which begin at these instants, with their marks.
+    fn marked(
+        &mut self,
+        alloc: Global,
+        run: &mut Run,
+        segments: &[Shared<Segment>],
+        instants: Beginnings<'_>,
+    ) -> Result<Vec<MarkedSegment>, AllocError>
+        ensures { IfOk result (λ v. v.items ≡ mark_on self.old run.old.before run.old.entered segments.now instants.entry) }
+    {
+        let mut instants = instants;
+        let mut done = Vec::with_capacity(alloc, segments.len())?;
+        if self.store.is_empty() && run.before.is_none() {
+            self.all_unmarked(segments, &mut instants, &mut done)?;
+        } else {
+            self.all(alloc, run, segments, &mut instants, &mut done)?;
+        }
+        Ok(done)
+    }
+}
+
+/// These segments, which begin at these instants, with their marks: after a segment of this mark, and after this
+/// last break entered.
+pub fn mark_on(
+    alloc: Global,
+    limits: &Limits,
+    knowledge: &Knowledge,
+    store: &PodStore,
+    newest: &Option<Shared<Text>>,
+    last: &Option<Shared<Text>>,
+    segments: &[Shared<Segment>],
+    instants: Beginnings<'_>,
+) -> Result<Vec<MarkedSegment>, AllocError>
+    ensures { IfOk result (λ v. v.items ≡ mark_on (record { tolerance = limits.now.tolerance; target_duration = limits.now.target_duration; mapped = limits.now.mapped; breaks = knowledge.now; store = store.now }) newest.now last.now segments.now instants.entry) }
+{
+    let mut marker = marker_of(alloc, limits, knowledge, store, segments.len())?;
+    let mut run = run_of(newest, last)?;
+    marker.marked(alloc, &mut run, segments, instants)
+}

@@ -1,0 +1,71 @@
+//! The breaks that are known after a refresh, and the segments that are shown then.
+ghost use Rattle.std.specs.Prelude.{◌≡◌, IfOk};
+ghost use Rattle.stitcher.specs.StitchedSegments.{AreDecided};
+ghost use Rattle.channel_spec.specs.Successor.{is_mapped};
+ghost use Rattle.channel_window.specs.Checked.{AreContiguous};
+ghost use Rattle.channel_window.specs.Showing.{kept_in};
+ghost use Rattle.channel_window.specs.Showing.{IsShown};
+
+use crate::listing::{Listing, listed, newest_mark};
+use crate::marking::{Limits, text_in};
+use crate::state::ChannelState;
+use crate::successor::is_mapped;
+use break_finder::Knowledge;
+use fixed_duration::Nanos;
+use playlist_model::Playlist;
+use std::alloc::{AllocError, Global};
+use stitcher::MarkedSegment;
+
+/// What a channel knows and shows.
+#[derive(Drop)]
+pub struct Showing {
+    /// The breaks that are known.
+    pub knowledge: Knowledge,
+    /// The segments that are shown, the oldest first.
+    pub list: Vec<MarkedSegment>,
+    /// How long their newest run has lasted.
+    pub so_far: Nanos,
+}
+
+fn limits_of(tolerance: Nanos, playlist: &Playlist) -> Limits
+    ensures { result ≡ record { tolerance = tolerance; target_duration = playlist.now.target_duration; mapped = is_mapped playlist.now.segments } }
+{
+    Limits {
+        tolerance,
+        target_duration: playlist.target_duration,
+        mapped: is_mapped(playlist.segments.as_slice()),
+    }
+}
+
+/// What a channel knows and shows with the segments of a playlist, those that it showed before among them. Fails only
+/// where an allocation fails.
+pub fn shown_with(
+    alloc: Global,
+    tolerance: Nanos,
+    state: &ChannelState,
+    playlist: &Playlist,
+) -> Result<Showing, AllocError>
+    requires contiguous { AreContiguous playlist.now.segments }
+    requires decided { AreDecided state.now.store state.now.shown }
+    ensures { IfOk result (λ a. IsShown tolerance state.now playlist.now a) }
+{
+    let shown = state.shown.as_slice();
+    let newest = newest_mark(shown)?;
+    let knowledge = state.knowledge.carry(alloc, playlist, text_in(&newest))?;
+    let limits = limits_of(tolerance, playlist);
+    let Listing { list, so_far } = listed(
+        alloc,
+        &limits,
+        &knowledge,
+        &state.store,
+        shown,
+        &state.entered,
+        state.so_far,
+        playlist.segments.as_slice(),
+    )?;
+    Ok(Showing {
+        knowledge,
+        list,
+        so_far,
+    })
+}

@@ -1,0 +1,153 @@
+//! Which playlist may follow which (RFC 8216, sections 6.2.1 and 6.2.2).
+ghost use Rattle.std.specs.Prelude.{◌≡◌, Bool, true, false, not, ◌&&◌, option_map, is_none};
+ghost use Rattle.channel_spec.specs.declared.fault.RefreshFault.TheVariants.{Changed};
+ghost use Rattle.channel_spec.specs.Successor.{are_different, end_number, first_changed, first_discontinuity, first_number, discontinuity_out_of_range, is_mapped, is_same_window, kind_eq, last_discontinuity, answer_of, successor_fault};
+ghost use Rattle.channel_window.specs.Checked.{AreContiguous};
+ghost use Rattle.channel_window.specs.Inner.Checked.{is_as_before};
+
+use channel_spec::RefreshFault;
+use playlist_model::{Playlist, PlaylistKind, Segment, Shared, same_segment};
+
+// The media number of the first segment.
+/// The media number of the first of these segments.
+pub fn first_number(segments: &[Shared<Segment>]) -> u64
+    ensures { result ≡ first_number segments.now }
+{
+    match segments.first() {
+        Some(segment) => segment.media_sequence,
+        None => 0,
+    }
+}
+
+// The number one past the last.
+fn end_number(segments: &[Shared<Segment>]) -> u128
+    ensures { result ≡ end_number segments.now }
+{
+    u128::from(first_number(segments)) + segments.len() as u128
+}
+
+fn first_discontinuity(segments: &[Shared<Segment>]) -> u64
+    ensures { result ≡ first_discontinuity segments.now }
+{
+    match segments.first() {
+        Some(segment) => segment.discontinuity_sequence,
+        None => 0,
+    }
+}
+
+#[tactic(auto, using(crate::proofs::Found::last_append))]
+fn last_discontinuity(segments: &[Shared<Segment>]) -> u64
+    ensures { result ≡ last_discontinuity segments.now }
+{
+    match segments.split_last() {
+        Some((last, _)) => last.discontinuity_sequence,
+        None => 0,
+    }
+}
+
+/// Whether these segments have initialisation sections: whether the first one has.
+pub fn is_mapped(segments: &[Shared<Segment>]) -> bool
+    ensures { result ≡ is_mapped segments.now }
+{
+    match segments.first() {
+        Some(segment) => segment.init_section.is_some(),
+        None => false,
+    }
+}
+
+fn is_same_kind(a: Option<PlaylistKind>, b: Option<PlaylistKind>) -> bool
+    ensures { result ≡ kind_eq a b }
+{
+    match (a, b) {
+        (None, None) => true,
+        (Some(PlaylistKind::Event), Some(PlaylistKind::Event)) => true,
+        (Some(PlaylistKind::Vod), Some(PlaylistKind::Vod)) => true,
+        _ => false,
+    }
+}
+
+// Whether a segment is as it was among these, or wasn't there.
+fn is_as_before(old: &[Shared<Segment>], segment: &Segment) -> bool
+    requires { AreContiguous old.now }
+    ensures { result ≡ is_as_before old.now segment.now }
+{
+    let first = first_number(old);
+    if segment.media_sequence < first {
+        return true;
+    }
+    match old.get((segment.media_sequence - first) as usize) {
+        Some(other) => same_segment(segment, other),
+        None => true,
+    }
+}
+
+// The number of the first segment that isn't as it was.
+fn first_changed(old: &[Shared<Segment>], new: &[Shared<Segment>]) -> Option<u64>
+    requires { AreContiguous old.now }
+    ensures { option_map Changed result ≡ first_changed old.now new.now }
+{
+    let mut rest = new;
+    while let Some((segment, later)) = rest.split_first() {
+        if !is_as_before(old, segment) {
+            return Some(segment.media_sequence);
+        }
+        rest = later;
+    }
+    None
+}
+
+// Whether the one starts directly after the other, with a discontinuity number that doesn't follow.
+fn discontinuity_out_of_range(old: &[Shared<Segment>], new: &[Shared<Segment>]) -> bool
+    ensures { result ≡ discontinuity_out_of_range old.now new.now }
+{
+    if u128::from(first_number(new)) != end_number(old) {
+        return false;
+    }
+    let (last, next) = (last_discontinuity(old), first_discontinuity(new));
+    next < last || u128::from(last) + 1000 < u128::from(next)
+}
+
+fn is_same_window(old: &[Shared<Segment>], new: &[Shared<Segment>]) -> bool
+    ensures { result ≡ is_same_window old.now new.now }
+{
+    first_number(new) == first_number(old) && end_number(new) == end_number(old)
+}
+
+/// Whether a playlist may follow another: the first of the faults N1 to N9 where it may not. Takes no memory.
+pub fn check_successor(old: &Playlist, new: &Playlist) -> Result<(), RefreshFault>
+    requires { AreContiguous old.now.segments }
+    ensures { result ≡ answer_of (successor_fault old.now new.now) }
+{
+    let (before, after) = (old.segments.as_slice(), new.segments.as_slice());
+    if new.version != old.version {
+        return Err(RefreshFault::VersionChanged);
+    }
+    if new.target_duration != old.target_duration {
+        return Err(RefreshFault::TargetChanged);
+    }
+    if !is_same_kind(new.playlist_type, old.playlist_type) {
+        return Err(RefreshFault::TypeChanged);
+    }
+    if is_mapped(after) != is_mapped(before) {
+        return Err(RefreshFault::MapsChanged);
+    }
+    if first_number(after) < first_number(before) {
+        return Err(RefreshFault::Back);
+    }
+    if u128::from(first_number(after)) > end_number(before) {
+        return Err(RefreshFault::Gap);
+    }
+    if end_number(after) < end_number(before) {
+        return Err(RefreshFault::Shrunk);
+    }
+    if let Some(number) = first_changed(before, after) {
+        return Err(RefreshFault::Changed(number));
+    }
+    if discontinuity_out_of_range(before, after) {
+        return Err(RefreshFault::Changed(first_number(after)));
+    }
+    if old.end_list && !(new.end_list && is_same_window(before, after)) {
+        return Err(RefreshFault::Ended);
+    }
+    Ok(())
+}

@@ -1,0 +1,363 @@
+//! The window, as it is written.
+ghost use Rattle.std.specs.Prelude.{◌≡◌, ◌<◌, ◌≤◌, ◌+◌, ◌-◌, ◌^◌, ◌||◌, ◌∷◌, ℕ, List, IfOk, IfErr, OnOk, None, filter, length, map, min, nat_lt, not, bytes_eq, false, true};
+ghost use Rattle.std.specs.List.{list_all, list_any};
+ghost use Rattle.stitcher.specs.Stitched.{fits};
+ghost use Rattle.pod_store.specs.Store.{Store, is_one_of, pod_for};
+ghost use Rattle.playlist_model.specs.declared.DateRange.{DateRange};
+ghost use Rattle.break_finder.specs.Inner.Kept.{has_text};
+ghost use Rattle.stitcher.specs.StitchedSegments.{AreDecided, ends_in, item_fits, rest_in, stitched_segments};
+ghost use Rattle.stitcher.specs.Written.{written_item};
+ghost use Rattle.channel_spec.specs.Kept.{items_on, numbers_on, rest_after, rest_on, start_on, stitched_on, window_on};
+ghost use Rattle.channel_spec.specs.Inner.Kept.{ends_of};
+ghost use Rattle.channel_spec.specs.Live.{date_range_text, date_ranges_left, rest_over};
+ghost use Rattle.channel_spec.specs.Successor.{first_number};
+ghost use Rattle.channel_window.specs.Marking.{place_on, so_far};
+ghost use Rattle.channel_window.specs.Listed.{IsFront, IsRestDecided, RefusesList, head_of, states_time};
+ghost use Rattle.channel_window.specs.Inner.Listed.{first_alone, first_numbers_of, pod_keeps, texts_left};
+ghost use Rattle.channel_window.specs.Placing.{rest_count};
+ghost use Rattle.channel_window.specs.Inner.Placing.{HasRoom, IsWithin};
+ghost use Rattle.channel_window.specs.Showing.{kept_in};
+
+use crate::listing::{from_place, front_before, front_to};
+use crate::placing::{place_of, rest_count, run_count};
+use crate::state::ChannelState;
+use crate::successor::first_number;
+use channel_spec::RefreshFault;
+use fixed_duration::Nanos;
+use indexmap::IndexSet;
+use playlist_model::{DateRange, Playlist, Segment, Shared, Text};
+use pod_store::PodStore;
+use std::alloc::{AllocError, Global};
+use stitcher::{Ends, MarkedSegment, Numbers, OutSegment, Rest, StitchFault, TextRef, stitch};
+
+// The stitched list of these segments between these ends, whose first item has these numbers.
+fn stitched<'a>(
+    alloc: Global,
+    list: &'a [MarkedSegment],
+    store: &PodStore,
+    first: Numbers,
+    ends: &Ends,
+) -> Result<Vec<OutSegment<'a>>, RefreshFault>
+    requires { AreDecided store.now list.now }
+    ensures ok { IfOk result (λ v. (v.items ≡ stitched_segments store.now first ends.now list.now) × (list_all item_fits v.items ≡ true)) }
+    ensures err { IfErr result (λ e. RefusesList e (list_all item_fits (stitched_segments store.now first ends.now list.now) ≡ false)) }
+{
+    match stitch(alloc, list, store, first, ends) {
+        Ok(items) => Ok(items),
+        Err(StitchFault::NumberRange) => Err(RefreshFault::NumberRange),
+        Err(StitchFault::OutOfMemory) => Err(RefreshFault::OutOfMemory),
+    }
+}
+
+// Another owner of a rest.
+fn copied_rest(rest: &Option<Rest>) -> Result<Option<Rest>, AllocError>
+    ensures { IfOk result (λ r. r ≡ rest.now) }
+{
+    let Some(rest) = rest else {
+        return Ok(None);
+    };
+    Ok(Some(Rest {
+        id: rest.id.clone()?,
+        place: rest.place,
+    }))
+}
+
+// What stands at the ends of the list of the segments that are shown.
+fn ends_of(rest: &Option<Rest>, ended: bool, so_far: Nanos) -> Result<Ends, AllocError>
+    ensures { IfOk result (λ ends. (store : Store) → ends_in store ends ≡ ends_of ended so_far (rest_in store rest.now)) }
+{
+    let rest = copied_rest(rest)?;
+    let open = if ended { None } else { Some(so_far) };
+    Ok(Ends { rest, so_far: open })
+}
+
+// How many items the last window came to, from its first one on; no more of it is told than fits.
+fn written_before(state: &ChannelState, last: &Playlist) -> usize
+    requires place { place_on state.now.store None 0 0 state.now.shown < 2 ^ 64 }
+    requires decided { AreDecided state.now.store state.now.shown }
+    ensures { result ≡ min (length (stitched_on last.now.end_list state.now.so_far (so_far state.now.store state.now.shown) (rest_in state.now.store state.now.rest))) (2 ^ 64 - 1) }
+{
+    let store = &state.store;
+    let shown = state.shown.as_slice();
+    let before = rest_count(store, &state.rest);
+    let Some((newest, _)) = shown.split_last() else {
+        return before;
+    };
+    let run = run_count(store, &newest.mark, last.end_list, state.so_far);
+    before
+        .saturating_add(place_of(store, shown))
+        .saturating_add(run)
+}
+
+// Where the window starts in the stitched list of the segments that are shown, after the rest.
+fn start_of(state: &ChannelState, playlist: &Playlist, list: &[MarkedSegment]) -> usize
+    requires room { HasRoom state.now.store state.now.rest list.now }
+    requires front { IsFront state.now.shown list.now }
+    requires decided { AreDecided state.now.store list.now }
+    ensures value { result ≡ start_on state.now.last (first_number playlist.now.segments) (kept_in state.now) (so_far state.now.store list.now) }
+    ensures within { (most : ℕ) → IsWithin state.now.store state.now.rest list.now most → result ≤ most }
+{
+    let number = first_number(playlist.segments.as_slice());
+    let place = place_of(&state.store, front_to(number, list));
+    let Some(last) = &state.last else {
+        return place;
+    };
+    if number == first_number(last.segments.as_slice()) {
+        return 0;
+    }
+    let most = written_before(state, last);
+    (place + rest_count(&state.store, &state.rest)).min(most)
+}
+
+// The rest of the pod before the first segment that is shown, where a window that starts at this place starts with it.
+fn rest_from(
+    state: &ChannelState,
+    number: u64,
+    start: usize,
+    list: &[MarkedSegment],
+) -> Result<Option<Rest>, AllocError>
+    requires room { HasRoom state.now.store state.now.rest list.now }
+    requires decided { AreDecided state.now.store list.now }
+    ensures decided { IfOk result (λ rest. IsRestDecided state.now.store rest) }
+    ensures value { IfOk result (λ rest. rest_in state.now.store rest ≡ rest_over (rest_count state.now.store state.now.rest) start number (so_far state.now.store list.now)) }
+{
+    let store = &state.store;
+    let before = rest_count(store, &state.rest);
+    if start >= place_of(store, front_to(number, list)) + before {
+        return Ok(None);
+    }
+    let gone = front_before(number, list);
+    let Some((newest, _)) = gone.split_last() else {
+        return Ok(None);
+    };
+    let Some(id) = &newest.mark else {
+        return Ok(None);
+    };
+    Ok(Some(Rest {
+        id: id.clone()?,
+        place: start.saturating_sub(place_of(store, gone) + before),
+    }))
+}
+
+// The rest of a pod that a window which starts at this place starts with.
+fn rest_after(
+    state: &ChannelState,
+    playlist: &Playlist,
+    start: usize,
+    list: &[MarkedSegment],
+) -> Result<Option<Rest>, AllocError>
+    requires room { HasRoom state.now.store state.now.rest list.now }
+    requires decided { AreDecided state.now.store list.now }
+    requires rest { IsRestDecided state.now.store state.now.rest }
+    ensures decided { IfOk result (λ rest. IsRestDecided state.now.store rest) }
+    ensures value { IfOk result (λ rest. rest_in state.now.store rest ≡ rest_on state.now.last (first_number playlist.now.segments) start (so_far state.now.store list.now) (rest_in state.now.store state.now.rest)) }
+{
+    let number = first_number(playlist.segments.as_slice());
+    let Some(last) = &state.last else {
+        return Ok(None);
+    };
+    if number == first_number(last.segments.as_slice()) {
+        return copied_rest(&state.rest);
+    }
+    rest_from(state, number, start, list)
+}
+
+/// A window of the stitched list, and the rest of a pod that it starts with.
+#[derive(Drop)]
+pub struct Window<'a> {
+    /// The window.
+    pub items: Vec<OutSegment<'a>>,
+    /// The rest, if it starts with one.
+    pub rest: Option<Rest>,
+}
+
+/// The window of the stitched list of these segments, the newest run of which has lasted so long. `NumberRange` where a
+/// number would pass 2^64 - 1.
+pub fn window_of<'a>(
+    alloc: Global,
+    state: &ChannelState,
+    playlist: &Playlist,
+    list: &'a [MarkedSegment],
+    length: Nanos,
+) -> Result<Window<'a>, RefreshFault>
+    requires decided { AreDecided state.now.store list.now }
+    requires front { IsFront state.now.shown list.now }
+    requires rest { IsRestDecided state.now.store state.now.rest }
+    ensures ok { IfOk result (λ w. w.items.items ≡ map written_item (window_on (kept_in state.now) playlist.now (so_far state.now.store list.now) length)) }
+    ensures left { IfOk result (λ w. IsRestDecided state.now.store w.rest) }
+    ensures rest { IfOk result (λ w. rest_in state.now.store w.rest ≡ rest_after (kept_in state.now) playlist.now (so_far state.now.store list.now)) }
+    ensures fit { IfOk result (λ w. list_all fits (items_on (kept_in state.now) playlist.now (so_far state.now.store list.now) length) ≡ true) }
+    ensures err { IfErr result (λ e. RefusesList e (list_all fits (items_on (kept_in state.now) playlist.now (so_far state.now.store list.now) length) ≡ false)) }
+{
+    let ends = ends_of(&state.rest, playlist.end_list, length)?;
+    let first = numbers_on(&state.last, state.numbers, list, &state.store, &ends)?;
+    let items = stitched(alloc, list, &state.store, first, &ends)?;
+    let start = start_of(state, playlist, list);
+    let rest = rest_after(state, playlist, start, list)?;
+    Ok(Window {
+        items: from_place(items, start)?,
+        rest,
+    })
+}
+
+/// The numbers of the first of these items.
+pub fn head_of(items: &[OutSegment<'_>]) -> Numbers
+    ensures { result ≡ head_of items.now }
+{
+    match items.first() {
+        Some(first) => Numbers {
+            media_sequence: first.media_sequence,
+            discontinuity_sequence: first.discontinuity_sequence,
+            discontinuities: first.discontinuities,
+        },
+        None => Numbers {
+            media_sequence: 0,
+            discontinuity_sequence: 0,
+            discontinuities: 0,
+        },
+    }
+}
+
+fn is_any_timed(items: &[OutSegment<'_>]) -> bool
+    ensures { result ≡ list_any states_time items.now }
+{
+    items
+        .iter()
+        .any(|out: &OutSegment<'_>| out.program_date_time.is_some())
+}
+
+// The numbers of a first item that a pod stands at.
+fn first_with_pod(segment: &Segment) -> Result<Numbers, RefreshFault>
+    ensures ok { IfOk result (λ numbers. numbers ≡ first_alone segment.now true) }
+    ensures err { IfErr result (λ e. (e ≡ RefreshFault.NumberRange) × (nat_lt (segment.now.discontinuity_sequence + 1) (2 ^ 64) ≡ false)) }
+{
+    let Some(discontinuity) = segment.discontinuity_sequence.checked_add(1) else {
+        return Err(RefreshFault::NumberRange);
+    };
+    Ok(Numbers {
+        media_sequence: segment.media_sequence,
+        discontinuity_sequence: discontinuity,
+        discontinuities: 1,
+    })
+}
+
+// Knows that a pod keeps the rules, as its type says.
+fn know_pod(store: &PodStore, id: &str)
+    ensures { pod_keeps (pod_for store.now id.now) ≡ true }
+{
+    if let Some(pod) = store.pod_for(id) {
+        let _ads = pod.ads();
+    }
+}
+
+// The numbers of the first item where these segments are the first ever shown.
+fn first_numbers(
+    list: &[MarkedSegment],
+    store: &PodStore,
+    ends: &Ends,
+) -> Result<Numbers, RefreshFault>
+    requires { AreDecided store.now list.now }
+    ensures ok { IfOk result (λ numbers. numbers ≡ first_numbers_of list.now) }
+    ensures err { IfErr result (λ e. RefusesList e (list_all item_fits (stitched_segments store.now (first_numbers_of list.now) ends.now list.now) ≡ false)) }
+{
+    let Some(first) = list.first() else {
+        return Ok(Numbers {
+            media_sequence: 0,
+            discontinuity_sequence: 0,
+            discontinuities: 0,
+        });
+    };
+    let segment = &first.segment;
+    if let Some(id) = &first.mark {
+        know_pod(store, id.as_str());
+        return first_with_pod(segment);
+    }
+    Ok(Numbers {
+        media_sequence: segment.media_sequence,
+        discontinuity_sequence: segment.discontinuity_sequence,
+        discontinuities: segment.discontinuities,
+    })
+}
+
+#[tactic(auto, using(crate::proofs::Passing::first_here, crate::proofs::Passing::refuses_first))]
+// The numbers of the first item of the stitched list of these segments: those that are kept, where a playlist was
+// accepted before. `NumberRange` where one would pass 2^64 - 1.
+fn numbers_on(
+    last: &Option<Playlist>,
+    numbers: Numbers,
+    list: &[MarkedSegment],
+    store: &PodStore,
+    ends: &Ends,
+) -> Result<Numbers, RefreshFault>
+    requires { AreDecided store.now list.now }
+    ensures ok { IfOk result (λ n. n ≡ numbers_on last.now numbers (so_far store.now list.now)) }
+    ensures err { IfErr result (λ e. RefusesList e (list_all item_fits (stitched_segments store.now (numbers_on last.now numbers (so_far store.now list.now)) ends.now list.now) ≡ false)) }
+{
+    match last {
+        Some(_) => Ok(numbers),
+        None => first_numbers(list, store, ends),
+    }
+}
+
+// Adds an ID to a set.
+fn add_id<'a>(set: &mut IndexSet<&'a str>, id: &'a Text) -> Result<(), AllocError>
+    ensures { OnOk result ((other : List ℕ) → has_text set.new.keys other ≡ (has_text set.old.keys other || bytes_eq other id.now)) }
+{
+    set.insert(id.as_str())?;
+    Ok(())
+}
+
+// These IDs as a set.
+fn set_of<'a>(alloc: Global, ids: &'a [Shared<Text>]) -> Result<IndexSet<&'a str>, AllocError>
+    ensures { IfOk result (λ set. (id : List ℕ) → has_text set.keys id ≡ is_one_of ids.now id) }
+{
+    let mut set: IndexSet<&str> = IndexSet::new(alloc);
+    let mut rest = ids;
+    while let Some((id, later)) = rest.split_first() {
+        add_id(&mut set, id)?;
+        rest = later;
+    }
+    Ok(set)
+}
+
+fn has_id(set: &IndexSet<&str>, id: &Text) -> bool
+    ensures { result ≡ has_text set.now.keys id.now }
+{
+    set.contains(id.as_str())
+}
+
+// The texts of the date ranges of other breaks, where they stand.
+fn texts_left<'a>(
+    alloc: Global,
+    set: &IndexSet<&str>,
+    date_ranges: &'a [DateRange],
+) -> Result<Vec<TextRef<'a>>, AllocError>
+    ensures { IfOk result (λ v. v.items ≡ texts_left set.now.keys date_ranges.now) }
+{
+    let mut texts = Vec::new(alloc);
+    let mut rest = date_ranges;
+    while let Some((date_range, later)) = rest.split_first() {
+        if !has_id(set, &date_range.id) {
+            texts.push(TextRef::new(&date_range.attributes))?;
+        }
+        rest = later;
+    }
+    Ok(texts)
+}
+
+#[tactic(auto, using(crate::proofs::Ranges::left_alike))]
+/// The texts of the date ranges that are written: none of these breaks, and none at all where no item states a time.
+pub fn date_ranges_left<'a>(
+    alloc: Global,
+    items: &[OutSegment<'_>],
+    ids: &[Shared<Text>],
+    date_ranges: &'a [DateRange],
+) -> Result<Vec<TextRef<'a>>, AllocError>
+    ensures { IfOk result (λ v. v.items ≡ map date_range_text (date_ranges_left (list_any states_time items.now) ids.now date_ranges.now)) }
+{
+    if !is_any_timed(items) {
+        return Ok(Vec::new(alloc));
+    }
+    let set = set_of(alloc, ids)?;
+    texts_left(alloc, &set, date_ranges)
+}

@@ -1,0 +1,122 @@
+-- Days, months and years.
+use Rattle.std.proofs.Common.{◌≡◌, ℕ, zero, suc, ◌+◌, ◌-◌, ◌*◌, ◌/◌, ◌%◌, ◌<◌, ◌≤◌, Bool, true, false, not, cond, refl, ap, ◌∙◌, arith, subst}
+use Rattle.std.specs.Prelude.{◌&&◌, ◌||◌, ◌==◌, nat_lt}
+use Rattle.std.proofs.lemmas.Bool.{ltb-true, ltb-false, eqb-true, eqb-false, ne_eqb, cond-false}
+use Rattle.date_times.specs.Instant.{is_leap, days_in_month, days_before_month, days_before_year}
+use Rattle.date_times.specs.Times.{days_in_year, year_after, month_after}
+
+four_yes : (y : ℕ) → y % 4 ≡ 0 → (y + 4) / 4 ≡ (y + 3) / 4 + 1
+four_yes y h = omega arith
+
+four_no : (y : ℕ) → (y % 4 ≡ 0 → ⊥) → (y + 4) / 4 ≡ (y + 3) / 4
+four_no y h = omega arith
+
+century_yes : (y : ℕ) → y % 100 ≡ 0 → (y + 100) / 100 ≡ (y + 99) / 100 + 1
+century_yes y h = omega arith
+
+century_no : (y : ℕ) → (y % 100 ≡ 0 → ⊥) → (y + 100) / 100 ≡ (y + 99) / 100
+century_no y h = omega arith
+
+era_yes : (y : ℕ) → y % 400 ≡ 0 → (y + 400) / 400 ≡ (y + 399) / 400 + 1
+era_yes y h = omega arith
+
+era_no : (y : ℕ) → (y % 400 ≡ 0 → ⊥) → (y + 400) / 400 ≡ (y + 399) / 400
+era_no y h = omega arith
+
+century_small : (y : ℕ) → (y + 99) / 100 ≤ y
+century_small y = omega arith
+
+leap_sum : (b4 b100 b400 : Bool) (y q c e q' c' e' : ℕ) → (y % 4 == 0) ≡ b4 → (y % 100 == 0) ≡ b100 → (y % 400 == 0) ≡ b400
+    → q ≡ (y + 3) / 4 → c ≡ (y + 99) / 100 → e ≡ (y + 399) / 400 → q' ≡ (y + 4) / 4 → c' ≡ (y + 100) / 100 → e' ≡ (y + 400) / 400 → c ≤ y
+    → 365 * (y + 1) + q' + e' - c' ≡ 365 * y + q + e - c + cond (b4 && (not b100 || b400)) 366 365
+leap_sum true true true y q c e q' c' e' h4 h1 h400 qe ce ee qe' ce' ee' s = let a = four_yes y (eqb-true _ _ h4) in let b = century_yes y (eqb-true _ _ h1) in let d = era_yes y (eqb-true _ _ h400) in omega arith
+leap_sum true true false y q c e q' c' e' h4 h1 h400 qe ce ee qe' ce' ee' s = let a = four_yes y (eqb-true _ _ h4) in let b = century_yes y (eqb-true _ _ h1) in let d = era_no y (eqb-false _ _ h400) in omega arith
+leap_sum true false true y q c e q' c' e' h4 h1 h400 qe ce ee qe' ce' ee' s = absurd (apart y (eqb-true _ _ h400) (eqb-false _ _ h1))
+  where
+    apart : (y : ℕ) → y % 400 ≡ 0 → (y % 100 ≡ 0 → ⊥) → ⊥
+    apart y a b = omega arith
+leap_sum true false false y q c e q' c' e' h4 h1 h400 qe ce ee qe' ce' ee' s = let a = four_yes y (eqb-true _ _ h4) in let b = century_no y (eqb-false _ _ h1) in let d = era_no y (eqb-false _ _ h400) in omega arith
+leap_sum false true b400 y q c e q' c' e' h4 h1 h400 qe ce ee qe' ce' ee' s = absurd (apart y (eqb-true _ _ h1) (eqb-false _ _ h4))
+  where
+    apart : (y : ℕ) → y % 100 ≡ 0 → (y % 4 ≡ 0 → ⊥) → ⊥
+    apart y a b = omega arith
+leap_sum false false true y q c e q' c' e' h4 h1 h400 qe ce ee qe' ce' ee' s = absurd (apart y (eqb-true _ _ h400) (eqb-false _ _ h4))
+  where
+    apart : (y : ℕ) → y % 400 ≡ 0 → (y % 4 ≡ 0 → ⊥) → ⊥
+    apart y a b = omega arith
+leap_sum false false false y q c e q' c' e' h4 h1 h400 qe ce ee qe' ce' ee' s = let a = four_no y (eqb-false _ _ h4) in let b = century_no y (eqb-false _ _ h1) in let d = era_no y (eqb-false _ _ h400) in omega arith
+
+regroup : (y a b : ℕ) → (y + 1) + a ≡ y + (1 + a)
+regroup y a b = omega arith
+
+pub year_step : (y : ℕ) → days_before_year (y + 1) ≡ days_before_year y + days_in_year y
+year_step y =
+    let a : (y + 1 + 3) / 4 ≡ (y + 4) / 4 = ap (λ x. x / 4) (omega arith) in
+    let b : (y + 1 + 99) / 100 ≡ (y + 100) / 100 = ap (λ x. x / 100) (omega arith) in
+    let d : (y + 1 + 399) / 400 ≡ (y + 400) / 400 = ap (λ x. x / 400) (omega arith) in
+    leap_sum (y % 4 == 0) (y % 100 == 0) (y % 400 == 0) y _ _ _ _ _ _ refl refl refl refl refl refl a b d (century_small y)
+
+-- a year, and a day of it
+pub record InYear (from turns days : ℕ) (found : ℕ × ℕ) : Type 0 where
+  pub day : found.1 < days_in_year found.0
+  pub low : from ≤ found.0
+  pub high : found.0 < from + turns
+  pub same : days_before_year found.0 + found.1 ≡ days_before_year from + days
+
+year_turn : (b : Bool) (turns y days : ℕ) → nat_lt days (days_in_year y) ≡ b → (days_in_year y ≤ days → InYear (y + 1) turns (days - days_in_year y) (year_after turns (y + 1) (days - days_in_year y)))
+    → InYear y (suc turns) days (cond b (y, days) (year_after turns (y + 1) (days - days_in_year y)))
+year_turn true turns y days e next = record { day = ltb-true _ _ e; low = omega arith; high = omega arith; same = refl }
+year_turn false turns y days e next =
+    let l : days_in_year y ≤ days = ltb-false _ _ e in let n = next l in let s = year_step y in
+    record { day = n.day; low = omega (arith, n.low); high = omega (arith, n.high); same = n.same ∙ omega (arith, s, l) }
+
+pub in_year : (turns y days : ℕ) → days_before_year y + days < days_before_year (y + turns) → InYear y turns days (year_after turns y days)
+unfolding year_after
+in_year zero y days h = absurd (by y days (subst (λ x. days_before_year y + days < days_before_year x) (omega arith) h))
+  where
+    by : (y days : ℕ) → days_before_year y + days < days_before_year y → ⊥
+    by y days h = omega arith
+in_year (suc turns) y days h =
+    year_turn (nat_lt days (days_in_year y)) turns y days refl (λ l. in_year turns (y + 1) (days - days_in_year y)
+    (let s = year_step y in let e : days_before_year (y + suc turns) ≡ days_before_year (y + 1 + turns) = ap days_before_year (omega arith) in omega (arith, s, e, l, h)))
+
+-- ---- months
+
+year_months_by : (b : Bool) (y : ℕ) → is_leap y ≡ b → days_before_month y 13 ≡ cond b 366 365
+year_months_by true y e = rw e refl
+year_months_by false y e = rw e refl
+
+pub year_months : (y : ℕ) → days_before_month y 13 ≡ days_in_year y
+year_months y = year_months_by (is_leap y) y refl
+
+zero_month : (m : ℕ) → 1 ≤ m → (m == 0) ≡ false
+zero_month m h = ne_eqb m 0 (λ e. omega arith)
+
+month_step : (y m : ℕ) → 1 ≤ m → days_before_month y (suc m) ≡ days_before_month y m + days_in_month y m
+month_step y m h = ap (λ x. days_before_month y m + x) (cond-false _ _ _ (zero_month m h))
+
+-- a month, and a day of it
+pub record InMonth (year from turns days : ℕ) (found : ℕ × ℕ) : Type 0 where
+  pub day : found.1 < days_in_month year found.0
+  pub low : from ≤ found.0
+  pub high : found.0 < from + turns
+  pub same : days_before_month year found.0 + found.1 ≡ days_before_month year from + days
+
+month_turn : (b : Bool) (turns y m days : ℕ) → 1 ≤ m → nat_lt days (days_in_month y m) ≡ b → (days_in_month y m ≤ days → InMonth y (m + 1) turns (days - days_in_month y m) (month_after turns y (m + 1) (days - days_in_month y m)))
+    → InMonth y m (suc turns) days (cond b (m, days) (month_after turns y (m + 1) (days - days_in_month y m)))
+month_turn true turns y m days h e next = record { day = ltb-true _ _ e; low = omega arith; high = omega arith; same = refl }
+month_turn false turns y m days h e next =
+    let l : days_in_month y m ≤ days = ltb-false _ _ e in let n = next l in let s = month_step y m h in
+    let k : m + 1 ≡ suc m = omega arith in let one : days_before_month y (m + 1) ≡ days_before_month y (suc m) = ap (days_before_month y) k in
+    record { day = n.day; low = omega (arith, n.low); high = omega (arith, n.high); same = n.same ∙ omega (arith, s, l, one) }
+
+pub in_month : (turns y m days : ℕ) → 1 ≤ m → days_before_month y m + days < days_before_month y (m + turns) → InMonth y m turns days (month_after turns y m days)
+unfolding month_after
+in_month zero y m days h s = absurd (by y m days (subst (λ x. days_before_month y m + days < days_before_month y x) (omega arith) s))
+  where
+    by : (y m days : ℕ) → days_before_month y m + days < days_before_month y m → ⊥
+    by y m days h = omega arith
+in_month (suc turns) y m days h s =
+    month_turn (nat_lt days (days_in_month y m)) turns y m days h refl (λ l. in_month turns y (m + 1) (days - days_in_month y m) (omega arith)
+    (let t = month_step y m h in let k : m + 1 ≡ suc m = omega arith in let one : days_before_month y (m + 1) ≡ days_before_month y (suc m) = ap (days_before_month y) k in
+    let j : m + suc turns ≡ m + 1 + turns = omega arith in let e : days_before_month y (m + suc turns) ≡ days_before_month y (m + 1 + turns) = ap (days_before_month y) j in omega (arith, t, one, e, l, s)))

@@ -1,0 +1,134 @@
+-- The year and the month of a day, found by division.
+use Rattle.std.proofs.Common.{◌≡◌, ℕ, zero, suc, ◌+◌, ◌-◌, ◌*◌, ◌/◌, ◌%◌, ◌<◌, ◌≤◌, Bool, true, false, cond, refl, ap, sym, ◌∙◌, arith, inl, inr, subst}
+use Rattle.std.proofs.lemmas.Bool.{cases_lt, and_parts, eqb-true, lt-ltb, le-ltb, cond-true, cond-false}
+use Rattle.std.specs.Prelude.{◌==◌, ◌||◌, ◌&&◌, nat_lt}
+use Rattle.std.proofs.lemmas.Bool.Decides.{nat_tests}
+use Rattle.date_times.specs.Instant.{is_leap, days_in_month, days_before_year}
+use Rattle.date_times.specs.Times.{days_in_year, year_after, month_after}
+use Rattle.date_times.proofs.Dates.{in_year}
+
+-- a pair by its parts
+pub both : (p : ℕ × ℕ) (a b : ℕ) → a ≡ p.0 → b ≡ p.1 → (a, b) ≡ p
+both p a b e f = ap (λ x. (x, b)) e ∙ ap (λ x. (p.0, x)) f
+
+-- ---- years
+
+-- only a fourth year has a day 365
+leap_fourth : (y r : ℕ) → r < days_in_year y → 365 ≤ r → y % 4 ≡ 0
+leap_fourth y r h l = grind (arith, nat_tests)
+
+day_short : (y r : ℕ) → r < days_in_year y → r < 366
+day_short y r h = grind (arith, nat_tests)
+
+after_1900 : (y r days : ℕ) → 1900 ≤ y → r < days_in_year y → 365 ≤ days → days_before_year y + r ≡ days_before_year 1900 + days → 1901 ≤ y
+after_1900 y r days l h a e =
+    elim (cases_lt 1900 y) [
+      | inl more ↦ omega (arith, more)
+      | inr none ↦
+          let is : y ≡ 1900 = omega (arith, l, none) in
+          let short : r < days_in_year 1900 = subst (λ y. r < days_in_year y) is h in
+          let same : days_before_year 1900 + r ≡ days_before_year 1900 + days = subst (λ y. days_before_year y + r ≡ days_before_year 1900 + days) is e in absurd (omega (arith, short, same, a))
+    ]
+
+before_2100 : (y r days : ℕ) → y < 2200 → days < 73049 → days_before_year y + r ≡ days_before_year 1900 + days → y < 2100
+before_2100 y r days l h e = omega arith
+
+plain_count : (y : ℕ) → 1901 ≤ y → y < 2100 → days_before_year y + 15 ≡ 365 * y + (y + 3) / 4
+plain_count y l h = omega arith
+
+last_day : (j r since : ℕ) → r ≡ 365 → (1901 + j) % 4 ≡ 0 → since ≡ 365 * j + j / 4 + r → ((4 * since + 3) / 1461 ≡ j) × (since - 1461 * j / 4 ≡ r)
+last_day j r since s q e = (omega arith, omega arith)
+
+other_day : (j r since : ℕ) → r < 365 → since ≡ 365 * j + j / 4 + r → ((4 * since + 3) / 1461 ≡ j) × (since - 1461 * j / 4 ≡ r)
+other_day j r since s e = (omega arith, omega arith)
+
+found_year : (y j r since : ℕ) → y ≡ 1901 + j → r < days_in_year y → since ≡ 365 * j + j / 4 + r → ((4 * since + 3) / 1461 ≡ j) × (since - 1461 * j / 4 ≡ r)
+found_year y j r since is h e =
+    elim (cases_lt r 365) [
+      | inl less ↦ other_day j r since less e
+      | inr last ↦
+          let short = day_short y r h in let fourth = leap_fourth y r h last in
+          last_day j r since (omega (arith, short, last)) (subst (λ y. y % 4 ≡ 0) is fourth) e
+    ]
+
+since_1901 : (y r days : ℕ) → 1901 ≤ y → y < 2100 → 365 ≤ days → days_before_year y + r ≡ days_before_year 1900 + days → days - 365 ≡ 365 * (y - 1901) + (y - 1901) / 4 + r
+since_1901 y r days l h a e = let p = plain_count y l h in omega (arith, p, e)
+
+-- the year of a day from 1901 to 2099
+pub divided_year : (days : ℕ) → 365 ≤ days → days < 73049
+    → (1901 + (4 * (days - 365) + 3) / 1461, days - 365 - 1461 * ((4 * (days - 365) + 3) / 1461) / 4) ≡ year_after 300 1900 days
+divided_year days a h =
+    let found = in_year 300 1900 days (omega arith) in
+    let y = (year_after 300 1900 days).0 in
+    let r = (year_after 300 1900 days).1 in
+    let low = after_1900 y r days found.low found.day a found.same in
+    let high = before_2100 y r days found.high h found.same in
+    let f = found_year y (y - 1901) r (days - 365) (omega (arith, low)) found.day (since_1901 y r days low high a found.same) in
+    both (year_after 300 1900 days) _ _ (omega (arith, low, f.0)) (ap (λ k. days - 365 - 1461 * k / 4) f.0 ∙ f.1)
+
+-- ---- months
+
+-- years alike have the same months
+same_months : (turns y z m days : ℕ) → is_leap y ≡ is_leap z → month_after turns y m days ≡ month_after turns z m days
+unfolding month_after
+same_months zero y z m days e = refl
+same_months (suc turns) y z m days e =
+    let d : days_in_month y m ≡ days_in_month z m = ap (λ b. cond (m == 2) (cond b 29 28) (cond (m == 4 || m == 6 || m == 9 || m == 11) 30 31)) e in
+    ap (λ n. cond (nat_lt days n) (m, days) (month_after turns y (m + 1) (days - n))) d
+    ∙ ap (λ p. cond (nat_lt days (days_in_month z m)) (m, days) p) (same_months turns y z (m + 1) (days - days_in_month z m) e)
+
+-- the month of a day in a year whose February has 30 days, and which day of it
+abbrev pub month_at : ℕ → ℕ
+month_at even = (12 * even + 373) / 367
+
+abbrev pub day_at : ℕ → ℕ
+day_at even = even - (367 * month_at even - 362) / 12
+
+-- a day of a year of so many days, counted as if February had 30
+abbrev even_day : ℕ → ℕ → ℕ
+even_day size days = cond (nat_lt (days + 306) size) days (days + 367 - size)
+
+abbrev is_divided : ℕ → ℕ → ℕ → Bool
+is_divided z size d = (month_after 12 z 1 d).0 == month_at (even_day size d) && (month_after 12 z 1 d).1 == day_at (even_day size d)
+
+-- the days before this one are
+abbrev are_divided : ℕ → ℕ → ℕ → Bool
+are_divided z size zero = true
+are_divided z size (suc d) = is_divided z size d && are_divided z size d
+
+each : (z size n d : ℕ) → are_divided z size n ≡ true → d < n → is_divided z size d ≡ true
+each z size zero d t h = absurd (omega arith)
+each z size (suc n) d t h =
+    let parts = and_parts (is_divided z size n) (are_divided z size n) t in
+    elim (cases_lt d n) [
+      | inl less ↦ each z size n d parts.1 less
+      | inr same ↦ let e : n ≡ d = omega (arith, h, same) in subst (λ d. is_divided z size d ≡ true) e parts.0
+    ]
+
+leap_days : are_divided 2000 366 366 ≡ true
+unfolding month_after
+leap_days = refl
+
+plain_days : are_divided 2001 365 365 ≡ true
+unfolding month_after
+plain_days = refl
+
+of_year : (b : Bool) (y d : ℕ) → is_leap y ≡ b → d < cond b 366 365 → is_divided y (cond b 366 365) d ≡ true
+of_year true y d e h =
+    subst (λ p. (p.0 == month_at (even_day 366 d) && p.1 == day_at (even_day 366 d)) ≡ true) (sym (same_months 12 y 2000 1 d e)) (each 2000 366 366 d leap_days h)
+of_year false y d e h =
+    subst (λ p. (p.0 == month_at (even_day 365 d) && p.1 == day_at (even_day 365 d)) ≡ true) (sym (same_months 12 y 2001 1 d e)) (each 2001 365 365 d plain_days h)
+
+found : (y d even : ℕ) → d < days_in_year y → even_day (days_in_year y) d ≡ even → (month_at even, day_at even) ≡ month_after 12 y 1 d
+found y d even h e =
+    let month = month_after 12 y 1 d in
+    let parts = and_parts _ _ (of_year (is_leap y) y d refl h) in
+    both month _ _ (ap month_at (sym e) ∙ sym (eqb-true _ _ parts.0)) (ap day_at (sym e) ∙ sym (eqb-true _ _ parts.1))
+
+-- the month of a day that lies before the end of February
+pub early_month : (y d : ℕ) → d < days_in_year y → d + 306 < days_in_year y → (month_at d, day_at d) ≡ month_after 12 y 1 d
+early_month y d h l = found y d d h (cond-true _ _ _ (lt-ltb _ _ l))
+
+-- and of one that lies after it
+pub late_month : (y d : ℕ) → d < days_in_year y → days_in_year y ≤ d + 306 → (month_at (d + 367 - days_in_year y), day_at (d + 367 - days_in_year y)) ≡ month_after 12 y 1 d
+late_month y d h l = found y d (d + 367 - days_in_year y) h (cond-false _ _ _ (le-ltb _ _ l))

@@ -1,0 +1,93 @@
+-- The parts of a date and time.
+use Rattle.std.proofs.Common.{◌≡◌, ℕ, ◌+◌, ◌≤◌, Bool, true, false, List, [], ◌∷◌, take, drop, length, refl, ap, ◌∙◌, arith, ℤ, pos, ◌+ℤ◌, ◌-ℤ◌, ◌*ℤ◌, ◌*◌, suc, length-drop, Some, None, cond}
+use Rattle.std.specs.Prelude.{◌&&◌, ◌==◌, nat_le, slice_index, slice_range, Option}
+use Rattle.std.specs.List.{list_all, prefix_len}
+use Rattle.std.specs.Char.{is_ascii_digit}
+use Rattle.std.proofs.lemmas.Bool.{and_parts, and_from, cond-true, leb-true}
+use Rattle.std.proofs.lemmas.List.{take_all}
+use Rattle.jiff_core.proofs.SignedLemmas.{signed_arith}
+use Rattle.date_times.specs.Instant.{are_digits, has_date_form, is_date, has_clock_form, is_clock, fraction_len, is_fraction, fraction_nanos, zone_offset, instant_at, instant_of, seconds_at, if_in_range, nanos_from_1970, day_number, field}
+
+-- the three numbers of `a-b-c` or `a:b:c` are digits
+pub form_parts : (a b c d e : Bool) → (a && b && c && d && e) ≡ true → (a ≡ true) × (c ≡ true) × (e ≡ true)
+form_parts true true true true true h = (refl, refl, refl)
+form_parts true true true true false h = absurd (cc h)
+form_parts true true true false e h = absurd (cc h)
+form_parts true true false d e h = absurd (cc h)
+form_parts true false c d e h = absurd (cc h)
+form_parts false b c d e h = absurd (cc h)
+
+pub date_parts : (text : List ℕ) → has_date_form text ≡ true → (are_digits text 0 4 ≡ true) × (are_digits text 5 7 ≡ true) × (are_digits text 8 10 ≡ true)
+date_parts text h = form_parts (are_digits text 0 4) (slice_index text 4 == 45) (are_digits text 5 7) (slice_index text 7 == 45) (are_digits text 8 10) h
+
+pub clock_parts : (text : List ℕ) → has_clock_form text ≡ true → (are_digits text 11 13 ≡ true) × (are_digits text 14 16 ≡ true) × (are_digits text 17 19 ≡ true)
+clock_parts text h = form_parts (are_digits text 11 13) (slice_index text 13 == 58) (are_digits text 14 16) (slice_index text 16 == 58) (are_digits text 17 19) h
+
+-- ---- the fraction
+
+front_step : (b : Bool) (p : ℕ → Bool) (x : ℕ) (xs : List ℕ) (n : ℕ) → p x ≡ b → list_all p (take n xs) ≡ true → list_all p (take (cond b (1 + n) 0) (x ∷ xs)) ≡ true
+front_step true p x xs n e h = let more : 1 + n ≡ suc n = omega arith in rw more (and_from _ _ e h)
+front_step false p x xs n e h = refl
+
+front_passes : (p : ℕ → Bool) (xs : List ℕ) → list_all p (take (prefix_len p xs) xs) ≡ true
+front_passes p [] = refl
+front_passes p (x ∷ xs) = front_step (p x) p x xs (prefix_len p xs) refl (front_passes p xs)
+
+after_point : (b : Bool) (x : ℕ) (xs : List ℕ) → list_all is_ascii_digit (drop 1 (take (cond b (prefix_len is_ascii_digit xs + 1) 0) (x ∷ xs))) ≡ true
+after_point true x xs =
+    let more : prefix_len is_ascii_digit xs + 1 ≡ suc (prefix_len is_ascii_digit xs) = omega arith in
+    rw more (front_passes is_ascii_digit xs)
+after_point false x xs = refl
+
+-- after the point of a fraction there are digits
+pub fraction_digits : (rest : List ℕ) → list_all is_ascii_digit (drop 1 (take (fraction_len rest) rest)) ≡ true
+fraction_digits [] = refl
+fraction_digits (x ∷ xs) = after_point (x == 46) x xs
+
+-- ---- the whole text
+
+last_false : (b w : Bool) (s : Option ℤ) → w ≡ false → cond (b && w) s None ≡ None
+last_false true w s h = rw h refl
+last_false false w s h = refl
+
+pub no_fraction : (text : List ℕ) → is_fraction (fraction_len (drop 19 text)) ≡ false → instant_of text ≡ None
+no_fraction text h = last_false (is_date text && slice_index text 10 == 84 && is_clock text) (is_fraction (fraction_len (drop 19 text))) _ h
+
+-- a time of day is 19 bytes long
+pub clock_length : (text : List ℕ) → is_clock text ≡ true → 19 ≤ length text
+clock_length text h =
+    let form : has_clock_form text ≡ true = (and_parts _ _ h).0 in
+    leb-true _ _ (and_parts (nat_le 19 (length text)) _ (clock_parts text form).2).0
+
+-- what a text says from 19 bytes on
+pub zoned : List ℕ → ℕ → Option ℤ
+zoned rest seconds = instant_at seconds (fraction_nanos (drop 1 (take (fraction_len rest) rest))) (zone_offset (drop (fraction_len rest) rest))
+
+pub read_parts : (text : List ℕ) → is_date text ≡ true → (slice_index text 10 == 84) ≡ true → is_clock text ≡ true → is_fraction (fraction_len (drop 19 text)) ≡ true
+    → instant_of text ≡ zoned (drop 19 text) (seconds_at text)
+unfolding zoned
+read_parts text d t c f = cond-true _ _ _ (and_from _ _ (and_from _ _ (and_from _ _ d t) c) f)
+
+pub no_zone : (rest : List ℕ) (seconds : ℕ) → None ≡ zone_offset (drop (fraction_len rest) rest) → None ≡ zoned rest seconds
+unfolding zoned
+no_zone rest seconds h = ap (instant_at seconds (fraction_nanos (drop 1 (take (fraction_len rest) rest)))) h
+
+nanos_same : (number clock nanos : ℕ) (day offset seconds : ℤ) → day +ℤ pos 719528 ≡ pos number → seconds ≡ (day *ℤ pos 86400 +ℤ pos clock) -ℤ offset
+    → seconds *ℤ pos 1000000000 +ℤ pos nanos ≡ nanos_from_1970 (number * 86400 + clock) nanos offset
+nanos_same number clock nanos day offset seconds h e = omega (arith, signed_arith, h, e)
+
+seconds_same : (n a b c k : ℕ) → k ≡ a * 3600 + b * 60 + c → n * 86400 + k ≡ n * 86400 + a * 3600 + b * 60 + c
+seconds_same n a b c k e = omega (arith, e)
+
+pub zone_found : (text rest : List ℕ) (clock nanos : ℕ) (day offset seconds : ℤ) → day +ℤ pos 719528 ≡ pos (day_number (field text 0 4) (field text 5 7) (field text 8 10))
+    → clock ≡ field text 11 13 * 3600 + field text 14 16 * 60 + field text 17 19 → nanos ≡ fraction_nanos (drop 1 (take (fraction_len rest) rest)) → Some offset ≡ zone_offset (drop (fraction_len rest) rest)
+    → seconds ≡ (day *ℤ pos 86400 +ℤ pos clock) -ℤ offset → if_in_range (seconds *ℤ pos 1000000000 +ℤ pos nanos) ≡ zoned rest (seconds_at text)
+unfolding zoned
+zone_found text rest clock nanos day offset seconds d k n z e =
+    let number = day_number (field text 0 4) (field text 5 7) (field text 8 10) in
+    ap if_in_range (nanos_same number clock nanos day offset seconds d e ∙ ap (λ s. nanos_from_1970 s nanos offset) (seconds_same number (field text 11 13) (field text 14 16) (field text 17 19) clock k))
+    ∙ ap (λ m. instant_at (seconds_at text) m (Some offset)) n
+    ∙ ap (instant_at (seconds_at text) (fraction_nanos (drop 1 (take (fraction_len rest) rest)))) z
+
+pub rest_is : (text : List ℕ) → slice_range text 19 (length text) ≡ drop 19 text
+rest_is text = take_all _ (drop 19 text) (omega (arith, length-drop 19 text))

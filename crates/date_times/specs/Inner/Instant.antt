@@ -1,0 +1,12 @@
+-- What proofs and inner functions say with the definitions of `Instant`.
+use Rattle.std.specs.Prelude.{ℕ, Bool, ◌&&◌, ◌||◌, ◌==◌, List, drop, length, slice_index, if◌then◌else◌}
+
+-- ---- The parts of a time text
+
+-- `hh:mm`, `hhmm` or `hh`, whatever the bytes but the colon
+abbrev pub has_offset_form : List ℕ → Bool
+has_offset_form text = length text == 2 || length text == 4 || (length text == 5 && slice_index text 2 == 58)
+
+-- what stands after the hours and a colon
+abbrev pub minutes_of : List ℕ → List ℕ
+minutes_of text = if length text == 5 && slice_index text 2 == 58 then drop 3 text else drop 2 text

@@ -1,0 +1,4 @@
+pub mod Instant
+pub mod Digits
+pub mod Times
+pub mod Inner

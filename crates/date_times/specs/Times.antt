@@ -1,0 +1,48 @@
+-- How an instant is written: as a time text in UTC with `Z` (RFC 8216, 4.3.2.6).
+-- Bytes of ASCII: 45 is `-`, 46 `.`, 58 `:`, 84 `T` and 90 `Z`.
+use Rattle.std.specs.Prelude.{ℕ, zero, suc, ◌+◌, ◌-◌, ◌/◌, ◌%◌, ◌==◌, nat_lt, List, [], ◌∷◌, ◌++◌, ℤ, pos, negsuc, if◌then◌else◌}
+use Rattle.date_times.specs.Instant.{is_leap, days_in_month}
+use Rattle.date_times.specs.Digits.{fixed_digits}
+
+-- nanoseconds from the first of 1900, 0 for what is before it
+abbrev pub from_1900 : ℤ → ℕ
+from_1900 (pos n) = n + 2208988800000000000
+from_1900 (negsuc n) = 2208988800000000000 - (n + 1)
+
+abbrev pub days_in_year : ℕ → ℕ
+days_in_year year = if is_leap year then 366 else 365
+
+-- the year in which a day lies that is so many days after the first of this one, and which day of it; it lies in so many years
+unfoldable pub year_after : ℕ → ℕ → ℕ → ℕ × ℕ
+year_after zero year days = (year, days)
+year_after (suc turns) year days =
+    if nat_lt days (days_in_year year) then (year, days) else year_after turns (year + 1) (days - days_in_year year)
+
+-- the same with months of a year
+unfoldable pub month_after : ℕ → ℕ → ℕ → ℕ → ℕ × ℕ
+month_after zero year month days = (month, days)
+month_after (suc turns) year month days =
+    if nat_lt days (days_in_month year month) then (month, days) else month_after turns year (month + 1) (days - days_in_month year month)
+
+abbrev pub date_text : ℕ → ℕ → ℕ → List ℕ → List ℕ
+date_text year month day rest = fixed_digits 10 4 year ++ 45 ∷ (fixed_digits 10 2 month ++ 45 ∷ (fixed_digits 10 2 day ++ rest))
+
+abbrev pub clock_text : ℕ → List ℕ → List ℕ
+clock_text seconds rest = fixed_digits 10 2 (seconds / 3600) ++ 58 ∷ (fixed_digits 10 2 (seconds / 60 % 60) ++ 58 ∷ (fixed_digits 10 2 (seconds % 60) ++ rest))
+
+-- three decimals, or nine where three would lose something
+abbrev pub decimals : ℕ → List ℕ
+decimals nanos = if nanos % 1000000 == 0 then fixed_digits 10 3 (nanos / 1000000) else fixed_digits 10 9 nanos
+
+-- the text of the instant so many nanoseconds after 1900
+abbrev pub text_at : ℕ → List ℕ
+text_at n =
+    let year = year_after 300 1900 (n / 86400000000000) in let month = month_after 12 year.0 1 year.1 in
+    date_text year.0 month.0 (month.1 + 1) (84 ∷ clock_text (n / 1000000000 % 86400) (46 ∷ (decimals (n % 1000000000) ++ 90 ∷ [])))
+
+abbrev pub time_text : ℤ → List ℕ
+time_text t = text_at (from_1900 t)
+
+-- the date so many days after the first of 1900
+abbrev pub date_at : ℕ → List ℕ
+date_at days = let year = year_after 300 1900 days in let month = month_after 12 year.0 1 year.1 in date_text year.0 month.0 (month.1 + 1) []

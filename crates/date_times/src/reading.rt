@@ -1,0 +1,263 @@
+//! The instant that a text says.
+ghost use Rattle.std.specs.Prelude.{◌≡◌, ◌+◌, ◌-◌, ◌*◌, ◌^◌, ◌<◌, ◌≤◌, ◌==◌, drop, length, pos, ◌-ℤ◌, ◌+ℤ◌, ◌*ℤ◌, Some, IsTrue, true, false, slice_index, MatchOption};
+ghost use Rattle.std.specs.Option.{ok_or, IfSome};
+ghost use Rattle.jiff_core.specs.Calendar.{IsEpochDay, IsWithin};
+ghost use Rattle.std.specs.List.{list_all, prefix_len};
+ghost use Rattle.std.specs.Char.{is_ascii_digit};
+ghost use Rattle.std.specs.Str.Parse.{digits_value};
+ghost use Rattle.date_times.specs.Instant.{field, are_digits, has_date_form, is_day, is_date, day_number, has_clock_form, is_clock, fraction_len, is_fraction, offset_seconds, zone_offset, if_in_range, instant_of};
+ghost use Rattle.date_times.specs.Inner.Instant.{has_offset_form, minutes_of};
+
+use crate::Instant;
+use fixed_duration::nanos_of_fraction;
+use jiff_core::civil::Date;
+
+/// Why a text says no instant.
+#[derive(Clone, Copy, PartialEq, Eq, Debug)]
+pub enum TimeFault {
+    /// B4: the text is no date and time of the form that is read, or says an instant before 1900 or
+    /// after 2199.
+    BadTime,
+}
+
+const SECONDS_PER_DAY: i64 = 86_400;
+
+const NANOS_PER_SECOND: i128 = 1_000_000_000;
+
+/// Reads a date and time as EXT-X-PROGRAM-DATE-TIME states it (RFC 8216, section 4.3.2.6, after
+/// ISO 8601): `YYYY-MM-DDThh:mm:ss`, then optionally a point and 1 to 9 digits, then `Z`, an offset
+/// from UTC `+hh:mm`, `+hhmm`, `+hh` or the same with `-`, or nothing for UTC. `BadTime` for every
+/// other text, where the date is no day of the Gregorian calendar, and where the instant lies
+/// before 1900 or after 2199. Takes no memory.
+pub fn read_instant(text: &str) -> Result<Instant, TimeFault>
+    ensures { result ≡ ok_or (instant_of text.now) TimeFault.BadTime }
+{
+    instant_of(text.as_bytes()).ok_or(TimeFault::BadTime)
+}
+
+fn instant_of(text: &[u8]) -> Option<Instant>
+    ensures { result ≡ instant_of text.now }
+{
+    let day = day_of(text)?;
+    if !is_at(text, 10, b'T') {
+        return None;
+    }
+    let clock = clock_of(text)?;
+    let rest = text.get(19..)?;
+    let len = fraction_len(rest);
+    if !is_fraction(len) {
+        return None;
+    }
+    let (fraction, zone) = rest.split_at(len);
+    let nanos = nanos_of_fraction(after_point_of(fraction));
+    let offset = zone_offset(zone)?;
+    instant_at(seconds_from_1970(day, clock, offset), nanos)
+}
+
+fn seconds_from_1970(day: i64, clock: u32, offset: i64) -> i64
+    requires day { IsEpochDay day }
+    requires clock { clock < 86400 }
+    requires offset { IsWithin 86400 offset }
+    ensures { result ≡ (day *ℤ pos 86400 +ℤ pos clock) -ℤ offset }
+{
+    day * SECONDS_PER_DAY + i64::from(clock) - offset
+}
+
+// Whether this byte, which isn't 0, stands at a place.
+fn is_at(text: &[u8], place: usize, byte: u8) -> bool
+    requires { 0 < byte }
+    ensures { result ≡ (slice_index text.now place == byte) }
+{
+    place < text.len() && text[place] == byte
+}
+
+fn are_all_digits(text: &[u8]) -> bool
+    ensures { result ≡ list_all is_ascii_digit text.now }
+{
+    text.iter().all(|b| b.is_ascii_digit())
+}
+
+fn are_digits(text: &[u8], from: usize, to: usize) -> bool
+    requires { from ≤ to }
+    ensures { result ≡ are_digits text.now from to }
+{
+    to <= text.len() && are_all_digits(&text[from..to])
+}
+
+// The number that digits write.
+fn number(digits: &[u8]) -> u32
+    requires digits { IsTrue (list_all is_ascii_digit digits.now) }
+    requires few { length digits.now ≤ 9 }
+    ensures value { result ≡ digits_value 10 digits.now }
+    ensures below { result < 10 ^ length digits.now }
+{
+    let mut value: u32 = 0;
+    for digit in digits {
+        value = value * 10 + u32::from(*digit - b'0');
+    }
+    value
+}
+
+// The number that the digits from one place up to another write.
+fn field(text: &[u8], from: usize, to: usize) -> u32
+    requires order { from ≤ to }
+    requires few { to ≤ from + 4 }
+    requires digits { IsTrue (are_digits text.now from to) }
+    ensures value { result ≡ field text.now from to }
+    ensures below { result < 10 ^ (to - from) }
+{
+    number(&text[from..to])
+}
+
+fn has_date_form(text: &[u8]) -> bool
+    ensures { result ≡ has_date_form text.now }
+{
+    are_digits(text, 0, 4)
+        && is_at(text, 4, b'-')
+        && are_digits(text, 5, 7)
+        && is_at(text, 7, b'-')
+        && are_digits(text, 8, 10)
+}
+
+// The number of a day of the calendar, from 1970.
+fn day_number(year: u32, month: u32, day: u32) -> Option<i64>
+    requires year { year < 10 ^ 4 }
+    requires month { month < 10 ^ 2 }
+    requires day { day < 10 ^ 2 }
+    ensures value { MatchOption result (is_day year month day ≡ false)
+        (λ number. (is_day year month day ≡ true) × (number +ℤ pos 719528 ≡ pos (day_number year month day))) }
+    ensures bound { IfSome result IsEpochDay }
+{
+    let Ok(date) = Date::new(year as i16, month as i8, day as i8) else {
+        return None;
+    };
+    Some(i64::from(date.to_unix_epoch_day()))
+}
+
+// The day at the front, in days from 1970.
+fn day_of(text: &[u8]) -> Option<i64>
+    ensures value { MatchOption result (is_date text.now ≡ false)
+        (λ day. (is_date text.now ≡ true) × (day +ℤ pos 719528 ≡ pos (day_number (field text.now 0 4) (field text.now 5 7) (field text.now 8 10)))) }
+    ensures bound { IfSome result IsEpochDay }
+{
+    if !has_date_form(text) {
+        return None;
+    }
+    day_number(field(text, 0, 4), field(text, 5, 7), field(text, 8, 10))
+}
+
+fn has_clock_form(text: &[u8]) -> bool
+    ensures { result ≡ has_clock_form text.now }
+{
+    are_digits(text, 11, 13)
+        && is_at(text, 13, b':')
+        && are_digits(text, 14, 16)
+        && is_at(text, 16, b':')
+        && are_digits(text, 17, 19)
+}
+
+// The time of day, in seconds.
+fn clock_of(text: &[u8]) -> Option<u32>
+    ensures value { MatchOption result (is_clock text.now ≡ false)
+        (λ seconds. (is_clock text.now ≡ true) × (seconds ≡ field text.now 11 13 * 3600 + field text.now 14 16 * 60 + field text.now 17 19)) }
+    ensures bound { IfSome result (λ seconds. seconds < 86400) }
+{
+    if !has_clock_form(text) {
+        return None;
+    }
+    let (hour, minute, second) = (
+        field(text, 11, 13),
+        field(text, 14, 16),
+        field(text, 17, 19),
+    );
+    if hour >= 24 || minute >= 60 || second >= 60 {
+        return None;
+    }
+    Some(hour * 3600 + minute * 60 + second)
+}
+
+fn digits_len(text: &[u8]) -> usize
+    ensures value { result ≡ prefix_len is_ascii_digit text.now }
+    ensures bound { result ≤ length text.now }
+{
+    text.iter().take_while(|b| b.is_ascii_digit()).count()
+}
+
+// The bytes of a point and the digits after it.
+fn fraction_len(text: &[u8]) -> usize
+    ensures value { result ≡ fraction_len text.now }
+    ensures bound { result ≤ length text.now }
+{
+    if !is_at(text, 0, b'.') {
+        return 0;
+    }
+    digits_len(&text[1..]) + 1
+}
+
+fn is_fraction(len: usize) -> bool
+    ensures { result ≡ is_fraction len }
+{
+    len == 0 || (2 <= len && len <= 10)
+}
+
+fn after_point_of(bytes: &[u8]) -> &[u8]
+    ensures { result.now ≡ drop 1 bytes.now }
+{
+    match bytes {
+        [_, later @ ..] => later,
+        [] => bytes,
+    }
+}
+
+// The minutes of an offset after its sign, where it has a form that is read.
+fn minutes_of(text: &[u8]) -> Option<&[u8]>
+    ensures value { MatchOption result (has_offset_form text.now ≡ false)
+        (λ minutes. (has_offset_form text.now ≡ true) × (minutes.now ≡ minutes_of text.now)) }
+    ensures few { IfSome result (λ minutes. (length minutes.now ≤ 2) × (2 ≤ length text.now)) }
+{
+    match text {
+        [_, _] => Some(&text[2..]),
+        [_, _, _, _] => Some(&text[2..]),
+        [_, _, b':', _, _] => Some(&text[3..]),
+        _ => None,
+    }
+}
+
+// The seconds of an offset after its sign.
+fn offset_seconds(text: &[u8]) -> Option<u32>
+    ensures value { result ≡ offset_seconds text.now }
+    ensures bound { IfSome result (λ seconds. seconds < 86400) }
+{
+    let minutes = minutes_of(text)?;
+    let hours = &text[..2];
+    if !are_all_digits(hours) || !are_all_digits(minutes) {
+        return None;
+    }
+    let (hours, minutes) = (number(hours), number(minutes));
+    if hours >= 24 || minutes >= 60 {
+        return None;
+    }
+    Some(hours * 3600 + minutes * 60)
+}
+
+// The seconds east of UTC.
+fn zone_offset(text: &[u8]) -> Option<i64>
+    ensures value { result ≡ zone_offset text.now }
+    ensures bound { IfSome result (IsWithin 86400) }
+{
+    match text.split_first() {
+        None => Some(0),
+        Some((b'Z', [])) => Some(0),
+        Some((b'+', east)) => Some(i64::from(offset_seconds(east)?)),
+        Some((b'-', west)) => Some(-i64::from(offset_seconds(west)?)),
+        Some(_) => None,
+    }
+}
+
+// The instant so many seconds and nanoseconds from 1970, in range.
+fn instant_at(seconds: i64, nanos: u32) -> Option<Instant>
+    requires { nanos < 10 ^ 9 }
+    ensures { result ≡ if_in_range (seconds *ℤ pos 1000000000 +ℤ pos nanos) }
+{
+    Instant::from_nanos(i128::from(seconds) * NANOS_PER_SECOND + i128::from(nanos))
+}

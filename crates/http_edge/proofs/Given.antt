@@ -1,0 +1,128 @@
+-- A channel and what it was given, before an event and after it.
+use Rattle.std.proofs.Common.{◌≡◌, ◌≢◌, ℕ, List, ◌∷◌, ◌++◌, ap, sym, ◌∙◌, subst, true, false, cond, refl, true≢false}
+use Rattle.std.specs.Prelude.{Option, Some, None, Result, Ok, Err, IfOk, is_none, is_ok}
+use Rattle.url.specs.Parts.{Parts}
+use Rattle.playlist_model.specs.Reading.{reading, limited}
+use Rattle.pod_store.specs.Outcome.{no_memory, Refuses}
+use Rattle.pod_store.specs.declared.fault.DecisionFault.{DecisionFault}
+use Rattle.channel_spec.specs.declared.fault.RefreshFault.{RefreshFault}
+use Rattle.channel_spec.specs.Live.{Event, Told, told, refusal, after_refresh, window_after}
+use Rattle.channel_spec.specs.Kept.{Kept, kept_of}
+use Rattle.live_channel.specs.declared.channel.Refreshed.{Refreshed}
+use Rattle.live_channel.specs.Channel.{Reading, readable, Channel, Represents, told_by, text_after, events_of, refreshed, decided, judged, answer_read, explained, owed_why, AnswersAs, AnswersUnless, is_out_of_memory, AnswersRefresh, refreshed_with, fresh_after, after_bytes, with_store}
+use Rattle.live_channel.specs.Channel as channel
+use Rattle.http_messages.specs.declared.message.Reply.{Reply}
+use Rattle.http_messages.specs.Replies.{bare}
+use Rattle.http_edge.specs.Channels.{GivenChannel, IsGiven, with_event, told_of, playlist_of}
+use Rattle.live_channel.proofs.Owed.{explains}
+use Rattle.break_finder.specs.Known.{known}
+use Rattle.channel_api.specs.Replies.{why_text, decisions_reply}
+use Rattle.http_edge.specs.Replies.{refresh_reply, refresh_owed, decisions_owed}
+use Rattle.http_edge.specs.Inner.Events.{TakesOne}
+
+-- ---- what stands for the same
+
+module _ (c : Channel) (given : GivenChannel) (h : IsGiven c given) where
+  abbrev told_at : Parts → ℕ → Told
+  told_at base tolerance = told_by base tolerance given.events
+
+  same_told : told_by c.base c.tolerance given.events ≡ told_of given
+  same_told = ap (λ b. told_at b c.tolerance) h.base ∙ ap (λ n. told_at given.base n) h.tolerance
+
+  pub kept_is : c.kept ≡ kept_of (told_of given)
+  kept_is = h.stands.kept ∙ ap kept_of same_told
+
+  reason_is : (id : List ℕ) → explained c.kept id ≡ owed_why (told_of given) id
+  reason_is id = explains c id (explained c.kept id) refl given.events h.stands ∙ ap (λ told. owed_why told id) same_told
+
+  pub why_is : why_text (explained c.kept) c.kept.breaks ≡ why_text (owed_why (told_of given)) (known (told_of given).accepted)
+  why_is = λ i. why_text (λ id. reason_is id i) (kept_is i).breaks
+
+  pub text_is : c.text ≡ playlist_of given
+  text_is = h.stands.text ∙ ap text_after same_told
+
+  abbrev answer_at : List ℕ → Parts → ℕ → Result Refreshed RefreshFault
+  answer_at bytes base tolerance = answer_read tolerance (told_at base tolerance) (reading limited base bytes)
+
+  same_answer : (bytes : List ℕ) → answer_at bytes c.base c.tolerance ≡ answer_at bytes given.base given.tolerance
+  same_answer bytes = ap (λ b. answer_at bytes b c.tolerance) h.base ∙ ap (λ n. answer_at bytes given.base n) h.tolerance
+
+-- ---- a refresh that is refused tells nothing
+
+judged_out : (o : Option RefreshFault) (done : Refreshed) (fault : RefreshFault) (t after : Told) → judged o done ≡ Err fault → cond (is_none o) after t ≡ t
+judged_out None done fault t after e = absurd (true≢false (ap is_ok e))
+judged_out (Some f) done fault t after e = refl
+
+untold : (tolerance : ℕ) (events : List Event) (r : Reading) (fault : RefreshFault) → answer_read tolerance (told tolerance events) r ≡ Err fault
+    → told tolerance (readable r ++ events) ≡ told tolerance events
+untold tolerance events (Err f) fault e = refl
+untold tolerance events (Ok p) fault e =
+    let t = told tolerance events in
+    judged_out (refusal tolerance t p) (refreshed_with (window_after (after_refresh tolerance t p) p) (fresh_after t.history p)) fault t (after_refresh tolerance t p) e
+
+left_out : (c : Channel) (bytes : List ℕ) (given : List channel.Given) (fault : RefreshFault)
+    → answer_read c.tolerance (told_by c.base c.tolerance given) (reading limited c.base bytes) ≡ Err fault → Represents c (refreshed bytes ∷ given) → Represents c given
+left_out c bytes given fault e s =
+    let same = untold c.tolerance (events_of c.base given) (reading limited c.base bytes) fault e in
+    record { kept = s.kept ∙ ap kept_of same; text = s.text ∙ ap text_after same; typed = s.typed.1 }
+
+-- ---- a refresh
+
+module _ (old new : Channel) (bytes : List ℕ) (given : GivenChannel) (h : IsGiven old given) where
+  answers : (result : Result Refreshed RefreshFault) → is_out_of_memory result ≡ false → AnswersRefresh old bytes given.events result new → AnswersAs old bytes given.events result new
+  answers result e a = subst (λ b. AnswersUnless b old bytes given.events result new) e a
+
+  stands_on : (result : Result Refreshed RefreshFault) → AnswersAs old bytes given.events result new → IsGiven new (with_event (refreshed bytes) given)
+  stands_on result a = record { base = a.base ∙ h.base; tolerance = a.tolerance ∙ h.tolerance; stands = a.stands }
+
+  pub refresh_left : (result : Result Refreshed RefreshFault) → is_out_of_memory result ≡ true → AnswersRefresh old bytes given.events result new → IsGiven new given
+  refresh_left result e a =
+      subst (λ c. IsGiven c given) (sym (subst (λ b. AnswersUnless b old bytes given.events result new) e a)) h
+
+  pub refresh_taken : (E : Type 0) (done : Refreshed) (reply : Reply) → AnswersRefresh old bytes given.events (Ok done) new → reply ≡ bare 204
+      → TakesOne {E = E} (refreshed bytes) (refresh_owed bytes) given (Ok reply) new
+  refresh_taken E done reply a e =
+      (e ∙ ap refresh_reply (a.answer ∙ same_answer old given h bytes), stands_on (Ok done) a)
+
+  refused_left : (fault : RefreshFault) → AnswersAs old bytes given.events (Err fault) new → IsGiven new given
+  refused_left fault a =
+      let owed = sym a.answer in
+      let moved = ap (λ b. answer_read old.tolerance (told_by b old.tolerance given.events) (reading limited b bytes)) a.base
+      ∙ owed in
+      let at_new = ap (λ n. answer_read n (told_by new.base n given.events) (reading limited new.base bytes)) a.tolerance ∙ moved in
+      record { base = a.base ∙ h.base; tolerance = a.tolerance ∙ h.tolerance; stands = left_out new bytes given.events fault at_new a.stands }
+
+  pub refresh_refused : {E : Type 0} (fault : RefreshFault) (r : Result Reply E) → is_out_of_memory (Err fault) ≡ false → AnswersRefresh old bytes given.events (Err fault) new
+      → IfOk r (λ reply. reply ≡ refresh_reply (Err fault)) → TakesOne (refreshed bytes) (refresh_owed bytes) given r new
+  refresh_refused fault (Ok reply) e a q =
+      let done = answers (Err fault) e a in
+      (q ∙ ap refresh_reply (done.answer ∙ same_answer old given h bytes), stands_on (Err fault) done)
+  refresh_refused fault (Err x) e a q = refused_left fault (answers (Err fault) e a)
+
+-- ---- decisions
+
+module _ (old new : Channel) (bytes : List ℕ) (given : GivenChannel) (h : IsGiven old given) where
+  store_is : old.kept.store ≡ (told_of given).store
+  store_is = ap (λ (k : Kept). k.store) (kept_is old given h)
+
+  same_outcome : after_bytes old.kept.store bytes ≡ after_bytes (told_of given).store bytes
+  same_outcome = ap (λ s. after_bytes s bytes) store_is
+
+  pub decisions_left : new ≡ old → IsGiven new given
+  decisions_left e = subst (λ c. IsGiven c given) (sym e) h
+
+  pub decisions_taken : (E : Type 0) (reply : Reply) → (after_bytes old.kept.store bytes ≡ Ok new.kept.store) × (new ≡ with_store old new.kept.store)
+      → Represents new (decided bytes ∷ given.events) → reply ≡ bare 204 → TakesOne {E = E} (decided bytes) (decisions_owed bytes) given (Ok reply) new
+  decisions_taken E reply o s e = (
+    e ∙ ap decisions_reply (sym (sym same_outcome ∙ o.0)),
+    record { base = ap (λ (c : Channel). c.base) o.1 ∙ h.base; tolerance = ap (λ (c : Channel). c.tolerance) o.1 ∙ h.tolerance; stands = s },
+  )
+
+  pub decisions_refused : {E : Type 0} (fault : DecisionFault) (r : Result Reply E) → fault ≢ no_memory → (new ≡ old) × Refuses fault (after_bytes old.kept.store bytes)
+      → (fault ≢ no_memory → Represents new (decided bytes ∷ given.events)) → IfOk r (λ reply. reply ≡ decisions_reply (Err fault))
+      → TakesOne (decided bytes) (decisions_owed bytes) given r new
+  decisions_refused fault (Ok reply) n o s q = (
+    q ∙ ap decisions_reply (sym (sym same_outcome ∙ o.1 n)),
+    record { base = ap (λ (c : Channel). c.base) o.0 ∙ h.base; tolerance = ap (λ (c : Channel). c.tolerance) o.0 ∙ h.tolerance; stands = s n },
+  )
+  decisions_refused fault (Err x) n o s q = decisions_left o.0

@@ -1,0 +1,90 @@
+-- What the map's words do to what it stands for.
+use Rattle.std.proofs.Common.{◌≡◌, ℕ, Bool, true, false, cond, List, [], ◌∷◌, ◌++◌, length, map, suc, refl, sym, ap, true≢false}
+use Rattle.std.specs.Prelude.{Option, Some, None, bytes_eq, String, string_bytes}
+use Rattle.std.specs.Map.{lookup, set_value, remove_entry}
+use Rattle.live_channel.specs.Channel as channel
+use Rattle.channel_api.specs.Named.{is_at}
+use Rattle.http_edge.specs.Channels.{GivenChannel, IsGiven}
+use Rattle.http_edge.specs.Table.{Table, TableEntry, given_at, put_given, without}
+use Rattle.http_edge.specs.Edges.{kept_of, Stands}
+
+abbrev pub Entries : Type 0 → Type 0
+Entries A = List (String A × channel.Channel)
+
+-- a channel, or none, and what it was given
+abbrev pub Agree : Option channel.Channel → Option GivenChannel → Type 0
+Agree None None = Unit {0}
+Agree (Some k) (Some g) = IsGiven k g
+Agree None (Some g) = ⊥
+Agree (Some k) None = ⊥
+
+pub none_agrees : (q : Option GivenChannel) → Agree None q → q ≡ None
+none_agrees None h = refl
+none_agrees (Some g) h = absurd h
+
+pub some_agrees : (k : channel.Channel) (q : Option GivenChannel) → Agree (Some k) q → (g : GivenChannel) × (q ≡ Some g) × IsGiven k g
+some_agrees k None h = absurd h
+some_agrees k (Some g) h = (g, refl, h)
+
+agree_step : (b c : Bool) (k : channel.Channel) (g : GivenChannel) (o : Option channel.Channel) (q : Option GivenChannel) → b ≡ c → IsGiven k g → Agree o q
+    → Agree (cond b (Some k) o) (cond c (Some g) q)
+agree_step true true k g o q e s h = s
+agree_step false false k g o q e s h = h
+agree_step true false k g o q e s h = absurd (true≢false e)
+agree_step false true k g o q e s h = absurd (true≢false (sym e))
+
+module _ {A : Type 0} (name : List ℕ) where
+  same_test : (key : String A) (entry : List ℕ) → string_bytes key ≡ entry → is_at name key ≡ bytes_eq name entry
+  same_test key entry e = ap (bytes_eq name) e
+
+  pub found : (es : Entries A) (table : Table) → Stands (map kept_of es) table → Agree (lookup (is_at name) es) (given_at name table)
+  found [] [] s = tt
+  found [] (t ∷ ts) s = absurd s
+  found (e ∷ es) [] s = absurd s
+  found (e ∷ es) (t ∷ ts) s =
+      agree_step (is_at name e.0) (bytes_eq name t.name) e.1 t.given (lookup (is_at name) es) (given_at name ts) (same_test e.0 t.name s.0) s.1 (found es ts s.2)
+
+  set_step : (b c : Bool) (e : String A × channel.Channel) (w : channel.Channel) (g : GivenChannel) (t : TableEntry) (es fs : Entries A) (ts us : Table) → b ≡ c
+      → string_bytes e.0 ≡ t.name → IsGiven e.1 t.given → IsGiven w g → Stands (map kept_of es) ts → Stands (map kept_of fs) us
+      → Stands (map kept_of (cond b ((e.0, w) ∷ es) (e ∷ fs))) (cond c (record t { given = g } ∷ ts) (t ∷ us))
+  set_step true true e w g t es fs ts us q n s h r i = (n, h, r)
+  set_step false false e w g t es fs ts us q n s h r i = (n, s, i)
+  set_step true false e w g t es fs ts us q n s h r i = absurd (true≢false q)
+  set_step false true e w g t es fs ts us q n s h r i = absurd (true≢false (sym q))
+
+  pub put : (es : Entries A) (table : Table) (w : channel.Channel) (g : GivenChannel) → Stands (map kept_of es) table → IsGiven w g
+      → Stands (map kept_of (set_value (is_at name) es w)) (put_given name g table)
+  put [] [] w g s h = tt
+  put [] (t ∷ ts) w g s h = absurd s
+  put (e ∷ es) [] w g s h = absurd s
+  put (e ∷ es) (t ∷ ts) w g s h =
+      set_step (is_at name e.0) (bytes_eq name t.name) e w g t es (set_value (is_at name) es w) ts (put_given name g ts) (same_test e.0 t.name s.0) s.0 s.1 h s.2 (put es ts w g s.2 h)
+
+  remove_step : (b c : Bool) (e : String A × channel.Channel) (t : TableEntry) (es fs : Entries A) (ts us : Table) → b ≡ c
+      → string_bytes e.0 ≡ t.name → IsGiven e.1 t.given → Stands (map kept_of es) ts → Stands (map kept_of fs) us
+      → Stands (map kept_of (cond b es (e ∷ fs))) (cond c ts (t ∷ us))
+  remove_step true true e t es fs ts us q n s r i = r
+  remove_step false false e t es fs ts us q n s r i = (n, s, i)
+  remove_step true false e t es fs ts us q n s r i = absurd (true≢false q)
+  remove_step false true e t es fs ts us q n s r i = absurd (true≢false (sym q))
+
+  pub taken_out : (es : Entries A) (table : Table) → Stands (map kept_of es) table
+      → Stands (map kept_of (remove_entry (is_at name) es)) (without name table)
+  taken_out [] [] s = tt
+  taken_out [] (t ∷ ts) s = absurd s
+  taken_out (e ∷ es) [] s = absurd s
+  taken_out (e ∷ es) (t ∷ ts) s =
+      remove_step (is_at name e.0) (bytes_eq name t.name) e t es (remove_entry (is_at name) es) ts (without name ts) (same_test e.0 t.name s.0) s.0 s.1 s.2 (taken_out es ts s.2)
+
+  pub added_after : (es : Entries A) (table : Table) (key : String A) (k : channel.Channel) (g : GivenChannel) → Stands (map kept_of es) table
+      → string_bytes key ≡ name → IsGiven k g → Stands (map kept_of (es ++ (key, k) ∷ [])) (table ++ record { name = name; given = g } ∷ [])
+  added_after [] [] key k g s n h = (n, h, tt)
+  added_after [] (t ∷ ts) key k g s n h = absurd s
+  added_after (e ∷ es) [] key k g s n h = absurd s
+  added_after (e ∷ es) (t ∷ ts) key k g s n h = (s.0, s.1, added_after es ts key k g s.2 n h)
+
+pub as_many : {A : Type 0} (es : Entries A) (table : Table) → Stands (map kept_of es) table → length es ≡ length table
+as_many [] [] s = refl
+as_many [] (t ∷ ts) s = absurd s
+as_many (e ∷ es) [] s = absurd s
+as_many (e ∷ es) (t ∷ ts) s = ap (λ n. suc n) (as_many es ts s.2)

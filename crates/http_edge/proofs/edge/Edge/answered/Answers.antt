@@ -1,0 +1,18 @@
+use Rattle.std.proofs.Common.{subst, sym, ap, ◌∙◌}
+use Rattle.channel_api.specs.Routes.{path_of, route_of}
+use Rattle.http_edge.specs.Table.{routed}
+use Rattle.http_edge.specs.Edges.{Stands, TakenTurn}
+use Rattle.http_edge.proofs.Turns.{stands_for_some}
+use Rattle.http_edge.proofs.edge.Edge.answered.Goals as goal
+
+pub invariant_of-self : goal.invariant_of-self
+invariant_of-self c =
+    let route = c.in-Some.ensures ∙ ap (λ t. route_of (path_of t)) c.as_str.ensures.text in
+    stands_for_some c.on_resource.result c.args.request.now c.self.inside.channels c.on_resource.new.self c.self.invariant
+    (λ table s. subst (λ o. TakenTurn (routed table c.args.request.now o) table c.on_resource.result c.on_resource.new.self) route (c.on_resource.ensures table s))
+
+pub returns : goal.returns
+returns c table s =
+    let route = c.in-Some.ensures ∙ ap (λ t. route_of (path_of t)) c.as_str.ensures.text in
+    subst (λ o. TakenTurn (routed table c.args.request.now o) table c.on_resource.result c.on_resource.new.self) route
+    (c.on_resource.ensures table (subst (λ k. Stands k table) (sym c.self.view_is) s))

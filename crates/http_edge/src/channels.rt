@@ -1,0 +1,197 @@
+//! The channels by name, and what a request on one of them does.
+ghost use Rattle.std.specs.Prelude.{◌≡◌, []};
+ghost use Rattle.live_channel.specs.Channel.{refreshed, decided, Represents as IsChannelOf};
+ghost use Rattle.channel_api.specs.ChannelBody.{body_said};
+ghost use Rattle.http_edge.specs.Replies.{refresh_owed, decisions_owed, live_owed, why_owed};
+ghost use Rattle.http_edge.specs.Table.{Table, turn_at, is_method, made, added, removed, event_turn, read_turn, given_at};
+ghost use Rattle.http_edge.specs.Edges.{Stands, TakenTurn};
+
+use crate::events::{decide, live, refresh};
+use crate::replies::{channel_fault_reply, why_reply};
+use channel_api::{
+    Naming, Resource, body_fault_reply, line, not_allowed, not_found, put_named, read_body,
+    remove_named,
+};
+use http::StatusCode;
+use http_messages::{Allow, Reply, Request};
+use indexmap::IndexMap;
+use live_channel::Channel;
+use std::alloc::{AllocError, Global};
+use std::marker::Model;
+
+/// The most channels.
+pub const MAX_CHANNELS: usize = 64;
+
+/// The channels by name, in the order in which they were made.
+#[derive(Drop)]
+pub struct Channels {
+    alloc: Global,
+    by_name: IndexMap<String, Channel>,
+}
+
+impl Model for Channels {
+    ghost use Rattle.std.specs.Prelude.{List, map};
+    ghost use Rattle.http_edge.specs.Edges.{NamedChannel, kept_of};
+
+    ghost Value = { List NamedChannel };
+
+    ghost view = { λ c. map kept_of c.by_name.entries };
+}
+
+fn is_method(request: &Request, name: &str) -> bool
+    ensures { result ≡ is_method name.now request.now }
+{
+    request.method.as_str() == name
+}
+
+impl Channels {
+    /// No channels.
+    pub fn new(alloc: Global) -> Channels
+        ensures { result ≡ [] }
+    {
+        Channels {
+            alloc,
+            by_name: IndexMap::new(alloc),
+        }
+    }
+
+    /// What a request on what a channel has is answered, and does. Where an allocation fails all channels are as they were.
+    pub fn on_resource(
+        &mut self,
+        name: &str,
+        resource: Resource,
+        request: &Request,
+    ) -> Result<Reply, AllocError>
+        ensures { (table : Table) → Stands self.old table → TakenTurn (turn_at table request.now name.now resource) table result self.new }
+    {
+        match resource {
+            Resource::Channel => self.on_channel(name, request),
+            Resource::Origin => self.on_origin(name, request),
+            Resource::Decisions => self.on_decisions(name, request),
+            Resource::Live => self.on_live(name, request),
+            Resource::Why => self.on_why(name, request),
+        }
+    }
+
+    fn on_channel(&mut self, name: &str, request: &Request) -> Result<Reply, AllocError>
+        ensures { (table : Table) → Stands self.old table → TakenTurn (turn_at table request.now name.now Resource.Channel) table result self.new }
+    {
+        if is_method(request, "PUT") {
+            return self.make(name, request.body.as_slice());
+        }
+        if is_method(request, "DELETE") {
+            return self.remove(name);
+        }
+        not_allowed(self.alloc, Allow::PutDelete)
+    }
+
+    fn on_origin(&mut self, name: &str, request: &Request) -> Result<Reply, AllocError>
+        ensures { (table : Table) → Stands self.old table → TakenTurn (turn_at table request.now name.now Resource.Origin) table result self.new }
+    {
+        if is_method(request, "PUT") {
+            return self.refresh(name, request.body.as_slice());
+        }
+        not_allowed(self.alloc, Allow::Put)
+    }
+
+    fn on_decisions(&mut self, name: &str, request: &Request) -> Result<Reply, AllocError>
+        ensures { (table : Table) → Stands self.old table → TakenTurn (turn_at table request.now name.now Resource.Decisions) table result self.new }
+    {
+        if is_method(request, "PUT") {
+            return self.decide(name, request.body.as_slice());
+        }
+        not_allowed(self.alloc, Allow::Put)
+    }
+
+    fn on_live(&self, name: &str, request: &Request) -> Result<Reply, AllocError>
+        ensures { (table : Table) → Stands self.now table → TakenTurn (turn_at table request.now name.now Resource.Live) table result self.now }
+    {
+        if is_method(request, "GET") {
+            return self.live(name);
+        }
+        not_allowed(self.alloc, Allow::Get)
+    }
+
+    fn on_why(&self, name: &str, request: &Request) -> Result<Reply, AllocError>
+        ensures { (table : Table) → Stands self.now table → TakenTurn (turn_at table request.now name.now Resource.Why) table result self.now }
+    {
+        if is_method(request, "GET") {
+            return self.why(name);
+        }
+        not_allowed(self.alloc, Allow::Get)
+    }
+
+    fn make(&mut self, name: &str, body: &[u8]) -> Result<Reply, AllocError>
+        ensures { (table : Table) → Stands self.old table → TakenTurn (made table name.now (body_said body.now)) table result self.new }
+    {
+        let alloc = self.alloc;
+        let wanted = match read_body(alloc, body) {
+            Ok(wanted) => wanted,
+            Err(fault) => return body_fault_reply(alloc, fault),
+        };
+        match Channel::new(alloc, wanted.base.as_str(), wanted.tolerance) {
+            Ok(channel) => self.add(name, channel),
+            Err(fault) => channel_fault_reply(alloc, fault),
+        }
+    }
+
+    // Takes in a channel that was given nothing, where there is none of this name and there is room.
+    fn add(&mut self, name: &str, channel: Channel) -> Result<Reply, AllocError>
+        requires { IsChannelOf channel [] }
+        ensures { (table : Table) → Stands self.old table → TakenTurn (added table name.now channel.base channel.tolerance) table result self.new }
+    {
+        let alloc = self.alloc;
+        match put_named(alloc, &mut self.by_name, MAX_CHANNELS, name, channel)? {
+            Naming::Done => Ok(Reply::bare(StatusCode::CREATED)),
+            Naming::Taken => line(alloc, StatusCode::CONFLICT, "channel exists"),
+            Naming::Full => Ok(Reply::bare(StatusCode::SERVICE_UNAVAILABLE)),
+        }
+    }
+
+    fn remove(&mut self, name: &str) -> Result<Reply, AllocError>
+        ensures { (table : Table) → Stands self.old table → TakenTurn (removed table name.now (given_at name.now table)) table result self.new }
+    {
+        if !remove_named(&mut self.by_name, name) {
+            return not_found(self.alloc);
+        }
+        Ok(Reply::bare(StatusCode::NO_CONTENT))
+    }
+
+    fn refresh(&mut self, name: &str, body: &[u8]) -> Result<Reply, AllocError>
+        ensures { (table : Table) → Stands self.old table → TakenTurn (event_turn table name.now (refreshed body.now) (refresh_owed body.now) (given_at name.now table)) table result self.new }
+    {
+        let alloc = self.alloc;
+        let Some(channel) = self.by_name.get_mut(name) else {
+            return not_found(alloc);
+        };
+        refresh(alloc, channel, body)
+    }
+
+    fn decide(&mut self, name: &str, body: &[u8]) -> Result<Reply, AllocError>
+        ensures { (table : Table) → Stands self.old table → TakenTurn (event_turn table name.now (decided body.now) (decisions_owed body.now) (given_at name.now table)) table result self.new }
+    {
+        let alloc = self.alloc;
+        let Some(channel) = self.by_name.get_mut(name) else {
+            return not_found(alloc);
+        };
+        decide(alloc, channel, body)
+    }
+
+    fn live(&self, name: &str) -> Result<Reply, AllocError>
+        ensures { (table : Table) → Stands self.now table → TakenTurn (read_turn table live_owed (given_at name.now table)) table result self.now }
+    {
+        let Some(channel) = self.by_name.get(name) else {
+            return not_found(self.alloc);
+        };
+        live(self.alloc, channel)
+    }
+
+    fn why(&self, name: &str) -> Result<Reply, AllocError>
+        ensures { (table : Table) → Stands self.now table → TakenTurn (read_turn table why_owed (given_at name.now table)) table result self.now }
+    {
+        let Some(channel) = self.by_name.get(name) else {
+            return not_found(self.alloc);
+        };
+        why_reply(self.alloc, channel)
+    }
+}

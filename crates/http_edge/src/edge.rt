@@ -1,0 +1,66 @@
+//! The edge: requests on channels, each applied as a whole.
+ghost use Rattle.std.specs.Prelude.{[], IfOk};
+ghost use Rattle.http_edge.specs.Table.{Table, turn};
+ghost use Rattle.http_edge.specs.Edges.{RepresentsRequests, AnswersRequest, Stands, TakenTurn};
+
+use crate::channels::Channels;
+use channel_api::{Routes, not_found};
+use http::StatusCode;
+use http_messages::{Reply, Request};
+use std::alloc::{AllocError, Global};
+use std::marker::Model;
+
+/// Channels over HTTP. By its type an edge stands for some list of requests.
+#[derive(Drop)]
+pub struct Edge {
+    alloc: Global,
+    routes: Routes,
+    channels: Channels,
+}
+
+impl Model for Edge {
+    ghost use Rattle.std.specs.Prelude.{List};
+    ghost use Rattle.http_edge.specs.Edges.{NamedChannel, RepresentsSome};
+
+    ghost Value = { List NamedChannel };
+
+    ghost view = { λ e. e.channels };
+
+    ghost invariant = { λ e. RepresentsSome e.channels };
+}
+
+impl Edge {
+    /// An edge without channels: it stands for no request. Fails only where an allocation fails.
+    pub fn new(alloc: Global) -> Result<Edge, AllocError>
+        ensures { IfOk result (λ edge. RepresentsRequests edge []) }
+    {
+        let Ok(routes) = Routes::new(alloc) else {
+            return Err(AllocError);
+        };
+        Ok(Edge {
+            alloc,
+            routes,
+            channels: Channels::new(alloc),
+        })
+    }
+
+    /// Applies a request as a whole, and answers it. Whatever requests the edge stood for, the reply is the one owed after
+    /// them, and the edge stands for this request too; for a failed allocation the reply is 503, and the request is left out.
+    pub fn answer(&mut self, request: &Request) -> Reply
+        ensures { AnswersRequest self.old request.now result self.new }
+    {
+        match self.answered(request) {
+            Ok(reply) => reply,
+            Err(_) => Reply::bare(StatusCode::SERVICE_UNAVAILABLE),
+        }
+    }
+
+    fn answered(&mut self, request: &Request) -> Result<Reply, AllocError>
+        ensures { (table : Table) → Stands self.old table → TakenTurn (turn table request.now) table result self.new }
+    {
+        let Some((name, resource)) = self.routes.find(request.target.as_str()) else {
+            return not_found(self.alloc);
+        };
+        self.channels.on_resource(name, resource, request)
+    }
+}

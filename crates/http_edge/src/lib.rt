@@ -1,0 +1,14 @@
+//! Many live channels over HTTP: requests on a table of channels, on connections that are served in turn.
+#![tactic(auto)]
+
+mod channels;
+mod edge;
+mod events;
+pub mod laws;
+mod replies;
+mod serving;
+
+pub use channel_api::{FaultText, refresh_fault_text, why_word};
+pub use channels::MAX_CHANNELS;
+pub use edge::Edge;
+pub use serving::{EdgeFault, Served, serve};

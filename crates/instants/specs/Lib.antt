@@ -1,3 +1,0 @@
-pub mod Instant
-pub mod Digits
-pub mod Times

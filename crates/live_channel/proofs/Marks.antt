@@ -1,0 +1,72 @@
+-- The breaks that mark segments, as a channel holds them and as they are meant.
+use Rattle.std.proofs.Common.{◌≡◌, ℕ, ◌<◌, ◌≤◌, Bool, true, false, cond, List, [], ◌∷◌, ◌++◌, map, refl, ap, sym, ◌∙◌, append_assoc, arith}
+use Rattle.std.proofs.lemmas.Bool.{lt-leb, le-leb}
+use Rattle.std.proofs.lemmas.List.{append-nil}
+use Rattle.std.specs.Prelude.{Option, Some, None, IsSome, nat_le, option_map}
+use mathlib.Core.List.{reverse_aux}
+use Rattle.pod_store.specs.Pods.{Pod}
+use Rattle.pod_store.specs.Marks.{Marked}
+use Rattle.pod_store.specs.Store.{Store, pod_for}
+use Rattle.stitcher.specs.declared.marked.MarkedSegment.{MarkedSegment as Held}
+use Rattle.stitcher.specs.StitchedSegments.{meant, mark_in, mark_with, rest_from, rest_in, IsDecided, AreDecided}
+use Rattle.channel_spec.specs.Marking.{mark_id}
+use Rattle.channel_spec.specs.Live.{ids_in, marks_from, in_use_with, rest_id}
+use Rattle.channel_spec.specs.Kept.{Kept, rest_after}
+use Rattle.channel_spec.specs.Successor.{first_number}
+use Rattle.playlist_model.specs.declared.Playlist.{Playlist}
+use Rattle.stitcher.specs.declared.ends.Rest.{Rest}
+use Rattle.channel_window.specs.Listed.{IsRestDecided}
+use Rattle.channel_window.specs.declared.state.ChannelState.{ChannelState}
+use Rattle.live_channel.specs.Inner.Accepting.{IsLeft}
+use Rattle.channel_window.specs.Marking.{so_far}
+use Rattle.live_channel.specs.Inner.Marks.{mark_held, marks_held, marks_and_last, rest_held, breaks_held}
+
+id_with : (id : List ℕ) (pod : Option Pod) → IsSome pod → option_map mark_id (mark_with id pod) ≡ Some id
+id_with id None d = absurd (cc)
+id_with id (Some pod) d = refl
+
+id_seen : (store : Store) (o : Option (List ℕ)) → IsDecided store o → option_map mark_id (mark_in store o) ≡ o
+id_seen store None d = refl
+id_seen store (Some id) d = id_with id (pod_for store id) d
+
+marks_onto : (store : Store) (number : ℕ) (held : List Held) (before : List Marked) → AreDecided store held
+    → marks_from number (reverse_aux (map (meant store) held) before) ≡ marks_from number before ++ marks_held number held
+marks_onto store number [] before d = sym (append-nil (marks_from number before))
+marks_onto store number (m ∷ later) before d =
+    marks_onto store number later (meant store m ∷ before) d.1
+    ∙ (ap (λ o. (marks_from number before ++ cond (nat_le number m.segment.media_sequence) (ids_in o) []) ++ marks_held number later) (id_seen store m.mark d.0)
+    ∙ append_assoc (marks_from number before) (cond (nat_le number m.segment.media_sequence) (ids_in m.mark) []) (marks_held number later))
+
+marks_seen : (store : Store) (number : ℕ) (held : List Held) (last other : Option (List ℕ)) → AreDecided store held → last ≡ other
+    → marks_and_last number held last ≡ marks_from number (so_far store held) ++ ids_in other
+marks_seen store number held last other d e = ap (λ ids. ids ++ ids_in last) (sym (marks_onto store number held [] d)) ∙ ap (λ o. marks_from number (so_far store held) ++ ids_in o) e
+
+rest_seen : (store : Store) (rest : Option Rest) → IsRestDecided store rest → rest_held rest ≡ ids_in (rest_id (rest_in store rest))
+rest_seen store None d = refl
+rest_seen store (Some rest) d = by (pod_for store rest.id) d
+  where
+    by : (o : Option Pod) → IsSome o → rest.id ∷ [] ≡ ids_in (rest_id (option_map (rest_from rest.place) (mark_with rest.id o)))
+    by None h = absurd (cc)
+    by (Some pod) h = refl
+
+pub breaks_seen : (state : ChannelState) (kept : Kept) (p : Playlist) (held : List Held) (last other : Option (List ℕ)) (rest : Option Rest) → AreDecided state.store held → last ≡ other → IsLeft state.store kept p (so_far state.store held) rest
+    → breaks_held (first_number p.segments) held last rest ≡ in_use_with (first_number p.segments) (so_far state.store held) other (rest_after kept p (so_far state.store held))
+breaks_seen state kept p held last other rest d e l =
+    let number = first_number p.segments in
+    let marks = marks_from number (so_far state.store held) in
+    ap (λ ids. ids ++ rest_held rest) (marks_seen state.store number held last other d e)
+    ∙ (ap (λ ids. (marks ++ ids_in other) ++ ids) (rest_seen state.store rest l.decided ∙ ap (λ o. ids_in (rest_id o)) l.rest)
+    ∙ append_assoc marks (ids_in other) (ids_in (rest_id (rest_after kept p (so_far state.store held)))))
+
+-- a segment before the number adds no break
+pub none_before : (marks : List (List ℕ)) (number : ℕ) (m : Held) → m.segment.media_sequence < number → marks ≡ marks ++ mark_held number m
+none_before marks number m h = sym (ap (λ b. marks ++ cond b (ids_in m.mark) []) (lt-leb number m.segment.media_sequence h) ∙ append-nil marks)
+
+-- one from the number on adds its own
+pub one_there : (marks new : List (List ℕ)) (number : ℕ) (m : Held) → number ≤ m.segment.media_sequence → new ≡ marks ++ ids_in m.mark → new ≡ marks ++ mark_held number m
+one_there marks new number m h e = e ∙ sym (ap (λ b. marks ++ cond b (ids_in m.mark) []) (le-leb number m.segment.media_sequence h))
+
+pub one_marked : (marks new : List (List ℕ)) (number : ℕ) (here : Held) (later list : List Held) → marks ++ marks_held number (here ∷ later) ≡ marks_held number list
+    → new ≡ marks ++ mark_held number here → new ++ marks_held number later ≡ marks_held number list
+one_marked marks new number here later list h e =
+    ap (λ xs. xs ++ marks_held number later) e ∙ (append_assoc marks (mark_held number here) (marks_held number later) ∙ h)

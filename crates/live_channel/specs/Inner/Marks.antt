@@ -1,0 +1,26 @@
+-- The breaks that mark segments, as a channel holds them.
+use Rattle.std.specs.Prelude.{ℕ, nat_le, List, [], ◌∷◌, ◌++◌, Option, Some, None, if◌then◌else◌}
+use Rattle.stitcher.specs.declared.marked.MarkedSegment.{MarkedSegment}
+use Rattle.stitcher.specs.declared.ends.Rest.{Rest}
+use Rattle.channel_spec.specs.Live.{ids_in}
+
+-- the break that marks a segment, where it is numbered from this number on
+abbrev pub mark_held : ℕ → MarkedSegment → List (List ℕ)
+mark_held first m = if nat_le first m.segment.media_sequence then ids_in m.mark else []
+
+-- the breaks that mark the segments from a number on, the oldest first
+abbrev pub marks_held : ℕ → List MarkedSegment → List (List ℕ)
+marks_held first [] = []
+marks_held first (m ∷ later) = mark_held first m ++ marks_held first later
+
+-- and then this one, which was entered last
+abbrev pub marks_and_last : ℕ → List MarkedSegment → Option (List ℕ) → List (List ℕ)
+marks_and_last first held last = marks_held first held ++ ids_in last
+
+abbrev pub rest_held : Option Rest → List (List ℕ)
+rest_held None = []
+rest_held (Some rest) = rest.id ∷ []
+
+-- and the one with the rest of whose pod a window starts
+abbrev pub breaks_held : ℕ → List MarkedSegment → Option (List ℕ) → Option Rest → List (List ℕ)
+breaks_held first held last rest = marks_and_last first held last ++ rest_held rest

@@ -1,0 +1,3 @@
+pub mod Channel
+pub mod ChannelLaws
+pub mod Inner

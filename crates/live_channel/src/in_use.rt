@@ -1,0 +1,86 @@
+//! The breaks in use.
+ghost use Rattle.std.specs.Prelude.{◌≡◌, ◌++◌, IfOk, OnOk};
+ghost use Rattle.channel_spec.specs.Live.{ids_in};
+ghost use Rattle.live_channel.specs.Inner.Marks.{breaks_held, mark_held, marks_and_last, rest_held};
+
+use playlist_model::{Shared, Text};
+use std::alloc::{AllocError, Global};
+use stitcher::{MarkedSegment, Rest};
+
+// Puts a break, where there is one, after others.
+fn push_mark(marks: &mut Vec<Shared<Text>>, mark: &Option<Shared<Text>>) -> Result<(), AllocError>
+    ensures { OnOk result (marks.new.items ≡ marks.old.items ++ ids_in mark.now) }
+{
+    match mark {
+        Some(id) => {
+            marks.push(id.clone()?)?;
+            Ok(())
+        }
+        None => Ok(()),
+    }
+}
+
+#[tactic(auto, using(crate::proofs::Marks::none_before, crate::proofs::Marks::one_there))]
+// Puts the break of a segment, where it has one and is numbered from this number on, after others.
+fn push_marked(
+    marks: &mut Vec<Shared<Text>>,
+    number: u64,
+    marked: &MarkedSegment,
+) -> Result<(), AllocError>
+    ensures { OnOk result (marks.new.items ≡ marks.old.items ++ mark_held number marked.now) }
+{
+    if marked.segment.media_sequence < number {
+        return Ok(());
+    }
+    push_mark(marks, &marked.mark)
+}
+
+#[tactic(auto, using(crate::proofs::Marks::one_marked))]
+// The breaks that mark the segments from this number on, one for each segment and in their order, and then the last one
+// entered.
+fn marks_and_last(
+    alloc: Global,
+    number: u64,
+    list: &[MarkedSegment],
+    entered: &Option<Shared<Text>>,
+) -> Result<Vec<Shared<Text>>, AllocError>
+    ensures { IfOk result (λ marks. marks.items ≡ marks_and_last number list.now entered.now) }
+{
+    let mut marks = Vec::new(alloc);
+    let mut rest = list;
+    while let Some((marked, later)) = rest.split_first() {
+        push_marked(&mut marks, number, marked)?;
+        rest = later;
+    }
+    push_mark(&mut marks, entered)?;
+    Ok(marks)
+}
+
+// Puts the break of a rest, where there is one, after others.
+fn push_rest(marks: &mut Vec<Shared<Text>>, rest: &Option<Rest>) -> Result<(), AllocError>
+    ensures { OnOk result (marks.new.items ≡ marks.old.items ++ rest_held rest.now) }
+{
+    match rest {
+        Some(rest) => {
+            marks.push(rest.id.clone()?)?;
+            Ok(())
+        }
+        None => Ok(()),
+    }
+}
+
+/// The breaks in use: those that mark the segments from this number on, one for each segment and in their order, then the last
+/// one entered, and then the one of the rest.
+pub fn breaks_in_use(
+    alloc: Global,
+    number: u64,
+    list: &[MarkedSegment],
+    entered: &Option<Shared<Text>>,
+    rest: &Option<Rest>,
+) -> Result<Vec<Shared<Text>>, AllocError>
+    ensures { IfOk result (λ breaks. breaks.items ≡ breaks_held number list.now entered.now rest.now) }
+{
+    let mut marks = marks_and_last(alloc, number, list, entered)?;
+    push_rest(&mut marks, rest)?;
+    Ok(marks)
+}

@@ -1,0 +1,12 @@
+//! A live channel: what it keeps from refresh to refresh, what it answers, and what it writes.
+#![tactic(auto)]
+
+mod channel;
+mod in_use;
+pub mod laws;
+mod refresh;
+mod type_facts;
+mod written;
+
+pub use channel::{Channel, ChannelFault, Refreshed};
+pub use channel_spec::RefreshFault;

@@ -1,0 +1,68 @@
+//! What the types of texts and pods say of what was read and decided, handed to contracts, which see a text as a list of
+//! bytes. Nothing of it is left when it runs.
+ghost use Rattle.std.specs.Prelude.{◌≡◌, true};
+ghost use Rattle.std.specs.List.{list_all};
+ghost use Rattle.writable.specs.Fitting.{if_some};
+ghost use Rattle.channel_spec.specs.Sound.{AllPods};
+ghost use Rattle.owed_is_denoted.specs.Laws.{KeepsRules};
+ghost use Rattle.live_channel.specs.Inner.Typed.{keeps_rules};
+ghost use Rattle.read_is_writable.specs.Read.{key_is_text, section_is_text, uris_are_text};
+
+use playlist_model::{InitSection, Key, Segment, Shared};
+use pod_store::{Decision, Decisions};
+
+fn know_keys(keys: &[Key])
+    ensures { list_all key_is_text keys.now ≡ true }
+{
+    for key in keys {
+        let _uri = key.uri.as_str();
+    }
+}
+
+fn know_section(section: &Option<Shared<InitSection>>)
+    ensures { if_some section_is_text section.now ≡ true }
+{
+    if let Some(section) = section {
+        let _uri = section.uri.as_str();
+        know_keys(section.keys.as_slice());
+    }
+}
+
+fn know_segment(segment: &Segment)
+    ensures { uris_are_text segment.now ≡ true }
+{
+    let _uri = segment.uri.as_str();
+    know_keys(segment.keys.as_slice());
+    know_section(&segment.init_section);
+}
+
+/// Knows that the URIs of segments, their keys and their sections are UTF-8.
+pub fn utf8_of_uris(segments: &[Shared<Segment>])
+    ensures { list_all uris_are_text segments.now ≡ true }
+{
+    for segment in segments {
+        know_segment(segment);
+    }
+}
+
+fn know_breaks(breaks: &[Decision])
+    ensures { list_all keeps_rules breaks.now ≡ true }
+{
+    for decision in breaks {
+        let _ads = decision.1.ads();
+    }
+}
+
+#[tactic(auto, using(crate::proofs::Typed::breaks_keep, crate::proofs::Typed::fallback_keeps))]
+/// Knows that decided pods keep the rules of pods.
+pub fn know_pods(decisions: &Decisions)
+    ensures { AllPods KeepsRules decisions.now }
+{
+    match decisions {
+        Decisions::Breaks(breaks) => know_breaks(breaks.as_slice()),
+        Decisions::Fallback(pod) => {
+            let _ads = pod.ads();
+        }
+        _ => {}
+    }
+}

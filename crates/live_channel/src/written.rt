@@ -1,0 +1,113 @@
+//! What a refresh writes of the segments that are shown then.
+ghost use Rattle.std.specs.Prelude.{◌≡◌, IfOk, IfErr, false, map};
+ghost use Rattle.std.specs.List.{list_all, list_any};
+ghost use Rattle.stitcher.specs.Stitched.{fits};
+ghost use Rattle.playlist_write.specs.Owed.{playlist_text};
+ghost use Rattle.stitcher.specs.StitchedSegments.{AreDecided};
+ghost use Rattle.channel_spec.specs.Kept.{items_on};
+ghost use Rattle.channel_spec.specs.Live.{date_range_text, date_ranges_left};
+ghost use Rattle.channel_window.specs.Marking.{so_far};
+ghost use Rattle.channel_window.specs.Showing.{kept_in};
+ghost use Rattle.channel_window.specs.Listed.{IsFront, IsRestDecided, RefusesList, states_time};
+ghost use Rattle.owed_is_denoted.specs.Owed.{out_playlist};
+ghost use Rattle.live_channel.specs.Inner.Accepting.{IsLeft, IsWritten};
+
+use crate::in_use::breaks_in_use;
+use channel_spec::RefreshFault;
+use channel_window::{
+    ChannelState, Window, date_ranges_left, first_number, head_of, last_entered, window_of,
+};
+use fixed_duration::Nanos;
+use playlist_model::{Items, Playlist, Shared, Text};
+use playlist_write::{OutPlaylist, written};
+use std::alloc::{AllocError, Global};
+use stitcher::{MarkedSegment, Numbers, OutSegment, Rest, TextRef};
+
+/// What a refresh writes, and which breaks it uses.
+#[derive(Drop)]
+pub struct Written {
+    /// The last break entered.
+    pub entered: Option<Shared<Text>>,
+    /// The breaks in use.
+    pub in_use: Vec<Shared<Text>>,
+    /// The numbers of the window's first item.
+    pub numbers: Numbers,
+    /// How many items are written.
+    pub count: usize,
+    /// The rest of a pod that the window starts with.
+    pub rest: Option<Rest>,
+    /// The text that is written.
+    pub text: Shared<Text>,
+}
+
+// The text of a playlist with these date ranges and items in place of its own.
+fn text_with<'a>(
+    alloc: Global,
+    playlist: &Playlist,
+    date_ranges: Vec<TextRef<'a>>,
+    items: Vec<OutSegment<'a>>,
+) -> Result<Shared<Text>, AllocError>
+    ensures { IfOk result (λ text. text ≡ playlist_text (out_playlist playlist.now date_ranges.entry.items items.entry.items)) }
+{
+    let out = OutPlaylist {
+        version: playlist.version.max(6),
+        target_duration: playlist.target_duration,
+        playlist_type: playlist.playlist_type,
+        independent_segments: playlist.independent_segments,
+        end_list: playlist.end_list,
+        date_ranges: Items::from_vec(date_ranges),
+        segments: Items::from_vec(items),
+    };
+    Shared::new(alloc, written(alloc, &out)?)
+}
+
+// The text of a playlist with these items in place of its segments, without the date ranges of the breaks in use.
+fn text_without(
+    alloc: Global,
+    playlist: &Playlist,
+    in_use: &[Shared<Text>],
+    items: Vec<OutSegment<'_>>,
+) -> Result<Shared<Text>, AllocError>
+    ensures { IfOk result (λ text. text ≡ playlist_text (out_playlist playlist.now (map date_range_text (date_ranges_left (list_any states_time items.entry.items) in_use.now playlist.now.date_ranges)) items.entry.items)) }
+{
+    let date_ranges = date_ranges_left(
+        alloc,
+        items.as_slice(),
+        in_use,
+        playlist.date_ranges.as_slice(),
+    )?;
+    text_with(alloc, playlist, date_ranges, items)
+}
+
+/// What a refresh writes where these segments are shown, the newest run of which has lasted so long, and which breaks it uses.
+/// `NumberRange` where a number would pass 2^64 - 1.
+pub fn written_of(
+    alloc: Global,
+    state: &ChannelState,
+    playlist: &Playlist,
+    list: &[MarkedSegment],
+    length: Nanos,
+) -> Result<Written, RefreshFault>
+    requires decided { AreDecided state.now.store list.now }
+    requires front { IsFront state.now.shown list.now }
+    requires rest { IsRestDecided state.now.store state.now.rest }
+    ensures ok { IfOk result (λ w. IsWritten (kept_in state.now) playlist.now (so_far state.now.store list.now) length w) }
+    ensures left { IfOk result (λ w. IsLeft state.now.store (kept_in state.now) playlist.now (so_far state.now.store list.now) w.rest) }
+    ensures err { IfErr result (λ e. RefusesList e (list_all fits (items_on (kept_in state.now) playlist.now (so_far state.now.store list.now) length) ≡ false)) }
+{
+    let number = first_number(playlist.segments.as_slice());
+    let Window { items, rest } = window_of(alloc, state, playlist, list, length)?;
+    let entered = last_entered(list, &state.entered)?;
+    let in_use = breaks_in_use(alloc, number, list, &entered, &rest)?;
+    let numbers = head_of(items.as_slice());
+    let count = items.len();
+    let text = text_without(alloc, playlist, in_use.as_slice(), items)?;
+    Ok(Written {
+        entered,
+        in_use,
+        numbers,
+        count,
+        rest,
+        text,
+    })
+}

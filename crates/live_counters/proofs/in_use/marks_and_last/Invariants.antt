@@ -1,9 +1,0 @@
-use Rattle.std.proofs.Common.{◌≡◌, ◌++◌, length}
-use Rattle.live_counters.specs.Marks.{marks_held}
-use Rattle.live_counters.proofs.in_use.marks_and_last.Given as goal
-
-abbrev pub invariant-loop-marked : goal.invariant-loop-marked
-invariant-loop-marked l = l.marks.items ++ marks_held l.number l.rest ≡ marks_held l.number l.list
-
-abbrev pub decreases-loop-marked : goal.decreases-loop-marked
-decreases-loop-marked l = length l.rest

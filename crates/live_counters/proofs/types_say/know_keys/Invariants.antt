@@ -1,7 +1,0 @@
-use Rattle.std.proofs.Common.{◌≡◌, true, take}
-use Rattle.std.specs.List.{list_all}
-use Rattle.reading_laws.specs.Read.{key_is_text}
-use Rattle.live_counters.proofs.types_say.know_keys.Given as goal
-
-abbrev pub invariant-loop-key : goal.invariant-loop-key
-invariant-loop-key l = list_all key_is_text (take l.key-index l.keys) ≡ true

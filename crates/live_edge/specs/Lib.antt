@@ -1,8 +1,0 @@
-pub mod FaultTexts
-pub mod Channels
-pub mod Replies
-pub mod Table
-pub mod Events
-pub mod Edges
-pub mod Served
-pub mod Isolation

@@ -1,5 +1,0 @@
-use Rattle.live_meaning.proofs.WrittenPods.{in_use_is_written}
-use Rattle.live_meaning.proofs.in_use_is_written.Goals as goal
-
-pub returns : goal.returns
-returns c = in_use_is_written

@@ -1,5 +1,0 @@
-use Rattle.live_meaning.proofs.FirstAlone.{nothing_decided_nothing_changed}
-use Rattle.live_meaning.proofs.nothing_decided_nothing_changed.Goals as goal
-
-pub returns : goal.returns
-returns c = nothing_decided_nothing_changed

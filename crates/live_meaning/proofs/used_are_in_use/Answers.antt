@@ -1,5 +1,0 @@
-use Rattle.live_meaning.proofs.InUse.{used_are_in_use}
-use Rattle.live_meaning.proofs.used_are_in_use.Goals as goal
-
-pub returns : goal.returns
-returns c = used_are_in_use

@@ -1,0 +1,189 @@
+-- The pieces of a stitched list can be written.
+use Rattle.std.proofs.Common.{◌≡◌, ℕ, ◌+◌, ◌<◌, ◌^◌, ℤ, Bool, true, false, not, cond, zero, suc, List, [], ◌∷◌, map, take, length, reverse, refl, ap, ◌∙◌, arith}
+use Rattle.std.specs.Prelude.{Option, Some, None, ◌&&◌, ◌||◌, ◌==◌, nat_le, nat_lt, is_some, option_map}
+use Rattle.std.specs.List.{list_all, list_any, AllByRecursion}
+use Rattle.std.specs.Char.{is_control}
+use Rattle.std.proofs.lemmas.Bool.{and_from, and_parts}
+use Rattle.std.proofs.lemmas.Bool.Decides.{nat_tests}
+use Rattle.std.proofs.lemmas.List.Folds.{list_all-append}
+use Rattle.std.proofs.lemmas.Str.{chars-nil, IsUtf8-nil, is_utf8-from_IsUtf8}
+use mathlib.Core.List.{reverse_aux}
+use Rattle.playlist_model.specs.declared.Segment.{Segment}
+use Rattle.date_times.specs.Instant.{in_range}
+use Rattle.pod_store.specs.Pods.{PodSegment, Ad, Pod}
+use Rattle.pod_store.specs.Marks.{Mark, Marked, continues}
+use Rattle.stitcher.specs.Stitched.{Piece, is_kept, with_keys, ad_piece, ad_pieces, pieces_of_ads, pod_pieces, run_pieces, stitched, Numbers, steps_between, numbers_at, Item, numbered, fits}
+use Rattle.stitcher.specs.declared.OutSegment.{OutSegment}
+use Rattle.stitcher.specs.Written.{written_item}
+use Rattle.writable.specs.Fitting.{if_some, is_clean, uri_fits, byte_range_fits, effective_keys_fit, section_fits}
+use Rattle.playlist_model.specs.Numbering.{follows, all_follow}
+use Rattle.playlist_write.specs.WellFormed.{resource_fits, duration_fits, segment_fits, out_numbers, numbers_fit, is_mapped, sections_agree}
+use Rattle.pod_store.specs.Laws.{segment_can_be_written, ad_can_be_written}
+use Rattle.channel_spec.proofs.Reversed.{list_all-reverse}
+use Rattle.owed_is_denoted.proofs.Writable.{stitched_ad, stitched_ads, pod_can_be_written}
+use Rattle.owed_is_denoted.proofs.AllPods.{OfMark}
+
+-- ---- a segment can be written, whatever its numbers, with this time
+
+abbrev fits_with : Bool → Segment → Option ℤ → Bool
+fits_with words s time =
+    words && resource_fits s && effective_keys_fit s.keys && if_some section_fits s.init_section && duration_fits s.duration && is_clean s.title
+    && if_some in_range time
+
+abbrev pub can_stand : Segment → Option ℤ → Bool
+can_stand s time = fits_with true s time
+
+abbrev pub piece_stands : Piece → Bool
+piece_stands p = can_stand p.segment p.instant
+
+-- ---- pods
+
+empty_is_clean : is_clean [] ≡ true
+empty_is_clean = and_from _ _ (is_utf8-from_IsUtf8 [] IsUtf8-nil) (ap (λ cs. not (list_any is_control cs)) chars-nil)
+
+segment_stands : (mark : Mark) (first : Bool) (ad : Ad) (s : PodSegment) → effective_keys_fit ad.keys ≡ true → if_some section_fits (option_map (with_keys ad.keys) ad.init_section) ≡ true
+    → segment_can_be_written s ≡ true → piece_stands (ad_piece mark first ad s) ≡ true
+segment_stands mark first ad s k m h =
+    let a : ((uri_fits s.uri && if_some byte_range_fits s.byte_range) ≡ true) × (duration_fits s.duration ≡ true) = and_parts _ _ h in
+    and_from _ _ (and_from _ _ (and_from _ _ (and_from _ _ (and_from _ _ a.0 k) m) a.1) empty_is_clean) refl
+
+later_stand : (mark : Mark) (ad : Ad) (segments : List PodSegment) → effective_keys_fit ad.keys ≡ true → if_some section_fits (option_map (with_keys ad.keys) ad.init_section) ≡ true
+    → list_all segment_can_be_written segments ≡ true → list_all piece_stands (map (ad_piece mark false ad) segments) ≡ true
+later_stand mark ad [] k m h = refl
+later_stand mark ad (s ∷ later) k m h = let a = and_parts _ _ h in and_from _ _ (segment_stands mark false ad s k m a.0) (later_stand mark ad later k m a.1)
+
+ad_stands : (mark : Mark) (ad : Ad) (segments : List PodSegment) → effective_keys_fit ad.keys ≡ true → if_some section_fits (option_map (with_keys ad.keys) ad.init_section) ≡ true
+    → list_all segment_can_be_written segments ≡ true → list_all piece_stands (ad_pieces mark ad segments) ≡ true
+ad_stands mark ad [] k m h = refl
+ad_stands mark ad (s ∷ later) k m h = let a = and_parts _ _ h in and_from _ _ (segment_stands mark true ad s k m a.0) (later_stand mark ad later k m a.1)
+
+ads_stand : (mark : Mark) (ads : List Ad) → list_all ad_can_be_written (stitched_ads ads) ≡ true → list_all piece_stands (pieces_of_ads mark ads) ≡ true
+ads_stand mark [] h = refl
+ads_stand mark (ad ∷ ads) h =
+    let a = and_parts (ad_can_be_written (stitched_ad ad)) (list_all ad_can_be_written (stitched_ads ads)) h in
+    let b : ((effective_keys_fit ad.keys && if_some section_fits (option_map (with_keys ad.keys) ad.init_section)) ≡ true) × (list_all segment_can_be_written ad.segments ≡ true) = and_parts _ _ a.0 in
+    let c = and_parts (effective_keys_fit ad.keys) (if_some section_fits (option_map (with_keys ad.keys) ad.init_section)) b.0 in
+    list_all-append piece_stands (ad_pieces mark ad ad.segments) (pieces_of_ads mark ads) ∙ and_from _ _ (ad_stands mark ad ad.segments c.0 c.1 b.1) (ads_stand mark ads a.1)
+
+-- ---- list tests
+
+pub all_taken : {A : Type 0} (test : A → Bool) (n : ℕ) (xs : List A) → list_all test xs ≡ true → list_all test (take n xs) ≡ true
+all_taken test zero xs h = refl
+all_taken test (suc n) [] h = refl
+all_taken test (suc n) (x ∷ xs) h = let a = and_parts _ _ h in and_from _ _ a.0 (all_taken test n xs a.1)
+
+-- ---- the history
+
+-- a segment of the origin can be written with its instant, and its break's pod too
+pub record Stands (s : Marked) : Type 0 where
+  pub segment : can_stand s.segment s.instant ≡ true
+  pub mark : OfMark (λ (pod : Pod). pod_can_be_written pod ≡ true) s.mark
+
+run_stands : (s : Marked) (mark : Option Mark) → can_stand s.segment s.instant ≡ true → OfMark (λ (pod : Pod). pod_can_be_written pod ≡ true) mark → list_all piece_stands (run_pieces s mark) ≡ true
+run_stands s None h k = and_from _ _ h refl
+run_stands s (Some mark) h k = list_all-reverse piece_stands (pod_pieces mark) ∙ ads_stand mark mark.pod.ads k
+
+either_stands : (b : Bool) (pieces : List Piece) → list_all piece_stands pieces ≡ true → list_all piece_stands (cond b [] pieces) ≡ true
+either_stands true pieces h = refl
+either_stands false pieces h = h
+
+pub pieces_stand : (history : List Marked) → AllByRecursion Stands history → list_all piece_stands (stitched history) ≡ true
+pieces_stand [] h = refl
+pieces_stand (s ∷ before) h =
+    list_all-append piece_stands (cond (continues s before) [] (run_pieces s s.mark)) (stitched before)
+    ∙ and_from _ _ (either_stands (continues s before) (run_pieces s s.mark) (run_stands s s.mark h.0.segment h.0.mark)) (pieces_stand before h.1)
+
+-- ---- numbered items
+
+kept_or_not : (kept words : Bool) (s : Segment) (n : Numbers) (time : Option ℤ) → words ≡ true → can_stand s time ≡ true
+    → fits_with words (cond kept s (record s { media_sequence = n.media_sequence; discontinuity_sequence = n.discontinuity_sequence; discontinuities = n.discontinuities })) time ≡ true
+kept_or_not true words s n time h t = ap (λ w. fits_with w s time) h ∙ t
+kept_or_not false words s n time h t = ap (λ w. fits_with w s time) h ∙ t
+
+abbrev pub item_fits : Item → Bool
+item_fits item = segment_fits (written_item item)
+
+pub items_fit : (first : Numbers) (pieces : List Piece) → list_all piece_stands pieces ≡ true → list_all fits (numbered first pieces) ≡ true → list_all item_fits (numbered first pieces) ≡ true
+items_fit first [] h t = refl
+items_fit first (p ∷ before) h t =
+    let a = and_parts _ _ h in let b = and_parts _ _ t in
+    let n = numbers_at first p before in
+    and_from _ _ (kept_or_not (is_kept p) (nat_lt n.media_sequence (2 ^ 64) && nat_lt n.discontinuity_sequence (2 ^ 64)) p.segment n p.instant b.0 a.0) (items_fit first before a.1 b.1)
+
+pub all_written : (items : List Item) → list_all segment_fits (map written_item items) ≡ list_all item_fits items
+all_written [] = refl
+all_written (item ∷ items) = ap (λ b. segment_fits (written_item item) && b) (all_written items)
+
+-- ---- the numbers follow
+
+-- the newest first: each follows the one after it, and the last has no more steps than its discontinuity number
+abbrev pub all_fall : OutSegment → List OutSegment → Bool
+all_fall x [] = nat_le x.discontinuities x.discontinuity_sequence
+all_fall x (y ∷ before) = follows (out_numbers y) (out_numbers x) && all_fall y before
+
+pub turned_fit : (before : List OutSegment) (x : OutSegment) (later : List OutSegment) → all_fall x before ≡ true → all_follow out_numbers x later ≡ true → numbers_fit (reverse_aux before (x ∷ later)) ≡ true
+turned_fit [] x later h k = and_from _ _ h k
+turned_fit (y ∷ before) x later h k = let a = and_parts _ _ h in turned_fit before y (x ∷ later) a.1 (and_from _ _ a.0 k)
+
+same : (n : ℕ) → (n == n) ≡ true
+same n = grind (arith, nat_tests)
+
+steps_within : (n steps : ℕ) → nat_le steps (n + steps) ≡ true
+steps_within n steps = grind (arith, nat_tests)
+
+own_steps : (first : Numbers) (p : Piece) (before : List Piece) → nat_le first.discontinuities first.discontinuity_sequence ≡ true → nat_le (numbers_at first p before).discontinuities (numbers_at first p before).discontinuity_sequence ≡ true
+own_steps first p [] h = h
+own_steps first p (q ∷ before) h = steps_within (numbers_at first q before).discontinuity_sequence (steps_between q p)
+
+abbrev written_at : Numbers → Piece → List Piece → OutSegment
+written_at first p before = written_item (record { piece = p; numbers = numbers_at first p before })
+
+pub taken_fall : (first : Numbers) → nat_le first.discontinuities first.discontinuity_sequence ≡ true → (n : ℕ) (p : Piece) (before : List Piece)
+    → all_fall (written_at first p before) (map written_item (take n (numbered first before))) ≡ true
+taken_fall first h zero p before = own_steps first p before h
+taken_fall first h (suc n) p [] = own_steps first p [] h
+taken_fall first h (suc n) p (q ∷ before) =
+    let m = numbers_at first q before in
+    and_from _ _ (and_from _ _ (same (m.media_sequence + 1)) (same (m.discontinuity_sequence + steps_between q p))) (taken_fall first h n q before)
+
+map_aux : {A B : Type 0} (f : A → B) (xs acc : List A) → map f (reverse_aux xs acc) ≡ reverse_aux (map f xs) (map f acc)
+map_aux f [] acc = refl
+map_aux f (x ∷ xs) acc = map_aux f xs (x ∷ acc)
+
+pub window_numbers : (first : Numbers) → nat_le first.discontinuities first.discontinuity_sequence ≡ true → (n : ℕ) (pieces : List Piece) → 0 < n → 0 < length pieces
+    → numbers_fit (map written_item (reverse (take n (numbered first pieces)))) ≡ true
+window_numbers first h zero pieces k l = absurd (omega (arith, k))
+window_numbers first h (suc n) [] k l = absurd (omega (arith, l))
+window_numbers first h (suc n) (p ∷ before) k l =
+    ap numbers_fit (map_aux written_item (take (suc n) (numbered first (p ∷ before))) [])
+    ∙ turned_fit (map written_item (take n (numbered first before))) (written_at first p before) [] (taken_fall first h n p before) refl
+
+-- ---- sections
+
+mapped_kept : (kept : Bool) (s : Segment) (n : Numbers) → is_some (cond kept s (record s { media_sequence = n.media_sequence; discontinuity_sequence = n.discontinuity_sequence; discontinuities = n.discontinuities })).init_section ≡ is_some s.init_section
+mapped_kept true s n = refl
+mapped_kept false s n = refl
+
+pub is_mapped_item : (item : Item) → is_mapped (written_item item) ≡ is_some item.piece.segment.init_section
+is_mapped_item item = mapped_kept (is_kept item.piece) item.piece.segment item.numbers
+
+all_mapped : (outs : List OutSegment) → AllByRecursion (λ (o : OutSegment). is_mapped o ≡ true) outs → list_all is_mapped outs ≡ true
+all_mapped [] h = refl
+all_mapped (o ∷ outs) h = and_from _ _ h.0 (all_mapped outs h.1)
+
+none_mapped : (outs : List OutSegment) → AllByRecursion (λ (o : OutSegment). is_mapped o ≡ false) outs → list_any is_mapped outs ≡ false
+none_mapped [] h = refl
+none_mapped (o ∷ outs) h = ap (λ b. b || list_any is_mapped outs) h.0 ∙ none_mapped outs h.1
+
+front : (a b : Bool) → a ≡ true → (a || b) ≡ true
+front true b h = refl
+front false b h = absurd (cc)
+
+back : (a b : Bool) → b ≡ false → (a || not b) ≡ true
+back true b h = refl
+back false true h = absurd (cc)
+back false false h = refl
+
+pub agree : (m : Bool) (outs : List OutSegment) → AllByRecursion (λ (o : OutSegment). is_mapped o ≡ m) outs → sections_agree outs ≡ true
+agree true outs h = front _ _ (all_mapped outs h)
+agree false outs h = back (list_all is_mapped outs) (list_any is_mapped outs) (none_mapped outs h)

@@ -1,5 +1,0 @@
-use Rattle.playlist_meaning.proofs.KeyOrder.{keys_are_sorted}
-use Rattle.playlist_meaning.proofs.laws.keys_in_force_are_sorted.Goals as goal
-
-pub returns : goal.returns
-returns c = keys_are_sorted

@@ -1,0 +1,78 @@
+-- Keys and sections that are the same in all their parts are equal.
+use Rattle.std.proofs.Common.{◌≡◌, ℕ, Bool, true, false, List, refl, ap, sym}
+use Rattle.std.specs.Prelude.{◌==◌, ◌&&◌, bytes_eq, Some, None, Option}
+use Rattle.std.specs.Cmp.Lexicographic.{pointwise}
+use Rattle.std.proofs.lemmas.Bool.{and_parts, and_from, eqb-true, eq-eqb}
+use Rattle.std.proofs.lemmas.Slice.Eq.{bytes_eq-Decides, slice_eq-Decides}
+use Rattle.playlist_model.specs.declared.Key.{Key}
+use Rattle.playlist_model.specs.declared.ByteRange.{ByteRange}
+use Rattle.playlist_model.specs.declared.InitSection.{InitSection}
+use Rattle.playlist_model.specs.Same.{same_key, same_option, same_number, same_byte_range, same_section}
+
+-- ---- whether two keys are the same is decided
+
+pub key_ext : (f g m n u v : List ℕ) (i j : Option ℕ) (o p : List ℕ) → f ≡ g → m ≡ n → u ≡ v → i ≡ j → o ≡ p
+    → ◌≡◌ {A = Key} (record { format = f; method = m; uri = u; iv = i; other_attributes = o }) (record { format = g; method = n; uri = v; iv = j; other_attributes = p })
+key_ext f g m n u v i j o p a b c d e = cc
+
+iv_is : (a b : Option ℕ) → same_option same_number a b ≡ true → a ≡ b
+iv_is None None h = refl
+iv_is None (Some b) h = cc
+iv_is (Some a) None h = cc
+iv_is (Some a) (Some b) h = ap Some (eqb-true a b h)
+
+pub key_is : (j k : Key) → same_key j k ≡ true → j ≡ k
+key_is j k h =
+    let a = and_parts _ _ h in let b = and_parts _ _ a.0 in let c = and_parts _ _ b.0 in let d : (bytes_eq j.format k.format ≡ true) × (bytes_eq j.method k.method ≡ true) = and_parts _ _ c.0 in
+    let f = (bytes_eq-Decides j.format k.format).0 d.0 in let m = (bytes_eq-Decides j.method k.method).0 d.1 in let u = (bytes_eq-Decides j.uri k.uri).0 c.1 in
+    let i = iv_is j.iv k.iv b.1 in let o = (bytes_eq-Decides j.other_attributes k.other_attributes).0 a.1 in key_ext _ _ _ _ _ _ _ _ _ _ f m u i o
+
+-- ---- the same section
+
+iv_same : (a b : Option ℕ) → a ≡ b → same_option same_number a b ≡ true
+iv_same None None h = refl
+iv_same None (Some b) h = cc
+iv_same (Some a) None h = cc
+iv_same (Some a) (Some b) h = eq-eqb a b (some_is a b h)
+  where
+    some_is : (a b : ℕ) → ◌≡◌ {A = Option ℕ} (Some a) (Some b) → a ≡ b
+    some_is a b h = cc
+
+key_same : (j k : Key) → j ≡ k → same_key j k ≡ true
+key_same j k e =
+    and_from _ _ (and_from _ _ (and_from _ _ (and_from _ _ ((bytes_eq-Decides j.format k.format).1 (ap (λ x. x.format) e)) ((bytes_eq-Decides j.method k.method).1 (ap (λ x. x.method) e)))
+    ((bytes_eq-Decides j.uri k.uri).1 (ap (λ x. x.uri) e))) (iv_same j.iv k.iv (ap (λ x. x.iv) e))) ((bytes_eq-Decides j.other_attributes k.other_attributes).1 (ap (λ x. x.other_attributes) e))
+
+pub keys_same : (xs ys : List Key) → xs ≡ ys → pointwise same_key xs ys ≡ true
+keys_same xs ys = (slice_eq-Decides (λ a b. (key_is a b, key_same a b)) xs ys (pointwise same_key xs ys) refl).1
+
+pub keys_are : (xs ys : List Key) → pointwise same_key xs ys ≡ true → xs ≡ ys
+keys_are xs ys = (slice_eq-Decides (λ a b. (key_is a b, key_same a b)) xs ys (pointwise same_key xs ys) refl).0
+
+pub byte_range_is : (a b : Option ByteRange) → same_option same_byte_range a b ≡ true → a ≡ b
+byte_range_is None None h = refl
+byte_range_is None (Some b) h = cc
+byte_range_is (Some a) None h = cc
+byte_range_is (Some a) (Some b) h = let p : ((a.length == b.length) ≡ true) × ((a.offset == b.offset) ≡ true) = and_parts _ _ h in ext _ _ _ _ (eqb-true _ _ p.0) (eqb-true _ _ p.1)
+  where
+    ext : (l m o p : ℕ) → l ≡ m → o ≡ p → ◌≡◌ {A = Option ByteRange} (Some (record { length = l; offset = o })) (Some (record { length = m; offset = p }))
+    ext l m o p e g = cc
+
+section_ext : (u v : List ℕ) (r s : Option ByteRange) (k l : List Key) → u ≡ v → r ≡ s → k ≡ l → ◌≡◌ {A = InitSection} (record { uri = u; byte_range = r; keys = k }) (record { uri = v; byte_range = s; keys = l })
+section_ext u v r s k l a b c = cc
+
+pub section_is : (new : InitSection) (old : Option InitSection) → same_option same_section (Some new) old ≡ true → old ≡ Some new
+section_is new None h = cc
+section_is new (Some old) h =
+    let a = and_parts _ _ h in let b : (bytes_eq new.uri old.uri ≡ true) × (same_option same_byte_range new.byte_range old.byte_range ≡ true) = and_parts _ _ a.0 in
+    ap Some (sym (section_ext _ _ _ _ _ _ ((bytes_eq-Decides new.uri old.uri).0 b.0) (byte_range_is new.byte_range old.byte_range b.1) (keys_are new.keys old.keys a.1)))
+
+none_of : (format method uri other : Bool) → (format && method && uri && false && other) ≡ false
+none_of false m u o = refl
+none_of true false u o = refl
+none_of true true false o = refl
+none_of true true true o = refl
+
+-- keys of which one states another IV differ
+pub other_iv : (j k : Key) → same_option same_number j.iv k.iv ≡ false → false ≡ same_key j k
+other_iv j k h = rw h (sym (none_of (bytes_eq j.format k.format) (bytes_eq j.method k.method) (bytes_eq j.uri k.uri) (bytes_eq j.other_attributes k.other_attributes)))

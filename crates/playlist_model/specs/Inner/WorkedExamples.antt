@@ -1,0 +1,35 @@
+-- What the worked examples read.
+use Rattle.std.specs.Prelude.{ℕ, List, [], ◌∷◌, ◌++◌, codes, Option, Some, None, option_map, Result, Ok, Err}
+use Rattle.playlist_model.specs.declared.Playlist.{Playlist}
+use Rattle.playlist_model.specs.declared.Segment.{Segment}
+use Rattle.playlist_model.specs.declared.InitSection.{InitSection}
+use Rattle.playlist_model.specs.declared.Key.{Key}
+use Rattle.playlist_model.specs.Uri.{base_of, resolved}
+use Rattle.playlist_model.specs.Reading.{reading, limited, Fault}
+
+-- each line with a line feed
+abbrev pub text : List (List ℕ) → List ℕ
+text [] = []
+text (line ∷ lines) = line ++ (10 ∷ text lines)
+
+abbrev pub read_text : List ℕ → Option (Result Playlist Fault)
+read_text bytes =
+    option_map (λ base. reading limited base bytes) (base_of (codes "http://origin.example/ch/index.m3u8"))
+
+abbrev pub read_lines : List (List ℕ) → Option (Result Playlist Fault)
+read_lines lines = read_text (text lines)
+
+-- these lines after a header and a target
+abbrev pub read_after_target : List (List ℕ) → Option (Result Playlist Fault)
+read_after_target lines = read_lines (codes "#EXTM3U" ∷ codes "#EXT-X-TARGETDURATION:10" ∷ lines)
+
+abbrev pub segments_read : Option (Result Playlist Fault) → List Segment
+segments_read (Some (Ok playlist)) = playlist.segments
+segments_read (Some (Err e)) = []
+segments_read None = []
+
+abbrev pub keys_and_section : Segment → List Key × Option InitSection
+keys_and_section s = (s.keys, s.init_section)
+
+abbrev pub resolved_here : List ℕ → Option (Option (List ℕ))
+resolved_here reference = option_map (λ base. resolved base reference) (base_of (codes "http://origin.example/ch/index.m3u8"))

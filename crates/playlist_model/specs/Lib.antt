@@ -1,0 +1,14 @@
+pub mod Lines
+pub mod Uri
+pub mod Carried
+pub mod Said
+pub mod LookBack
+pub mod Instants
+pub mod Reading
+pub mod Refusals
+pub mod Laws
+pub mod FaultTexts
+pub mod Same
+pub mod Numbering
+pub mod ShortTexts
+pub mod Inner

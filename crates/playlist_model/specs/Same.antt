@@ -1,0 +1,43 @@
+-- Whether two keys, or two initialisation sections, are the same in all their parts.
+use Rattle.std.specs.Prelude.{ℕ, Bool, true, false, [], ◌&&◌, ◌==◌, Option, Some, None, bytes_eq}
+use Rattle.std.specs.Cmp.Lexicographic.{pointwise}
+use Rattle.playlist_model.specs.declared.Key.{Key}
+use Rattle.playlist_model.specs.declared.ByteRange.{ByteRange}
+use Rattle.playlist_model.specs.declared.InitSection.{InitSection}
+use Rattle.playlist_model.specs.declared.Segment.{Segment}
+
+abbrev pub same_option : {A : Type 0} → (A → A → Bool) → Option A → Option A → Bool
+same_option same None None = true
+same_option same None (Some y) = false
+same_option same (Some x) None = false
+same_option same (Some x) (Some y) = same x y
+
+abbrev pub same_number : ℕ → ℕ → Bool
+same_number a b = a == b
+
+abbrev pub same_key : Key → Key → Bool
+same_key j k =
+    bytes_eq j.format k.format && bytes_eq j.method k.method && bytes_eq j.uri k.uri && same_option same_number j.iv k.iv && bytes_eq j.other_attributes k.other_attributes
+
+abbrev pub same_byte_range : ByteRange → ByteRange → Bool
+same_byte_range a b = a.length == b.length && a.offset == b.offset
+
+abbrev pub same_section : InitSection → InitSection → Bool
+same_section a b = bytes_eq a.uri b.uri && same_option same_byte_range a.byte_range b.byte_range && pointwise same_key a.keys b.keys
+
+-- a segment without its title, its time and its steps
+abbrev pub kept_parts : Segment → Segment
+kept_parts s = record s { discontinuities = 0; title = []; program_date_time = None }
+
+abbrev pub same_numbers : Segment → Segment → Bool
+same_numbers a b = a.media_sequence == b.media_sequence && a.discontinuity_sequence == b.discontinuity_sequence
+
+abbrev pub same_media : Segment → Segment → Bool
+same_media a b = bytes_eq a.uri b.uri && same_option same_byte_range a.byte_range b.byte_range && a.duration == b.duration
+
+abbrev pub same_protection : Segment → Segment → Bool
+same_protection a b = pointwise same_key a.keys b.keys && same_option same_section a.init_section b.init_section
+
+-- the same in all but title, time and steps
+abbrev pub same_segment : Segment → Segment → Bool
+same_segment a b = same_numbers a b && same_media a b && same_protection a b

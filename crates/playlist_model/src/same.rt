@@ -1,0 +1,84 @@
+//! Whether keys, initialisation sections and segments are the same.
+ghost use Rattle.std.specs.Prelude.{◌≡◌, true, ◌↔◌};
+ghost use Rattle.std.specs.Cmp.Lexicographic.{pointwise};
+ghost use Rattle.playlist_model.specs.Same.{kept_parts, same_key, same_media, same_number, same_numbers, same_option, same_protection, same_section, same_segment};
+
+use crate::{InitSection, Key, Keys, Segment, Shared};
+
+fn is_same_iv(iv: Option<u128>, other: Option<u128>) -> bool
+    ensures { result ≡ same_option same_number iv other }
+{
+    iv == other
+}
+
+#[tactic(auto, using(crate::proofs::SameParts::other_iv))]
+/// Whether two keys are the same in all their parts.
+pub fn is_same_key(a: &Key, b: &Key) -> bool
+    ensures { result ≡ same_key a.now b.now }
+{
+    // Where a key states no IV it differs from segment to segment (RFC 8216, 5.2), and in that alone.
+    if !is_same_iv(a.iv, b.iv) {
+        return false;
+    }
+    a == b
+}
+
+fn are_same_keys(one: &Keys, other: &Keys) -> bool
+    ensures { result ≡ pointwise same_key one.now other.now }
+{
+    one == other
+}
+
+/// Whether two initialisation sections are the same, with the same keys.
+pub fn is_same_section(a: &InitSection, b: &InitSection) -> bool
+    ensures { result ≡ same_section a.now b.now }
+{
+    a.uri == b.uri && a.byte_range == b.byte_range && are_same_keys(&a.keys, &b.keys)
+}
+
+fn are_same_sections(one: &Option<Shared<InitSection>>, other: &Option<Shared<InitSection>>) -> bool
+    ensures { result ≡ same_option same_section one.now other.now }
+{
+    match (one, other) {
+        (Some(one), Some(other)) => is_same_section(one, other),
+        (None, None) => true,
+        _ => false,
+    }
+}
+
+fn same_numbers(a: &Segment, b: &Segment) -> bool
+    ensures { result ≡ same_numbers a.now b.now }
+{
+    a.media_sequence == b.media_sequence && a.discontinuity_sequence == b.discontinuity_sequence
+}
+
+fn same_media(a: &Segment, b: &Segment) -> bool
+    ensures { result ≡ same_media a.now b.now }
+{
+    a.uri == b.uri && a.byte_range == b.byte_range && a.duration == b.duration
+}
+
+fn same_protection(a: &Segment, b: &Segment) -> bool
+    ensures { result ≡ same_protection a.now b.now }
+{
+    are_same_keys(&a.keys, &b.keys) && are_same_sections(&a.init_section, &b.init_section)
+}
+
+fn are_same_segments(a: &Segment, b: &Segment) -> bool
+    ensures { result ≡ same_segment a.now b.now }
+{
+    same_numbers(a, b) && same_media(a, b) && same_protection(a, b)
+}
+
+#[tactic(auto, using(crate::proofs::SameSegments::same_segment_decides))]
+/// Whether two segments are the same in resource, byte range, effective keys, initialisation section,
+/// duration and both numbers: in all but title, steps and time, which an origin may say otherwise when
+/// it lists a segment again (RFC 8216, 6.2.1). Takes no memory.
+pub fn same_segment(a: &Segment, b: &Segment) -> bool
+    ensures value { result ≡ same_segment a.now b.now }
+
+    // It is equality of all else.
+    ensures exact { (result ≡ true) ↔ (kept_parts a.now ≡ kept_parts b.now) }
+{
+    are_same_segments(a, b)
+}

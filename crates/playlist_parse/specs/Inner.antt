@@ -1,0 +1,4 @@
+pub mod LineViews
+pub mod Progress
+pub mod Views
+pub mod Answers

@@ -1,0 +1,12 @@
+-- What proofs and inner functions say with the definitions of `Answers`.
+use Rattle.std.specs.Prelude.{ℕ}
+use Rattle.playlist_model.specs.declared.FaultKind.{FaultKind}
+use Rattle.playlist_model.specs.declared.FaultKind.TheVariants.{OutOfMemory}
+use Rattle.playlist_model.specs.Reading.{Fault}
+
+abbrev pub line_of : FaultKind → ℕ → ℕ
+line_of OutOfMemory line = 0
+line_of _ line = line
+
+abbrev pub fault_at : FaultKind → ℕ → Fault
+fault_at kind line = record { kind = kind; line = line_of kind line }

@@ -1,0 +1,44 @@
+-- How far a playlist has been read.
+use Rattle.std.specs.Prelude.{◌≡◌, List, None, Some, Result, IsOk, MatchResult}
+use Rattle.url.specs.Parts.{Parts}
+use Rattle.playlist_model.specs.declared.FaultKind.{FaultKind}
+use Rattle.playlist_model.specs.declared.DateRange.{DateRange}
+use Rattle.playlist_model.specs.declared.Segment.{Segment}
+use Rattle.playlist_model.specs.declared.Playlist.{Playlist}
+use Rattle.playlist_model.specs.Refusals.{Refuses}
+use Rattle.playlist_model.specs.Said.{Said, Outcome}
+use Rattle.playlist_model.specs.LookBack.{Standing, standing_at, segments_of, date_ranges_of, with_said}
+use Rattle.playlist_model.specs.Reading.{whole_fault, playlist_of}
+use Rattle.playlist_model.specs.Inner.Heading.{Heading, heading_at}
+
+pub record Progress : Type 0 where
+  pub base : Parts
+  pub heading : Heading
+  pub standing : Standing
+  pub date_ranges : List DateRange
+  pub segments : List Segment
+
+-- what is read when the lines have said this, the last first
+abbrev pub progress_at : Parts → List Said → Progress
+progress_at base before = record {
+  base = base;
+  heading = heading_at before;
+  standing = standing_at before;
+  date_ranges = date_ranges_of before;
+  segments = segments_of before;
+}
+
+-- after any lines of which all is read, the line says its part and that is read too; or its fault
+-- is answered
+abbrev pub TakesLine : (Parts → List Said → Outcome Said) → Progress → Progress → Result (Unit {0}) FaultKind → Type 0
+TakesLine outcome old new result =
+    (before : List Said) → old ≡ progress_at old.base before →
+    MatchResult result
+    (λ _. IsOk (outcome old.base before) × (new ≡ progress_at old.base (with_said before (outcome old.base before))))
+    (λ e. Refuses e (outcome old.base before))
+
+-- the whole text's own fault, or the playlist
+abbrev pub Ends : Progress → Result Playlist FaultKind → Type 0
+Ends progress result =
+    (before : List Said) → progress ≡ progress_at progress.base before →
+    MatchResult result (λ playlist. (whole_fault before ≡ None) × (playlist ≡ playlist_of before)) (λ e. whole_fault before ≡ Some e)

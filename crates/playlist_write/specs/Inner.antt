@@ -1,0 +1,5 @@
+pub mod Owed
+pub mod DateRangeParts
+pub mod KeyParts
+pub mod Taken
+pub mod Room

@@ -1,0 +1,25 @@
+-- What the attributes of a date range have to be, one by one (RFC 8216, section 4.3.2.7).
+use Rattle.std.specs.Prelude.{Bool, false, ◌&&◌, List, codes, Option, Some, None, is_some, is_ok}
+use Rattle.fixed_duration.specs.Duration.{duration_of}
+use Rattle.attr_list.specs.Attributes.{Pair, attribute}
+use Rattle.date_times.specs.Instant.{instant_of}
+use Rattle.writable.specs.Fitting.{if_some}
+
+-- an ID in quotes
+abbrev pub is_id : Option Pair → Bool
+is_id None = false
+is_id (Some pair) = pair.quoted
+
+abbrev pub says_time : Pair → Bool
+says_time pair = is_some (instant_of pair.value)
+
+abbrev pub says_duration : Pair → Bool
+says_duration pair = is_ok (duration_of pair.value)
+
+abbrev pub is_date_range : List Pair → Bool
+is_date_range pairs =
+    is_id (attribute pairs (codes "ID"))
+    && (if_some says_time (attribute pairs (codes "START-DATE"))
+    && (if_some says_time (attribute pairs (codes "END-DATE"))
+    && (if_some says_duration (attribute pairs (codes "DURATION"))
+    && if_some says_duration (attribute pairs (codes "PLANNED-DURATION")))))

@@ -1,0 +1,4 @@
+pub mod Outcome
+pub mod WorkedExamples
+pub mod Store
+pub mod Kept

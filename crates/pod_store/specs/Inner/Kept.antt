@@ -1,0 +1,34 @@
+-- What proofs and inner functions say with the definitions of `Kept`.
+use Rattle.std.specs.Prelude.{ℕ, Bool, true, not, ◌||◌, List, map, filter, String, Option, Some, None, string_bytes, bytes_eq}
+use Rattle.std.specs.Map.{lookup, remove_entry, set_value}
+use Rattle.std.specs.declared.alloc.Global.{Global}
+use Rattle.pod_store.specs.declared.kept.StoredPod.{StoredPod}
+use Rattle.pod_store.specs.Store.{is_one_of}
+
+abbrev pub Pairs : Type 0
+Pairs = List (String Global × StoredPod)
+
+abbrev pub is_key : List ℕ → String Global → Bool
+is_key id key = bytes_eq id (string_bytes key)
+
+abbrev pub kept_for : List ℕ → Pairs → Option StoredPod
+kept_for id kept = lookup (is_key id) kept
+
+abbrev pub kept_without : List ℕ → Pairs → Pairs
+kept_without id kept = remove_entry (is_key id) kept
+
+abbrev pub marked_as : List ℕ → Pairs → Option StoredPod → Pairs
+marked_as id kept None = kept
+marked_as id kept (Some k) = set_value (is_key id) kept (record k { used = true })
+
+abbrev pub kept_marked : List ℕ → Pairs → Pairs
+kept_marked id kept = marked_as id kept (kept_for id kept)
+
+abbrev pub is_pair_held : List (List ℕ) → String Global × StoredPod → Bool
+is_pair_held ids pair = not pair.1.used || is_one_of ids (string_bytes pair.0)
+
+abbrev pub used_if : List (List ℕ) → String Global → StoredPod → StoredPod
+used_if ids key kept = record kept { used = is_one_of ids (string_bytes key) }
+
+abbrev pub pairs_in_use : List (List ℕ) → Pairs → Pairs
+pairs_in_use ids pairs = map (λ (pair : String Global × StoredPod). (pair.0, used_if ids pair.0 pair.1)) (filter (is_pair_held ids) pairs)

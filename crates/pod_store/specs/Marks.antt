@@ -1,0 +1,30 @@
+-- The segments of the origin that were ever shown, each with the break that it is marked with. A list of
+-- them has the newest first.
+use Rattle.std.specs.Prelude.{ℕ, Bool, false, List, [], ◌∷◌, ℤ, Option, Some, None, bytes_eq}
+use Rattle.playlist_model.specs.declared.Segment.{Segment}
+use Rattle.pod_store.specs.Pods.{Pod}
+
+-- a break, with the pod that it had when its run was entered
+pub record Mark : Type 0 where
+  pub id : List ℕ
+  pub pod : Pod
+
+-- a segment, the instant at which it begins where it has one, and the break that it is marked with
+pub record Marked : Type 0 where
+  pub segment : Segment
+  pub instant : Option ℤ
+  pub mark : Option Mark
+
+abbrev pub newest_mark : List Marked → Option Mark
+newest_mark [] = None
+newest_mark (s ∷ before) = s.mark
+
+-- both are marked, with one break
+abbrev pub are_one : Option Mark → Option Mark → Bool
+are_one (Some m) (Some n) = bytes_eq m.id n.id
+are_one (Some m) None = false
+are_one None n = false
+
+-- whether a segment goes on the run of the newest one before it
+abbrev pub continues : Marked → List Marked → Bool
+continues s before = are_one s.mark (newest_mark before)

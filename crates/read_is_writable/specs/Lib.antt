@@ -1,0 +1,4 @@
+pub mod Read
+pub mod Laws
+pub mod Limits
+pub mod Inner

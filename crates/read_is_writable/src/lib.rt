@@ -1,0 +1,22 @@
+//! Laws of what is read. Each function's contract is its law; calling it does nothing.
+#![tactic(auto)]
+
+ghost use Rattle.read_is_writable.specs.Laws.{ReadCanBeWritten, TextSegmentsCanBeWritten, ReadsWithinLimits};
+
+mod worked_examples;
+
+/// What is read, by whatever reader and under whatever base, can be written again.
+pub fn read_can_be_written()
+    ensures { ReadCanBeWritten }
+{}
+
+/// A segment that is read can be written with its own numbers and time where its URIs are UTF-8.
+pub fn text_segments_can_be_written()
+    ensures { TextSegmentsCanBeWritten }
+{}
+
+/// A playlist is read within the limits exactly where it is denoted and keeps them: at most 4,194,304 bytes, 64
+/// attributes in a tag, 16 key formats in force and 10,000 segments.
+pub fn reads_within_limits()
+    ensures { ReadsWithinLimits }
+{}

@@ -1,4 +1,0 @@
-pub mod Read
-pub mod Laws
-pub mod Limits
-pub mod Rows

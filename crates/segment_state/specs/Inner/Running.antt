@@ -1,0 +1,34 @@
+-- What proofs and inner functions say with the definitions of `Running`.
+use Rattle.segment_state.specs.Running.{Running}
+use Rattle.std.specs.Prelude.{◌+◌, ℕ, map, Option, None, List}
+use Rattle.playlist_model.specs.declared.Segment.{Segment}
+use Rattle.playlist_model.specs.declared.ByteRange.{ByteRange}
+use Rattle.playlist_model.specs.LookBack.{Standing, Extent, effective_key}
+
+-- the segment of what stands, of this resource, byte range, and duration with its title
+abbrev pub segment_from : Standing → List ℕ → Option ByteRange → ℕ × List ℕ → Segment
+segment_from s uri byte_range own = record {
+  media_sequence = s.media_sequence + s.media_count;
+  discontinuity_sequence = s.discontinuity_sequence + s.discontinuity_count;
+  discontinuities = s.discontinuities;
+  uri = uri;
+  byte_range = byte_range;
+  keys = map (effective_key (s.media_sequence + s.media_count)) s.keys;
+  init_section = s.init_section;
+  duration = own.0;
+  title = own.1;
+  program_date_time = s.program_date_time;
+}
+
+-- what stands after a URI line: the tags of its segment stand no more
+abbrev pub after_segment : Running → Option Extent → Running
+after_segment old last = record old {
+  standing = record old.standing {
+    media_count = old.standing.media_count + 1;
+    discontinuities = 0;
+    duration = None;
+    byte_range = None;
+    program_date_time = None;
+    extent = last;
+  };
+}

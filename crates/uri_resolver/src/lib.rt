@@ -1,0 +1,199 @@
+//! The base of a playlist's references (RFC 8216, section 4.1; RFC 3986, section 5), and what they are resolved to.
+#![tactic(auto)]
+
+ghost use Rattle.std.specs.Prelude.{◌≡◌, ◌++◌, Some, IfSome, IfOk, MatchResult, string_bytes, true};
+ghost use Rattle.std.specs.Option.{option_copied};
+ghost use Rattle.url.specs.Parts.{IsValid};
+ghost use Rattle.playlist_model.specs.Uri.{can_be_written, resolved, base_of, is_web_scheme};
+ghost use Rattle.uri_resolver.specs.Refusals.{RefusesUri, RefusesBase};
+ghost use Rattle.uri_resolver.specs.Plain.{is_relative, is_rooted, StandsBefore};
+
+use crate::plain::{is_relative, is_rooted};
+use playlist_model::{ShortText, has_control, has_quote, has_scheme};
+use std::alloc::{AllocError, Global};
+use std::marker::Model;
+use url::{ParseError, Position, Url};
+
+mod plain;
+
+/// Why there is no base, or no resolved URI.
+#[derive(Clone, Copy, PartialEq, Eq, Debug)]
+pub enum BaseFault {
+    /// B1: the text is no absolute http or https URL.
+    BadBase,
+    /// B2: an allocation failed, or the URL is too long for the `url` crate.
+    OutOfMemory,
+    /// B3: the reference can't be joined to the base, or its join could not be written again.
+    BadUri,
+}
+
+impl From<AllocError> for BaseFault {
+    ghost use Rattle.uri_resolver.specs.declared.BaseFault.TheVariants.{OutOfMemory};
+
+    ghost from_gives = { λ _ e. e ≡ OutOfMemory };
+
+    fn from(_: AllocError) -> BaseFault {
+        BaseFault::OutOfMemory
+    }
+}
+
+/// The base of a playlist's references: an absolute http or https URL.
+#[derive(Drop)]
+pub struct Base {
+    url: Url,
+    alloc: Global,
+    // What stands before a plain reference from the root, and before a relative one, where it is known.
+    origin: Option<String>,
+    directory: Option<String>,
+}
+
+impl Model for Base {
+    ghost use Rattle.std.specs.Prelude.{IfSome, string_bytes};
+    ghost use Rattle.url.specs.Parts.{Parts};
+    ghost use Rattle.uri_resolver.specs.Plain.{is_relative, is_rooted, StandsBefore};
+
+    ghost Value = { Parts };
+
+    ghost view = { λ a. a.url };
+
+    ghost invariant = { λ a. IfSome a.origin (λ front. StandsBefore a.url is_rooted (string_bytes front)) × IfSome a.directory (λ front. StandsBefore a.url is_relative (string_bytes front)) };
+}
+
+// What stands before a plain reference from the root: all before the path of the base.
+fn origin_of(alloc: Global, url: &Url) -> Option<String>
+    requires web { is_web_scheme url.now.scheme ≡ true }
+    requires valid { IsValid url.now }
+    ensures { IfSome result (λ front. StandsBefore url.now is_rooted (string_bytes front)) }
+{
+    let front = url.slice(Position::BeforeScheme, Position::AfterPort);
+    if !can_be_written(front) {
+        return None;
+    }
+    match String::from_str(alloc, front) {
+        Ok(front) => Some(front),
+        Err(_) => None,
+    }
+}
+
+// What stands before a plain relative reference: where `.` leads.
+fn directory_of(url: &Url) -> Option<String>
+    requires web { is_web_scheme url.now.scheme ≡ true }
+    requires valid { IsValid url.now }
+    ensures { IfSome result (λ front. StandsBefore url.now is_relative (string_bytes front)) }
+{
+    match url.join(".") {
+        Ok(here) => {
+            if can_be_written(here.as_str()) {
+                Some(String::from(here))
+            } else {
+                None
+            }
+        }
+        Err(_) => None,
+    }
+}
+
+fn joined(alloc: Global, front: &str, reference: &str) -> Result<String, AllocError>
+    ensures { IfOk result (λ text. string_bytes text ≡ front.now ++ reference.now) }
+{
+    let room = front.len().saturating_add(reference.len());
+    let mut text = String::with_capacity(alloc, room)?;
+    text.push_str(front)?;
+    text.push_str(reference)?;
+    Ok(text)
+}
+
+fn can_be_written(text: &str) -> bool
+    ensures { result ≡ can_be_written text.now }
+{
+    has_scheme(text) && !has_control(text) && !has_quote(text)
+}
+
+impl Base {
+    /// The base that a text says. The `url` crate takes off spaces at its ends, and drops tabs and
+    /// line feeds within. `BadBase` exactly where it is no absolute http or https URL; a failed allocation
+    /// apart.
+    pub fn new(alloc: Global, text: &str) -> Result<Base, BaseFault>
+        ensures { MatchResult result (λ base. base_of text.now ≡ Some base) (λ e. RefusesBase e (base_of text.now)) }
+    {
+        let url = match Url::parse(alloc, text) {
+            Ok(url) => url,
+            Err(ParseError::Overflow) => return Err(BaseFault::OutOfMemory),
+            Err(ParseError::OutOfMemory) => return Err(BaseFault::OutOfMemory),
+            Err(_) => return Err(BaseFault::BadBase),
+        };
+        let scheme = url.scheme();
+        if scheme != "http" && scheme != "https" {
+            return Err(BaseFault::BadBase);
+        }
+        let origin = origin_of(alloc, &url);
+        let directory = directory_of(&url);
+        Ok(Base {
+            url,
+            alloc,
+            origin,
+            directory,
+        })
+    }
+
+    // What stands before this reference, where it is plain.
+    fn front_of(&self, reference: &str) -> Option<&str>
+        ensures { IfSome (option_copied result) (λ front. resolved self.now reference.now ≡ Some (front ++ reference.now)) }
+    {
+        if let Some(directory) = &self.directory {
+            if is_relative(reference) {
+                return Some(directory.as_str());
+            }
+        }
+        if let Some(origin) = &self.origin {
+            if is_rooted(reference) {
+                return Some(origin.as_str());
+            }
+        }
+        None
+    }
+
+    // The same of a reference before which no plain text is put.
+    #[inline(never)]
+    fn resolve_other(&self, reference: &str) -> Result<String, BaseFault>
+        ensures { MatchResult result (λ text. resolved self.now reference.now ≡ Some (string_bytes text)) (λ e. RefusesUri e (resolved self.now reference.now)) }
+    {
+        if has_scheme(reference) {
+            return Ok(String::from_str(self.alloc, reference)?);
+        }
+        let url = match self.url.join(reference) {
+            Ok(url) => url,
+            Err(ParseError::Overflow) => return Err(BaseFault::OutOfMemory),
+            Err(ParseError::OutOfMemory) => return Err(BaseFault::OutOfMemory),
+            Err(_) => return Err(BaseFault::BadUri),
+        };
+        if !can_be_written(url.as_str()) {
+            return Err(BaseFault::BadUri);
+        }
+        Ok(String::from(url))
+    }
+
+    /// The resolved URI of a reference (RFC 3986, section 5, as the `url` crate joins): the reference
+    /// itself where it begins with a scheme, else its join to the base. `BadUri` exactly where the join
+    /// fails, or gives a text without a scheme or with a quote or a control character; a failed allocation
+    /// apart.
+    pub fn resolve(&self, reference: &str) -> Result<String, BaseFault>
+        ensures { MatchResult result (λ text. resolved self.now reference.now ≡ Some (string_bytes text)) (λ e. RefusesUri e (resolved self.now reference.now)) }
+    {
+        if let Some(front) = self.front_of(reference) {
+            return Ok(joined(self.alloc, front, reference)?);
+        }
+        self.resolve_other(reference)
+    }
+
+    /// The same, where most such texts are short.
+    #[inline(always)]
+    pub fn resolve_short(&self, reference: &str) -> Result<ShortText, BaseFault>
+        ensures { MatchResult result (λ text. resolved self.now reference.now ≡ Some text) (λ e. RefusesUri e (resolved self.now reference.now)) }
+    {
+        if let Some(front) = self.front_of(reference) {
+            return Ok(ShortText::joined(self.alloc, front, reference)?);
+        }
+        Ok(ShortText::from_string(self.resolve_other(reference)?))
+    }
+}

@@ -1,0 +1,134 @@
+//! References that a base only puts a text before: plain paths, relative or from the root, up to a plain query.
+
+ghost use Rattle.std.specs.Prelude.{◌≡◌, ◌==◌, true, false, slice_index, drop};
+ghost use Rattle.std.specs.List.{prefix_len, list_all};
+ghost use Rattle.uri_resolver.specs.Plain.{is_segment_byte, is_path_byte, is_query_byte, are_plain, begins_with_slash, is_relative, is_rooted};
+
+// Each byte that a plain segment holds stands at its own place, and a slash at every other place.
+static SEGMENT_BYTES: [u8; 256] = *b"\
+    ////////////////////////////////\
+    /!//$/&'()*+,-./0123456789/;/=//\
+    @ABCDEFGHIJKLMNOPQRSTUVWXYZ////_\
+    /abcdefghijklmnopqrstuvwxyz///~/\
+    ////////////////////////////////\
+    ////////////////////////////////\
+    ////////////////////////////////\
+    ////////////////////////////////";
+
+fn is_segment_byte(b: u8) -> bool
+    ensures { result ≡ is_segment_byte b }
+{
+    SEGMENT_BYTES[b as usize] != b'/'
+}
+
+fn are_segment_bytes(four: &[u8; 4]) -> bool
+    ensures { result ≡ list_all is_segment_byte four.now }
+{
+    is_segment_byte(four[0])
+        && is_segment_byte(four[1])
+        && is_segment_byte(four[2])
+        && is_segment_byte(four[3])
+}
+
+fn is_path_byte(b: u8) -> bool
+    ensures { result ≡ is_path_byte b }
+{
+    is_segment_byte(b) || b == b'/'
+}
+
+fn is_query_byte(b: u8) -> bool
+    ensures { result ≡ is_query_byte b }
+{
+    (is_path_byte(b) && b != b'\'') || b == b'%' || b == b':' || b == b'?'
+}
+
+fn is_query(bytes: &[u8]) -> bool
+    ensures { result ≡ list_all is_query_byte bytes.now }
+{
+    bytes.iter().all(|b| is_query_byte(*b))
+}
+
+fn begins_with_dot(bytes: &[u8]) -> bool
+    ensures { result ≡ (slice_index bytes.now 0 == 46) }
+{
+    match bytes.first() {
+        Some(first) => *first == b'.',
+        None => false,
+    }
+}
+
+// What is left after the bytes of a segment. They are taken four at a time, since there are many.
+#[inline(never)]
+fn after_segment(bytes: &[u8]) -> &[u8]
+    ensures { result.now ≡ drop (prefix_len is_segment_byte bytes.now) bytes.now }
+{
+    let mut rest = bytes;
+    while let Some((four, later)) = rest.split_first_chunk::<4>() {
+        if !are_segment_bytes(four) {
+            break;
+        }
+        rest = later;
+    }
+    while let Some((byte, later)) = rest.split_first() {
+        if !is_segment_byte(*byte) {
+            break;
+        }
+        rest = later;
+    }
+    rest
+}
+
+// Whether this goes on a plain path within a segment, up to a query.
+fn go_on_plain(bytes: &[u8]) -> bool
+    ensures { result ≡ are_plain false bytes.now }
+{
+    let mut rest = bytes;
+    while let Some((byte, later)) = after_segment(rest).split_first() {
+        if *byte == b'?' {
+            return is_query(later);
+        }
+        if *byte != b'/' || begins_with_dot(later) {
+            return false;
+        }
+        rest = later;
+    }
+    true
+}
+
+#[tactic(auto, using(crate::proofs::SegmentBytes::front_has_no_dot))]
+// Whether this is a plain path, up to a query.
+fn are_plain(bytes: &[u8]) -> bool
+    ensures { result ≡ are_plain true bytes.now }
+{
+    !begins_with_dot(bytes) && go_on_plain(bytes)
+}
+
+fn begins_with_slash(bytes: &[u8]) -> bool
+    ensures { result ≡ begins_with_slash bytes.now }
+{
+    match bytes.first() {
+        Some(first) => *first == b'/',
+        None => false,
+    }
+}
+
+// Whether a reference is a plain path from the directory of the base on.
+pub fn is_relative(reference: &str) -> bool
+    ensures { result ≡ is_relative reference.now }
+{
+    let bytes = reference.as_bytes();
+    match bytes.first() {
+        Some(first) => *first != b'/' && *first != b'?' && are_plain(bytes),
+        None => false,
+    }
+}
+
+// Whether a reference is a plain path from the root on.
+pub fn is_rooted(reference: &str) -> bool
+    ensures { result ≡ is_rooted reference.now }
+{
+    match reference.as_bytes().split_first() {
+        Some((first, rest)) => *first == b'/' && !begins_with_slash(rest) && are_plain(rest),
+        None => false,
+    }
+}

@@ -1,0 +1,118 @@
+-- What a channel makes of a decision file and of one refresh.
+use Rattle.std.proofs.Common.{◌≡◌, ℕ, ◌==◌, Bool, true, false, cond, not, ◌&&◌, List, [], ◌∷◌, ◌++◌, refl, ap, sym, ◌∙◌, subst}
+use Rattle.std.specs.Prelude.{Option, Some, None, Ok, Err}
+use Rattle.std.specs.List.{list_all}
+use Rattle.url.specs.Parts.{Parts}
+use Rattle.playlist_model.specs.declared.Playlist.{Playlist}
+use Rattle.playlist_model.specs.declared.PlaylistFault.{PlaylistFault}
+use Rattle.playlist_model.specs.LookBack.{or_earlier}
+use Rattle.playlist_model.specs.Reading.{reading, limited}
+use Rattle.stitcher.specs.Stitched.{fits}
+use Rattle.pod_store.specs.declared.Decisions.{Decisions}
+use Rattle.pod_store.specs.declared.fault.DecisionFault.{DecisionFault}
+use Rattle.pod_store.specs.declared.fault.DecisionKind.{DecisionKind}
+use Rattle.pod_store.specs.declared.fault.DecisionKind.TheVariants.{OutOfMemory as NoRoom}
+use Rattle.decision_files.specs.Decided.{decisions_of}
+use Rattle.pod_store.specs.Outcome.{Outcome, ◌>>=◌}
+use Rattle.pod_store.specs.Store.{Store, nothing_decided}
+use Rattle.pod_store.specs.Store.{decided as after_decisions}
+use Rattle.channel_spec.specs.declared.fault.RefreshFault.{RefreshFault}
+use Rattle.channel_spec.specs.declared.fault.RefreshFault.TheVariants.{Playlist as Unreadable, NumberRange as PassesRange, OutOfMemory as NoMemory}
+use Rattle.channel_spec.specs.Kept.{Kept}
+use Rattle.channel_spec.specs.Live as live
+use Rattle.channel_spec.specs.Live.{Event, Told, told, refusal, number_range_fault, succession_fault, last_playlist, list_of, after_refresh, window_after}
+use Rattle.channel_spec.specs.Successor.{fault_if}
+use Rattle.live_channel.specs.declared.channel.Refreshed.{Refreshed}
+use Rattle.live_channel.specs.Channel.{Channel, Given, Reading, decided, decisions_in, told_by, Represents, ChangesStore, after_bytes, with_store, refreshed_with, fresh_after, answer_read, owed_answer, judged, AnswersAs, AnswersUnless, AnswersRefresh}
+use Rattle.vod_run.specs.declared.fault.VodFault.TheVariants.{Playlist as PlaylistOf, OutOfMemory}
+use Rattle.vod_run.specs.Events.{first_decided, events_of, fault_by, fault_of_decisions}
+use Rattle.vod_run.specs.Inner.Events.{RefusesDecisions}
+use Rattle.vod_run.specs.Given.{given_by, fault_of_refresh}
+use Rattle.vod_run.specs.Inner.Given.{HasDecided, IsRefreshed, RefusesRefresh}
+
+-- ---- the decision file
+
+tells : (o : Outcome Decisions) (store : Store) → (o >>= after_decisions nothing_decided) ≡ Ok store → (o >>= first_decided) ≡ Ok (decisions_in o ++ [])
+tells (Ok ds) store h = ap (λ (s : Outcome Store). s >>= λ x. Ok (live.decided ds ∷ [])) h
+tells (Err e) store h = absurd (cc)
+
+tells_no : (o : Outcome Decisions) (e : DecisionFault) → (o >>= after_decisions nothing_decided) ≡ Err e → (o >>= first_decided) ≡ Err e
+tells_no (Ok ds) e h = ap (λ (s : Outcome Store). s >>= λ x. Ok (live.decided ds ∷ [])) h
+tells_no (Err f) e h = let same : f ≡ e = cc in ap Err same
+
+module _ (bytes : List ℕ) (old new : Channel) (s : Represents old []) where
+  from_none : after_bytes old.kept.store bytes ≡ (decisions_of bytes >>= after_decisions nothing_decided)
+  from_none = ap (λ (k : Kept). after_bytes k.store bytes) s.kept
+
+  pub has_decided : (after_bytes old.kept.store bytes ≡ Ok new.kept.store) × (new ≡ with_store old new.kept.store)
+      → ((given : List Given) → Represents old given → Represents new (decided bytes ∷ given)) → HasDecided (Some bytes) old new
+  has_decided h on = record {
+    said = tells (decisions_of bytes) new.kept.store (sym from_none ∙ h.0);
+    stands = on [] s;
+    base = ap (λ (c : Channel). c.base) h.1;
+    tolerance = ap (λ (c : Channel). c.tolerance) h.1;
+  }
+
+  pub undecided : (e : DecisionFault) → ChangesStore old new (Err e) (after_bytes old.kept.store bytes) → RefusesDecisions (fault_of_decisions e) (events_of (Some bytes))
+  undecided e h = by e.kind refl
+    where
+      by : (kind : DecisionKind) → e.kind ≡ kind → RefusesDecisions (fault_by e kind) (events_of (Some bytes))
+      by NoRoom is = tt
+      by _ is = tells_no (decisions_of bytes) e (sym from_none ∙ h.1 (λ same. let k = ap (λ (d : DecisionFault). d.kind) same in absurd (cc)))
+
+-- ---- the refresh
+
+-- no refresh was accepted before
+pub none_before : (base : Parts) (tolerance : ℕ) (file : Option (List ℕ)) → (told_by base tolerance (given_by file)).accepted ≡ []
+none_before base tolerance None = refl
+none_before base tolerance (Some bytes) = by (decisions_of bytes)
+  where
+    by : (o : Outcome Decisions) → (told tolerance (decisions_in o ++ [])).accepted ≡ []
+    by (Ok ds) = refl
+    by (Err e) = refl
+
+module _ (c : Channel) (bytes : List ℕ) (given : List Given) where
+  abbrev before : Told
+  before = told_by c.base c.tolerance given
+
+  abbrev answer_to : Playlist → Refreshed
+  answer_to p = refreshed_with (window_after (after_refresh c.tolerance before p) p) (fresh_after before.history p)
+
+  accepted_so : (p : Playlist) (done : Refreshed) (o : Option RefreshFault) {done' : Refreshed} → Ok done' ≡ judged o done → o ≡ None
+  accepted_so p done None h = refl
+  accepted_so p done (Some fault) h = absurd (cc)
+
+  pub is_refreshed : (done : Refreshed) (new : Channel) → AnswersAs c bytes given (Ok done) new → IsRefreshed c bytes given new
+  is_refreshed done new a = by (reading limited c.base bytes) refl a.answer
+    where
+      by : (r : Reading) → reading limited c.base bytes ≡ r → Ok done ≡ answer_read c.tolerance before r → IsRefreshed c bytes given new
+      by (Err fault) is h = absurd (cc)
+      by (Ok p) is h = record {
+        playlist = p;
+        read = is;
+        accepted = accepted_so p (answer_to p) (refusal c.tolerance before p) h;
+        stands = a.stands;
+        base = a.base;
+        tolerance = a.tolerance;
+      }
+
+  module _ (first : before.accepted ≡ []) where
+    judged_so : (p : Playlist) (done : Refreshed) (f : RefreshFault) (b : Bool) → reading limited c.base bytes ≡ Ok p → refusal c.tolerance before p ≡ fault_if b PassesRange
+        → Err f ≡ judged (fault_if b PassesRange) done → RefusesRefresh (fault_of_refresh f) c bytes given
+    judged_so p done f true is r h = let same : PassesRange ≡ f = cc in subst (λ x. RefusesRefresh (fault_of_refresh x) c bytes given) same (record { playlist = p; read = is; refused = r })
+    judged_so p done f false is r h = absurd (cc)
+
+    -- the first refresh follows no other
+    number_range_alone : (p : Playlist) → refusal c.tolerance before p ≡ number_range_fault (after_refresh c.tolerance before p)
+    number_range_alone p = ap (λ accepted. or_earlier (succession_fault (last_playlist accepted) p) (number_range_fault (after_refresh c.tolerance before p))) first
+
+    owed_fault : (f : RefreshFault) → Err f ≡ owed_answer c given bytes → RefusesRefresh (fault_of_refresh f) c bytes given
+    owed_fault f h = by (reading limited c.base bytes) refl h
+      where
+        by : (r : Reading) → reading limited c.base bytes ≡ r → Err f ≡ answer_read c.tolerance before r → RefusesRefresh (fault_of_refresh f) c bytes given
+        by (Err fault) is a = let same : Unreadable fault ≡ f = cc in subst (λ x. RefusesRefresh (fault_of_refresh x) c bytes given) same is
+        by (Ok p) is a = judged_so p (answer_to p) f (not (list_all fits (list_of (after_refresh c.tolerance before p)))) is (number_range_alone p) (a ∙ ap (λ o. judged o (answer_to p)) (number_range_alone p))
+
+    pub refuses_refresh : (f : RefreshFault) (new : Channel) → AnswersRefresh c bytes given (Err f) new → RefusesRefresh (fault_of_refresh f) c bytes given
+    refuses_refresh NoMemory new h = tt
+    refuses_refresh f new h = owed_fault f h.answer

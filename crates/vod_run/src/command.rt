@@ -1,0 +1,71 @@
+//! What the program prints and answers after a run.
+ghost use Rattle.std.specs.Prelude.{◌≡◌, ◌≤◌, Err, None};
+ghost use Rattle.std.specs.Option.{option_copied};
+ghost use Rattle.pod_store.specs.declared.fault.DecisionFault.{DecisionFault};
+ghost use Rattle.vod_run.specs.Events.{events_of};
+ghost use Rattle.playlist_model.specs.Uri.{base_of};
+ghost use Rattle.byte_streams.specs.Stands.{source_stand, sink_stand, WasHanded};
+ghost use Rattle.vod_run.specs.Printed.{fault_line, Succeeds, FailsAndPrints};
+
+use crate::fault::VodFault;
+use crate::run::vod;
+use arrayvec::ArrayString;
+use byte_streams::{Sink, Source, hand_out};
+use std::alloc::Global;
+use std::mem::forget;
+
+// A fault's line. It lies in the value itself, since there may be no memory left for it.
+fn fault_line(fault: VodFault) -> ArrayString<95>
+    ensures { result.bytes ≡ fault_line fault }
+{
+    let mut line = ArrayString::<95>::new();
+    line.push_str(fault.text().as_str());
+    line.push('\n');
+    line
+}
+
+// Writes a fault's line, as far as the sink takes it.
+fn print_fault<F: Sink>(fault: VodFault, faults: &mut F)
+    ensures { WasHanded (sink_stand F.contents F.failed faults.old) (sink_stand F.contents F.failed faults.new) (fault_line fault) }
+{
+    let line = fault_line(fault);
+    let _ = hand_out(line.as_str().as_bytes(), faults);
+}
+
+/// Runs `vod`, writes the fault's line where there is one, and answers the exit status: 0, or 1
+/// after a fault. The process ends then, so that the memory of the channel is left to its end.
+pub fn command_vod<S: Source, K: Sink, F: Sink>(
+    alloc: Global,
+    base: &str,
+    decisions: Option<&[u8]>,
+    input: &mut S,
+    output: &mut K,
+    faults: &mut F,
+) -> u8
+    ensures status { result ≤ 1 }
+    ensures ok { result ≡ 0 → Succeeds base.now (option_copied decisions.entry)
+        (source_stand S.remaining S.called S.failed input.old) (source_stand S.remaining S.called S.failed input.new)
+        (sink_stand K.contents K.failed output.old) (sink_stand K.contents K.failed output.new) }
+    ensures quiet { result ≡ 0 → faults.new ≡ faults.old }
+
+    // 1 only where `vod` answers a fault, and then its line is printed.
+    ensures fault { result ≡ 1 → FailsAndPrints base.now (option_copied decisions.entry)
+        (source_stand S.remaining S.called S.failed input.old) (source_stand S.remaining S.called S.failed input.new)
+        (sink_stand K.contents K.failed output.old) (sink_stand K.contents K.failed output.new)
+        (sink_stand F.contents F.failed faults.old) (sink_stand F.contents F.failed faults.new) }
+
+    // The base and the decision file are judged before anything is read.
+    ensures unread { base_of base.now ≡ None → input.new ≡ input.old }
+    ensures undecided { (fault : DecisionFault) → events_of (option_copied decisions.entry) ≡ Err fault → input.new ≡ input.old }
+{
+    match vod(alloc, input, output, base, decisions) {
+        Ok(channel) => {
+            forget(channel);
+            0
+        }
+        Err(fault) => {
+            print_fault(fault, faults);
+            1
+        }
+    }
+}

@@ -1,0 +1,37 @@
+//! An input, read to its end.
+ghost use Rattle.std.specs.Prelude.{IfOk, IfErr, IsErrOf};
+ghost use Rattle.byte_streams.specs.Fair.{IsFairToSource, GaveAtEachButLast};
+ghost use Rattle.byte_streams.specs.Stands.{GaveAll, GaveMany, source_stand};
+ghost use Rattle.vod_run.specs.Runs.{most_reads, OnEnd};
+ghost use Rattle.vod_run.specs.Inner.Vod.{IsOfReading};
+
+use crate::fault::VodFault;
+use byte_streams::{READ_ROOM, Source};
+use std::alloc::Global;
+
+/// How many reads an input may take.
+pub const MAX_READS: u64 = 65_536;
+
+/// Reads an input to its end, with room for 8,192 bytes in each read. The whole of it is kept, also
+/// past the length that a playlist may have: whether it is UTF-8 is judged first. A read that fails is the last, and so is the
+/// one that tells the end. An empty input takes no memory.
+pub fn read_input<S: Source>(alloc: Global, source: &mut S) -> Result<Vec<u8>, VodFault>
+    ensures ok { IfOk result (λ input. GaveAll (S.remaining source.old) (S.remaining source.new) input.items) }
+    ensures source { IsFairToSource VodFault.Read VodFault.TooManyReads most_reads result (source_stand S.remaining S.called S.failed source.old) (source_stand S.remaining S.called S.failed source.new) }
+    ensures to_end { OnEnd result (GaveAtEachButLast (source_stand S.remaining S.called S.failed source.old) (source_stand S.remaining S.called S.failed source.new)) }
+    ensures memory { IsErrOf result VodFault.OutOfMemory → GaveMany (S.remaining source.old) (S.remaining source.new) 1 }
+    ensures faults { IfErr result IsOfReading }
+{
+    let mut input = Vec::new(alloc);
+    let mut block = [0u8; READ_ROOM];
+    for _ in 0..MAX_READS {
+        let Ok(count) = source.read(&mut block) else {
+            return Err(VodFault::Read);
+        };
+        if count == 0 {
+            return Ok(input);
+        }
+        input.extend_from_slice(&block[..count])?;
+    }
+    Err(VodFault::TooManyReads)
+}

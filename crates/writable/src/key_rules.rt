@@ -1,0 +1,111 @@
+//! Which keys and initialisation sections can be written (RFC 8216, sections 4.3.2.4 and 4.3.2.5).
+ghost use Rattle.std.specs.Prelude.{◌≡◌};
+ghost use Rattle.std.specs.List.{list_any, list_all};
+ghost use Rattle.playlist_model.specs.LookBack.{is_before, are_sorted};
+ghost use Rattle.writable.specs.Fitting.{if_some, byte_range_fits, iv_fits, others_fit, method_fits, key_fits, keys_fit, states_iv, effective_keys_fit, section_fits};
+
+use crate::texts::{is_clean, quoted_uri_fits, value_fits};
+use playlist_model::{ByteRange, InitSection, Key, OtherAttributes, is_iv_needed};
+
+/// Whether a byte range ends below 2^64, where there is one.
+pub fn byte_range_fits(byte_range: Option<ByteRange>) -> bool
+    ensures { result ≡ if_some byte_range_fits byte_range }
+{
+    match byte_range {
+        Some(byte_range) => byte_range.length.checked_add(byte_range.offset).is_some(),
+        None => true,
+    }
+}
+
+// A key's other attributes are a list of such by their type.
+fn others_fit(others: &OtherAttributes) -> bool
+    ensures { result ≡ others_fit others.now }
+{
+    is_clean(others.as_str())
+}
+
+/// Whether a text can be METHOD of a key that encrypts: a word without quotes other than NONE.
+pub fn method_fits(method: &str) -> bool
+    ensures { result ≡ method_fits method.now }
+{
+    value_fits(method, false) && method != "NONE"
+}
+
+// An IV is a number of 128 bits by its type.
+fn iv_fits(iv: Option<u128>) -> bool
+    ensures { result ≡ if_some iv_fits iv }
+{
+    match iv {
+        Some(iv) => iv <= u128::MAX,
+        None => true,
+    }
+}
+
+fn key_fits(key: &Key) -> bool
+    ensures { result ≡ key_fits key.now }
+{
+    value_fits(key.format.as_str(), true)
+        && method_fits(key.method.as_str())
+        && quoted_uri_fits(key.uri.as_str())
+        && iv_fits(key.iv)
+        && others_fit(&key.other_attributes)
+}
+
+fn all_fit(keys: &[Key]) -> bool
+    ensures { result ≡ list_all key_fits keys.now }
+{
+    keys.iter().all(|key: &Key| key_fits(key))
+}
+
+fn stands_before(key: &Key, later: &[Key]) -> bool
+    ensures { result ≡ list_all (is_before key.now) later.now }
+{
+    later.iter().all(|other: &Key| key.is_before(other))
+}
+
+fn are_sorted(keys: &[Key]) -> bool
+    ensures { result ≡ are_sorted keys.now }
+{
+    for i in 0..keys.len() {
+        if !stands_before(&keys[i], &keys[i + 1..]) {
+            return false;
+        }
+    }
+    true
+}
+
+fn keys_fit(keys: &[Key]) -> bool
+    ensures { result ≡ keys_fit keys.now }
+{
+    all_fit(keys) && are_sorted(keys)
+}
+
+fn states_iv(key: &Key) -> bool
+    ensures { result ≡ states_iv key.now }
+{
+    !(key.format.as_str() == "identity" && key.iv.is_none())
+}
+
+fn all_state_ivs(keys: &[Key]) -> bool
+    ensures { result ≡ list_all states_iv keys.now }
+{
+    keys.iter().all(|key: &Key| states_iv(key))
+}
+
+/// Whether these can be the keys of a segment: those of the format `identity` have an IV.
+pub fn effective_keys_fit(keys: &[Key]) -> bool
+    ensures { result ≡ effective_keys_fit keys.now }
+{
+    keys_fit(keys) && all_state_ivs(keys)
+}
+
+/// Whether a section can be written: its AES-128 keys have an IV.
+pub fn section_fits(section: &InitSection) -> bool
+    ensures { result ≡ section_fits section.now }
+{
+    let keys = section.keys.as_slice();
+    quoted_uri_fits(section.uri.as_str())
+        && byte_range_fits(section.byte_range)
+        && keys_fit(keys)
+        && !is_iv_needed(keys)
+}

@@ -1,0 +1,84 @@
+//! Which texts and durations can be written (RFC 8216, sections 4.2 and 4.3.2.1).
+ghost use Rattle.std.specs.Prelude.{◌≡◌, ◌==◌, true, false};
+ghost use Rattle.std.specs.List.{list_any, list_all};
+ghost use Rattle.attr_list.specs.Attributes.{is_name, is_name_byte, ends_plain, is_value};
+ghost use Rattle.writable.specs.Fitting.{is_clean, value_fits, uri_fits, quoted_uri_fits, duration_fits};
+
+use fixed_duration::Nanos;
+use playlist_model::{has_control, has_quote, has_scheme};
+
+/// Whether a text holds no control character.
+pub fn is_clean(text: &str) -> bool
+    ensures { result ≡ is_clean text.now }
+{
+    !has_control(text)
+}
+
+fn are_name_bytes(text: &str) -> bool
+    ensures { result ≡ list_all is_name_byte text.now }
+{
+    text.as_bytes().iter().all(|b| b.is_ascii_uppercase() || b.is_ascii_digit() || *b == b'-')
+}
+
+/// Whether a text is one or more of A to Z, 0 to 9 and `-`.
+pub fn is_name(text: &str) -> bool
+    ensures { result ≡ is_name text.now }
+{
+    !text.is_empty() && are_name_bytes(text)
+}
+
+// Whether a text holds what can't stand in a value without quotes.
+fn ends_plain(text: &str) -> bool
+    ensures { result ≡ list_any ends_plain text.now }
+{
+    text.as_bytes()
+        .iter()
+        .any(|b| *b == b',' || *b == b'"' || *b == b' ')
+}
+
+// Whether a text can stand between quotes.
+fn is_quotable(text: &str) -> bool
+    ensures { result ≡ is_value true text.now }
+{
+    !has_quote(text)
+}
+
+// Whether a text can stand without quotes.
+fn is_plain(text: &str) -> bool
+    ensures { result ≡ is_value false text.now }
+{
+    !text.is_empty() && !ends_plain(text)
+}
+
+/// Whether a text can be the value of an attribute, in quotes or without.
+pub fn value_fits(value: &str, quoted: bool) -> bool
+    ensures { result ≡ value_fits quoted value.now }
+{
+    let is_value = if quoted {
+        is_quotable(value)
+    } else {
+        is_plain(value)
+    };
+    is_clean(value) && is_value
+}
+
+/// Whether a text is a whole URI that can stand on a line.
+pub fn uri_fits(uri: &str) -> bool
+    ensures { result ≡ uri_fits uri.now }
+{
+    is_clean(uri) && has_scheme(uri)
+}
+
+/// Whether a text is a whole URI that can stand in quotes.
+pub fn quoted_uri_fits(uri: &str) -> bool
+    ensures { result ≡ quoted_uri_fits uri.now }
+{
+    value_fits(uri, true) && has_scheme(uri)
+}
+
+/// Whether a duration is below 1,000,000 s.
+pub fn duration_fits(duration: Nanos) -> bool
+    ensures { result ≡ duration_fits duration }
+{
+    duration.0 < 1_000_000_000_000_000
+}
