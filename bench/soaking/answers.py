@@ -1,7 +1,7 @@
 """The answers that may be given, by name (docs/OPERATING.md has them all), and what has to hold between the answers of an
 input.
 
-Want of memory is none of them: nothing refuses memory here.
+Out of memory is none of them: nothing refuses memory here.
 """
 import re
 

@@ -1,4 +1,4 @@
-"""A live server with 64 channels for long: packagers, decision makers, readers and rude clients at once, beside a second
+"""A live server with 64 channels for long: packagers, ad decision servers, readers and rude clients at once, beside a second
 server that gets the good requests alone, in the same order for each channel."""
 import random
 import statistics
@@ -42,7 +42,7 @@ class Both:
 
 
 class Stream:
-    """What a channel's packager and decision maker send: a window that moves on, and breaks that are decided, decided
+    """What a channel's packager and ad decision server send: a window that moves on, and breaks that are decided, decided
     again, or withdrawn before they begin."""
 
     def __init__(self, channel):

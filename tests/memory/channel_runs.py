@@ -19,7 +19,7 @@ READS = ["playlist", "known", "why b1", "why b2", "why q"]
 MARK = "mark"  # an event that there isn't, by whose answer those before it are known to be given
 MARKED = b"no event\n"
 
-# A line (`asked`) after others (`before`), with its answer and those that may stand for want of memory; `after`: lines
+# A line (`asked`) after others (`before`), with its answer and those that may stand for out of memory; `after`: lines
 # whose answers tell what can't be seen at once.
 Event = namedtuple("Event", "name before asked owed wants after")
 
@@ -133,7 +133,7 @@ def fault_of(event, clean, answer, refused, told, times):
 
 
 def differences(program, control, event, way):
-    """How many calls answered want of memory before one was refused none, and what was answered that isn't owed."""
+    """How many calls answered out of memory before one was refused none, and what was answered that isn't owed."""
     clean = {(asked, times): told_with_memory(program, control, event, asked, times) for asked in (0, 1) for times in (0, 1)}
     found, first, refused, count = [], 0, 1, 0
     while refused:

@@ -6,9 +6,9 @@ use Rattle.matchit.specs.Rows.{RowsOf}
 use Rattle.matchit.specs.Router.{RouteOf, Refused, nearest}
 use Rattle.matchit.specs.declared.error.InsertError.{InsertError}
 use Rattle.matchit.specs.declared.error.InsertError.TheVariants.{Conflict, OutOfMemory, InvalidParamSegment, InvalidParam, InvalidCatchAll}
-use Rattle.channel_api.specs.Routes.{IsWantOfMemory}
+use Rattle.channel_api.specs.Routes.{IsOutOfMemory}
 
-refused : {T : Type 0} (p : List ℕ) (rows : RowsOf (RouteOf T)) (e : InsertError) → Refused p rows e → nearest p rows ≡ None → IsWantOfMemory e
+refused : {T : Type 0} (p : List ℕ) (rows : RowsOf (RouteOf T)) (e : InsertError) → Refused p rows e → nearest p rows ≡ None → IsOutOfMemory e
 refused p rows (Conflict with) r none = let is = r.1 in absurd (cc)
 refused p rows OutOfMemory r none = refl
 refused p rows InvalidParamSegment r none = absurd r
@@ -16,6 +16,6 @@ refused p rows InvalidParam r none = absurd r
 refused p rows InvalidCatchAll r none = absurd r
 
 pub told : {T A : Type 0} (p : List ℕ) (rows : RowsOf (RouteOf T)) (r : Result A InsertError) (e : InsertError)
-    → IsErrAnd r (λ d. d ≡ e) → Refused p rows e → nearest p rows ≡ None → IfErr r IsWantOfMemory
+    → IsErrAnd r (λ d. d ≡ e) → Refused p rows e → nearest p rows ≡ None → IfErr r IsOutOfMemory
 told p rows (Ok a) e h why none = absurd h
 told p rows (Err d) e h why none = h ∙ refused p rows e why none

@@ -38,8 +38,8 @@ route_rows =
     row (codes "/decisions") Decisions ∷ row (codes "/live.m3u8") Live ∷ row (codes "/origin") Origin ∷ row (codes "/why") Why ∷ row [] Channel ∷ []
 
 -- an allocation failed, and no route was in another one's way
-abbrev pub IsWantOfMemory : InsertError → Type 0
-IsWantOfMemory e = e ≡ OutOfMemory
+abbrev pub IsOutOfMemory : InsertError → Type 0
+IsOutOfMemory e = e ≡ OutOfMemory
 
 -- what the router finds for a path
 abbrev pub found_at : List ℕ → Option (RouteOf Resource)

@@ -1,7 +1,7 @@
 //! What a path names.
 ghost use Rattle.std.specs.Prelude.{◌≡◌, [], drop, option_map, false, MatchOption, OnOk, IfErr};
 ghost use Rattle.std.specs.List.{list_all};
-ghost use Rattle.channel_api.specs.Routes.{is_name_byte, is_channel_name, path_of, route_rows, name_in, found_at, route_of, pair, IsWantOfMemory};
+ghost use Rattle.channel_api.specs.Routes.{is_name_byte, is_channel_name, path_of, route_rows, name_in, found_at, route_of, pair, IsOutOfMemory};
 
 use matchit::{InsertError, Router};
 use std::alloc::Global;
@@ -90,7 +90,7 @@ pub fn is_channel_name(name: &str) -> bool
 fn insert_routes(router: &mut Router<Resource>) -> Result<(), InsertError>
     requires { router.old ≡ [] }
     ensures rows { OnOk result (router.new ≡ route_rows) }
-    ensures memory { IfErr result IsWantOfMemory }
+    ensures memory { IfErr result IsOutOfMemory }
 {
     router.insert("/channels/{name}", Resource::Channel)?;
     router.insert("/channels/{name}/origin", Resource::Origin)?;
@@ -103,7 +103,7 @@ fn insert_routes(router: &mut Router<Resource>) -> Result<(), InsertError>
 impl Routes {
     /// The routes of the edge. Fails for a failed allocation alone: none of them is in another one's way.
     pub fn new(alloc: Global) -> Result<Routes, InsertError>
-        ensures { IfErr result IsWantOfMemory }
+        ensures { IfErr result IsOutOfMemory }
     {
         let mut router = Router::new(alloc);
         insert_routes(&mut router)?;

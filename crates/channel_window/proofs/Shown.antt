@@ -1,7 +1,10 @@
 -- The segments that are shown after a refresh, from those that a channel holds.
-use Rattle.std.proofs.Common.{◌≡◌, ℕ, List, refl, ap, sym, ◌∙◌, subst}
+use Rattle.std.proofs.Common.{◌≡◌, ℕ, ℤ, List, ◌++◌, length, refl, ap, sym, ◌∙◌, subst}
 use Rattle.std.specs.Prelude.{Option, Some, None, IsSome, option_map, filter}
 use Rattle.playlist_model.specs.declared.Playlist.{Playlist}
+use Rattle.playlist_model.specs.declared.Segment.{Segment}
+use Rattle.playlist_model.specs.Instants.{instants_after}
+use Rattle.break_finder.specs.Breaks.{Break}
 use Rattle.pod_store.specs.Pods.{Pod}
 use Rattle.pod_store.specs.Marks.{newest_mark}
 use Rattle.pod_store.specs.Store.{Store, pod_for}
@@ -9,13 +12,13 @@ use Rattle.stitcher.specs.declared.marked.MarkedSegment.{MarkedSegment as Held}
 use Rattle.stitcher.specs.StitchedSegments.{mark_in, mark_with, IsDecided, AreDecided}
 use Rattle.break_finder.specs.Known.{is_this, carry}
 use Rattle.channel_spec.specs.Successor.{is_mapped}
-use Rattle.channel_spec.specs.Marking.{mark_id, is_new}
+use Rattle.channel_spec.specs.Marking.{Moment, mark_id, is_new, newest_end}
 use Rattle.channel_spec.specs.Live.{is_marked}
 use Rattle.channel_spec.specs.Kept.{show_on, length_on, kept_acceptance}
 use Rattle.channel_window.specs.declared.state.ChannelState.{ChannelState}
 use Rattle.channel_window.specs.declared.showing.Showing.{Showing}
-use Rattle.channel_window.specs.Marking.{so_far}
-use Rattle.channel_window.specs.Listed.{IsFront}
+use Rattle.channel_window.specs.Marking.{so_far, mark_on, length_after}
+use Rattle.channel_window.proofs.Listed.{is_listed, is_decided, is_long}
 use Rattle.channel_window.specs.Showing.{kept_in, IsShown}
 
 -- ---- the mark that is carried
@@ -34,27 +37,39 @@ marked_too store id o d = ap (is_this id) (mark_named store o d)
 -- ---- what is shown
 
 -- the known breaks, and the segments that were shown with the new ones, where the shown segments are handed on as a list
-pub shown_is : (tolerance : ℕ) (state : ChannelState) (shown : List Held) (newest : Option (List ℕ)) (a : Showing) (p : Playlist) → shown ≡ state.shown
-    → newest_mark (so_far state.store shown) ≡ mark_in state.store newest → (AreDecided state.store shown → IsDecided state.store newest) → a.knowledge ≡ carry (record { playlist = p; carried = newest }) state.knowledge
-    → so_far state.store a.list.items ≡ show_on (record { tolerance = tolerance; target_duration = p.target_duration; mapped = is_mapped p.segments; breaks = a.knowledge; store = state.store }) (so_far state.store shown) state.entered (filter (is_new (so_far state.store shown)) p.segments)
-    → a.so_far ≡ length_on (record { tolerance = tolerance; target_duration = p.target_duration; mapped = is_mapped p.segments; breaks = a.knowledge; store = state.store }) (so_far state.store shown) state.entered state.so_far (filter (is_new (so_far state.store shown)) p.segments)
-    → IsFront shown a.list.items
-    → AreDecided state.store a.list.items → AreDecided state.store state.shown → IsShown tolerance state p a
-shown_is tolerance state shown newest a p e mark named breaks list long front decided before =
-    let named_now = named (subst (AreDecided state.store) (sym e) before) in
-    let mark_now : newest_mark (so_far state.store state.shown) ≡ mark_in state.store newest = subst (λ (xs : List Held). newest_mark (so_far state.store xs) ≡ mark_in state.store newest) e mark in
-    let breaks_kept : a.knowledge ≡ carry (kept_acceptance (kept_in state) p) state.knowledge =
-    breaks ∙ ap (λ o. carry (record { playlist = p; carried = o }) state.knowledge) (sym (ap (option_map mark_id) mark_now ∙ mark_named state.store newest named_now)) in
-    record {
-      breaks = breaks_kept;
-      list =
-          list
-          ∙ (ap (λ (xs : List Held). show_on (record { tolerance = tolerance; target_duration = p.target_duration; mapped = is_mapped p.segments; breaks = a.knowledge; store = state.store }) (so_far state.store xs) state.entered (filter (is_new (so_far state.store xs)) p.segments)) e
-          ∙ ap (λ b. show_on (record { tolerance = tolerance; target_duration = p.target_duration; mapped = is_mapped p.segments; breaks = b; store = state.store }) (so_far state.store state.shown) state.entered (filter (is_new (so_far state.store state.shown)) p.segments)) breaks_kept);
-      length =
-          long
-          ∙ (ap (λ (xs : List Held). length_on (record { tolerance = tolerance; target_duration = p.target_duration; mapped = is_mapped p.segments; breaks = a.knowledge; store = state.store }) (so_far state.store xs) state.entered state.so_far (filter (is_new (so_far state.store xs)) p.segments)) e
-          ∙ ap (λ b. length_on (record { tolerance = tolerance; target_duration = p.target_duration; mapped = is_mapped p.segments; breaks = b; store = state.store }) (so_far state.store state.shown) state.entered state.so_far (filter (is_new (so_far state.store state.shown)) p.segments)) breaks_kept);
-      front = subst (λ (xs : List Held). IsFront xs a.list.items) e front;
-      decided = decided;
-    }
+module _ (tolerance : ℕ) (state : ChannelState) (p : Playlist) (shown : List Held) (newest : Option (List ℕ)) (fresh : List Segment) (ended : Option ℤ) (begun : List (Option ℤ)) (marked : List Held) (a : Showing)
+    (before : AreDecided state.store state.shown) (same : shown ≡ state.shown) (mark_is : newest_mark (so_far state.store shown) ≡ mark_in state.store newest) (newest_is : AreDecided state.store shown → IsDecided state.store newest)
+    (breaks_are : a.knowledge ≡ carry (record { playlist = p; carried = newest }) state.knowledge) (fresh_is : fresh ≡ filter (is_new (so_far state.store shown)) p.segments)
+    (ended_is : ended ≡ newest_end (so_far state.store shown)) (begun_is : begun ≡ instants_after ended fresh)
+    (marked_is : marked ≡ mark_on (record { tolerance = tolerance; target_duration = p.target_duration; mapped = is_mapped p.segments; breaks = a.knowledge; store = state.store }) newest state.entered fresh begun)
+    (list_is : a.list.items ≡ shown ++ marked) where
+  abbrev store : Store
+  store = state.store
+
+  abbrev moment : List Break → Moment
+  moment breaks = record { tolerance = tolerance; target_duration = p.target_duration; mapped = is_mapped p.segments; breaks = breaks; store = store }
+
+  decided : AreDecided store shown
+  decided = subst (AreDecided store) (sym same) before
+
+  breaks_kept : a.knowledge ≡ carry (kept_acceptance (kept_in state) p) state.knowledge
+  breaks_kept =
+      breaks_are
+      ∙ ap (λ o. carry (record { playlist = p; carried = o }) state.knowledge)
+      (sym (ap (λ (xs : List Held). option_map mark_id (newest_mark (so_far store xs))) (sym same) ∙ ap (option_map mark_id) mark_is ∙ mark_named store newest (newest_is decided)))
+
+  pub shown_is : (a.fresh ≡ length fresh) → a.so_far ≡ length_after store newest state.so_far marked → IsShown tolerance state p a
+  shown_is count long = record {
+    breaks = breaks_kept;
+    list =
+        is_listed (moment a.knowledge) shown newest state.entered p.segments fresh ended begun marked a.list.items mark_is (newest_is decided) decided ended_is fresh_is begun_is marked_is list_is
+        ∙ (ap (λ (xs : List Held). show_on (moment a.knowledge) (so_far store xs) state.entered (filter (is_new (so_far store xs)) p.segments)) same
+        ∙ ap (λ b. show_on (moment b) (so_far store state.shown) state.entered (filter (is_new (so_far store state.shown)) p.segments)) breaks_kept);
+    fresh = count ∙ (ap length fresh_is ∙ ap (λ (xs : List Held). length (filter (is_new (so_far store xs)) p.segments)) same);
+    length =
+        is_long (moment a.knowledge) shown newest state.entered p.segments fresh ended begun marked a.list.items mark_is (newest_is decided) decided ended_is fresh_is begun_is marked_is list_is state.so_far a.so_far long
+        ∙ (ap (λ (xs : List Held). length_on (moment a.knowledge) (so_far store xs) state.entered state.so_far (filter (is_new (so_far store xs)) p.segments)) same
+        ∙ ap (λ b. length_on (moment b) (so_far store state.shown) state.entered state.so_far (filter (is_new (so_far store state.shown)) p.segments)) breaks_kept);
+    front = (marked, list_is ∙ ap (λ xs. xs ++ marked) same);
+    decided = is_decided (moment a.knowledge) shown newest state.entered p.segments fresh ended begun marked a.list.items mark_is (newest_is decided) decided ended_is fresh_is begun_is marked_is list_is;
+  }

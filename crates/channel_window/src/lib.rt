@@ -11,7 +11,7 @@ mod state;
 mod successor;
 mod writing;
 
-pub use listing::{Listing, count_before, fresh_of, from_place, last_entered};
+pub use listing::{count_before, from_place, last_entered};
 pub use marking::{Limits, mark_on, text_in};
 pub use placing::{place_of, rest_count, run_count};
 pub use showing::{Showing, shown_with};

@@ -1,4 +1,4 @@
-//! The segments that a refresh shows, after those that were shown.
+//! The segments that a channel holds, the oldest first: the newest of them, those of a playlist that come after it, and parts of them.
 ghost use Rattle.std.specs.Prelude.{◌≡◌, ◌≤◌, ◌+◌, ◌++◌, List, IfOk, length, filter, drop};
 ghost use Rattle.pod_store.specs.Marks.{newest_mark};
 ghost use Rattle.playlist_model.specs.LookBack.{or_earlier};
@@ -7,20 +7,19 @@ ghost use Rattle.pod_store.specs.Store.{Store};
 ghost use Rattle.stitcher.specs.StitchedSegments.{mark_in, IsDecided, AreDecided};
 ghost use Rattle.channel_spec.specs.Marking.{newest_end, is_new, last_entered};
 ghost use Rattle.channel_spec.specs.Live.{gone_before};
-ghost use Rattle.channel_spec.specs.Kept.{show_on, length_on, shown_from};
+ghost use Rattle.channel_spec.specs.Kept.{shown_from};
 ghost use Rattle.channel_window.specs.Checked.{AreContiguous};
 ghost use Rattle.channel_window.specs.Marking.{so_far, capped_in, length_after};
 ghost use Rattle.channel_window.specs.Listed.{IsFront};
 ghost use Rattle.channel_window.specs.Inner.Listed.{is_after};
 
-use crate::marking::{Limits, copied_text, mark_on};
-use break_finder::Knowledge;
+use crate::marking::copied_text;
 use fixed_duration::Nanos;
 use playlist_model::{Segment, Shared, Text};
 use pod_store::PodStore;
 use std::alloc::{AllocError, Global};
 use stitcher::{MarkedSegment, is_same_run};
-use timeline::{Beginnings, ends_at};
+use timeline::ends_at;
 
 #[tactic(auto, using(crate::proofs::Listed::newest_seen, crate::proofs::Listed::newest_decided, crate::proofs::Listed::none_seen))]
 /// The mark of the newest of these segments.
@@ -103,8 +102,8 @@ fn copies(
     Ok(done)
 }
 
-// These segments, and others after them.
-fn joined(
+/// These segments, and others after them.
+pub fn joined(
     alloc: Global,
     shown: &[MarkedSegment],
     fresh: Vec<MarkedSegment>,
@@ -133,8 +132,8 @@ fn capped(store: &PodStore, mark: &Option<Shared<Text>>, duration: Nanos, so_far
     }
 }
 
-// How long the newest run has lasted with these segments, after one of this mark and a run that had lasted so long.
-fn length_after(
+/// How long the newest run has lasted with these segments, after one of this mark and a run that had lasted so long.
+pub fn length_after(
     store: &PodStore,
     newest: &Option<Shared<Text>>,
     so_far: Nanos,
@@ -156,46 +155,6 @@ fn length_after(
         rest = later;
     }
     Nanos(length)
-}
-
-/// Segments with their marks, and how long their newest run has lasted.
-#[derive(Drop)]
-pub struct Listing {
-    /// The segments.
-    pub list: Vec<MarkedSegment>,
-    /// How long the newest run has lasted.
-    pub so_far: Nanos,
-}
-
-/// The segments that were shown, with the fresh ones and their marks after them, and how long the newest run has lasted then.
-pub fn listed(
-    alloc: Global,
-    limits: &Limits,
-    knowledge: &Knowledge,
-    store: &PodStore,
-    shown: &[MarkedSegment],
-    entered: &Option<Shared<Text>>,
-    before: Nanos,
-    segments: &[Shared<Segment>],
-) -> Result<Listing, AllocError>
-    requires numbers { AreContiguous segments.now }
-    requires decided { AreDecided store.now shown.now }
-    ensures list { IfOk result (λ v. so_far store.now v.list.items ≡ show_on (record { tolerance = limits.now.tolerance; target_duration = limits.now.target_duration; mapped = limits.now.mapped; breaks = knowledge.now; store = store.now }) (so_far store.now shown.now) entered.now (filter (is_new (so_far store.now shown.now)) segments.now)) }
-    ensures front { IfOk result (λ v. IsFront shown.now v.list.items) }
-    ensures marks { IfOk result (λ v. AreDecided store.now v.list.items) }
-    ensures length { IfOk result (λ v. v.so_far ≡ length_on (record { tolerance = limits.now.tolerance; target_duration = limits.now.target_duration; mapped = limits.now.mapped; breaks = knowledge.now; store = store.now }) (so_far store.now shown.now) entered.now before (filter (is_new (so_far store.now shown.now)) segments.now)) }
-{
-    let newest = newest_mark(shown)?;
-    let fresh = fresh_of(shown, segments);
-    let instants = Beginnings::new(alloc, newest_end(shown), fresh);
-    let marked = mark_on(
-        alloc, limits, knowledge, store, &newest, entered, fresh, instants,
-    )?;
-    let length = length_after(store, &newest, before, marked.as_slice());
-    Ok(Listing {
-        list: joined(alloc, shown, marked)?,
-        so_far: length,
-    })
 }
 
 #[tactic(auto, using(crate::proofs::Counted::front_whole, crate::proofs::Counted::front_less, crate::proofs::Counted::front_seen, crate::proofs::Counted::front_stops, crate::proofs::Counted::front_ends))]

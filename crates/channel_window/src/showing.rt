@@ -6,8 +6,8 @@ ghost use Rattle.channel_window.specs.Checked.{AreContiguous};
 ghost use Rattle.channel_window.specs.Showing.{kept_in};
 ghost use Rattle.channel_window.specs.Showing.{IsShown};
 
-use crate::listing::{Listing, listed, newest_mark};
-use crate::marking::{Limits, text_in};
+use crate::listing::{fresh_of, joined, length_after, newest_end, newest_mark};
+use crate::marking::{Limits, mark_on, text_in};
 use crate::state::ChannelState;
 use crate::successor::is_mapped;
 use break_finder::Knowledge;
@@ -15,14 +15,17 @@ use fixed_duration::Nanos;
 use playlist_model::Playlist;
 use std::alloc::{AllocError, Global};
 use stitcher::MarkedSegment;
+use timeline::Beginnings;
 
-/// What a channel knows and shows.
+/// What a channel knows and shows with a playlist.
 #[derive(Drop)]
 pub struct Showing {
     /// The breaks that are known.
     pub knowledge: Knowledge,
     /// The segments that are shown, the oldest first.
     pub list: Vec<MarkedSegment>,
+    /// How many of them are shown for the first time.
+    pub fresh: usize,
     /// How long their newest run has lasted.
     pub so_far: Nanos,
 }
@@ -52,20 +55,22 @@ pub fn shown_with(
     let shown = state.shown.as_slice();
     let newest = newest_mark(shown)?;
     let knowledge = state.knowledge.carry(alloc, playlist, text_in(&newest))?;
-    let limits = limits_of(tolerance, playlist);
-    let Listing { list, so_far } = listed(
+    let fresh = fresh_of(shown, playlist.segments.as_slice());
+    let marked = mark_on(
         alloc,
-        &limits,
+        &limits_of(tolerance, playlist),
         &knowledge,
         &state.store,
-        shown,
+        &newest,
         &state.entered,
-        state.so_far,
-        playlist.segments.as_slice(),
+        fresh,
+        Beginnings::new(alloc, newest_end(shown), fresh),
     )?;
+    let so_far = length_after(&state.store, &newest, state.so_far, marked.as_slice());
     Ok(Showing {
         knowledge,
-        list,
+        list: joined(alloc, shown, marked)?,
+        fresh: fresh.len(),
         so_far,
     })
 }

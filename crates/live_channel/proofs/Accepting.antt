@@ -1,5 +1,5 @@
 -- An accepted refresh, from the segments that a channel holds.
-use Rattle.std.proofs.Common.{zero, suc, drop, ◌≡◌, ℕ, Bool, true, false, cond, ◌||◌, ◌&&◌, not, List, [], ◌∷◌, map, length, refl, ap, sym, ◌∙◌}
+use Rattle.std.proofs.Common.{zero, suc, drop, ◌≡◌, ℕ, Bool, true, false, cond, ◌||◌, ◌&&◌, not, List, [], ◌∷◌, map, length, refl, ap, sym, ◌∙◌, subst}
 use Rattle.std.specs.Prelude.{Option, Some, None, IsSome, option_map, filter, nat_le, is_some, bytes_eq}
 use Rattle.std.specs.List.{list_any}
 use Rattle.std.proofs.lemmas.List.{length-map}
@@ -22,14 +22,19 @@ use Rattle.break_finder.specs.Known.{is_this}
 use Rattle.channel_spec.specs.Successor.{first_number}
 use Rattle.channel_spec.specs.Marking.{is_new, last_entered}
 use Rattle.channel_spec.specs.Live.{states_instant, date_ranges_left}
-use Rattle.channel_spec.specs.Kept.{head_numbers, window_on}
+use Rattle.channel_spec.specs.Kept.{Kept, head_numbers, window_on, items_on, kept_items, kept_list, kept_length}
 use Rattle.channel_spec.specs.Live.{date_range_text}
 use Rattle.channel_window.specs.Marking.{so_far}
-use Rattle.channel_window.specs.Showing.{kept_in}
+use Rattle.channel_window.specs.Showing.{kept_in, IsShown}
+use Rattle.channel_window.specs.declared.showing.Showing.{Showing}
 use Rattle.channel_window.specs.declared.state.ChannelState.{ChannelState}
 use Rattle.channel_window.specs.Listed.{head_of, states_time}
 use Rattle.owed_is_denoted.specs.Owed.{out_playlist}
-use Rattle.live_channel.specs.Inner.Accepting.{breaks_after, text_with_window}
+use Rattle.break_finder.specs.Breaks.{Break}
+use Rattle.live_channel.specs.declared.channel.Refreshed.{Refreshed}
+use Rattle.live_channel.specs.declared.next.NextState.{NextState}
+use Rattle.live_channel.specs.Channel.{refreshed_with, fresh_after}
+use Rattle.live_channel.specs.Inner.Accepting.{breaks_after, text_with_window, IsNext, IsAccepted}
 
 -- ---- items
 
@@ -63,14 +68,29 @@ module _ (state : ChannelState) (p : Playlist) (held : List Held) (n : ℕ) wher
   pub numbers_seen : (items : List OutSegment) (k : Numbers) → items ≡ map written_item window → k ≡ head_of items → k ≡ head_numbers window
   numbers_seen items k w h = h ∙ (ap head_of w ∙ heads window)
 
-  pub count_seen : (items : List OutSegment) (k : ℕ) → items ≡ map written_item window → k ≡ length items → k ≡ length window
-  count_seen items k w h = h ∙ (ap length w ∙ length-map window written_item)
+  pub refreshed_seen : (items : List OutSegment) (numbers : Numbers) (count fresh : ℕ) → items ≡ map written_item window → numbers ≡ head_of items → count ≡ length items
+      → (record { media_sequence = numbers.media_sequence; segments = count; fresh = fresh } : Refreshed) ≡ refreshed_with window fresh
+  refreshed_seen items numbers count fresh w h e =
+      ap (λ (k : Numbers). (record { media_sequence = k.media_sequence; segments = count; fresh = fresh } : Refreshed)) (numbers_seen items numbers w h)
+      ∙ ap (λ k. record (refreshed_with window fresh) { segments = k }) (e ∙ (ap length w ∙ length-map window written_item))
 
--- ---- the refresh
+-- ---- what is shown is what is to be shown
 
-pub fresh_kept : (store : Store) (shown others : List Held) (segments fresh : List Segment) → shown ≡ others → fresh ≡ filter (is_new (so_far store shown)) segments
-    → length fresh ≡ length (filter (is_new (so_far store others)) segments)
-fresh_kept store shown others segments fresh e f = ap length f ∙ ap (λ (xs : List Held). length (filter (is_new (so_far store xs)) segments)) e
+module _ (tolerance : ℕ) (state : ChannelState) (p : Playlist) (showing : Showing) (next : NextState) (shown : IsShown tolerance state p showing) where
+  abbrev kept : Kept
+  kept = kept_in state
+
+  pub accepted : IsNext kept p showing.knowledge (so_far state.store showing.list.items) showing.so_far showing.fresh next → IsAccepted tolerance kept p next
+  accepted n =
+      subst (λ (breaks : List Break). IsNext kept p breaks (kept_list tolerance kept p) (kept_length tolerance kept p) (fresh_after kept.shown p) next) shown.breaks
+      (subst (λ (list : List Marked). IsNext kept p showing.knowledge list (kept_length tolerance kept p) (fresh_after kept.shown p) next) shown.list
+      (subst (λ (so_long : ℕ). IsNext kept p showing.knowledge (so_far state.store showing.list.items) so_long (fresh_after kept.shown p) next) shown.length
+      (subst (λ (fresh : ℕ). IsNext kept p showing.knowledge (so_far state.store showing.list.items) showing.so_far fresh next) shown.fresh n)))
+
+pub items_kept : (tolerance : ℕ) (state : ChannelState) (p : Playlist) (showing : Showing) → IsShown tolerance state p showing
+    → items_on (kept_in state) p (so_far state.store showing.list.items) showing.so_far ≡ kept_items tolerance (kept_in state) p
+items_kept tolerance state p showing shown =
+    ap (λ (list : List Marked). items_on (kept_in state) p list showing.so_far) shown.list ∙ ap (items_on (kept_in state) p (kept_list tolerance (kept_in state) p)) shown.length
 
 -- the later ones of decided segments
 pub later_decided : (store : Store) (n : ℕ) (held : List Held) → AreDecided store held → AreDecided store (drop n held)

@@ -17,7 +17,6 @@ use Rattle.playlist_model.specs.declared.Playlist.{Playlist}
 use Rattle.stitcher.specs.declared.ends.Rest.{Rest}
 use Rattle.channel_window.specs.Listed.{IsRestDecided}
 use Rattle.channel_window.specs.declared.state.ChannelState.{ChannelState}
-use Rattle.live_channel.specs.Inner.Accepting.{IsLeft}
 use Rattle.channel_window.specs.Marking.{so_far}
 use Rattle.live_channel.specs.Inner.Marks.{mark_held, marks_held, marks_and_last, rest_held, breaks_held}
 
@@ -49,13 +48,14 @@ rest_seen store (Some rest) d = by (pod_for store rest.id) d
     by None h = absurd (cc)
     by (Some pod) h = refl
 
-pub breaks_seen : (state : ChannelState) (kept : Kept) (p : Playlist) (held : List Held) (last other : Option (List ℕ)) (rest : Option Rest) → AreDecided state.store held → last ≡ other → IsLeft state.store kept p (so_far state.store held) rest
+pub breaks_seen : (state : ChannelState) (kept : Kept) (p : Playlist) (held : List Held) (last other : Option (List ℕ)) (rest : Option Rest) → AreDecided state.store held → last ≡ other
+    → rest_in state.store rest ≡ rest_after kept p (so_far state.store held) → IsRestDecided state.store rest
     → breaks_held (first_number p.segments) held last rest ≡ in_use_with (first_number p.segments) (so_far state.store held) other (rest_after kept p (so_far state.store held))
-breaks_seen state kept p held last other rest d e l =
+breaks_seen state kept p held last other rest d e left decided =
     let number = first_number p.segments in
     let marks = marks_from number (so_far state.store held) in
     ap (λ ids. ids ++ rest_held rest) (marks_seen state.store number held last other d e)
-    ∙ (ap (λ ids. (marks ++ ids_in other) ++ ids) (rest_seen state.store rest l.decided ∙ ap (λ o. ids_in (rest_id o)) l.rest)
+    ∙ (ap (λ ids. (marks ++ ids_in other) ++ ids) (rest_seen state.store rest decided ∙ ap (λ o. ids_in (rest_id o)) left)
     ∙ append_assoc marks (ids_in other) (ids_in (rest_id (rest_after kept p (so_far state.store held)))))
 
 -- a segment before the number adds no break

@@ -33,7 +33,7 @@ use Rattle.channel_spec.specs.Kept.{Kept, shown_from, kept_after, kept_items, ke
 use Rattle.channel_spec.proofs.HeldPods.{kept_found, same_id, is_shown_with, in_use_with_is}
 use Rattle.owed_is_denoted.proofs.Given.{is_read}
 use Rattle.live_channel.specs.declared.channel.Refreshed.{Refreshed}
-use Rattle.live_channel.specs.declared.refresh.NextState.{NextState}
+use Rattle.live_channel.specs.declared.next.NextState.{NextState}
 use Rattle.channel_window.specs.declared.state.ChannelState.{ChannelState}
 use Rattle.channel_window.specs.Checked.{AreContiguous}
 use Rattle.channel_window.specs.Marking.{so_far}
@@ -163,49 +163,46 @@ module _ (base : Parts) (tolerance : ℕ) (state : ChannelState) (text : Option 
     abbrev accepted : IsAccepted tolerance kept p a
     accepted = f.accepted
 
-    abbrev done : Refreshed
-    done = record { media_sequence = a.written.numbers.media_sequence; segments = a.written.count; fresh = a.fresh }
-
     abbrev after : Channel
-    after = channel_with base tolerance (accepted_state state p a) (Some a.written.text)
+    after = channel_with base tolerance (accepted_state state p a) (Some a.text)
 
     unrefused : kept_refusal tolerance kept p ≡ None
-    unrefused = no_fault (succession_fault kept.last p) (fault_if (not (list_all fits (kept_items tolerance kept p))) NumberRange) f.succeeds (ap (λ b. fault_if (not b) NumberRange) accepted.written.fit)
+    unrefused = no_fault (succession_fault kept.last p) (fault_if (not (list_all fits (kept_items tolerance kept p))) NumberRange) f.succeeds (ap (λ b. fault_if (not b) NumberRange) accepted.fit)
 
     listed : (id : List ℕ) → (is_shown_with (first_number p.segments) (kept_list tolerance kept p) (or_earlier (last_entered (kept_list tolerance kept p)) kept.entered) id || is_this id (rest_id (rest_after kept p (kept_list tolerance kept p)))) ≡ true
-        → is_one_of a.written.in_use.items id ≡ true
-    listed id k = ap (λ ids. is_one_of ids id) accepted.written.in_use ∙ (in_use_with_is (first_number p.segments) (kept_list tolerance kept p) (or_earlier (last_entered (kept_list tolerance kept p)) kept.entered) (rest_after kept p (kept_list tolerance kept p)) id ∙ k)
+        → is_one_of a.in_use.items id ≡ true
+    listed id k = ap (λ ids. is_one_of ids id) accepted.in_use ∙ (in_use_with_is (first_number p.segments) (kept_list tolerance kept p) (or_earlier (last_entered (kept_list tolerance kept p)) kept.entered) (rest_after kept p (kept_list tolerance kept p)) id ∙ k)
 
-    in_use : AllByRecursion (λ (x : Marked). (id : List ℕ) → is_marked id x.mark ≡ true → is_one_of a.written.in_use.items id ≡ true) (so_far state.store a.shown.items)
+    in_use : AllByRecursion (λ (x : Marked). (id : List ℕ) → is_marked id x.mark ≡ true → is_one_of a.in_use.items id ≡ true) (so_far state.store a.shown.items)
     in_use =
-        subst (λ (xs : List Marked). AllByRecursion (λ (x : Marked). (id : List ℕ) → is_marked id x.mark ≡ true → is_one_of a.written.in_use.items id ≡ true) xs) (sym accepted.shown)
-        (used_from (first_number p.segments) (is_one_of a.written.in_use.items) (kept_list tolerance kept p) (λ id k. listed id (or_first _ _ (or_first _ _ k))))
+        subst (λ (xs : List Marked). AllByRecursion (λ (x : Marked). (id : List ℕ) → is_marked id x.mark ≡ true → is_one_of a.in_use.items id ≡ true) xs) (sym accepted.shown)
+        (used_from (first_number p.segments) (is_one_of a.in_use.items) (kept_list tolerance kept p) (λ id k. listed id (or_first _ _ (or_first _ _ k))))
 
-    rest_used : (id : List ℕ) → is_this id (rest_id (rest_in state.store a.written.rest)) ≡ true → is_one_of a.written.in_use.items id ≡ true
-    rest_used id k = listed id (or_second _ _ (ap (λ o. is_this id (rest_id o)) (sym accepted.left.rest) ∙ k))
+    rest_used : (id : List ℕ) → is_this id (rest_id (rest_in state.store a.rest)) ≡ true → is_one_of a.in_use.items id ≡ true
+    rest_used id k = listed id (or_second _ _ (ap (λ o. is_this id (rest_id o)) (sym accepted.rest) ∙ k))
 
-    stay : Stay state.store (kept_in_use a.written.in_use.items state.store) a.shown.items a.written.rest
+    stay : Stay state.store (kept_in_use a.in_use.items state.store) a.shown.items a.rest
     stay = record {
       marks =
-          marks_stay a.written.in_use.items state.store a.shown.items accepted.decided
-          (unturned (λ (x : Marked). (id : List ℕ) → is_marked id x.mark ≡ true → is_one_of a.written.in_use.items id ≡ true) (map (meant state.store) a.shown.items) [] in_use).0;
-      rest = rest_stays a.written.in_use.items state.store a.written.rest accepted.left.decided rest_used;
+          marks_stay a.in_use.items state.store a.shown.items accepted.decided
+          (unturned (λ (x : Marked). (id : List ℕ) → is_marked id x.mark ≡ true → is_one_of a.in_use.items id ≡ true) (map (meant state.store) a.shown.items) [] in_use).0;
+      rest = rest_stays a.in_use.items state.store a.rest accepted.rest_decided rest_used;
     }
 
     kept_is : kept_in (accepted_state state p a) ≡ kept_after tolerance kept p
     kept_is =
-        kept_ext (kept_in (accepted_state state p a)) (kept_after tolerance kept p) (ap (λ ids. kept_in_use ids state.store) accepted.written.in_use) accepted.breaks refl
-        (ap (λ (xs : List Marked). reverse xs) stay.marks.same ∙ accepted.shown) accepted.written.entered accepted.written.numbers accepted.lasted (stay.rest.same ∙ accepted.left.rest)
+        kept_ext (kept_in (accepted_state state p a)) (kept_after tolerance kept p) (ap (λ ids. kept_in_use ids state.store) accepted.in_use) accepted.breaks refl
+        (ap (λ (xs : List Marked). reverse xs) stay.marks.same ∙ accepted.shown) accepted.entered accepted.numbers accepted.lasted (stay.rest.same ∙ accepted.rest)
 
-    steps : Steps before bytes (Ok done) after
+    steps : Steps before bytes (Ok a.refreshed) after
     steps = record {
       says =
-          ap Ok (ap (λ (n : Numbers). record done { media_sequence = n.media_sequence }) accepted.written.numbers ∙ ap (λ k. record (refreshed_with (kept_window tolerance kept p) a.fresh) { segments = k }) accepted.written.count ∙ ap (refreshed_with (kept_window tolerance kept p)) accepted.fresh)
+          ap Ok accepted.refreshed
           ∙ (ap (λ o. judged o (refreshed_with (kept_window tolerance kept p) (fresh_after kept.shown p))) (sym unrefused)
           ∙ ap (says_read before) (sym h.read));
       comes =
-          ap (λ k. record { base = base; tolerance = tolerance; kept = k; text = Some a.written.text }) kept_is
-          ∙ (ap (λ t. record { base = base; tolerance = tolerance; kept = kept_after tolerance kept p; text = Some t }) accepted.written.text
+          ap (λ k. record { base = base; tolerance = tolerance; kept = k; text = Some a.text }) kept_is
+          ∙ (ap (λ t. record { base = base; tolerance = tolerance; kept = kept_after tolerance kept p; text = Some t }) accepted.text
           ∙ (ap (step_judged before p) (sym unrefused) ∙ ap (step_read before) (sym h.read)));
       typed = typed p h.read h.texts;
     }
@@ -216,12 +213,12 @@ module _ (base : Parts) (tolerance : ℕ) (state : ChannelState) (text : Option 
       pub numbers : IsContiguous new.last
       pub refreshes : Refreshes before bytes (Ok answer.0) (channel_with base tolerance new (Some answer.1))
 
-    goes_so : Stands before → Goes (accepted_state state p a) (done, a.written.text)
+    goes_so : Stands before → Goes (accepted_state state p a) (a.refreshed, a.text)
     goes_so s =
-        let r = steps_refresh before bytes (Ok done) after steps in
+        let r = steps_refresh before bytes (Ok a.refreshed) after steps in
         record { stands = (refreshed bytes ∷ s.0, (r s.0 s.1).stands); decided = (stay.marks.decided, stay.rest.decided); numbers = h.numbers; refreshes = r }
 
-    pub goes : (new : ChannelState) (answer : Refreshed × List ℕ) → new ≡ accepted_state state p a → answer ≡ (done, a.written.text) → Stands before → Goes new answer
+    pub goes : (new : ChannelState) (answer : Refreshed × List ℕ) → new ≡ accepted_state state p a → answer ≡ (a.refreshed, a.text) → Stands before → Goes new answer
     goes new answer e k s = subst (λ (x : ChannelState). Goes x answer) (sym e) (subst (Goes (accepted_state state p a)) (sym k) (goes_so s))
 
   -- ---- a refused refresh

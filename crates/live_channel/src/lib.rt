@@ -4,9 +4,9 @@
 mod channel;
 mod in_use;
 pub mod laws;
+mod next;
 mod refresh;
 mod type_facts;
-mod written;
 
 pub use channel::{Channel, ChannelFault, Refreshed};
 pub use channel_spec::RefreshFault;

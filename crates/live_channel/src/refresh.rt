@@ -1,4 +1,5 @@
-//! What an accepted refresh comes to, from what is kept.
+//! A refresh in its phases: the playlist is read, it may follow the last one, it is shown, its text is written, and what the
+//! channel comes to is kept.
 ghost use Rattle.std.specs.Prelude.{◌≡◌, ℕ, IfOk, IfErr, OnOk, false};
 ghost use Rattle.std.specs.List.{list_all};
 ghost use Rattle.stitcher.specs.Stitched.{fits};
@@ -13,65 +14,15 @@ ghost use Rattle.channel_window.specs.Listed.{RefusesList};
 ghost use Rattle.channel_window.specs.declared.state.ChannelState.{ChannelState as LiveState};
 
 use crate::channel::Refreshed;
+use crate::next::{NextState, next_of};
 use crate::type_facts::utf8_of_uris;
-use crate::written::{Written, written_of};
-use break_finder::Knowledge;
 use channel_spec::RefreshFault;
-use channel_window::{
-    ChannelState, Showing, check_successor, count_before, first_number, fresh_of, from_place,
-    shown_with,
-};
+use channel_window::{ChannelState, check_successor, shown_with};
 use fixed_duration::Nanos;
 use playlist_model::{Items, Playlist, Shared, Text};
 use playlist_parse::read;
 use std::alloc::Global;
-use stitcher::MarkedSegment;
 use uri_resolver::Base;
-
-/// What a channel comes to by an accepted refresh.
-#[derive(Drop)]
-pub struct NextState {
-    /// The breaks that are known.
-    pub knowledge: Knowledge,
-    /// The segments that are shown, the oldest first.
-    pub shown: Vec<MarkedSegment>,
-    /// How long the newest run has lasted.
-    pub so_far: Nanos,
-    /// How many segments are shown for the first time.
-    pub fresh: usize,
-    /// What is written.
-    pub written: Written,
-}
-
-/// What is kept after a refresh that may follow the last one, and what is written. `NumberRange` where a number would pass
-/// 2^64 - 1.
-fn next_kept(
-    alloc: Global,
-    tolerance: Nanos,
-    state: &ChannelState,
-    playlist: &Playlist,
-) -> Result<NextState, RefreshFault>
-    requires contiguous { AreContiguous playlist.now.segments }
-    requires decided { AreKept state.now.store state.now }
-    ensures ok { IfOk result (λ a. IsAccepted tolerance (kept_in state.now) playlist.now a) }
-    ensures err { IfErr result (λ e. RefusesList e (list_all fits (kept_items tolerance (kept_in state.now) playlist.now) ≡ false)) }
-{
-    let Showing {
-        knowledge,
-        list,
-        so_far,
-    } = shown_with(alloc, tolerance, state, playlist)?;
-    let written = written_of(alloc, state, playlist, list.as_slice(), so_far)?;
-    let segments = playlist.segments.as_slice();
-    let shown_before = count_before(first_number(segments), list.as_slice());
-    Ok(NextState {
-        knowledge,
-        shown: from_place(list, shown_before)?,
-        so_far,
-        fresh: fresh_of(state.shown.as_slice(), segments).len(),
-        written,
-    })
-}
 
 // Whether a playlist may follow the last one.
 fn may_follow(last: &Option<Playlist>, playlist: &Playlist) -> Result<(), RefreshFault>
@@ -84,7 +35,25 @@ fn may_follow(last: &Option<Playlist>, playlist: &Playlist) -> Result<(), Refres
     }
 }
 
-/// What is kept after a playlist, where it is accepted.
+#[tactic(auto, using(crate::proofs::Accepting::accepted, crate::proofs::Accepting::items_kept))]
+// What a channel comes to by a playlist that may follow the last one: what it shows with it, and what it keeps and writes
+// then. `NumberRange` where a number would pass 2^64 - 1.
+fn next_kept(
+    alloc: Global,
+    tolerance: Nanos,
+    state: &ChannelState,
+    playlist: &Playlist,
+) -> Result<NextState, RefreshFault>
+    requires contiguous { AreContiguous playlist.now.segments }
+    requires decided { AreKept state.now.store state.now }
+    ensures ok { IfOk result (λ a. IsAccepted tolerance (kept_in state.now) playlist.now a) }
+    ensures err { IfErr result (λ e. RefusesList e (list_all fits (kept_items tolerance (kept_in state.now) playlist.now) ≡ false)) }
+{
+    let showing = shown_with(alloc, tolerance, state, playlist)?;
+    next_of(alloc, state, playlist, showing)
+}
+
+/// What a channel comes to by a playlist, where it is accepted.
 pub fn next_after(
     alloc: Global,
     tolerance: Nanos,
@@ -112,37 +81,24 @@ pub fn playlist_of(alloc: Global, bytes: &[u8], base: &Base) -> Result<Playlist,
     Ok(playlist)
 }
 
-/// Keeps what an accepted refresh comes to. Answers what it did, and the text that is written. The breaks that were entered
-/// with the fallback keep copies of it, which alone takes memory: where it is refused, the state is as it was.
+/// Keeps what an accepted refresh comes to, its text apart. The breaks that were entered with the fallback keep copies of
+/// it, which alone takes memory: where it is refused, the state is as it was.
 pub fn accept(
     state: &mut ChannelState,
     playlist: Playlist,
     next: NextState,
 ) -> Result<(Refreshed, Shared<Text>), RefreshFault>
     ensures state { OnOk result (state.new ≡ accepted_state state.old playlist next) }
-    ensures answer { IfOk result (λ done. done ≡ (record { media_sequence = next.written.numbers.media_sequence; segments = next.written.count; fresh = next.fresh }, next.written.text)) }
+    ensures answer { IfOk result (λ done. done ≡ (next.refreshed, next.text)) }
     ensures err { IfErr result (λ e. (e ≡ RefreshFault.OutOfMemory) × (state.new ≡ state.old)) }
 {
-    let Written {
-        entered,
-        in_use,
-        numbers,
-        count,
-        rest,
-        text,
-    } = next.written;
-    state.store.keep_in_use(in_use.as_slice())?;
+    state.store.keep_in_use(next.in_use.as_slice())?;
     state.knowledge = next.knowledge;
     state.last = Some(playlist);
     state.shown = Items::from_vec(next.shown);
-    state.entered = entered;
-    state.numbers = numbers;
+    state.entered = next.entered;
+    state.numbers = next.numbers;
     state.so_far = next.so_far;
-    state.rest = rest;
-    let done = Refreshed {
-        media_sequence: numbers.media_sequence,
-        segments: count,
-        fresh: next.fresh,
-    };
-    Ok((done, text))
+    state.rest = next.rest;
+    Ok((next.refreshed, next.text))
 }

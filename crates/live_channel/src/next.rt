@@ -1,4 +1,4 @@
-//! What a refresh writes of the segments that are shown then.
+//! What a channel comes to by a refresh that shows these segments: what it keeps then, and the text that it writes.
 ghost use Rattle.std.specs.Prelude.{◌≡◌, IfOk, IfErr, false, map};
 ghost use Rattle.std.specs.List.{list_all, list_any};
 ghost use Rattle.stitcher.specs.Stitched.{fits};
@@ -10,12 +10,15 @@ ghost use Rattle.channel_window.specs.Marking.{so_far};
 ghost use Rattle.channel_window.specs.Showing.{kept_in};
 ghost use Rattle.channel_window.specs.Listed.{IsFront, IsRestDecided, RefusesList, states_time};
 ghost use Rattle.owed_is_denoted.specs.Owed.{out_playlist};
-ghost use Rattle.live_channel.specs.Inner.Accepting.{IsLeft, IsWritten};
+ghost use Rattle.live_channel.specs.Inner.Accepting.{IsNext};
 
+use crate::channel::Refreshed;
 use crate::in_use::breaks_in_use;
+use break_finder::Knowledge;
 use channel_spec::RefreshFault;
 use channel_window::{
-    ChannelState, Window, date_ranges_left, first_number, head_of, last_entered, window_of,
+    ChannelState, Showing, Window, count_before, date_ranges_left, first_number, from_place,
+    head_of, last_entered, window_of,
 };
 use fixed_duration::Nanos;
 use playlist_model::{Items, Playlist, Shared, Text};
@@ -23,19 +26,25 @@ use playlist_write::{OutPlaylist, written};
 use std::alloc::{AllocError, Global};
 use stitcher::{MarkedSegment, Numbers, OutSegment, Rest, TextRef};
 
-/// What a refresh writes, and which breaks it uses.
+/// What a channel comes to by an accepted refresh.
 #[derive(Drop)]
-pub struct Written {
+pub struct NextState {
+    /// The breaks that are known.
+    pub knowledge: Knowledge,
+    /// The segments that are shown from the playlist's first one on, the oldest first.
+    pub shown: Vec<MarkedSegment>,
     /// The last break entered.
     pub entered: Option<Shared<Text>>,
     /// The breaks in use.
     pub in_use: Vec<Shared<Text>>,
     /// The numbers of the window's first item.
     pub numbers: Numbers,
-    /// How many items are written.
-    pub count: usize,
+    /// How long the newest run has lasted.
+    pub so_far: Nanos,
     /// The rest of a pod that the window starts with.
     pub rest: Option<Rest>,
+    /// What the refresh did.
+    pub refreshed: Refreshed,
     /// The text that is written.
     pub text: Shared<Text>,
 }
@@ -79,35 +88,41 @@ fn text_without(
     text_with(alloc, playlist, date_ranges, items)
 }
 
-/// What a refresh writes where these segments are shown, the newest run of which has lasted so long, and which breaks it uses.
-/// `NumberRange` where a number would pass 2^64 - 1.
-pub fn written_of(
+/// What a channel comes to by a refresh that shows this. `NumberRange` where a number would pass 2^64 - 1.
+pub fn next_of(
     alloc: Global,
     state: &ChannelState,
     playlist: &Playlist,
-    list: &[MarkedSegment],
-    length: Nanos,
-) -> Result<Written, RefreshFault>
-    requires decided { AreDecided state.now.store list.now }
-    requires front { IsFront state.now.shown list.now }
+    showing: Showing,
+) -> Result<NextState, RefreshFault>
+    requires decided { AreDecided state.now.store showing.list.items }
+    requires front { IsFront state.now.shown showing.list.items }
     requires rest { IsRestDecided state.now.store state.now.rest }
-    ensures ok { IfOk result (λ w. IsWritten (kept_in state.now) playlist.now (so_far state.now.store list.now) length w) }
-    ensures left { IfOk result (λ w. IsLeft state.now.store (kept_in state.now) playlist.now (so_far state.now.store list.now) w.rest) }
-    ensures err { IfErr result (λ e. RefusesList e (list_all fits (items_on (kept_in state.now) playlist.now (so_far state.now.store list.now) length) ≡ false)) }
+    ensures ok { IfOk result (λ next. IsNext (kept_in state.now) playlist.now showing.knowledge (so_far state.now.store showing.list.items) showing.so_far showing.fresh next) }
+    ensures err { IfErr result (λ e. RefusesList e (list_all fits (items_on (kept_in state.now) playlist.now (so_far state.now.store showing.list.items) showing.so_far) ≡ false)) }
 {
     let number = first_number(playlist.segments.as_slice());
-    let Window { items, rest } = window_of(alloc, state, playlist, list, length)?;
+    let list = showing.list.as_slice();
+    let Window { items, rest } = window_of(alloc, state, playlist, list, showing.so_far)?;
     let entered = last_entered(list, &state.entered)?;
     let in_use = breaks_in_use(alloc, number, list, &entered, &rest)?;
     let numbers = head_of(items.as_slice());
-    let count = items.len();
+    let refreshed = Refreshed {
+        media_sequence: numbers.media_sequence,
+        segments: items.len(),
+        fresh: showing.fresh,
+    };
     let text = text_without(alloc, playlist, in_use.as_slice(), items)?;
-    Ok(Written {
+    let gone = count_before(number, list);
+    Ok(NextState {
+        knowledge: showing.knowledge,
+        shown: from_place(showing.list, gone)?,
         entered,
         in_use,
         numbers,
-        count,
+        so_far: showing.so_far,
         rest,
+        refreshed,
         text,
     })
 }
