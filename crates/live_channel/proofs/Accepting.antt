@@ -68,11 +68,12 @@ module _ (state : ChannelState) (p : Playlist) (held : List Held) (n : ℕ) wher
   pub numbers_seen : (items : List OutSegment) (k : Numbers) → items ≡ map written_item window → k ≡ head_of items → k ≡ head_numbers window
   numbers_seen items k w h = h ∙ (ap head_of w ∙ heads window)
 
-  pub refreshed_seen : (items : List OutSegment) (numbers : Numbers) (count fresh : ℕ) → items ≡ map written_item window → numbers ≡ head_of items → count ≡ length items
-      → (record { media_sequence = numbers.media_sequence; segments = count; fresh = fresh } : Refreshed) ≡ refreshed_with window fresh
-  refreshed_seen items numbers count fresh w h e =
-      ap (λ (k : Numbers). (record { media_sequence = k.media_sequence; segments = count; fresh = fresh } : Refreshed)) (numbers_seen items numbers w h)
-      ∙ ap (λ k. record (refreshed_with window fresh) { segments = k }) (e ∙ (ap length w ∙ length-map window written_item))
+  pub refreshed_seen : (items : List OutSegment) (numbers : Numbers) (count fresh : ℕ) (done : Refreshed) → items ≡ map written_item window → numbers ≡ head_of items → count ≡ length items
+      → done ≡ record { media_sequence = numbers.media_sequence; segments = count; fresh = fresh } → done ≡ refreshed_with window fresh
+  refreshed_seen items numbers count fresh done w h e is =
+      is
+      ∙ (ap (λ (k : Numbers). record done { media_sequence = k.media_sequence; segments = count; fresh = fresh }) (numbers_seen items numbers w h)
+      ∙ ap (λ k. record (refreshed_with window fresh) { segments = k }) (e ∙ (ap length w ∙ length-map window written_item)))
 
 -- ---- what is shown is what is to be shown
 

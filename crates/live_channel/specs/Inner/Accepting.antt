@@ -38,11 +38,11 @@ breaks_after kept p list = in_use_with (first_number p.segments) list (or_earlie
 abbrev pub text_with_window : Playlist → List (List ℕ) → List Item → List ℕ
 text_with_window p breaks window = playlist_text (out_playlist p (map date_range_text (date_ranges_left (list_any states_instant window) breaks p.date_ranges)) (map written_item window))
 
--- what a channel comes to where these segments, as they are meant, are shown, the newest run of which has lasted so long, and so
--- many of which weren't shown before: each number of the stitched list fits
-pub record IsNext (kept : Kept) (p : Playlist) (breaks : List Break) (list : List Marked) (so_long fresh : ℕ) (next : NextState) : Type 0 where
+-- what a channel comes to where these breaks are known, and these segments, as they are meant, are shown, the newest run of which
+-- has lasted so long, and so many of which weren't shown before: each number of the stitched list fits
+pub record IsNext (kept : Kept) (p : Playlist) (known : List Break) (list : List Marked) (so_long fresh : ℕ) (next : NextState) : Type 0 where
   pub fit : list_all fits (items_on kept p list so_long) ≡ true
-  pub breaks : next.knowledge ≡ breaks
+  pub breaks : next.knowledge ≡ known
   pub shown : so_far kept.store next.shown.items ≡ shown_from (first_number p.segments) list
   pub decided : AreDecided kept.store next.shown.items
   pub entered : next.entered ≡ or_earlier (last_entered list) kept.entered

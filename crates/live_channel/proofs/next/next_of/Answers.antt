@@ -1,13 +1,18 @@
-use Rattle.std.proofs.Common.{rules, ◌≡◌, ◌∙◌, List, ap, drop, map, subst, sym}
+use Rattle.std.proofs.Common.{rules, refl, ◌≡◌, ◌∙◌, List, ap, drop, map, subst, sym}
 use Rattle.playlist_model.specs.LookBack.{or_earlier}
 use Rattle.stitcher.specs.StitchedSegments.{AreDecided}
+use Rattle.stitcher.specs.Stitched.{Numbers}
 use Rattle.stitcher.specs.Written.{written_item}
+use Rattle.channel_window.specs.Listed.{head_of}
 use Rattle.channel_spec.specs.Kept.{shown_from, window_on}
 use Rattle.channel_spec.specs.Marking.{last_entered}
 use Rattle.channel_spec.specs.Successor.{first_number}
 use Rattle.channel_window.specs.Marking.{so_far}
 use Rattle.channel_window.specs.Showing.{kept_in}
-use Rattle.live_channel.specs.Inner.Accepting.{breaks_after}
+use Rattle.stitcher.specs.declared.marked.MarkedSegment.{MarkedSegment as Held}
+use Rattle.live_channel.specs.declared.channel.Refreshed.{Refreshed}
+use Rattle.live_channel.specs.declared.next.NextState.{NextState}
+use Rattle.live_channel.specs.Inner.Accepting.{breaks_after, IsNext}
 use Rattle.live_channel.specs.Inner.Marks.{breaks_held}
 use Rattle.live_channel.proofs.Accepting.{text_seen, numbers_seen, refreshed_seen, later_decided}
 use Rattle.live_channel.proofs.Marks.{breaks_seen}
@@ -17,8 +22,10 @@ pub returns-clause-ok : goal.returns-clause-ok
 returns-clause-ok c =
     let s = c.args.state.now in
     let p = c.args.playlist.now in
-    let held = c.args.showing.list.items in
     let n = c.args.showing.so_far in
+    let held = c.as_slice-list.result.now in
+    let same : held ≡ c.args.showing.list.items = c.as_slice-list.ensures.value in
+    let all_decided : AreDecided s.store held = subst (AreDecided s.store) (sym same) c.requires.decided in
     let seen = so_far s.store held in
     let items = c.in_ok-items.field-0.items.items in
     let rest = c.in_ok-items.field-0.rest in
@@ -26,21 +33,38 @@ returns-clause-ok c =
     let entered_is : c.in_ok-entered.entered ≡ or_earlier (last_entered seen) s.entered = search rules in
     let breaks_are : c.in_ok-in_use.in_use.items ≡ breaks_held (first_number p.segments) held c.in_ok-entered.entered rest = search rules in
     let breaks : c.in_ok-in_use.in_use.items ≡ breaks_after (kept_in s) p seen =
-    breaks_are ∙ breaks_seen s (kept_in s) p held c.in_ok-entered.entered (or_earlier (last_entered seen) s.entered) rest c.requires.decided entered_is c.in_ok-items.ensures.rest c.in_ok-items.ensures.left in
+    breaks_are ∙ breaks_seen s (kept_in s) p held c.in_ok-entered.entered (or_earlier (last_entered seen) s.entered) rest all_decided entered_is c.in_ok-items.ensures.rest c.in_ok-items.ensures.left in
     let number = first_number p.segments in
     let dropped_is : so_far s.store (drop c.count_before-gone.result held) ≡ shown_from number seen = search rules in
-    let tail : c.in_ok-from_place.field-0.items ≡ drop c.count_before-gone.result held = search rules in
+    let tail : c.in_ok-from_place.field-0.items ≡ drop c.count_before-gone.result held = c.in_ok-from_place.ensures ∙ ap (drop c.count_before-gone.result) (sym same) in
+    let inside = c.numbers.inside in
+    let numbers : Numbers = record { media_sequence = inside.media_sequence; discontinuity_sequence = inside.discontinuity_sequence; discontinuities = inside.discontinuities } in
+    let head_is : c.head_of-numbers.result ≡ head_of items = search rules in
+    let numbers_are : numbers ≡ head_of items = c.numbers.view_is ∙ head_is in
+    let done : Refreshed = record { media_sequence = inside.media_sequence; segments = c.len.result; fresh = c.args.showing.fresh } in
+    let next : NextState = record {
+      knowledge = c.args.showing.knowledge;
+      shown = c.in_ok-from_place.field-0;
+      entered = c.in_ok-entered.entered;
+      in_use = c.in_ok-in_use.in_use;
+      numbers = c.head_of-numbers.result;
+      so_far = n;
+      rest = rest;
+      refreshed = done;
+      text = c.in_ok-text.text;
+    } in
+    subst (λ (xs : List Held). IsNext (kept_in s) p c.args.showing.knowledge (so_far s.store xs) n c.args.showing.fresh next) same
     record {
       fit = c.in_ok-items.ensures.fit;
-      breaks = search rules;
+      breaks = refl;
       shown = ap (so_far s.store) tail ∙ dropped_is;
-      decided = subst (AreDecided s.store) (sym tail) (later_decided s.store c.count_before-gone.result held c.requires.decided);
+      decided = subst (AreDecided s.store) (sym tail) (later_decided s.store c.count_before-gone.result held all_decided);
       entered = entered_is;
       in_use = breaks;
-      numbers = numbers_seen s p held n items c.head_of-numbers.result window (search rules);
-      lasted = search rules;
+      numbers = numbers_seen s p held n items c.head_of-numbers.result window head_is;
+      lasted = refl;
       rest = c.in_ok-items.ensures.rest;
       rest_decided = c.in_ok-items.ensures.left;
-      refreshed = refreshed_seen s p held n items c.head_of-numbers.result c.len.result c.args.showing.fresh window (search rules) (search rules);
+      refreshed = refreshed_seen s p held n items numbers c.len.result c.args.showing.fresh done window numbers_are (search rules) refl;
       text = text_seen s p held n items c.in_ok-in_use.in_use.items c.in_ok-text.text window breaks (search rules);
     }
