@@ -1,26 +1,17 @@
 -- An accepted refresh, from the segments that a channel holds.
-use Rattle.std.proofs.Common.{zero, suc, drop, ◌≡◌, ℕ, Bool, true, false, cond, ◌||◌, ◌&&◌, not, List, [], ◌∷◌, map, length, refl, ap, sym, ◌∙◌, subst}
-use Rattle.std.specs.Prelude.{Option, Some, None, IsSome, option_map, filter, nat_le, is_some, bytes_eq}
+use Rattle.std.proofs.Common.{zero, suc, drop, ◌≡◌, ℕ, ◌||◌, List, [], ◌∷◌, map, length, refl, ap, ◌∙◌, subst}
+use Rattle.std.specs.Prelude.{is_some}
 use Rattle.std.specs.List.{list_any}
 use Rattle.std.proofs.lemmas.List.{length-map}
-use mathlib.Core.List.{reverse_aux}
-use Rattle.playlist_model.specs.declared.DateRange.{DateRange}
 use Rattle.playlist_model.specs.declared.Playlist.{Playlist}
-use Rattle.playlist_model.specs.declared.Segment.{Segment}
 use Rattle.pod_store.specs.Marks.{Marked}
-use Rattle.playlist_model.specs.LookBack.{or_earlier}
 use Rattle.stitcher.specs.Stitched.{Numbers, Item}
 use Rattle.playlist_write.specs.Owed.{playlist_text}
-use Rattle.pod_store.specs.Store.{Store, is_one_of, pod_for}
+use Rattle.pod_store.specs.Store.{Store}
 use Rattle.stitcher.specs.declared.OutSegment.{OutSegment}
 use Rattle.stitcher.specs.declared.marked.MarkedSegment.{MarkedSegment as Held}
-use Rattle.stitcher.specs.declared.ends.Rest.{Rest}
-use Rattle.stitcher.specs.StitchedSegments.{meant, mark_with, rest_from, rest_in, AreDecided}
-use Rattle.pod_store.specs.Pods.{Pod}
+use Rattle.stitcher.specs.StitchedSegments.{AreDecided}
 use Rattle.stitcher.specs.Written.{written_item}
-use Rattle.break_finder.specs.Known.{is_this}
-use Rattle.channel_spec.specs.Successor.{first_number}
-use Rattle.channel_spec.specs.Marking.{is_new, last_entered}
 use Rattle.channel_spec.specs.Live.{states_instant, date_ranges_left}
 use Rattle.channel_spec.specs.Kept.{Kept, head_numbers, window_on, items_on, kept_items, kept_list, kept_length}
 use Rattle.channel_spec.specs.Live.{date_range_text}

@@ -5,7 +5,7 @@ use Rattle.playlist_model.specs.declared.Playlist.{Playlist}
 use Rattle.playlist_model.specs.LookBack.{or_earlier}
 use Rattle.pod_store.specs.Marks.{Marked}
 use Rattle.stitcher.specs.Stitched.{Item, fits}
-use Rattle.pod_store.specs.Store.{Store, kept_in_use}
+use Rattle.pod_store.specs.Store.{kept_in_use}
 use Rattle.stitcher.specs.StitchedSegments.{AreDecided, rest_in}
 use Rattle.stitcher.specs.Written.{written_item}
 use Rattle.break_finder.specs.Breaks.{Break}
@@ -26,8 +26,7 @@ use Rattle.live_channel.specs.declared.next.NextState.{NextState}
 use Rattle.channel_window.specs.Marking.{so_far}
 use Rattle.channel_window.specs.Listed.{IsRestDecided}
 use Rattle.channel_window.specs.Checked.{AreContiguous}
-use Rattle.channel_window.specs.Showing.{kept_in}
-use Rattle.live_channel.specs.Channel.{Reading, refreshed_with, fresh_after, channel_with, Steps}
+use Rattle.live_channel.specs.Channel.{refreshed_with, fresh_after, channel_with, Steps}
 use Rattle.channel_window.specs.declared.state.ChannelState.{ChannelState}
 
 -- the breaks in use after these segments

@@ -1,7 +1,7 @@
-use Rattle.std.proofs.Common.{rules, subst, sym}
+use Rattle.std.proofs.Common.{rules, subst}
 use Rattle.std.specs.Prelude.{IfErr}
 use Rattle.live_channel.specs.Channel.{Channel, Refreshes}
-use Rattle.live_channel.specs.Inner.Accepting.{IsRead, Refused}
+use Rattle.live_channel.specs.Inner.Accepting.{Refused}
 use Rattle.live_channel.proofs.Refreshing.{stays}
 use Rattle.live_channel.proofs.channel.Channel.refresh.Goals as goal
 
