@@ -16,34 +16,8 @@ use Rattle.stitcher.specs.declared.stitched_list.Stretch.{Stretch}
 use Rattle.stitcher.specs.Inner.Making.{numbers_fit}
 use Rattle.stitcher.specs.Inner.Stretches.{ad_item, numbers_on, kept_items, stretch_items, stretches_items, here_items, left_items}
 
-pub fits_on : (n : Numbers) (m : MarkedSegment) (later : List MarkedSegment) → list_all item_fits (kept_items n (m ∷ later)) ≡ true → numbers_fit (numbers_on n m later) ≡ true
-fits_on n m [] h = let a = and_parts _ _ h in a.0
-fits_on n m (next ∷ later) h = let a = and_parts _ _ h in let b = and_parts _ _ a.1 in b.0
-
--- what one call of `next` does
-abbrev pub Gave : Option OutSegment → List OutSegment → List OutSegment → Type 0
-Gave r old new = MatchOption r ((old ≡ []) × (new ≡ [])) (λ item. old ≡ item ∷ new)
-
-pub fit_here : (old mid : Cursor) → left_items mid ≡ left_items old → list_all item_fits (left_items old) ≡ true → list_all item_fits (here_items mid) ≡ true
-fit_here old mid same h =
-    let a = and_parts (list_all item_fits (here_items mid)) (list_all item_fits (stretches_items mid.later.now)) (sym (list_all-append item_fits (here_items mid) (stretches_items mid.later.now)) ∙ (ap (list_all item_fits) same ∙ h)) in
-    a.0
-
-pub gave_item : (r : Option OutSegment) (old mid new : Cursor) → left_items mid ≡ left_items old → (here_items mid ≡ [] → left_items mid ≡ [])
-    → Gave r (here_items mid) (here_items new) → new.later.now ≡ mid.later.now → Gave r (left_items old) (left_items new)
-gave_item None old mid new same opened p later = (
-    sym same ∙ opened p.0,
-    ap (λ t. t ++ stretches_items new.later.now) p.1
-    ∙ (ap stretches_items later ∙ (sym (ap (λ t. t ++ stretches_items mid.later.now) p.0) ∙ opened p.0)),
-  )
-gave_item (Some item) old mid new same opened p later =
-    sym same ∙ (ap (λ t. t ++ stretches_items mid.later.now) p ∙ ap (λ ss. item ∷ (here_items new ++ stretches_items ss)) (sym later))
-
-pub still_fit : (r : Option OutSegment) (old new : List OutSegment) → list_all item_fits old ≡ true → Gave r old new → list_all item_fits new ≡ true
-still_fit None old new h p = ap (list_all item_fits) p.1
-still_fit (Some item) old new h p = let a = and_parts _ _ (sym (ap (list_all item_fits) p) ∙ h) in a.1
-
-pub drops_one : (r : Option OutSegment) (old new : List OutSegment) → Gave r old new → new ≡ drop 1 old
+-- a call of `next` leaves all but the first
+pub drops_one : (r : Option OutSegment) (old new : List OutSegment) → MatchOption r ((old ≡ []) × (new ≡ [])) (λ item. old ≡ item ∷ new) → new ≡ drop 1 old
 drops_one None old new p = p.1 ∙ sym (ap (drop 1) p.0)
 drops_one (Some item) old new p = sym (ap (drop 1) p)
 
@@ -55,9 +29,6 @@ length_kept n (m ∷ later) = omega (arith, length_kept (numbers_on n m later) l
 
 pub length_stretch : (s : Stretch) → length (stretch_items s) ≡ length s.ads + length s.kept.now
 length_stretch s = omega (arith, length-append (map ad_item s.ads) (kept_items s.numbers s.kept.now), length-map s.ads ad_item, length_kept s.numbers s.kept.now)
-
-pub length_stretches : (s : Stretch) (later : List Stretch) → length (stretches_items (s ∷ later)) ≡ length (stretch_items s) + length (stretches_items later)
-length_stretches s later = length-append (stretch_items s) (stretches_items later)
 
 -- ---- a stretch more
 
@@ -82,24 +53,6 @@ pub last_stretch : (before after : List Stretch) (s : Stretch) (ads : List Segme
     → stretches_items after ≡ stretches_items before ++ map ad_item ads
 last_stretch before after s ads e f g =
     ads_moved before after s ads e f ∙ (ap (λ (k : List MarkedSegment). (stretches_items before ++ map ad_item ads) ++ kept_items s.numbers k) g ∙ append-nil (stretches_items before ++ map ad_item ads))
-
--- ---- the items that are left out
-
-left_by : (all : List OutSegment) (count passed place : ℕ) → count ≡ length all → passed ≤ count → (test : Bool) → nat_le place (count - passed) ≡ test
-    → drop (passed + min place (count - passed)) all ≡ drop place (drop passed all)
-left_by all count passed place same within true e =
-    let h : place ≤ count - passed = leb-true place (count - passed) e in
-    let k : passed + min place (count - passed) ≡ passed + place = omega arith in
-    ap (λ n. drop n all) k ∙ sym (drop-drop place passed all)
-left_by all count passed place same within false e =
-    let h : count - passed < place = leb-false place (count - passed) e in
-    let k : length all ≤ passed + min place (count - passed) = omega arith in
-    let l : length (drop passed all) ≤ place = omega (arith, length-drop passed all) in
-    drop_of_length-le all k ∙ sym (drop_of_length-le (drop passed all) l)
-
-pub left_out : (all : List OutSegment) (count passed place : ℕ) → count ≡ length all → passed ≤ count
-    → drop (passed + min place (count - passed)) all ≡ drop place (drop passed all)
-left_out all count passed place same within = left_by all count passed place same within (nat_le place (count - passed)) refl
 
 -- ---- the end of a stretch
 

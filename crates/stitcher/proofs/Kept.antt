@@ -56,13 +56,6 @@ passes_run made n m later same unfit more =
     ∙ (ap (λ b. list_all item_fits made.items && b) (list_all-append item_fits (kept_items n (m ∷ later)) rest)
     ∙ middle_false (list_all item_fits made.items) _ (list_all item_fits rest) unfit))
 
-pub unfit_first : (n : Numbers) (m : MarkedSegment) (later : List MarkedSegment) → numbers_fit n ≡ false → list_all item_fits (kept_items n (m ∷ later)) ≡ false
-unfit_first n m later e = ap (λ b. b && list_all item_fits (kept_items (numbers_on n m later) later)) e
-
-pub fit_first : (n : Numbers) (m : MarkedSegment) (later : List MarkedSegment) → numbers_fit n ≡ true
-    → list_all item_fits (kept_items n (m ∷ later)) ≡ list_all item_fits (kept_items (numbers_on n m later) later)
-fit_first n m later e = ap (λ b. b && list_all item_fits (kept_items (numbers_on n m later) later)) e
-
 -- ---- the segments in front that have no mark
 
 unmarked_more : (store : Store) (so_far : Option ℕ) (s : Segment) (instant : Option ℤ) (mark : Option (List ℕ)) (later : List MarkedSegment)
@@ -84,22 +77,13 @@ front_with : (store : Store) (so_far : Option ℕ) (previous : Option (List ℕ)
 front_with store so_far previous s instant None later = unmarked_pieces store so_far (record { segment = s; instant = instant; mark = None } ∷ later)
 front_with store so_far previous s instant (Some id) later = refl
 
--- what stands for segments begins with what stands for those in front
-pub pieces_front : (store : Store) (so_far : Option ℕ) (previous : Option (List ℕ)) (m : MarkedSegment) (later : List MarkedSegment)
+pieces_front : (store : Store) (so_far : Option ℕ) (previous : Option (List ℕ)) (m : MarkedSegment) (later : List MarkedSegment)
     → pieces_on store so_far previous (m ∷ later) ≡ front_pieces store so_far previous (m ∷ later) ++ pieces_on store so_far m.mark (after_front (m ∷ later))
 pieces_front store so_far previous m later = front_with store so_far previous m.segment m.instant m.mark later
 
+-- what stands for segments begins with what stands for those in front
 pub pieces_front_at : (store : Store) (so_far : Option ℕ) (previous : Option (List ℕ)) (list : List MarkedSegment) (m : MarkedSegment) (later : List MarkedSegment) → list ≡ m ∷ later
     → pieces_on store so_far previous list ≡ front_pieces store so_far previous list ++ pieces_on store so_far m.mark (after_front list)
 pieces_front_at store so_far previous list m later e =
     subst (λ (l : List MarkedSegment). pieces_on store so_far previous l ≡ front_pieces store so_far previous l ++ pieces_on store so_far m.mark (after_front l)) (sym e)
     (pieces_front store so_far previous m later)
-
-fewer_with : (s : Segment) (instant : Option ℤ) (mark : Option (List ℕ)) (later : List MarkedSegment)
-    → let m : MarkedSegment = record { segment = s; instant = instant; mark = mark } in length (after_front (m ∷ later)) < length later + 1
-fewer_with s instant None later = omega (arith, length-drop (unmarked_front later + 1) (record { segment = s; instant = instant; mark = None } ∷ later))
-fewer_with s instant (Some id) later = omega arith
-
-pub fewer_left : (m : MarkedSegment) (later : List MarkedSegment) → length (after_front (m ∷ later)) < length (m ∷ later)
-fewer_left m later = omega (arith, fewer_with m.segment m.instant m.mark later)
-
