@@ -1,20 +1,13 @@
 -- A walk over the items of a stitched list.
-use Rattle.std.proofs.Common.{◌≡◌, ℕ, ◌+◌, ◌-◌, ◌≤◌, ◌<◌, Bool, true, false, List, [], ◌∷◌, ◌++◌, map, refl, ap, sym, ◌∙◌, append_assoc, drop, length, min, arith, length-append, length-drop}
-use Rattle.std.specs.Prelude.{Option, Some, None, MatchOption, nat_le}
-use Rattle.std.specs.List.{list_all}
-use Rattle.std.proofs.lemmas.Bool.{and_parts, leb-true, leb-false}
-use Rattle.std.proofs.Math.ListN.{drop_of_length-le}
-use Rattle.std.proofs.lemmas.List.{append-nil, drop-drop, length-map}
-use Rattle.std.proofs.lemmas.List.Folds.{list_all-append}
+use Rattle.std.proofs.Common.{◌≡◌, ◌+◌, List, [], ◌∷◌, ◌++◌, map, refl, ap, sym, ◌∙◌, append_assoc, drop, length, arith, length-append}
+use Rattle.std.specs.Prelude.{Option, Some, None, MatchOption}
+use Rattle.std.proofs.lemmas.List.{append-nil, length-map}
 use Rattle.playlist_model.specs.declared.Segment.{Segment}
 use Rattle.stitcher.specs.Stitched.{Numbers}
-use Rattle.stitcher.specs.StitchedSegments.{item_fits}
 use Rattle.stitcher.specs.declared.OutSegment.{OutSegment}
 use Rattle.stitcher.specs.declared.marked.MarkedSegment.{MarkedSegment}
-use Rattle.stitcher.specs.declared.stitched_list.Cursor.{Cursor}
 use Rattle.stitcher.specs.declared.stitched_list.Stretch.{Stretch}
-use Rattle.stitcher.specs.Inner.Making.{numbers_fit}
-use Rattle.stitcher.specs.Inner.Stretches.{ad_item, numbers_on, kept_items, stretch_items, stretches_items, here_items, left_items}
+use Rattle.stitcher.specs.Inner.Stretches.{ad_item, numbers_on, kept_items, stretch_items, stretches_items}
 
 -- a call of `next` leaves all but the first
 pub drops_one : (r : Option OutSegment) (old new : List OutSegment) → MatchOption r ((old ≡ []) × (new ≡ [])) (λ item. old ≡ item ∷ new) → new ≡ drop 1 old

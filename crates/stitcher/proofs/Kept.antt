@@ -1,5 +1,5 @@
 -- Kept segments that follow each other.
-use Rattle.std.proofs.Common.{◌≡◌, ℕ, ◌+◌, ◌<◌, Bool, true, false, ◌&&◌, List, [], ◌∷◌, ◌++◌, map, refl, ap, sym, subst, ◌∙◌, append_assoc, take, drop, length, arith, add-one, length-drop}
+use Rattle.std.proofs.Common.{◌≡◌, ℕ, Bool, true, false, ◌&&◌, List, [], ◌∷◌, ◌++◌, map, refl, ap, sym, subst, ◌∙◌, append_assoc, take, drop, add-one}
 use Rattle.std.specs.Prelude.{ℤ, Option, Some, None}
 use Rattle.std.specs.List.{list_all}
 use Rattle.std.proofs.lemmas.List.Folds.{list_all-append}
@@ -11,7 +11,7 @@ use Rattle.stitcher.specs.StitchedSegments.{item_fits}
 use Rattle.stitcher.specs.Making.{plain}
 use Rattle.stitcher.specs.declared.marked.MarkedSegment.{MarkedSegment}
 use Rattle.stitcher.specs.Inner.Stretches.{kept_item, kept_items, numbers_on}
-use Rattle.stitcher.specs.Inner.Making.{Made, numbers_fit, numbers_after, last_of, counted, comes_to, Puts, Passes, kept_on, last_of_run, pieces_on, unmarked_front, front_pieces, after_front}
+use Rattle.stitcher.specs.Inner.Making.{Made, numbers_after, last_of, counted, comes_to, Puts, Passes, kept_on, last_of_run, pieces_on, unmarked_front, front_pieces, after_front}
 
 -- ---- their numbers
 

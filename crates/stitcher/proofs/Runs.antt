@@ -15,7 +15,7 @@ use Rattle.stitcher.specs.declared.ends.Ends.{Ends}
 use Rattle.stitcher.specs.Written.{written_item}
 use Rattle.stitcher.specs.StitchedSegments.{mark_with, mark_in, meant, IsDecided, AreDecided, rest_from, rest_in, ends_in, stitched_segments}
 use Rattle.stitcher.specs.Making.{is_same_run, pod_with}
-use Rattle.stitcher.specs.Inner.Making.{counted, begun_with, part_of, part_at, part_due, whole_from, goes_on_to_last, pieces_at, pieces_on, rest_on, pieces_between}
+use Rattle.stitcher.specs.Inner.Making.{counted, begun_with, part_of, part_due, whole_from, goes_on_to_last, pieces_at, pieces_on, rest_on, pieces_between}
 use Rattle.stitcher.proofs.Counting.{numbers_count_on}
 use Rattle.stitcher.proofs.Parts.{whole_is_part, due_is_part, rest_is_part}
 

@@ -215,7 +215,9 @@ impl<'a> Model for StitchedList<'a> {
 
 impl<'a> StitchedList<'a> {
     /// The items of stretches. Fails where there are more than memory can hold.
-    pub(crate) fn from_stretches(stretches: Vec<Stretch<'a>>) -> Result<StitchedList<'a>, AllocError>
+    pub(crate) fn from_stretches(
+        stretches: Vec<Stretch<'a>>,
+    ) -> Result<StitchedList<'a>, AllocError>
         requires { list_all item_fits (stretches_items stretches.items) ≡ true }
         ensures { IfOk result (λ list. list ≡ stretches_items stretches.entry.items) }
     {

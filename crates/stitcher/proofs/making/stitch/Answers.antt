@@ -1,4 +1,4 @@
-use Rattle.std.proofs.Common.{◌≡◌, [], ◌++◌, List, sym, subst, ap, ◌∙◌}
+use Rattle.std.proofs.Common.{[], List, sym, subst, ap, ◌∙◌}
 use Rattle.std.specs.Prelude.{None}
 use Rattle.std.specs.List.{list_all}
 use Rattle.stitcher.specs.Stitched.{Numbers, Piece}
