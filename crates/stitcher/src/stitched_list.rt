@@ -32,6 +32,7 @@ struct Cursor<'a> {
     later: &'a [Stretch<'a>],
 }
 
+#[inline(always)]
 fn ad_item(segment: &Segment) -> OutSegment<'_>
     ensures { result ≡ ad_item segment.now }
 {
@@ -44,6 +45,7 @@ fn ad_item(segment: &Segment) -> OutSegment<'_>
     }
 }
 
+#[inline(always)]
 fn kept_item<'a>(numbers: &Numbers, marked: &'a MarkedSegment) -> OutSegment<'a>
     ensures { result ≡ kept_item numbers.now marked.now }
 {
@@ -57,6 +59,7 @@ fn kept_item<'a>(numbers: &Numbers, marked: &'a MarkedSegment) -> OutSegment<'a>
 }
 
 // The numbers of the first of these, which follow a kept segment with those.
+#[inline(always)]
 fn numbers_on(numbers: &Numbers, here: &MarkedSegment, later: &[MarkedSegment]) -> Numbers
     requires { numbers_fit (numbers_on numbers.now here.now later.now) ≡ true }
     ensures { result ≡ numbers_on numbers.now here.now later.now }
@@ -74,6 +77,7 @@ fn numbers_on(numbers: &Numbers, here: &MarkedSegment, later: &[MarkedSegment]) 
 }
 
 // Goes to the next stretch that has an item, where none is left of this one.
+#[inline(always)]
 fn open_stretch<'a>(cursor: &mut Cursor<'a>)
     ensures same { left_items cursor.new ≡ left_items cursor.old }
     ensures open { here_items cursor.new ≡ [] → left_items cursor.new ≡ [] }
@@ -91,6 +95,7 @@ fn open_stretch<'a>(cursor: &mut Cursor<'a>)
 }
 
 // The next item of the stretch.
+#[inline(always)]
 fn next_here<'a>(cursor: &mut Cursor<'a>) -> Option<OutSegment<'a>>
     requires { list_all item_fits (here_items cursor.old) ≡ true }
     ensures item { MatchOption result ((here_items cursor.old ≡ []) × (here_items cursor.new ≡ [])) (λ item. here_items cursor.old ≡ item ∷ here_items cursor.new) }
