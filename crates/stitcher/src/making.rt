@@ -281,7 +281,9 @@ impl<'a> Stitching<'a> {
         ensures ok { OnOk result (self.new ≡ kept_on self.old kept.now numbers last) }
         ensures err { IfErr result (λ e. e ≡ StitchFault.OutOfMemory) }
     {
-        let ads = mem::replace(&mut self.ads, Vec::new(alloc));
+        let mut ads = mem::replace(&mut self.ads, Vec::new(alloc));
+        // The list stands as long as the playlist is written: room that nothing takes is given back.
+        ads.shrink_to_fit();
         self.stretches.push(Stretch {
             ads: Items::from_vec(ads),
             kept,
