@@ -1,3 +1,5 @@
 pub mod Making
 pub mod Stitched
 pub mod StitchedRows
+pub mod Stretches
+pub mod ListHeld
