@@ -35,7 +35,7 @@ pub struct Progress<'a> {
     has_media: bool,
     state: ReaderState<'a>,
     date_ranges: Vec<DateRange>,
-    segments: Vec<Shared<Segment>>,
+    segments: Vec<Segment>,
 }
 
 impl<'a> Model for Progress<'a> {
@@ -272,11 +272,13 @@ impl<'a> Progress<'a> {
         Ok(target)
     }
 
-    /// The playlist, where the text as a whole has no fault: `NoTarget`, `NoSegments`, `MixedMaps`.
+    /// The playlist, where the text as a whole has no fault: `NoTarget`, `NoSegments`, `MixedMaps`. Its segments are shared
+    /// from here on.
     pub fn playlist(self) -> Result<Playlist, FaultKind>
         ensures { Ends self.entry result }
     {
         let target = self.target_of_whole()?;
+        let segments = Shared::new(self.alloc, Items::from_vec(self.segments))?;
         Ok(Playlist {
             version: self.version.unwrap_or(1),
             target_duration: target,
@@ -284,7 +286,7 @@ impl<'a> Progress<'a> {
             independent_segments: self.independent_segments,
             end_list: self.end_list,
             date_ranges: Items::from_vec(self.date_ranges),
-            segments: Items::from_vec(self.segments),
+            segments,
         })
     }
 }
@@ -326,24 +328,24 @@ fn playlist_type_of(rest: &str) -> Result<PlaylistKind, FaultKind>
     }
 }
 
-fn is_any_mapped(segments: &[Shared<Segment>]) -> bool
+fn is_any_mapped(segments: &[Segment]) -> bool
     ensures { result ≡ list_any has_section segments.now }
 {
     segments
         .iter()
-        .any(|s: &Shared<Segment>| s.init_section.is_some())
+        .any(|s: &Segment| s.init_section.is_some())
 }
 
-fn are_all_mapped(segments: &[Shared<Segment>]) -> bool
+fn are_all_mapped(segments: &[Segment]) -> bool
     ensures { result ≡ list_all has_section segments.now }
 {
     segments
         .iter()
-        .all(|s: &Shared<Segment>| s.init_section.is_some())
+        .all(|s: &Segment| s.init_section.is_some())
 }
 
 // Whether some segments have an initialisation section, and others have none.
-fn are_mixed(segments: &[Shared<Segment>]) -> bool
+fn are_mixed(segments: &[Segment]) -> bool
     ensures { result ≡ are_mixed segments.now }
 {
     is_any_mapped(segments) && !are_all_mapped(segments)

@@ -8,7 +8,7 @@ ghost use Rattle.timeline.specs.Reckoned.{clamped, stack_of};
 
 use date_times::FIRST_INSTANT;
 use fixed_duration::Nanos;
-use playlist_model::{Instant, Segment, Shared};
+use playlist_model::{Instant, Segment};
 use std::alloc::{AllocError, Global};
 use std::marker::Model;
 
@@ -76,7 +76,7 @@ fn begins_at(ended: Option<i128>, segment: &Segment, reckoned: Option<i128>) -> 
 // segment's stands last.
 fn reckoned_stack(
     alloc: Global,
-    segments: &[Shared<Segment>],
+    segments: &[Segment],
 ) -> Result<Vec<Option<i128>>, AllocError>
     ensures { IfOk result (λ v. v.items ≡ stack_of segments.now) }
 {
@@ -96,7 +96,7 @@ fn reckoned_stack(
 pub struct Beginnings<'a> {
     alloc: Global,
     ended: Option<i128>,
-    segments: &'a [Shared<Segment>],
+    segments: &'a [Segment],
     // What is reckoned of the segments that are left, once one of them needed it.
     stack: Option<Vec<Option<i128>>>,
 }
@@ -119,7 +119,7 @@ impl<'a> Beginnings<'a> {
     pub fn new(
         alloc: Global,
         ended: Option<i128>,
-        segments: &'a [Shared<Segment>],
+        segments: &'a [Segment],
     ) -> Beginnings<'a>
         ensures { result ≡ instants_after ended segments.now }
     {
