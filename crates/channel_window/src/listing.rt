@@ -44,7 +44,7 @@ pub fn newest_end(shown: &[MarkedSegment]) -> Option<i128>
     }
 }
 
-#[tactic(auto, using(crate::proofs::Listed::rest_after))]
+#[tactic(auto, using(crate::proofs::Listed::rest_after, crate::proofs::Listed::tail_of, crate::proofs::Listed::tail_on))]
 // Those of a playlist's segments that are numbered after this: its last ones.
 fn after(number: u64, segments: &[Segment]) -> &[Segment]
     requires { AreContiguous segments.now }
@@ -61,7 +61,7 @@ fn after(number: u64, segments: &[Segment]) -> &[Segment]
     rest
 }
 
-#[tactic(auto, using(crate::proofs::Listed::same_new, crate::proofs::Listed::all_new))]
+#[tactic(auto, using(crate::proofs::Listed::same_new, crate::proofs::Listed::all_new, crate::proofs::Listed::tail_whole))]
 /// The segments of a playlist that weren't shown before: its last ones.
 pub fn fresh_of<'a>(shown: &[MarkedSegment], segments: &'a [Segment]) -> &'a [Segment]
     requires { AreContiguous segments.now }
@@ -87,6 +87,7 @@ fn copied_segments(alloc: Global, segments: &[Segment]) -> Result<Vec<Segment>, 
     Ok(done)
 }
 
+#[tactic(auto, using(crate::proofs::Listed::tail_whole))]
 /// A list that ends with these, which a playlist's list ends with: that list itself, or one of copies where they are fewer
 /// than half of it, so that a segment which is shown for long doesn't hold all that were listed with it.
 pub fn list_with(
