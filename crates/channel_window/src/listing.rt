@@ -15,7 +15,7 @@ ghost use Rattle.channel_window.specs.Inner.Listed.{IsTail, is_after};
 
 use crate::marking::copied_text;
 use fixed_duration::Nanos;
-use playlist_model::{Items, Segment, Shared, Text};
+use playlist_model::{Items, Members, Segment, Shared, Text};
 use pod_store::PodStore;
 use std::alloc::{AllocError, Global};
 use stitcher::{MarkedSegment, is_same_run};
@@ -103,6 +103,17 @@ pub fn list_with(
     }
     let copies = copied_segments(alloc, fresh)?;
     Shared::new(alloc, Items::from_vec(copies))
+}
+
+/// These, which a list ends with, as its members.
+pub fn last_members<'a>(
+    list: &'a Shared<Items<Segment>>,
+    fresh: &[Segment],
+) -> Members<'a, Segment>
+    requires { IsTail fresh.now list.now }
+    ensures { result ≡ fresh.now }
+{
+    Members::from_place(list, list.len().saturating_sub(fresh.len()))
 }
 
 fn copied(marked: &MarkedSegment) -> Result<MarkedSegment, AllocError>

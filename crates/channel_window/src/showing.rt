@@ -6,13 +6,13 @@ ghost use Rattle.channel_window.specs.Checked.{AreContiguous};
 ghost use Rattle.channel_window.specs.Showing.{kept_in};
 ghost use Rattle.channel_window.specs.Showing.{IsShown};
 
-use crate::listing::{fresh_of, joined, length_after, list_with, newest_end, newest_mark};
+use crate::listing::{fresh_of, joined, last_members, length_after, list_with, newest_end, newest_mark};
 use crate::marking::{Limits, mark_on, text_in};
 use crate::state::ChannelState;
 use crate::successor::is_mapped;
 use break_finder::Knowledge;
 use fixed_duration::Nanos;
-use playlist_model::{Members, Playlist};
+use playlist_model::Playlist;
 use std::alloc::{AllocError, Global};
 use stitcher::MarkedSegment;
 use timeline::Beginnings;
@@ -57,7 +57,6 @@ pub fn shown_with(
     let knowledge = state.knowledge.carry(alloc, playlist, text_in(&newest))?;
     let fresh = fresh_of(shown, playlist.segments.as_slice());
     let segments = list_with(alloc, fresh, &playlist.segments)?;
-    let known = segments.len().saturating_sub(fresh.len());
     let marked = mark_on(
         alloc,
         &limits_of(tolerance, playlist),
@@ -65,7 +64,7 @@ pub fn shown_with(
         &state.store,
         &newest,
         &state.entered,
-        Members::from_place(&segments, known),
+        last_members(&segments, fresh),
         Beginnings::new(alloc, newest_end(shown), fresh),
     )?;
     let so_far = length_after(&state.store, &newest, state.so_far, marked.as_slice());
