@@ -7,7 +7,7 @@ use Rattle.stitcher.specs.Stitched.{Numbers}
 use Rattle.stitcher.specs.declared.OutSegment.{OutSegment}
 use Rattle.stitcher.specs.declared.marked.MarkedSegment.{MarkedSegment}
 use Rattle.stitcher.specs.declared.stitched_list.Stretch.{Stretch}
-use Rattle.stitcher.specs.Inner.Stretches.{ad_item, numbers_on, kept_items, stretch_items, stretches_items}
+use Rattle.stitcher.specs.Stretches.{ad_item, numbers_on, kept_items, stretch_items, stretches_items}
 
 -- a call of `next` leaves all but the first
 pub drops_one : (r : Option OutSegment) (old new : List OutSegment) → MatchOption r ((old ≡ []) × (new ≡ [])) (λ item. old ≡ item ∷ new) → new ≡ drop 1 old

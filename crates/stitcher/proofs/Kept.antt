@@ -10,7 +10,7 @@ use Rattle.stitcher.specs.Written.{written_item}
 use Rattle.stitcher.specs.StitchedSegments.{item_fits}
 use Rattle.stitcher.specs.Making.{plain}
 use Rattle.stitcher.specs.declared.marked.MarkedSegment.{MarkedSegment}
-use Rattle.stitcher.specs.Inner.Stretches.{kept_item, kept_items, numbers_on}
+use Rattle.stitcher.specs.Stretches.{kept_item, kept_items, numbers_on}
 use Rattle.stitcher.specs.Inner.Making.{Made, numbers_after, last_of, counted, comes_to, Puts, Passes, kept_on, last_of_run, pieces_on, unmarked_front, front_pieces, after_front}
 
 -- ---- their numbers

@@ -1,5 +1,3 @@
 pub mod Making
 pub mod Stitched
 pub mod StitchedRows
-pub mod Stretches
-pub mod ListHeld

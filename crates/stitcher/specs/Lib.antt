@@ -6,4 +6,5 @@ pub mod StitchedSegments
 pub mod Making
 pub mod Stitched
 pub mod Paced
+pub mod Stretches
 pub mod Inner

@@ -9,7 +9,7 @@ ghost use Rattle.pod_store.specs.Store.{pod_for};
 ghost use Rattle.playlist_model.specs.Numbering.{segment_numbers};
 ghost use Rattle.stitcher.specs.Making.{is_same_run, plain, pod_with};
 ghost use Rattle.stitcher.specs.Inner.Making.{Passes, Puts, after_front, front_pieces, goes_on_to_last, kept_on, last_of_run, numbers_fit, numbers_with, part_after, part_after_one, part_at, part_here, part_of, pushed, rest_on, shows_next, steps_from, unmarked_front, whole_from};
-ghost use Rattle.stitcher.specs.Inner.Stretches.{kept_items};
+ghost use Rattle.stitcher.specs.Stretches.{kept_items};
 
 use crate::copies::{AdParts, ad_parts, ad_segment};
 use crate::ends::{Ends, Rest};
@@ -58,7 +58,7 @@ pub struct Stitching<'a> {
 impl<'a> Model for Stitching<'a> {
     ghost use Rattle.std.specs.Prelude.{◌++◌, map};
     ghost use Rattle.stitcher.specs.Inner.Making.{Made};
-    ghost use Rattle.stitcher.specs.Inner.Stretches.{ad_item, stretches_items};
+    ghost use Rattle.stitcher.specs.Stretches.{ad_item, stretches_items};
 
     ghost Value = { Made };
 

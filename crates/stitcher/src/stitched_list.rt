@@ -3,7 +3,7 @@ ghost use Rattle.std.specs.Prelude.{◌≡◌, ◌∷◌, ◌+◌, [], drop, len
 ghost use Rattle.std.specs.List.{list_all};
 ghost use Rattle.stitcher.specs.StitchedSegments.{item_fits};
 ghost use Rattle.stitcher.specs.Inner.Making.{numbers_fit};
-ghost use Rattle.stitcher.specs.Inner.Stretches.{ad_item, here_items, kept_item, left_items, numbers_on, stretch_items, stretches_items};
+ghost use Rattle.stitcher.specs.Stretches.{ad_item, here_items, kept_item, left_items, numbers_on, stretch_items, stretches_items};
 
 use crate::OutSegment;
 use crate::marked::{MarkedSegment, Numbers};
@@ -127,7 +127,7 @@ impl<'a> Model for StitchedItems<'a> {
     ghost use Rattle.std.specs.List.{list_all};
     ghost use Rattle.stitcher.specs.declared.OutSegment.{OutSegment};
     ghost use Rattle.stitcher.specs.StitchedSegments.{item_fits};
-    ghost use Rattle.stitcher.specs.Inner.Stretches.{left_items};
+    ghost use Rattle.stitcher.specs.Stretches.{left_items};
 
     ghost Value = { List OutSegment };
 
@@ -208,8 +208,7 @@ pub struct StitchedList<'a> {
 impl<'a> Model for StitchedList<'a> {
     ghost use Rattle.std.specs.Prelude.{List, drop};
     ghost use Rattle.stitcher.specs.declared.OutSegment.{OutSegment};
-    ghost use Rattle.stitcher.specs.Inner.Stretches.{stretches_items};
-    ghost use Rattle.stitcher.specs.Inner.ListHeld.{IsHeld};
+    ghost use Rattle.stitcher.specs.Stretches.{IsHeld, stretches_items};
 
     ghost Value = { List OutSegment };
 

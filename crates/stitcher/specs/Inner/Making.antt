@@ -13,7 +13,7 @@ use Rattle.stitcher.specs.declared.ends.Ends.{Ends}
 use Rattle.stitcher.specs.declared.making.Part.{Part}
 use Rattle.stitcher.specs.StitchedSegments.{item_fits}
 use Rattle.stitcher.specs.Written.{written_item}
-use Rattle.stitcher.specs.Inner.Stretches.{kept_items, numbers_on}
+use Rattle.stitcher.specs.Stretches.{kept_items, numbers_on}
 
 -- ---- the list so far
 

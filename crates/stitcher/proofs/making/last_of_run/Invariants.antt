@@ -2,7 +2,7 @@ use Rattle.std.proofs.Common.{◌≡◌, ◌∷◌, true, length}
 use Rattle.std.specs.List.{list_all}
 use Rattle.stitcher.specs.StitchedSegments.{item_fits}
 use Rattle.stitcher.specs.Inner.Making.{numbers_fit, last_of_run}
-use Rattle.stitcher.specs.Inner.Stretches.{kept_items}
+use Rattle.stitcher.specs.Stretches.{kept_items}
 use Rattle.stitcher.proofs.making.last_of_run.Given as goal
 
 abbrev pub invariant-loop-next : goal.invariant-loop-next

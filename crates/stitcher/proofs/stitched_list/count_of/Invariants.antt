@@ -1,5 +1,5 @@
 use Rattle.std.proofs.Common.{◌≡◌, ◌+◌, length, drop}
-use Rattle.stitcher.specs.Inner.Stretches.{stretches_items}
+use Rattle.stitcher.specs.Stretches.{stretches_items}
 use Rattle.stitcher.proofs.stitched_list.count_of.Given as goal
 
 abbrev pub invariant-loop-stretch : goal.invariant-loop-stretch

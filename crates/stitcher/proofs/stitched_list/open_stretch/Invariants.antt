@@ -1,5 +1,5 @@
 use Rattle.std.proofs.Common.{◌≡◌, length}
-use Rattle.stitcher.specs.Inner.Stretches.{left_items}
+use Rattle.stitcher.specs.Stretches.{left_items}
 use Rattle.stitcher.proofs.stitched_list.open_stretch.Given as goal
 
 abbrev pub invariant-loop-stretches : goal.invariant-loop-stretches

@@ -2,7 +2,7 @@ use Rattle.std.proofs.Common.{◌≡◌, ◌++◌, map, refl, ap, ◌∙◌}
 use Rattle.std.specs.List.{list_all}
 use Rattle.stitcher.specs.StitchedSegments.{item_fits}
 use Rattle.stitcher.specs.Inner.Making.{Made}
-use Rattle.stitcher.specs.Inner.Stretches.{ad_item, stretches_items}
+use Rattle.stitcher.specs.Stretches.{ad_item, stretches_items}
 use Rattle.stitcher.proofs.Cursors.{last_stretch}
 use Rattle.stitcher.proofs.making.Stitching.finish.Goals as goal
 

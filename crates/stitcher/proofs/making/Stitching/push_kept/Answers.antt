@@ -2,7 +2,7 @@ use Rattle.std.proofs.Common.{◌≡◌, ◌++◌, [], List, map, ap, ◌∙◌}
 use Rattle.std.specs.Prelude.{Some}
 use Rattle.stitcher.specs.declared.OutSegment.{OutSegment}
 use Rattle.stitcher.specs.Inner.Making.{Made, kept_on}
-use Rattle.stitcher.specs.Inner.Stretches.{ad_item, kept_items, stretches_items}
+use Rattle.stitcher.specs.Stretches.{ad_item, kept_items, stretches_items}
 use Rattle.stitcher.proofs.Cursors.{stretch_ended}
 use Rattle.stitcher.proofs.making.Stitching.push_kept.Goals as goal
 

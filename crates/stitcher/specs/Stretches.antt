@@ -1,7 +1,9 @@
 -- A stitched list as it is held: stretches, each of ads' segments and of the segments that are kept after them.
-use Rattle.std.specs.Prelude.{◌-◌, List, [], ◌∷◌, ◌++◌, map, None}
+use Rattle.std.specs.Prelude.{◌≡◌, ℕ, ◌-◌, ◌≤◌, true, List, [], ◌∷◌, ◌++◌, length, map, None}
+use Rattle.std.specs.List.{list_all}
 use Rattle.playlist_model.specs.declared.Segment.{Segment}
 use Rattle.stitcher.specs.Stitched.{Numbers, next_numbers}
+use Rattle.stitcher.specs.StitchedSegments.{item_fits}
 use Rattle.stitcher.specs.declared.OutSegment.{OutSegment}
 use Rattle.stitcher.specs.declared.marked.MarkedSegment.{MarkedSegment}
 use Rattle.stitcher.specs.declared.stitched_list.Stretch.{Stretch}
@@ -39,3 +41,9 @@ here_items c = map ad_item c.ads.now ++ kept_items c.numbers c.kept.now
 
 abbrev pub left_items : Cursor → List OutSegment
 left_items c = here_items c ++ stretches_items c.later.now
+
+-- stretches of so many items, as many of which stand before the list, and whose numbers fit
+pub record IsHeld (stretches : List Stretch) (count passed : ℕ) : Type 0 where
+  pub counted : count ≡ length (stretches_items stretches)
+  pub within : passed ≤ count
+  pub fit : list_all item_fits (stretches_items stretches) ≡ true
