@@ -5,7 +5,7 @@ use Rattle.std.proofs.lemmas.Bool.{leb-true, le-leb, and_parts}
 use Rattle.std.proofs.lemmas.Int.{to_z-of_z}
 use Rattle.jiff_core.proofs.SignedLemmas.{signed_arith}
 use Rattle.date_times.specs.Instant.{has_date_form, is_date}
-use Rattle.date_times.specs.Inner.Instant.{IsDayOf}
+use Rattle.date_times.specs.Instant.{IsDayOf}
 use Rattle.date_times.proofs.TimeForms.{date_parts}
 
 of_ten : (a b c d e f g h i j : ℕ) (rest : List ℕ) → is_date (a ∷ (b ∷ (c ∷ (d ∷ (e ∷ (f ∷ (g ∷ (h ∷ (i ∷ (j ∷ rest)))))))))) ≡ is_date (a ∷ (b ∷ (c ∷ (d ∷ (e ∷ (f ∷ (g ∷ (h ∷ (i ∷ (j ∷ []))))))))))

@@ -5,8 +5,8 @@ ghost use Rattle.jiff_core.specs.Calendar.{IsEpochDay, IsWithin};
 ghost use Rattle.std.specs.List.{list_all, prefix_len};
 ghost use Rattle.std.specs.Char.{is_ascii_digit};
 ghost use Rattle.std.specs.Str.Parse.{digits_value};
-ghost use Rattle.date_times.specs.Instant.{field, are_digits, has_date_form, is_day, is_date, day_number, has_clock_form, is_clock, fraction_len, is_fraction, offset_seconds, zone_offset, if_in_range, instant_of};
-ghost use Rattle.date_times.specs.Inner.Instant.{has_offset_form, minutes_of, IsDayOf};
+ghost use Rattle.date_times.specs.Instant.{field, are_digits, has_date_form, is_day, is_date, day_number, has_clock_form, is_clock, fraction_len, is_fraction, offset_seconds, zone_offset, if_in_range, instant_of, IsDayOf};
+ghost use Rattle.date_times.specs.Inner.Instant.{has_offset_form, minutes_of};
 
 use crate::Instant;
 use fixed_duration::nanos_of_fraction;
@@ -47,7 +47,7 @@ pub struct TimeReader {
 }
 
 impl Model for TimeReader {
-    ghost use Rattle.date_times.specs.Inner.Instant.{IsDayOf};
+    ghost use Rattle.date_times.specs.Instant.{IsDayOf};
 
     ghost Value = { Unit {0} };
 

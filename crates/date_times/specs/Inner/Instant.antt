@@ -1,11 +1,5 @@
 -- What proofs and inner functions say with the definitions of `Instant`.
-use Rattle.std.specs.Prelude.{◌≡◌, ℕ, ℤ, pos, ◌+ℤ◌, true, Bool, ◌&&◌, ◌||◌, ◌==◌, List, drop, length, slice_index, if◌then◌else◌}
-use Rattle.jiff_core.specs.Calendar.{IsEpochDay}
-use Rattle.date_times.specs.Instant.{field, is_date, day_number}
-
--- a date stands at the front, and its day is so many days from 1970
-abbrev pub IsDayOf : List ℕ → ℤ → Type 0
-IsDayOf text day = (is_date text ≡ true) × (day +ℤ pos 719528 ≡ pos (day_number (field text 0 4) (field text 5 7) (field text 8 10))) × IsEpochDay day
+use Rattle.std.specs.Prelude.{ℕ, Bool, ◌&&◌, ◌||◌, ◌==◌, List, drop, length, slice_index, if◌then◌else◌}
 
 -- ---- The parts of a time text
 

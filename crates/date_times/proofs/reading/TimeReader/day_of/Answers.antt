@@ -1,7 +1,7 @@
 use Rattle.std.proofs.Common.{◌≡◌, ◌<◌, sym, subst, ◌∙◌, false, length, take, MatchOption}
 use Rattle.std.specs.Cmp.Lexicographic.{same_text}
 use Rattle.date_times.specs.Instant.{is_date}
-use Rattle.date_times.specs.Inner.Instant.{IsDayOf}
+use Rattle.date_times.specs.Instant.{IsDayOf}
 use Rattle.date_times.proofs.KeptDates.{of_first_ten, no_date, day_fits}
 use Rattle.date_times.proofs.reading.TimeReader.day_of.Goals as goal
 
