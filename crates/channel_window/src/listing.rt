@@ -106,10 +106,7 @@ pub fn list_with(
 }
 
 /// These, which a list ends with, as its members.
-pub fn last_members<'a>(
-    list: &'a Shared<Items<Segment>>,
-    fresh: &[Segment],
-) -> Members<'a, Segment>
+pub fn last_members<'a>(list: &'a Shared<Items<Segment>>, fresh: &[Segment]) -> Members<'a, Segment>
     requires { IsTail fresh.now list.now }
     ensures { result ≡ fresh.now }
 {

@@ -6,7 +6,9 @@ ghost use Rattle.channel_window.specs.Checked.{AreContiguous};
 ghost use Rattle.channel_window.specs.Showing.{kept_in};
 ghost use Rattle.channel_window.specs.Showing.{IsShown};
 
-use crate::listing::{fresh_of, joined, last_members, length_after, list_with, newest_end, newest_mark};
+use crate::listing::{
+    fresh_of, joined, last_members, length_after, list_with, newest_end, newest_mark,
+};
 use crate::marking::{Limits, mark_on, text_in};
 use crate::state::ChannelState;
 use crate::successor::is_mapped;

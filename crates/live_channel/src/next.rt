@@ -79,12 +79,7 @@ fn text_without(
 ) -> Result<Shared<Text>, AllocError>
     ensures { IfOk result (λ text. text ≡ playlist_text (out_playlist playlist.now (map date_range_text (date_ranges_left (list_any states_time items.entry) in_use.now playlist.now.date_ranges)) items.entry)) }
 {
-    let date_ranges = date_ranges_left(
-        alloc,
-        &items,
-        in_use,
-        playlist.date_ranges.as_slice(),
-    )?;
+    let date_ranges = date_ranges_left(alloc, &items, in_use, playlist.date_ranges.as_slice())?;
     text_with(alloc, playlist, date_ranges, items)
 }
 

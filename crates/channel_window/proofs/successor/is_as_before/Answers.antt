@@ -1,5 +1,4 @@
-use Rattle.std.proofs.Common.{◌∙◌, ap, arith}
-use Rattle.playlist_model.specs.Same.{same_segment}
+use Rattle.std.proofs.Common.{◌∙◌, arith}
 use Rattle.channel_window.proofs.Found.{was_before, was_there, was_after}
 use Rattle.channel_window.proofs.successor.is_as_before.Goals as goal
 
