@@ -3,8 +3,8 @@ use Rattle.pod_store.specs.Store.{Store}
 use Rattle.stitcher.specs.StitchedSegments.{AreDecided}
 use Rattle.playlist_tests.proofs.made.unmarked.Given as goal
 
-abbrev pub invariant-loop-segment : goal.invariant-loop-segment
-invariant-loop-segment l = (store : Store) → AreDecided store l.done.items
+abbrev pub invariant-loop-done : goal.invariant-loop-done
+invariant-loop-done l = (store : Store) → AreDecided store l.done.items
 
-abbrev pub decreases-loop-segment : goal.decreases-loop-segment
-decreases-loop-segment l = length l.segments
+abbrev pub decreases-loop-done : goal.decreases-loop-done
+decreases-loop-done l = length l.segments
