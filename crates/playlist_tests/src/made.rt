@@ -21,7 +21,6 @@ pub fn key(alloc: Global, format: &str, uri: &str, iv: Option<u128>) -> Result<K
     })
 }
 
-#[tactic(auto, using(crate::proofs::Unmarked::one_more))]
 /// These segments, with a time and no mark.
 pub(crate) fn unmarked(
     alloc: Global,
