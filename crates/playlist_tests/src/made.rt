@@ -1,6 +1,6 @@
 //! Values that several tests are about.
 ghost use Rattle.std.specs.Prelude.{◌≡◌, IfOk, codes, []};
-ghost use Rattle.pod_store.specs.Store.{Store};
+ghost use Rattle.pod_store.specs.Store.{nothing_decided};
 ghost use Rattle.stitcher.specs.StitchedSegments.{AreDecided};
 
 use playlist_model::{Instant, Items, Key, Members, OtherAttributes, Segment, Shared};
@@ -26,7 +26,7 @@ pub(crate) fn unmarked(
     alloc: Global,
     segments: &Shared<Items<Segment>>,
 ) -> Result<Vec<MarkedSegment>, AllocError>
-    ensures { IfOk result (λ v. (store : Store) → AreDecided store v.items) }
+    ensures { IfOk result (λ v. AreDecided nothing_decided v.items) }
 {
     let mut done = Vec::new(alloc);
     let mut segments = Members::from_place(segments, 0);
@@ -46,7 +46,7 @@ pub(crate) fn listed(
     alloc: Global,
     marked: &[MarkedSegment],
 ) -> Result<StitchedList<'_>, AllocError>
-    requires { (store : Store) → AreDecided store marked.now }
+    requires { AreDecided nothing_decided marked.now }
 {
     let first = Numbers {
         media_sequence: 7,
