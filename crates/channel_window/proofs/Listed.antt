@@ -1,5 +1,5 @@
 -- The segments that a channel holds, the oldest first, and what is kept, the newest first.
-use Rattle.std.proofs.Common.{◌≡◌, ℕ, ◌+◌, ◌<◌, ℤ, true, cond, List, [], ◌∷◌, ◌++◌, map, length, refl, ap, sym, ◌∙◌, subst, arith}
+use Rattle.std.proofs.Common.{◌≡◌, ℕ, ◌+◌, ◌-◌, ◌<◌, ℤ, true, cond, List, [], ◌∷◌, ◌++◌, map, length, drop, refl, ap, sym, ◌∙◌, subst, arith, append_assoc, length-append}
 use Rattle.std.specs.Prelude.{Option, filter, nat_lt}
 use Rattle.std.specs.List.{AllByRecursion}
 use Rattle.std.proofs.lemmas.Bool.Decides.{nat_tests}
@@ -14,7 +14,7 @@ use Rattle.channel_spec.specs.Sound.{RiseFrom}
 use Rattle.channel_spec.specs.Marking.{Moment, newest_end, is_new}
 use Rattle.channel_spec.specs.Kept.{show_on, length_on}
 use Rattle.channel_window.specs.Marking.{so_far, mark_on, length_after}
-use Rattle.channel_window.specs.Inner.Listed.{is_after}
+use Rattle.channel_window.specs.Inner.Listed.{IsTail, is_after}
 use Rattle.channel_window.proofs.Marked.{marks_are_shown, lengths_are_kept}
 
 -- ---- one list after another
@@ -77,6 +77,23 @@ every_new (s ∷ later) = ap (λ xs. s ∷ xs) (every_new later)
 
 pub all_new : (store : Store) (shown : List Held) (segments : List Segment) → length shown ≡ 0 → filter (is_new (so_far store shown)) segments ≡ segments
 all_new store shown segments h = ap (λ (before : List Marked). filter (is_new before) segments) (none_seen store shown h) ∙ every_new segments
+
+dropped : (front rest : List Segment) → drop (length front) (front ++ rest) ≡ rest
+dropped [] rest = refl
+dropped (x ∷ front) rest = dropped front rest
+
+-- what stands after others is the end
+pub tail_of : (segments front rest : List Segment) → segments ≡ front ++ rest → IsTail rest segments
+tail_of segments front rest e =
+    let n : length segments - length rest ≡ length front = let k = ap length e ∙ length-append front rest in omega (arith, k) in
+    ap (λ n. drop n segments) n ∙ (ap (drop (length front)) e ∙ dropped front rest)
+
+-- and so is the whole
+pub tail_whole : (segments : List Segment) → IsTail segments segments
+tail_whole segments = tail_of segments [] segments refl
+
+pub tail_on : (segments rest later : List Segment) (s : Segment) → ((front : List Segment) × (segments ≡ front ++ rest)) → rest ≡ s ∷ later → (front : List Segment) × (segments ≡ front ++ later)
+tail_on segments rest later s t e = (t.0 ++ s ∷ [], t.1 ∙ (ap (λ xs. t.0 ++ xs) e ∙ sym (append_assoc t.0 (s ∷ []) later)))
 
 -- ---- the list
 

@@ -11,11 +11,11 @@ ghost use Rattle.channel_spec.specs.Kept.{shown_from};
 ghost use Rattle.channel_window.specs.Checked.{AreContiguous};
 ghost use Rattle.channel_window.specs.Marking.{so_far, capped_in, length_after};
 ghost use Rattle.channel_window.specs.Listed.{IsFront};
-ghost use Rattle.channel_window.specs.Inner.Listed.{is_after};
+ghost use Rattle.channel_window.specs.Inner.Listed.{IsTail, is_after};
 
 use crate::marking::copied_text;
 use fixed_duration::Nanos;
-use playlist_model::{Segment, Shared, Text};
+use playlist_model::{Items, Members, Segment, Shared, Text};
 use pod_store::PodStore;
 use std::alloc::{AllocError, Global};
 use stitcher::{MarkedSegment, is_same_run};
@@ -44,11 +44,12 @@ pub fn newest_end(shown: &[MarkedSegment]) -> Option<i128>
     }
 }
 
-#[tactic(auto, using(crate::proofs::Listed::rest_after))]
-// Those of a playlist's segments that are numbered after this.
-fn after(number: u64, segments: &[Shared<Segment>]) -> &[Shared<Segment>]
+#[tactic(auto, using(crate::proofs::Listed::rest_after, crate::proofs::Listed::tail_of, crate::proofs::Listed::tail_on))]
+// Those of a playlist's segments that are numbered after this: its last ones.
+fn after(number: u64, segments: &[Segment]) -> &[Segment]
     requires { AreContiguous segments.now }
-    ensures { result.now ≡ filter (is_after number) segments.now }
+    ensures value { result.now ≡ filter (is_after number) segments.now }
+    ensures last { IsTail result.now segments.now }
 {
     let mut rest = segments;
     while let Some((segment, later)) = rest.split_first() {
@@ -60,19 +61,56 @@ fn after(number: u64, segments: &[Shared<Segment>]) -> &[Shared<Segment>]
     rest
 }
 
-#[tactic(auto, using(crate::proofs::Listed::same_new, crate::proofs::Listed::all_new))]
-/// The segments of a playlist that weren't shown before.
-pub fn fresh_of<'a>(
-    shown: &[MarkedSegment],
-    segments: &'a [Shared<Segment>],
-) -> &'a [Shared<Segment>]
+#[tactic(auto, using(crate::proofs::Listed::same_new, crate::proofs::Listed::all_new, crate::proofs::Listed::tail_whole))]
+/// The segments of a playlist that weren't shown before: its last ones.
+pub fn fresh_of<'a>(shown: &[MarkedSegment], segments: &'a [Segment]) -> &'a [Segment]
     requires { AreContiguous segments.now }
-    ensures { (store : Store) → result.now ≡ filter (is_new (so_far store shown.now)) segments.now }
+    ensures value { (store : Store) → result.now ≡ filter (is_new (so_far store shown.now)) segments.now }
+    ensures last { IsTail result.now segments.now }
 {
     match shown.split_last() {
         Some((newest, _)) => after(newest.segment.media_sequence, segments),
         None => segments,
     }
+}
+
+// Copies of these segments.
+fn copied_segments(alloc: Global, segments: &[Segment]) -> Result<Vec<Segment>, AllocError>
+    ensures { IfOk result (λ v. v.items ≡ segments.now) }
+{
+    let mut done = Vec::with_capacity(alloc, segments.len())?;
+    let mut rest = segments;
+    while let Some((segment, later)) = rest.split_first() {
+        done.push(segment.clone()?)?;
+        rest = later;
+    }
+    Ok(done)
+}
+
+#[tactic(auto, using(crate::proofs::Listed::tail_whole))]
+/// A list that ends with these, which a playlist's list ends with: that list itself, or one of copies where they are fewer
+/// than half of it, so that a segment which is shown for long doesn't hold all that were listed with it.
+pub fn list_with(
+    alloc: Global,
+    fresh: &[Segment],
+    segments: &Shared<Items<Segment>>,
+) -> Result<Shared<Items<Segment>>, AllocError>
+    requires { IsTail fresh.now segments.now }
+    ensures { IfOk result (λ list. IsTail fresh.now list) }
+{
+    if fresh.len() >= segments.len() / 2 {
+        return segments.clone();
+    }
+    let copies = copied_segments(alloc, fresh)?;
+    Shared::new(alloc, Items::from_vec(copies))
+}
+
+/// These, which a list ends with, as its members.
+pub fn last_members<'a>(list: &'a Shared<Items<Segment>>, fresh: &[Segment]) -> Members<'a, Segment>
+    requires { IsTail fresh.now list.now }
+    ensures { result ≡ fresh.now }
+{
+    Members::from_place(list, list.len().saturating_sub(fresh.len()))
 }
 
 fn copied(marked: &MarkedSegment) -> Result<MarkedSegment, AllocError>

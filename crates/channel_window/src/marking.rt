@@ -9,7 +9,7 @@ ghost use Rattle.channel_window.specs.Marking.{is_still_inside, stays, next_id, 
 
 use break_finder::{Entrances, Knowledge};
 use fixed_duration::Nanos;
-use playlist_model::{Instant, Segment, Shared, Text};
+use playlist_model::{Instant, Member, Members, Segment, Shared, Text};
 use pod_store::PodStore;
 use std::alloc::{AllocError, Global};
 use std::marker::Model;
@@ -210,17 +210,17 @@ fn run_of(newest: &Option<Shared<Text>>, last: &Option<Shared<Text>>) -> Result<
 }
 
 fn marked_with(
-    segment: &Shared<Segment>,
+    segment: Member<Segment>,
     instant: &Option<Instant>,
     mark: Option<Shared<Text>>,
-) -> Result<MarkedSegment, AllocError>
-    ensures { IfOk result (λ marked. marked ≡ record { segment = segment.now; instant = instant.now; mark = mark }) }
+) -> MarkedSegment
+    ensures { result ≡ record { segment = segment; instant = instant.now; mark = mark } }
 {
-    Ok(MarkedSegment {
-        segment: segment.clone()?,
+    MarkedSegment {
+        segment,
         instant: *instant,
         mark,
-    })
+    }
 }
 
 impl<'a> Marker<'a> {
@@ -229,10 +229,10 @@ impl<'a> Marker<'a> {
         &mut self,
         alloc: Global,
         run: &mut Run,
-        segment: &Shared<Segment>,
+        segment: Member<Segment>,
         instant: &Option<Instant>,
     ) -> Result<MarkedSegment, AllocError>
-        ensures marked { IfOk result (λ m. m ≡ record { segment = segment.now; instant = instant.now; mark = next_id self.old run.old.before run.old.entered instant.now }) }
+        ensures marked { IfOk result (λ m. m ≡ record { segment = segment; instant = instant.now; mark = next_id self.old run.old.before run.old.entered instant.now }) }
         ensures run { IfOk result (λ m. run.new ≡ record { before = m.mark; entered = or_earlier m.mark run.old.entered }) }
         ensures kept { self.new ≡ self.old }
     {
@@ -240,7 +240,7 @@ impl<'a> Marker<'a> {
         let mark = self.next_id(alloc, staying, &run.before, &run.entered, *instant)?;
         enter(&mut run.entered, &mark)?;
         run.before = copied_text(&mark)?;
-        marked_with(segment, instant, mark)
+        Ok(marked_with(segment, instant, mark))
     }
 
     // Puts these segments, which begin at these instants, after those that are done, with their marks.
@@ -248,19 +248,17 @@ impl<'a> Marker<'a> {
         &mut self,
         alloc: Global,
         run: &mut Run,
-        segments: &[Shared<Segment>],
+        segments: &mut Members<'_, Segment>,
         instants: &mut Beginnings<'_>,
         done: &mut Vec<MarkedSegment>,
     ) -> Result<(), AllocError>
-        ensures { OnOk result (done.new.items ≡ done.old.items ++ mark_on self.old run.old.before run.old.entered segments.now instants.old) }
+        ensures { OnOk result (done.new.items ≡ done.old.items ++ mark_on self.old run.old.before run.old.entered segments.old instants.old) }
     {
-        let mut rest = segments;
-        while let Some((segment, later)) = rest.split_first() {
+        while let Some(segment) = segments.next()? {
             let Some(instant) = instants.next()? else {
                 return Ok(());
             };
             done.push(self.next(alloc, run, segment, &instant)?)?;
-            rest = later;
         }
         Ok(())
     }
@@ -268,20 +266,18 @@ impl<'a> Marker<'a> {
     // The same where no break is decided, with no fallback, and the segment before has no mark: none of these has one.
     fn all_unmarked(
         &self,
-        segments: &[Shared<Segment>],
+        segments: &mut Members<'_, Segment>,
         instants: &mut Beginnings<'_>,
         done: &mut Vec<MarkedSegment>,
     ) -> Result<(), AllocError>
         requires { is_empty self.now.store ≡ true }
-        ensures { OnOk result ((last : Option (List ℕ)) → done.new.items ≡ done.old.items ++ mark_on self.now None last segments.now instants.old) }
+        ensures { OnOk result ((last : Option (List ℕ)) → done.new.items ≡ done.old.items ++ mark_on self.now None last segments.old instants.old) }
     {
-        let mut rest = segments;
-        while let Some((segment, later)) = rest.split_first() {
+        while let Some(segment) = segments.next()? {
             let Some(begun) = instants.next()? else {
                 return Ok(());
             };
-            done.push(marked_with(segment, &begun, None)?)?;
-            rest = later;
+            done.push(marked_with(segment, &begun, None))?;
         }
         Ok(())
     }
@@ -291,17 +287,17 @@ impl<'a> Marker<'a> {
         &mut self,
         alloc: Global,
         run: &mut Run,
-        segments: &[Shared<Segment>],
+        segments: Members<'_, Segment>,
         instants: Beginnings<'_>,
     ) -> Result<Vec<MarkedSegment>, AllocError>
-        ensures { IfOk result (λ v. v.items ≡ mark_on self.old run.old.before run.old.entered segments.now instants.entry) }
+        ensures { IfOk result (λ v. v.items ≡ mark_on self.old run.old.before run.old.entered segments.entry instants.entry) }
     {
-        let mut instants = instants;
+        let (mut segments, mut instants) = (segments, instants);
         let mut done = Vec::with_capacity(alloc, segments.len())?;
         if self.store.is_empty() && run.before.is_none() {
-            self.all_unmarked(segments, &mut instants, &mut done)?;
+            self.all_unmarked(&mut segments, &mut instants, &mut done)?;
         } else {
-            self.all(alloc, run, segments, &mut instants, &mut done)?;
+            self.all(alloc, run, &mut segments, &mut instants, &mut done)?;
         }
         Ok(done)
     }
@@ -316,10 +312,10 @@ pub fn mark_on(
     store: &PodStore,
     newest: &Option<Shared<Text>>,
     last: &Option<Shared<Text>>,
-    segments: &[Shared<Segment>],
+    segments: Members<'_, Segment>,
     instants: Beginnings<'_>,
 ) -> Result<Vec<MarkedSegment>, AllocError>
-    ensures { IfOk result (λ v. v.items ≡ mark_on (record { tolerance = limits.now.tolerance; target_duration = limits.now.target_duration; mapped = limits.now.mapped; breaks = knowledge.now; store = store.now }) newest.now last.now segments.now instants.entry) }
+    ensures { IfOk result (λ v. v.items ≡ mark_on (record { tolerance = limits.now.tolerance; target_duration = limits.now.target_duration; mapped = limits.now.mapped; breaks = knowledge.now; store = store.now }) newest.now last.now segments.entry instants.entry) }
 {
     let mut marker = marker_of(alloc, limits, knowledge, store, segments.len())?;
     let mut run = run_of(newest, last)?;

@@ -6,7 +6,9 @@ ghost use Rattle.channel_window.specs.Checked.{AreContiguous};
 ghost use Rattle.channel_window.specs.Showing.{kept_in};
 ghost use Rattle.channel_window.specs.Showing.{IsShown};
 
-use crate::listing::{fresh_of, joined, length_after, newest_end, newest_mark};
+use crate::listing::{
+    fresh_of, joined, last_members, length_after, list_with, newest_end, newest_mark,
+};
 use crate::marking::{Limits, mark_on, text_in};
 use crate::state::ChannelState;
 use crate::successor::is_mapped;
@@ -56,6 +58,7 @@ pub fn shown_with(
     let newest = newest_mark(shown)?;
     let knowledge = state.knowledge.carry(alloc, playlist, text_in(&newest))?;
     let fresh = fresh_of(shown, playlist.segments.as_slice());
+    let segments = list_with(alloc, fresh, &playlist.segments)?;
     let marked = mark_on(
         alloc,
         &limits_of(tolerance, playlist),
@@ -63,7 +66,7 @@ pub fn shown_with(
         &state.store,
         &newest,
         &state.entered,
-        fresh,
+        last_members(&segments, fresh),
         Beginnings::new(alloc, newest_end(shown), fresh),
     )?;
     let so_far = length_after(&state.store, &newest, state.so_far, marked.as_slice());

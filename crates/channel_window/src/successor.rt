@@ -10,7 +10,7 @@ use playlist_model::{Playlist, PlaylistKind, Segment, Shared, same_segment};
 
 // The media number of the first segment.
 /// The media number of the first of these segments.
-pub fn first_number(segments: &[Shared<Segment>]) -> u64
+pub fn first_number(segments: &[Segment]) -> u64
     ensures { result ≡ first_number segments.now }
 {
     match segments.first() {
@@ -20,13 +20,13 @@ pub fn first_number(segments: &[Shared<Segment>]) -> u64
 }
 
 // The number one past the last.
-fn end_number(segments: &[Shared<Segment>]) -> u128
+fn end_number(segments: &[Segment]) -> u128
     ensures { result ≡ end_number segments.now }
 {
     u128::from(first_number(segments)) + segments.len() as u128
 }
 
-fn first_discontinuity(segments: &[Shared<Segment>]) -> u64
+fn first_discontinuity(segments: &[Segment]) -> u64
     ensures { result ≡ first_discontinuity segments.now }
 {
     match segments.first() {
@@ -36,7 +36,7 @@ fn first_discontinuity(segments: &[Shared<Segment>]) -> u64
 }
 
 #[tactic(auto, using(crate::proofs::Found::last_append))]
-fn last_discontinuity(segments: &[Shared<Segment>]) -> u64
+fn last_discontinuity(segments: &[Segment]) -> u64
     ensures { result ≡ last_discontinuity segments.now }
 {
     match segments.split_last() {
@@ -46,7 +46,7 @@ fn last_discontinuity(segments: &[Shared<Segment>]) -> u64
 }
 
 /// Whether these segments have initialisation sections: whether the first one has.
-pub fn is_mapped(segments: &[Shared<Segment>]) -> bool
+pub fn is_mapped(segments: &[Segment]) -> bool
     ensures { result ≡ is_mapped segments.now }
 {
     match segments.first() {
@@ -67,7 +67,7 @@ fn is_same_kind(a: Option<PlaylistKind>, b: Option<PlaylistKind>) -> bool
 }
 
 // Whether a segment is as it was among these, or wasn't there.
-fn is_as_before(old: &[Shared<Segment>], segment: &Segment) -> bool
+fn is_as_before(old: &[Segment], segment: &Segment) -> bool
     requires { AreContiguous old.now }
     ensures { result ≡ is_as_before old.now segment.now }
 {
@@ -82,7 +82,7 @@ fn is_as_before(old: &[Shared<Segment>], segment: &Segment) -> bool
 }
 
 // The number of the first segment that isn't as it was.
-fn first_changed(old: &[Shared<Segment>], new: &[Shared<Segment>]) -> Option<u64>
+fn first_changed(old: &[Segment], new: &[Segment]) -> Option<u64>
     requires { AreContiguous old.now }
     ensures { option_map Changed result ≡ first_changed old.now new.now }
 {
@@ -97,7 +97,7 @@ fn first_changed(old: &[Shared<Segment>], new: &[Shared<Segment>]) -> Option<u64
 }
 
 // Whether the one starts directly after the other, with a discontinuity number that doesn't follow.
-fn discontinuity_out_of_range(old: &[Shared<Segment>], new: &[Shared<Segment>]) -> bool
+fn discontinuity_out_of_range(old: &[Segment], new: &[Segment]) -> bool
     ensures { result ≡ discontinuity_out_of_range old.now new.now }
 {
     if u128::from(first_number(new)) != end_number(old) {
@@ -107,7 +107,7 @@ fn discontinuity_out_of_range(old: &[Shared<Segment>], new: &[Shared<Segment>]) 
     next < last || u128::from(last) + 1000 < u128::from(next)
 }
 
-fn is_same_window(old: &[Shared<Segment>], new: &[Shared<Segment>]) -> bool
+fn is_same_window(old: &[Segment], new: &[Segment]) -> bool
     ensures { result ≡ is_same_window old.now new.now }
 {
     first_number(new) == first_number(old) && end_number(new) == end_number(old)

@@ -18,7 +18,7 @@ ghost use Rattle.channel_window.specs.Placing.{rest_count};
 ghost use Rattle.channel_window.specs.Inner.Placing.{HasRoom, IsWithin};
 ghost use Rattle.channel_window.specs.Showing.{kept_in};
 
-use crate::listing::{from_place, front_before, front_to};
+use crate::listing::{front_before, front_to};
 use crate::placing::{place_of, rest_count, run_count};
 use crate::state::ChannelState;
 use crate::successor::first_number;
@@ -28,7 +28,7 @@ use indexmap::IndexSet;
 use playlist_model::{DateRange, Playlist, Segment, Shared, Text};
 use pod_store::PodStore;
 use std::alloc::{AllocError, Global};
-use stitcher::{Ends, MarkedSegment, Numbers, OutSegment, Rest, StitchFault, TextRef, stitch};
+use stitcher::{Ends, MarkedSegment, Numbers, Rest, StitchFault, StitchedList, TextRef, stitch};
 
 // The stitched list of these segments between these ends, whose first item has these numbers.
 fn stitched<'a>(
@@ -37,13 +37,18 @@ fn stitched<'a>(
     store: &PodStore,
     first: Numbers,
     ends: &Ends,
-) -> Result<Vec<OutSegment<'a>>, RefreshFault>
+) -> Result<StitchedList<'a>, RefreshFault>
     requires { AreDecided store.now list.now }
-    ensures ok { IfOk result (λ v. (v.items ≡ stitched_segments store.now first ends.now list.now) × (list_all item_fits v.items ≡ true)) }
+    ensures ok { IfOk result (λ v. (v ≡ stitched_segments store.now first ends.now list.now) × (list_all item_fits v ≡ true)) }
+    ensures room { IfOk result (λ v. length v < 2 ^ 64) }
     ensures err { IfErr result (λ e. RefusesList e (list_all item_fits (stitched_segments store.now first ends.now list.now) ≡ false)) }
 {
     match stitch(alloc, list, store, first, ends) {
-        Ok(items) => Ok(items),
+        Ok(items) => {
+            // (so many can be counted)
+            let _count = items.count();
+            Ok(items)
+        }
         Err(StitchFault::NumberRange) => Err(RefreshFault::NumberRange),
         Err(StitchFault::OutOfMemory) => Err(RefreshFault::OutOfMemory),
     }
@@ -166,7 +171,7 @@ fn rest_after(
 #[derive(Drop)]
 pub struct Window<'a> {
     /// The window.
-    pub items: Vec<OutSegment<'a>>,
+    pub items: StitchedList<'a>,
     /// The rest, if it starts with one.
     pub rest: Option<Rest>,
 }
@@ -183,7 +188,7 @@ pub fn window_of<'a>(
     requires decided { AreDecided state.now.store list.now }
     requires front { IsFront state.now.shown list.now }
     requires rest { IsRestDecided state.now.store state.now.rest }
-    ensures ok { IfOk result (λ w. w.items.items ≡ map written_item (window_on (kept_in state.now) playlist.now (so_far state.now.store list.now) length)) }
+    ensures ok { IfOk result (λ w. w.items ≡ map written_item (window_on (kept_in state.now) playlist.now (so_far state.now.store list.now) length)) }
     ensures left { IfOk result (λ w. IsRestDecided state.now.store w.rest) }
     ensures rest { IfOk result (λ w. rest_in state.now.store w.rest ≡ rest_after (kept_in state.now) playlist.now (so_far state.now.store list.now)) }
     ensures fit { IfOk result (λ w. list_all fits (items_on (kept_in state.now) playlist.now (so_far state.now.store list.now) length) ≡ true) }
@@ -191,20 +196,18 @@ pub fn window_of<'a>(
 {
     let ends = ends_of(&state.rest, playlist.end_list, length)?;
     let first = numbers_on(&state.last, state.numbers, list, &state.store, &ends)?;
-    let items = stitched(alloc, list, &state.store, first, &ends)?;
+    let mut items = stitched(alloc, list, &state.store, first, &ends)?;
     let start = start_of(state, playlist, list);
     let rest = rest_after(state, playlist, start, list)?;
-    Ok(Window {
-        items: from_place(items, start)?,
-        rest,
-    })
+    items.leave_out(start);
+    Ok(Window { items, rest })
 }
 
 /// The numbers of the first of these items.
-pub fn head_of(items: &[OutSegment<'_>]) -> Numbers
+pub fn head_of(items: &StitchedList<'_>) -> Numbers
     ensures { result ≡ head_of items.now }
 {
-    match items.first() {
+    match items.items().next() {
         Some(first) => Numbers {
             media_sequence: first.media_sequence,
             discontinuity_sequence: first.discontinuity_sequence,
@@ -218,12 +221,17 @@ pub fn head_of(items: &[OutSegment<'_>]) -> Numbers
     }
 }
 
-fn is_any_timed(items: &[OutSegment<'_>]) -> bool
+// Mostly the first one states a time, where one does.
+fn is_any_timed(items: &StitchedList<'_>) -> bool
     ensures { result ≡ list_any states_time items.now }
 {
-    items
-        .iter()
-        .any(|out: &OutSegment<'_>| out.program_date_time.is_some())
+    let mut items = items.items();
+    while let Some(item) = items.next() {
+        if item.program_date_time.is_some() {
+            return true;
+        }
+    }
+    false
 }
 
 // The numbers of a first item that a pod stands at.
@@ -349,7 +357,7 @@ fn texts_left<'a>(
 /// The texts of the date ranges that are written: none of these breaks, and none at all where no item states a time.
 pub fn date_ranges_left<'a>(
     alloc: Global,
-    items: &[OutSegment<'_>],
+    items: &StitchedList<'_>,
     ids: &[Shared<Text>],
     date_ranges: &'a [DateRange],
 ) -> Result<Vec<TextRef<'a>>, AllocError>

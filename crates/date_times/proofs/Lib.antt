@@ -9,3 +9,4 @@ pub mod TimeLaws
 pub mod CivilDays
 pub mod TimeForms
 pub mod TimeRange
+pub mod KeptDates

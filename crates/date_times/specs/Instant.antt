@@ -1,7 +1,8 @@
 -- Instants in whole nanoseconds from 1970 in UTC, and the time texts that say them: EXT-X-PROGRAM-DATE-TIME (RFC 8216,
 -- 4.3.2.6) and START-DATE and END-DATE of EXT-X-DATERANGE (4.3.2.7), after ISO 8601.
 -- Bytes of ASCII: 43 is `+`, 45 `-`, 46 `.`, 58 `:`, 84 `T` and 90 `Z`.
-use Rattle.std.specs.Prelude.{ℕ, zero, suc, ◌+◌, ◌-◌, ◌*◌, ◌/◌, ◌%◌, Bool, true, false, not, ◌&&◌, ◌||◌, ◌==◌, nat_lt, nat_le, List, [], ◌∷◌, take, drop, length, slice_index, ℤ, pos, ◌+ℤ◌, ◌-ℤ◌, ◌*ℤ◌, int_le, int_lt, Option, Some, None, if◌then◌else◌}
+use Rattle.std.specs.Prelude.{◌≡◌, ℕ, zero, suc, ◌+◌, ◌-◌, ◌*◌, ◌/◌, ◌%◌, Bool, true, false, not, ◌&&◌, ◌||◌, ◌==◌, nat_lt, nat_le, List, [], ◌∷◌, take, drop, length, slice_index, ℤ, pos, ◌+ℤ◌, ◌-ℤ◌, ◌*ℤ◌, int_le, int_lt, Option, Some, None, if◌then◌else◌}
+use Rattle.jiff_core.specs.Calendar.{IsEpochDay}
 use Rattle.std.specs.List.{list_all, prefix_len}
 use Rattle.std.specs.Char.{is_ascii_digit}
 use Rattle.std.specs.Str.Parse.{digits_value}
@@ -50,6 +51,10 @@ has_date_form text = are_digits text 0 4 && slice_index text 4 == 45 && are_digi
 -- the same, and a day of the calendar
 abbrev pub is_date : List ℕ → Bool
 is_date text = has_date_form text && is_day (field text 0 4) (field text 5 7) (field text 8 10)
+
+-- a date stands at the front, and its day is so many days from 1970, which is day 719,528
+abbrev pub IsDayOf : List ℕ → ℤ → Type 0
+IsDayOf text day = (is_date text ≡ true) × (day +ℤ pos 719528 ≡ pos (day_number (field text 0 4) (field text 5 7) (field text 8 10))) × IsEpochDay day
 
 abbrev pub is_time_of_day : ℕ → ℕ → ℕ → Bool
 is_time_of_day hour minute second = nat_lt hour 24 && nat_lt minute 60 && nat_lt second 60

@@ -10,7 +10,7 @@ mod reading;
 mod worked_examples;
 mod writing;
 
-pub use reading::{TimeFault, read_instant};
+pub use reading::{TimeFault, TimeReader, read_instant};
 pub use writing::{TimeWriter, write_instant};
 
 /// The first instant: 1900-01-01T00:00:00Z, in nanoseconds from 1970.

@@ -5,12 +5,13 @@ ghost use Rattle.jiff_core.specs.Calendar.{IsEpochDay, IsWithin};
 ghost use Rattle.std.specs.List.{list_all, prefix_len};
 ghost use Rattle.std.specs.Char.{is_ascii_digit};
 ghost use Rattle.std.specs.Str.Parse.{digits_value};
-ghost use Rattle.date_times.specs.Instant.{field, are_digits, has_date_form, is_day, is_date, day_number, has_clock_form, is_clock, fraction_len, is_fraction, offset_seconds, zone_offset, if_in_range, instant_of};
+ghost use Rattle.date_times.specs.Instant.{field, are_digits, has_date_form, is_day, is_date, day_number, has_clock_form, is_clock, fraction_len, is_fraction, offset_seconds, zone_offset, if_in_range, instant_of, IsDayOf};
 ghost use Rattle.date_times.specs.Inner.Instant.{has_offset_form, minutes_of};
 
 use crate::Instant;
 use fixed_duration::nanos_of_fraction;
 use jiff_core::civil::Date;
+use std::marker::Model;
 
 /// Why a text says no instant.
 #[derive(Clone, Copy, PartialEq, Eq, Debug)]
@@ -19,6 +20,9 @@ pub enum TimeFault {
     /// after 2199.
     BadTime,
 }
+
+// `YYYY-MM-DD` has this many bytes.
+const DATE_LEN: usize = 10;
 
 const SECONDS_PER_DAY: i64 = 86_400;
 
@@ -32,13 +36,66 @@ const NANOS_PER_SECOND: i128 = 1_000_000_000;
 pub fn read_instant(text: &str) -> Result<Instant, TimeFault>
     ensures { result ≡ ok_or (instant_of text.now) TimeFault.BadTime }
 {
-    instant_of(text.as_bytes()).ok_or(TimeFault::BadTime)
+    TimeReader::new().read(text)
 }
 
-fn instant_of(text: &[u8]) -> Option<Instant>
+/// Reads instants one after the other, of which most lie on the day of the one before: the number of that day is kept.
+#[derive(Drop)]
+pub struct TimeReader {
+    date: [u8; DATE_LEN],
+    day: i64,
+}
+
+impl Model for TimeReader {
+    ghost use Rattle.date_times.specs.Instant.{IsDayOf};
+
+    ghost Value = { Unit {0} };
+
+    ghost view = { λ _. tt };
+
+    ghost invariant = { λ a. IsDayOf a.date a.day };
+}
+
+impl TimeReader {
+    /// It has read nothing yet.
+    pub fn new() -> TimeReader {
+        TimeReader {
+            date: *b"1970-01-01",
+            day: 0,
+        }
+    }
+
+    // The day at the front, in days from 1970.
+    fn day_of(&mut self, text: &[u8]) -> Option<i64>
+        ensures { MatchOption result (is_date text.now ≡ false) (IsDayOf text.now) }
+    {
+        let date = text.first_chunk::<DATE_LEN>()?;
+        if *date == self.date {
+            return Some(self.day);
+        }
+        let day = day_of(date)?;
+        self.date = *date;
+        self.day = day;
+        Some(day)
+    }
+
+    /// The instant that a text says, as `read_instant` reads it (RFC 8216, section 4.3.2.6). Takes no memory.
+    pub fn read(&mut self, text: &str) -> Result<Instant, TimeFault>
+        ensures { result ≡ ok_or (instant_of text.now) TimeFault.BadTime }
+    {
+        let text = text.as_bytes();
+        let Some(day) = self.day_of(text) else {
+            return Err(TimeFault::BadTime);
+        };
+        instant_on(text, day).ok_or(TimeFault::BadTime)
+    }
+}
+
+// The instant of a text at whose front this day stands.
+fn instant_on(text: &[u8], day: i64) -> Option<Instant>
+    requires { IsDayOf text.now day }
     ensures { result ≡ instant_of text.now }
 {
-    let day = day_of(text)?;
     if !is_at(text, 10, b'T') {
         return None;
     }

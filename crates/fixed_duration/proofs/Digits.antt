@@ -33,9 +33,6 @@ value_more ds i digit below =
 pub length-filled : (n : ℕ) (ds : List ℕ) → length (take n (ds ++ replicate n 48)) ≡ n
 length-filled n ds = grind (arith, common_steps)
 
-pub filled_given : (n i : ℕ) (ds : List ℕ) → i < n → i < length ds → get_or (take n (ds ++ replicate n 48)) i 0 ≡ get_or ds i 0
-filled_given n i ds h below = grind (arith, common_steps)
-
 pub filled_zero : (n i : ℕ) (ds : List ℕ) → i < n → length ds ≤ i → get_or (take n (ds ++ replicate n 48)) i 0 ≡ 48
 filled_zero n i ds h past = grind (arith, common_steps, get_or-replicate)
 
@@ -62,7 +59,7 @@ cut_tens n m =
     let whole = rw (← div-div-eq-div-mul n 10 m, mul_assoc 10 m (n / 10 / m)) at e in
     tens n m (m * (n / 10 / m)) whole (mod-eq-sub-mul-div (n / 10) m) (mul-div-le (n / 10) m)
 
-power_more : (k : ℕ) → 10 ^ suc k ≡ 10 * 10 ^ k
+pub power_more : (k : ℕ) → 10 ^ suc k ≡ 10 * 10 ^ k
 power_more k = let e = pow-suc 10 k in omega (arith, e)
 
 pub last_digits-step : (k n : ℕ) → n < 10 ^ suc k → last_digits (suc k) n ≡ (48 + n / 10 ^ k) ∷ last_digits k (n % 10 ^ k)

@@ -2,7 +2,7 @@
 //! (RFC 8216, section 4.3.2.1, EXTINF): digits with at most one point.
 #![tactic(auto)]
 
-ghost use Rattle.std.specs.Prelude.{◌≡◌, ℕ, ◌+◌, ◌*◌, ◌/◌, ◌^◌, ◌<◌, ◌≤◌, ◌++◌, Ok, OnOk, OnErr, IsTrue, decimal, string_bytes, string_len, string_capacity};
+ghost use Rattle.std.specs.Prelude.{◌≡◌, ℕ, ◌+◌, ◌*◌, ◌/◌, ◌^◌, ◌<◌, ◌≤◌, ◌++◌, Ok, OnOk, OnErr, IsTrue, decimal, length, take, string_bytes, string_len, string_capacity};
 ghost use Rattle.std.specs.Option.{SomeIff};
 ghost use Rattle.fixed_duration.specs.Text.{whole_part, fraction_part, are_digits, number_of, nine_digits, fraction_digits};
 ghost use Rattle.fixed_duration.specs.Duration.{duration_of, duration_text, rounded_seconds_of};
@@ -18,6 +18,20 @@ const NANOS_PER_SECOND: u64 = 1_000_000_000;
 
 /// Durations are shorter than this many seconds.
 const MAX_SECONDS: u64 = 1_000_000;
+
+// Ten to the powers of 0 to 9.
+static POWERS_OF_TEN: [u32; 10] = [
+    1,
+    10,
+    100,
+    1000,
+    10_000,
+    100_000,
+    1_000_000,
+    10_000_000,
+    100_000_000,
+    1_000_000_000,
+];
 
 /// Why a text is no duration. The first that holds is told, in this order.
 #[derive(Clone, Copy, Debug, PartialEq, Eq, Hash)]
@@ -164,6 +178,34 @@ fn seconds_of(digits: &[u8]) -> Option<u64>
     Some(value)
 }
 
+// Ten to the power of so many places.
+fn power_of_ten(places: usize) -> u32
+    requires { places ≤ 9 }
+    ensures { result ≡ 10 ^ places }
+{
+    POWERS_OF_TEN[places]
+}
+
+// The number that at most nine digits write.
+fn number_of(digits: &[u8]) -> u32
+    requires digits { IsTrue (are_digits digits.now) }
+    requires few { length digits.now ≤ 9 }
+    ensures value { result ≡ number_of digits.now }
+    ensures below { result < 10 ^ length digits.now }
+{
+    let mut value: u32 = 0;
+    for digit in digits {
+        value = value * 10 + u32::from(*digit - b'0');
+    }
+    value
+}
+
+fn first_nine(digits: &[u8]) -> &[u8]
+    ensures { result.now ≡ take 9 digits.now }
+{
+    digits.get(..9).unwrap_or(digits)
+}
+
 /// The nanoseconds that the digits after the point of a number of seconds stand for. Digits after the
 /// ninth are dropped.
 pub fn nanos_of_fraction(digits: &[u8]) -> u32
@@ -171,16 +213,8 @@ pub fn nanos_of_fraction(digits: &[u8]) -> u32
     ensures value { result ≡ number_of (nine_digits digits.now) }
     ensures below { result < 10 ^ 9 }
 {
-    let mut value: u32 = 0;
-    for i in 0..9 {
-        let digit = if i < digits.len() {
-            digits[i] - b'0'
-        } else {
-            0
-        };
-        value = value * 10 + u32::from(digit);
-    }
-    value
+    let digits = first_nine(digits);
+    number_of(digits) * power_of_ten(9 - digits.len())
 }
 
 // Appends a digit.

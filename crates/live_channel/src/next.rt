@@ -24,7 +24,7 @@ use fixed_duration::Nanos;
 use playlist_model::{Items, Playlist, Shared, Text};
 use playlist_write::{OutPlaylist, written};
 use std::alloc::{AllocError, Global};
-use stitcher::{MarkedSegment, Numbers, OutSegment, Rest, TextRef};
+use stitcher::{MarkedSegment, Numbers, Rest, StitchedList, TextRef};
 
 /// What a channel comes to by an accepted refresh.
 #[derive(Drop)]
@@ -54,9 +54,9 @@ fn text_with<'a>(
     alloc: Global,
     playlist: &Playlist,
     date_ranges: Vec<TextRef<'a>>,
-    items: Vec<OutSegment<'a>>,
+    items: StitchedList<'a>,
 ) -> Result<Shared<Text>, AllocError>
-    ensures { IfOk result (λ text. text ≡ playlist_text (out_playlist playlist.now date_ranges.entry.items items.entry.items)) }
+    ensures { IfOk result (λ text. text ≡ playlist_text (out_playlist playlist.now date_ranges.entry.items items.entry)) }
 {
     let out = OutPlaylist {
         version: playlist.version.max(6),
@@ -65,7 +65,7 @@ fn text_with<'a>(
         independent_segments: playlist.independent_segments,
         end_list: playlist.end_list,
         date_ranges: Items::from_vec(date_ranges),
-        segments: Items::from_vec(items),
+        segments: items,
     };
     Shared::new(alloc, written(alloc, &out)?)
 }
@@ -75,16 +75,11 @@ fn text_without(
     alloc: Global,
     playlist: &Playlist,
     in_use: &[Shared<Text>],
-    items: Vec<OutSegment<'_>>,
+    items: StitchedList<'_>,
 ) -> Result<Shared<Text>, AllocError>
-    ensures { IfOk result (λ text. text ≡ playlist_text (out_playlist playlist.now (map date_range_text (date_ranges_left (list_any states_time items.entry.items) in_use.now playlist.now.date_ranges)) items.entry.items)) }
+    ensures { IfOk result (λ text. text ≡ playlist_text (out_playlist playlist.now (map date_range_text (date_ranges_left (list_any states_time items.entry) in_use.now playlist.now.date_ranges)) items.entry)) }
 {
-    let date_ranges = date_ranges_left(
-        alloc,
-        items.as_slice(),
-        in_use,
-        playlist.date_ranges.as_slice(),
-    )?;
+    let date_ranges = date_ranges_left(alloc, &items, in_use, playlist.date_ranges.as_slice())?;
     text_with(alloc, playlist, date_ranges, items)
 }
 
@@ -106,10 +101,10 @@ pub fn next_of(
     let Window { items, rest } = window_of(alloc, state, playlist, list, showing.so_far)?;
     let entered = last_entered(list, &state.entered)?;
     let in_use = breaks_in_use(alloc, number, list, &entered, &rest)?;
-    let numbers = head_of(items.as_slice());
+    let numbers = head_of(&items);
     let refreshed = Refreshed {
         media_sequence: numbers.media_sequence,
-        segments: items.len(),
+        segments: items.count(),
         fresh: showing.fresh,
     };
     let text = text_without(alloc, playlist, in_use.as_slice(), items)?;

@@ -37,7 +37,7 @@ fn know_segment(segment: &Segment)
 }
 
 /// Knows that the URIs of segments, their keys and their sections are UTF-8.
-pub fn utf8_of_uris(segments: &[Shared<Segment>])
+pub fn utf8_of_uris(segments: &[Segment])
     ensures { list_all uris_are_text segments.now ≡ true }
 {
     for segment in segments {

@@ -9,3 +9,4 @@ pub mod LineLaws
 pub mod Pointwise
 pub mod SameParts
 pub mod SameSegments
+pub mod MemberLists

@@ -11,4 +11,5 @@ pub mod FaultTexts
 pub mod Same
 pub mod Numbering
 pub mod ShortTexts
+pub mod Members
 pub mod Inner

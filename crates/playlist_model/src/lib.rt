@@ -1,7 +1,7 @@
 //! The data of playlists and what their texts mean.
 #![tactic(auto)]
 
-ghost use Rattle.std.specs.Prelude.{◌≡◌, List, length, Ok, Err, Result, true, false};
+ghost use Rattle.std.specs.Prelude.{◌≡◌, List, length, Ok, Err, Result, true, false, IfOk};
 ghost use Rattle.std.specs.Prelude.{MatchResult, IsTrue};
 ghost use Rattle.std.specs.Str.{is_utf8};
 ghost use Rattle.std.specs.List.{list_all};
@@ -18,6 +18,7 @@ mod in_force;
 mod items;
 pub mod laws;
 mod limits;
+mod member;
 mod other_attributes;
 mod same;
 mod short_text;
@@ -28,6 +29,7 @@ pub use fault::FaultText;
 pub use in_force::is_iv_needed;
 pub use items::{Items, Shared, Text};
 pub use limits::{MAX_BYTES, MAX_FORMATS, MAX_SEGMENTS};
+pub use member::{Member, Members};
 pub use other_attributes::OtherAttributes;
 pub use same::{is_same_key, is_same_section, same_segment};
 pub use short_text::ShortText;
@@ -175,8 +177,7 @@ pub struct InitSection {
     pub keys: Keys,
 }
 
-/// A media segment (RFC 8216, sections 3 and 4.3.2). It has several owners: the playlist in which it was read, and the list
-/// that is shown.
+/// A media segment (RFC 8216, sections 3 and 4.3.2).
 #[derive(PartialEq, Drop)]
 pub struct Segment {
     /// Its Media Sequence Number (section 4.3.3.2).
@@ -199,6 +200,28 @@ pub struct Segment {
     pub title: Shared<ShortText>,
     /// When its first sample is, where EXT-X-PROGRAM-DATE-TIME states that.
     pub program_date_time: Option<Instant>,
+}
+
+impl Clone for Segment {
+    ghost is_clone = { λ a b. b ≡ a };
+
+    // A copy, which shares all but a short URI. Its parts are copied one by one, so that each is written once.
+    fn clone(&self) -> Result<Segment, AllocError>
+        ensures { IfOk result (λ segment. segment ≡ self.now) }
+    {
+        Ok(Segment {
+            media_sequence: self.media_sequence,
+            discontinuity_sequence: self.discontinuity_sequence,
+            discontinuities: self.discontinuities,
+            uri: self.uri.clone()?,
+            byte_range: self.byte_range,
+            keys: self.keys.clone()?,
+            init_section: self.init_section.clone()?,
+            duration: self.duration,
+            title: self.title.clone()?,
+            program_date_time: self.program_date_time,
+        })
+    }
 }
 
 /// A date range (EXT-X-DATERANGE; RFC 8216, section 4.3.2.7).
@@ -237,8 +260,9 @@ pub struct Playlist {
     pub end_list: bool,
     /// The date ranges, in their order.
     pub date_ranges: Items<DateRange>,
-    /// The segments, in their order.
-    pub segments: Items<Shared<Segment>>,
+    /// The segments, in their order. The list has several owners: the playlist in which it was read, and each of its segments
+    /// that is shown.
+    pub segments: Shared<Items<Segment>>,
 }
 
 mod worked_examples;

@@ -8,3 +8,4 @@ pub mod PlainLines
 pub mod Reached
 pub mod TagNames
 pub mod DateRangeLemmas
+pub mod WholeTexts

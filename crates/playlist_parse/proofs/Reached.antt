@@ -80,5 +80,5 @@ refused {base = base} {number = number} {line = line} {left = left} {lines = lin
     ap and_whole (sym r.rest ∙ at))
 
 pub ends : {base : Parts} {progress : Progress} {number : ℕ} {left lines : List (List ℕ)} (result : Result Playlist FaultKind) (r : Reached base progress number left lines) → Ends progress result
-    → MatchResult result (λ playlist. (whole_fault r.before ≡ None) × (playlist ≡ playlist_of r.before)) (λ e. whole_fault r.before ≡ Some e)
+    → MatchResult result (λ playlist. (whole_fault r.before ≡ None) × (playlist ≡ playlist_of r.before)) (λ e. e ≢ OutOfMemory → whole_fault r.before ≡ Some e)
 ends {base = base} {progress = progress} result r h = h r.before (own_base base progress r.before r.progress_is)

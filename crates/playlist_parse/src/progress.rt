@@ -1,5 +1,5 @@
 //! A playlist as far as it has been read, and what each tag adds to it.
-ghost use Rattle.std.specs.Prelude.{◌≡◌, [], ◌∷◌, true, false, not, Some, None, Ok, Err, is_none, unwrap_or};
+ghost use Rattle.std.specs.Prelude.{◌≡◌, [], ◌∷◌, true, false, not, Some, None, Ok, Err, IfOk, is_none, unwrap_or};
 ghost use Rattle.std.specs.List.{list_any, list_all};
 ghost use Rattle.playlist_model.specs.Reading.{said_by, said_by_kind, said_by_tag, said_by_uri, has_section, are_mixed};
 ghost use Rattle.playlist_model.specs.Lines as kinds;
@@ -7,7 +7,7 @@ ghost use Rattle.playlist_model.specs.Lines.{has_control};
 ghost use Rattle.playlist_model.specs.Said as said;
 ghost use Rattle.playlist_model.specs.Said.{number, version_of, playlist_type_of, refuse_if};
 ghost use Rattle.playlist_model.specs.Reading.{limited};
-ghost use Rattle.playlist_parse.specs.Inner.Progress.{progress_at, TakesLine, Ends};
+ghost use Rattle.playlist_parse.specs.Inner.Progress.{progress_at, playlist_from, TakesLine, Ends};
 
 use crate::date_range::date_range_of;
 use crate::line::{LineKind, kind_of};
@@ -17,7 +17,7 @@ use playlist_model::{
     DateRange, FaultKind, Items, Playlist, PlaylistKind, Segment, Shared, has_control,
 };
 use segment_state::ReaderState;
-use std::alloc::Global;
+use std::alloc::{AllocError, Global};
 use std::marker::Model;
 use uri_resolver::Base;
 
@@ -35,7 +35,7 @@ pub struct Progress<'a> {
     has_media: bool,
     state: ReaderState<'a>,
     date_ranges: Vec<DateRange>,
-    segments: Vec<Shared<Segment>>,
+    segments: Vec<Segment>,
 }
 
 impl<'a> Model for Progress<'a> {
@@ -272,11 +272,10 @@ impl<'a> Progress<'a> {
         Ok(target)
     }
 
-    /// The playlist, where the text as a whole has no fault: `NoTarget`, `NoSegments`, `MixedMaps`.
-    pub fn playlist(self) -> Result<Playlist, FaultKind>
-        ensures { Ends self.entry result }
+    // The playlist of this target duration, whose segments are shared from here on.
+    fn with_target(self, target: u64) -> Result<Playlist, AllocError>
+        ensures { IfOk result (λ playlist. playlist ≡ playlist_from self.entry target) }
     {
-        let target = self.target_of_whole()?;
         Ok(Playlist {
             version: self.version.unwrap_or(1),
             target_duration: target,
@@ -284,8 +283,18 @@ impl<'a> Progress<'a> {
             independent_segments: self.independent_segments,
             end_list: self.end_list,
             date_ranges: Items::from_vec(self.date_ranges),
-            segments: Items::from_vec(self.segments),
+            segments: Shared::new(self.alloc, Items::from_vec(self.segments))?,
         })
+    }
+
+    /// The playlist, where the text as a whole has no fault: `NoTarget`, `NoSegments`, `MixedMaps`.
+    pub fn playlist(self) -> Result<Playlist, FaultKind>
+        ensures { Ends self.entry result }
+    {
+        match self.target_of_whole() {
+            Ok(target) => Ok(self.with_target(target)?),
+            Err(kind) => Err(kind),
+        }
     }
 }
 
@@ -326,24 +335,20 @@ fn playlist_type_of(rest: &str) -> Result<PlaylistKind, FaultKind>
     }
 }
 
-fn is_any_mapped(segments: &[Shared<Segment>]) -> bool
+fn is_any_mapped(segments: &[Segment]) -> bool
     ensures { result ≡ list_any has_section segments.now }
 {
-    segments
-        .iter()
-        .any(|s: &Shared<Segment>| s.init_section.is_some())
+    segments.iter().any(|s: &Segment| s.init_section.is_some())
 }
 
-fn are_all_mapped(segments: &[Shared<Segment>]) -> bool
+fn are_all_mapped(segments: &[Segment]) -> bool
     ensures { result ≡ list_all has_section segments.now }
 {
-    segments
-        .iter()
-        .all(|s: &Shared<Segment>| s.init_section.is_some())
+    segments.iter().all(|s: &Segment| s.init_section.is_some())
 }
 
 // Whether some segments have an initialisation section, and others have none.
-fn are_mixed(segments: &[Shared<Segment>]) -> bool
+fn are_mixed(segments: &[Segment]) -> bool
     ensures { result ≡ are_mixed segments.now }
 {
     is_any_mapped(segments) && !are_all_mapped(segments)

@@ -1,8 +1,12 @@
 //! Values that several tests are about.
 ghost use Rattle.std.specs.Prelude.{◌≡◌, IfOk, codes, []};
+ghost use Rattle.pod_store.specs.Store.{nothing_decided};
+ghost use Rattle.stitcher.specs.StitchedSegments.{AreDecided};
 
-use playlist_model::{Key, OtherAttributes, Shared};
+use playlist_model::{Instant, Items, Key, Members, OtherAttributes, Segment, Shared};
+use pod_store::PodStore;
 use std::alloc::{AllocError, Global};
+use stitcher::{Ends, MarkedSegment, Numbers, StitchedList, stitch};
 
 /// A key of method AES-128, of this format, resource and IV, with no other attribute.
 pub fn key(alloc: Global, format: &str, uri: &str, iv: Option<u128>) -> Result<Key, AllocError>
@@ -15,4 +19,46 @@ pub fn key(alloc: Global, format: &str, uri: &str, iv: Option<u128>) -> Result<K
         iv,
         other_attributes: Shared::new(alloc, OtherAttributes::none(alloc))?,
     })
+}
+
+/// These segments, with a time and no mark.
+pub(crate) fn unmarked(
+    alloc: Global,
+    segments: &Shared<Items<Segment>>,
+) -> Result<Vec<MarkedSegment>, AllocError>
+    ensures { IfOk result (λ v. AreDecided nothing_decided v.items) }
+{
+    let mut done = Vec::new(alloc);
+    let mut segments = Members::from_place(segments, 0);
+    while let Some(segment) = segments.next()? {
+        done.push(MarkedSegment {
+            segment,
+            instant: Some(Instant(1_714_564_800_000_000_000)),
+            mark: None,
+        })?;
+    }
+    Ok(done)
+}
+
+/// The stitched list of segments with no mark, whose first item has the media sequence number 7 and the discontinuity
+/// sequence number 3, after a discontinuity.
+pub(crate) fn listed(
+    alloc: Global,
+    marked: &[MarkedSegment],
+) -> Result<StitchedList<'_>, AllocError>
+    requires { AreDecided nothing_decided marked.now }
+{
+    let first = Numbers {
+        media_sequence: 7,
+        discontinuity_sequence: 3,
+        discontinuities: 1,
+    };
+    let ends = Ends {
+        rest: None,
+        so_far: None,
+    };
+    match stitch(alloc, marked, &PodStore::new(alloc), first, &ends) {
+        Ok(list) => Ok(list),
+        Err(_) => Err(AllocError),
+    }
 }

@@ -1,15 +1,13 @@
 //! Playlists that are well formed or not, and sinks that take few bytes or fail. Each kind of line that is written is tried on
 //! the built program (`tests/run_playlists`).
 use crate::beginnings::segment;
-use crate::made::key;
+use crate::made::{key, listed, unmarked};
 use byte_streams::TestSink;
 use fixed_duration::Nanos;
-use playlist_model::{
-    ByteRange, InitSection, Instant, Items, Key, PlaylistKind, Segment, Shared, Text,
-};
+use playlist_model::{ByteRange, InitSection, Items, Key, PlaylistKind, Segment, Shared, Text};
 use playlist_write::{OutPlaylist, WriteFault, write};
 use std::alloc::{AllocError, Global};
-use stitcher::{OutSegment, SegmentRef, TextRef};
+use stitcher::{StitchedList, TextRef};
 
 const ROOM: usize = 4096;
 
@@ -63,52 +61,22 @@ fn encrypted(alloc: Global) -> Result<Segment, AllocError> {
     Ok(segment)
 }
 
-// What a playlist borrows.
-#[derive(Drop)]
-struct Sources {
-    origin: Segment,
-    date_range: Text,
-}
-
-fn sources_with(alloc: Global, date_range: &str) -> Result<Sources, AllocError> {
-    let date_range = Text::copy_of(alloc, date_range)?;
-    Ok(Sources {
-        origin: encrypted(alloc)?,
-        date_range,
-    })
-}
-
-fn item(segment: &Segment) -> OutSegment<'_> {
-    OutSegment {
-        segment: SegmentRef::of_origin(segment),
-        media_sequence: 7,
-        discontinuity_sequence: 3,
-        discontinuities: 1,
-        program_date_time: Some(Instant(1_714_564_800_000_000_000)),
-    }
-}
-
 // So many segments.
-fn items(
-    segment: &Segment,
-    alloc: Global,
-    count: usize,
-) -> Result<Vec<OutSegment<'_>>, AllocError> {
-    let mut items = Vec::new(alloc);
+fn segments(alloc: Global, count: usize) -> Result<Shared<Items<Segment>>, AllocError> {
+    let mut segments = Vec::new(alloc);
     for _ in 0..count {
-        items.push(item(segment))?;
+        segments.push(encrypted(alloc)?)?;
     }
-    Ok(items)
+    Shared::new(alloc, Items::from_vec(segments))
 }
 
-fn playlist(
+fn playlist<'a>(
     alloc: Global,
-    sources: &Sources,
+    segments: StitchedList<'a>,
+    date_range: &'a Text,
     version: u64,
-    count: usize,
-) -> Result<OutPlaylist<'_>, AllocError> {
-    let segments = Items::from_vec(items(&sources.origin, alloc, count)?);
-    let date_ranges = Items::from_vec(vec![in alloc; TextRef::new(&sources.date_range)]?);
+) -> Result<OutPlaylist<'a>, AllocError> {
+    let date_ranges = Items::from_vec(vec![in alloc; TextRef::new(date_range)]?);
     Ok(OutPlaylist {
         version,
         target_duration: 10,
@@ -206,17 +174,6 @@ fn answer(alloc: Global, playlist: &OutPlaylist<'_>, asked: Asked) -> Result<boo
     }
 }
 
-fn answer_of(
-    alloc: Global,
-    sources: &Sources,
-    version: u64,
-    count: usize,
-    asked: Asked,
-) -> Result<bool, WriteFault> {
-    let playlist = playlist(alloc, sources, version, count)?;
-    answer(alloc, &playlist, asked)
-}
-
 // What the playlist of this version and date range and so many segments answers.
 fn answer_with(
     alloc: Global,
@@ -225,8 +182,12 @@ fn answer_with(
     count: usize,
     asked: Asked,
 ) -> Result<bool, WriteFault> {
-    let sources = sources_with(alloc, date_range)?;
-    answer_of(alloc, &sources, version, count, asked)
+    let segments = segments(alloc, count)?;
+    let marked = unmarked(alloc, &segments)?;
+    let date_range = Text::copy_of(alloc, date_range)?;
+    let listed = listed(alloc, marked.as_slice())?;
+    let playlist = playlist(alloc, listed, &date_range, version)?;
+    answer(alloc, &playlist, asked)
 }
 
 // The date range and the version of a playlist of so many segments, what is asked of it, and what it answers. The text of

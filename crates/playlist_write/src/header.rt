@@ -9,21 +9,21 @@ use crate::OutPlaylist;
 use crate::lines::{push_line, push_line_of, push_number_line};
 use playlist_model::PlaylistKind;
 use std::alloc::AllocError;
-use stitcher::{OutSegment, TextRef};
+use stitcher::{StitchedList, TextRef};
 
-fn first_media_sequence(segments: &[OutSegment<'_>]) -> u64
+fn first_media_sequence(segments: &StitchedList<'_>) -> u64
     ensures { result ≡ first_media_sequence segments.now }
 {
-    match segments.first() {
+    match segments.items().next() {
         Some(first) => first.media_sequence,
         None => 0,
     }
 }
 
-fn first_discontinuity(segments: &[OutSegment<'_>]) -> u64
+fn first_discontinuity(segments: &StitchedList<'_>) -> u64
     ensures { result ≡ first_discontinuity segments.now }
 {
-    match segments.first() {
+    match segments.items().next() {
         Some(first) => first
             .discontinuity_sequence
             .saturating_sub(first.discontinuities),
@@ -86,7 +86,7 @@ fn push_discontinuity_sequence(out: &mut String, sequence: u64) -> Result<(), Al
 fn push_numbers(out: &mut String, playlist: &OutPlaylist<'_>) -> Result<(), AllocError>
     ensures { Appends result out.old out.new (said_text (numbers_owed playlist.now)) }
 {
-    let segments = playlist.segments.as_slice();
+    let segments = &playlist.segments;
     push_version(out, playlist.version)?;
     push_target(out, playlist.target_duration)?;
     push_sequence(out, first_media_sequence(segments))?;

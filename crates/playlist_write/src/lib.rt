@@ -19,7 +19,7 @@ use crate::segments::push_segments;
 use byte_streams::{Sink, SinkFailed, hand_out};
 use playlist_model::{Items, PlaylistKind, Text};
 use std::alloc::{AllocError, Global};
-use stitcher::{OutSegment, TextRef};
+use stitcher::{StitchedList, TextRef};
 
 mod date_ranges;
 mod digits;
@@ -49,7 +49,7 @@ pub struct OutPlaylist<'a> {
     /// What stands after `#EXT-X-DATERANGE:`, for each date range.
     pub date_ranges: Items<TextRef<'a>>,
     /// The segments, in their order.
-    pub segments: Items<OutSegment<'a>>,
+    pub segments: StitchedList<'a>,
 }
 
 /// Why a playlist was not written, or not whole.
@@ -97,7 +97,7 @@ fn make_text(alloc: Global, playlist: &OutPlaylist<'_>) -> Result<String, AllocE
 {
     let mut text = front_of(alloc, room_for(playlist), playlist)?;
     push_date_ranges(&mut text, playlist.date_ranges.as_slice())?;
-    push_segments(alloc, &mut text, playlist.segments.as_slice())?;
+    push_segments(alloc, &mut text, playlist.segments.items())?;
     push_end(&mut text, playlist.end_list)?;
     Ok(text)
 }
@@ -135,7 +135,7 @@ fn write_text<S: Sink>(
 {
     let mut held = front_of(alloc, PIECE_ROOM, playlist)?;
     write_date_ranges(&mut held, playlist.date_ranges.as_slice(), sink)?;
-    write_segments(alloc, &mut held, playlist.segments.as_slice(), sink)?;
+    write_segments(alloc, &mut held, playlist.segments.items(), sink)?;
     write_end(&mut held, playlist.end_list, sink)
 }
 

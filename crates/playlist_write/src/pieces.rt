@@ -13,7 +13,7 @@ use byte_streams::{Sink, SinkFailed, hand_out};
 use date_times::TimeWriter;
 use playlist_model::{InitSection, Key};
 use std::alloc::Global;
-use stitcher::{OutSegment, TextRef};
+use stitcher::{StitchedItems, TextRef};
 
 // What is held of a text is handed out once it is so many bytes, or more.
 const PIECE_BYTES: usize = 65_536;
@@ -62,24 +62,26 @@ pub fn write_date_ranges<S: Sink>(
 pub fn write_segments<S: Sink>(
     alloc: Global,
     held: &mut String,
-    segments: &[OutSegment<'_>],
+    segments: StitchedItems<'_>,
     sink: &mut S,
 ) -> Result<(), WriteFault>
-    ensures ok { OnOk result (TookAllBut (S.contents sink.old) (S.contents sink.new) (string_bytes held.new) (string_bytes held.old ++ said_text (segments_owed none_yet segments.now))) }
-    ensures err { OnErr result (TookFront (S.contents sink.old) (S.contents sink.new) (string_bytes held.old ++ said_text (segments_owed none_yet segments.now))) }
+    ensures ok { OnOk result (TookAllBut (S.contents sink.old) (S.contents sink.new) (string_bytes held.new) (string_bytes held.old ++ said_text (segments_owed none_yet segments.entry))) }
+    ensures err { OnErr result (TookFront (S.contents sink.old) (S.contents sink.new) (string_bytes held.old ++ said_text (segments_owed none_yet segments.entry))) }
     ensures unfailed { OnOk result (NoneFailed (S.failed sink.old) (S.failed sink.new)) }
     ensures io { IsErrOf result WriteFault.Io → FailedAtLast (S.failed sink.old) (S.failed sink.new) }
     ensures memory { IsErrOf result WriteFault.OutOfMemory → NoneFailed (S.failed sink.old) (S.failed sink.new) }
 {
+    let mut segments = segments;
     let mut times = TimeWriter::new();
     let mut last = LastDuration::new(alloc);
     let mut keys: &[Key] = &[];
     let mut section: Option<&InitSection> = None;
-    for next in segments {
-        push_segment(held, &mut times, &mut last, keys, section, next)?;
+    while let Some(next) = segments.next() {
+        push_segment(held, &mut times, &mut last, keys, section, &next)?;
         hand_out_piece(held, sink)?;
-        keys = next.segment.keys.as_slice();
-        section = section_of(next).or(section);
+        let segment = next.segment.get();
+        keys = segment.keys.as_slice();
+        section = section_of(segment).or(section);
     }
     Ok(())
 }

@@ -3,7 +3,7 @@ ghost use Rattle.std.specs.Prelude.{◌≤◌, map, sum};
 ghost use Rattle.playlist_write.specs.Inner.Room.{most_room, date_range_room, text_room};
 
 use crate::OutPlaylist;
-use stitcher::{OutSegment, TextRef};
+use stitcher::{OutSegment, StitchedItems, TextRef};
 
 // So many segments are looked at to reckon how much room all of them take.
 const FEW: usize = 16;
@@ -13,7 +13,7 @@ const MAX_ROOM: usize = 1024;
 
 // The room that a segment takes, generously.
 fn room_of(next: &OutSegment<'_>) -> usize {
-    let segment = &next.segment;
+    let segment = next.segment.get();
     let texts = segment
         .uri
         .as_str()
@@ -24,12 +24,16 @@ fn room_of(next: &OutSegment<'_>) -> usize {
 }
 
 // The room that each segment is given: the most that one of the first ones takes, as far as that goes.
-fn segment_room(segments: &[OutSegment<'_>]) -> usize
+fn segment_room(segments: StitchedItems<'_>) -> usize
     ensures { result ≤ most_room }
 {
+    let mut segments = segments;
     let mut most: usize = 0;
-    for next in segments.iter().take(FEW) {
-        most = most.max(room_of(next));
+    for _ in 0..FEW {
+        let Some(next) = segments.next() else {
+            break;
+        };
+        most = most.max(room_of(&next));
     }
     most.min(MAX_ROOM)
 }
@@ -53,7 +57,9 @@ pub(crate) fn room_for(playlist: &OutPlaylist<'_>) -> usize
     ensures { result ≤ text_room playlist.now }
 {
     let date_ranges = date_ranges_room(playlist.date_ranges.as_slice());
-    let segments = playlist.segments.as_slice();
-    let room = segments.len().saturating_mul(segment_room(segments));
+    let segments = &playlist.segments;
+    let room = segments
+        .count()
+        .saturating_mul(segment_room(segments.items()));
     room.saturating_add(date_ranges).saturating_add(256)
 }

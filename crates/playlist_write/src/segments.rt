@@ -14,7 +14,7 @@ use date_times::TimeWriter;
 use fixed_duration::Nanos;
 use playlist_model::{ByteRange, InitSection, Instant, Key, Segment, Shared, is_same_section};
 use std::alloc::{AllocError, Global};
-use stitcher::OutSegment;
+use stitcher::{OutSegment, StitchedItems};
 
 #[tactic(auto, unfolding(crate::specs::Owed::line_of))]
 fn push_discontinuity(out: &mut String) -> Result<(), AllocError>
@@ -174,12 +174,12 @@ pub fn push_segment<'a>(
     last: &mut LastDuration<'a>,
     keys: &[Key],
     section: Option<&InitSection>,
-    next: &'a OutSegment<'_>,
+    next: &OutSegment<'a>,
 ) -> Result<(), AllocError>
     ensures { OnOk result (string_bytes out.new ≡ string_bytes out.old
         ++ said_text (segment_owed (record { keys = keys.now; init_section = option_copied section.entry }) next.now)) }
 {
-    let segment: &Segment = &next.segment;
+    let segment = next.segment.get();
     let changed = changed_section(section, &segment.init_section);
     push_steps(out, next.discontinuities)?;
     push_changed_section(out, keys, changed)?;
@@ -189,11 +189,11 @@ pub fn push_segment<'a>(
     Ok(())
 }
 
-/// The initialisation section of a segment.
-pub fn section_of<'a>(next: &'a OutSegment<'_>) -> Option<&'a InitSection>
-    ensures { option_copied result ≡ next.now.segment.init_section }
+/// The initialisation section of a segment, where it has one.
+pub fn section_of(segment: &Segment) -> Option<&InitSection>
+    ensures { option_copied result ≡ segment.now.init_section }
 {
-    match &next.segment.init_section {
+    match &segment.init_section {
         Some(section) => Some(section),
         None => None,
     }
@@ -203,18 +203,20 @@ pub fn section_of<'a>(next: &'a OutSegment<'_>) -> Option<&'a InitSection>
 pub fn push_segments(
     alloc: Global,
     out: &mut String,
-    segments: &[OutSegment<'_>],
+    segments: StitchedItems<'_>,
 ) -> Result<(), AllocError>
-    ensures { Appends result out.old out.new (said_text (segments_owed none_yet segments.now)) }
+    ensures { Appends result out.old out.new (said_text (segments_owed none_yet segments.entry)) }
 {
+    let mut segments = segments;
     let mut times = TimeWriter::new();
     let mut last = LastDuration::new(alloc);
     let mut keys: &[Key] = &[];
     let mut section: Option<&InitSection> = None;
-    for next in segments {
-        push_segment(out, &mut times, &mut last, keys, section, next)?;
-        keys = next.segment.keys.as_slice();
-        section = section_of(next).or(section);
+    while let Some(next) = segments.next() {
+        push_segment(out, &mut times, &mut last, keys, section, &next)?;
+        let segment = next.segment.get();
+        keys = segment.keys.as_slice();
+        section = section_of(segment).or(section);
     }
     Ok(())
 }

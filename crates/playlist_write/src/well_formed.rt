@@ -10,7 +10,7 @@ use crate::OutPlaylist;
 use crate::date_ranges::date_ranges_fit;
 use playlist_model::{InitSection, Instant, Segment, Shared};
 use std::alloc::{AllocError, Global};
-use stitcher::OutSegment;
+use stitcher::{OutSegment, StitchedItems, StitchedList};
 use writable::{
     byte_range_fits, duration_fits, effective_keys_fit, is_clean, section_fits, uri_fits,
 };
@@ -56,7 +56,7 @@ fn optional_time_fits(time: Option<Instant>) -> bool
 fn segment_fits(out: &OutSegment<'_>) -> bool
     ensures { result ≡ segment_fits out.now }
 {
-    let segment = &out.segment;
+    let segment = out.segment.get();
     numbers_are_words(out)
         && resource_fits(segment)
         && effective_keys_fit(segment.keys.as_slice())
@@ -66,12 +66,16 @@ fn segment_fits(out: &OutSegment<'_>) -> bool
         && optional_time_fits(out.program_date_time)
 }
 
-fn segments_fit(segments: &[OutSegment<'_>]) -> bool
-    ensures { result ≡ list_all segment_fits segments.now }
+fn segments_fit(segments: StitchedItems<'_>) -> bool
+    ensures { result ≡ list_all segment_fits segments.entry }
 {
-    segments
-        .iter()
-        .all(|out: &OutSegment<'_>| segment_fits(out))
+    let mut segments = segments;
+    while let Some(out) = segments.next() {
+        if !segment_fits(&out) {
+            return false;
+        }
+    }
+    true
 }
 
 fn is_sum(sum: u64, one: u64, other: u64) -> bool
@@ -95,12 +99,13 @@ fn follows(previous: &OutSegment<'_>, next: &OutSegment<'_>) -> bool
         )
 }
 
-fn all_follow<'a>(first: &OutSegment<'a>, later: &[OutSegment<'a>]) -> bool
-    ensures { result ≡ all_follow out_numbers first.now later.now }
+fn all_follow<'a>(first: OutSegment<'a>, later: StitchedItems<'a>) -> bool
+    ensures { result ≡ all_follow out_numbers first.entry later.entry }
 {
     let mut previous = first;
-    for next in later {
-        if !follows(previous, next) {
+    let mut later = later;
+    while let Some(next) = later.next() {
+        if !follows(&previous, &next) {
             return false;
         }
         previous = next;
@@ -108,10 +113,11 @@ fn all_follow<'a>(first: &OutSegment<'a>, later: &[OutSegment<'a>]) -> bool
     true
 }
 
-fn numbers_fit(segments: &[OutSegment<'_>]) -> bool
-    ensures { result ≡ numbers_fit segments.now }
+fn numbers_fit(segments: StitchedItems<'_>) -> bool
+    ensures { result ≡ numbers_fit segments.entry }
 {
-    let [first, later @ ..] = segments else {
+    let mut later = segments;
+    let Some(first) = later.next() else {
         return false;
     };
     first.discontinuities <= first.discontinuity_sequence && all_follow(first, later)
@@ -120,25 +126,37 @@ fn numbers_fit(segments: &[OutSegment<'_>]) -> bool
 fn is_mapped(out: &OutSegment<'_>) -> bool
     ensures { result ≡ is_mapped out.now }
 {
-    out.segment.init_section.is_some()
+    out.segment.get().init_section.is_some()
 }
 
-fn all_are_mapped(segments: &[OutSegment<'_>]) -> bool
-    ensures { result ≡ list_all is_mapped segments.now }
+fn all_are_mapped(segments: StitchedItems<'_>) -> bool
+    ensures { result ≡ list_all is_mapped segments.entry }
 {
-    segments.iter().all(|out: &OutSegment<'_>| is_mapped(out))
+    let mut segments = segments;
+    while let Some(out) = segments.next() {
+        if !is_mapped(&out) {
+            return false;
+        }
+    }
+    true
 }
 
-fn one_is_mapped(segments: &[OutSegment<'_>]) -> bool
-    ensures { result ≡ list_any is_mapped segments.now }
+fn one_is_mapped(segments: StitchedItems<'_>) -> bool
+    ensures { result ≡ list_any is_mapped segments.entry }
 {
-    segments.iter().any(|out: &OutSegment<'_>| is_mapped(out))
+    let mut segments = segments;
+    while let Some(out) = segments.next() {
+        if is_mapped(&out) {
+            return true;
+        }
+    }
+    false
 }
 
-fn sections_agree(segments: &[OutSegment<'_>]) -> bool
+fn sections_agree(segments: &StitchedList<'_>) -> bool
     ensures { result ≡ sections_agree segments.now }
 {
-    all_are_mapped(segments) || !one_is_mapped(segments)
+    all_are_mapped(segments.items()) || !one_is_mapped(segments.items())
 }
 
 fn version_fits(version: u64) -> bool
@@ -151,11 +169,11 @@ fn version_fits(version: u64) -> bool
 fn fits_without_date_ranges(playlist: &OutPlaylist<'_>) -> bool
     ensures { result ≡ fits_without_date_ranges playlist.now }
 {
-    let segments = playlist.segments.as_slice();
+    let segments = &playlist.segments;
     version_fits(playlist.version)
         && is_word(playlist.target_duration)
-        && numbers_fit(segments)
-        && segments_fit(segments)
+        && numbers_fit(segments.items())
+        && segments_fit(segments.items())
         && sections_agree(segments)
 }
 

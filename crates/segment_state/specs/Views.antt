@@ -1,14 +1,14 @@
 -- What the fields of a state mean.
 use Rattle.std.specs.Prelude.{Option, Some, None}
-use Rattle.playlist_model.specs.declared.Segment.{Segment}
-use Rattle.playlist_model.specs.LookBack.{Extent, extent_with}
+use Rattle.playlist_model.specs.LookBack.{Extent}
+use Rattle.segment_state.specs.declared.Part.{Part}
 use Rattle.segment_state.specs.declared.ReaderState.TheInside.{Inside}
 use Rattle.segment_state.specs.Running.{Running}
 
 -- the last segment's resource, and its byte range of it, where it has one
-abbrev pub extent_after : Option Segment → Option Extent
+abbrev pub extent_after : Option Part → Option Extent
 extent_after None = None
-extent_after (Some s) = extent_with s.uri s.byte_range
+extent_after (Some part) = Some (record { uri = part.uri; byte_range = part.byte_range })
 
 abbrev pub running_of : Inside → Running
 running_of a = record {

@@ -17,6 +17,7 @@ use crate::durations::Durations;
 use crate::keys::{copied_keys, effective_keys, put_key};
 use crate::references::References;
 use crate::tags::{byte_range_of, key_said, section_said};
+use date_times::TimeReader;
 use fixed_duration::Nanos;
 use playlist_model::{
     ByteRange, FaultKind, InitSection, Instant, Items, Key, KeyTag, Keys, MAX_SEGMENTS, Segment,
@@ -33,6 +34,13 @@ mod references;
 mod tags;
 mod times;
 
+/// A part of a resource, which a segment is.
+#[derive(Drop)]
+struct Part {
+    uri: ShortText,
+    byte_range: ByteRange,
+}
+
 /// What stands at a line of a playlist, after the lines before it: with its base, and a slice of its text.
 #[derive(Drop)]
 pub struct ReaderState<'a> {
@@ -48,7 +56,8 @@ pub struct ReaderState<'a> {
     program_date_time: Option<Instant>,
     keys: Vec<Key>,
     init_section: Option<Shared<InitSection>>,
-    last: Option<Shared<Segment>>,
+    times: TimeReader,
+    last: Option<Part>,
 }
 
 impl<'a> Model for ReaderState<'a> {
@@ -82,6 +91,7 @@ impl<'a> ReaderState<'a> {
             program_date_time: None,
             keys: Vec::new(alloc),
             init_section: None,
+            times: TimeReader::new(),
             last: None,
         }
     }
@@ -231,12 +241,12 @@ impl<'a> ReaderState<'a> {
         uri: ShortText,
         byte_range: Option<ByteRange>,
         own: (Nanos, Shared<ShortText>),
-    ) -> Result<Shared<Segment>, AllocError>
+    ) -> Result<Segment, AllocError>
         requires { number ≡ self.now.standing.media_sequence + self.now.standing.media_count }
         ensures { IfOk result (λ segment. segment ≡ segment_from self.now.standing uri byte_range own) }
     {
         let (duration, title) = own;
-        let segment = Segment {
+        Ok(Segment {
             media_sequence: number,
             discontinuity_sequence: self.discontinuity_number(),
             discontinuities: self.discontinuities,
@@ -247,13 +257,12 @@ impl<'a> ReaderState<'a> {
             duration,
             title,
             program_date_time: self.program_date_time,
-        };
-        Shared::new(self.alloc, segment)
+        })
     }
 
-    // What stands after a URI line, of whose segment this is kept.
+    // What stands after a URI line, of whose segment this part is kept.
     #[inline(always)]
-    fn segment_stands(&mut self, last: Option<Shared<Segment>>)
+    fn segment_stands(&mut self, last: Option<Part>)
         requires { self.old.standing.media_count < MAX_SEGMENTS }
         ensures { self.new ≡ after_segment self.old (extent_after last) }
     {
@@ -268,7 +277,7 @@ impl<'a> ReaderState<'a> {
     /// The segment of a URI line (4.3.2, 5.2), which takes the tags of one segment. The faults, in
     /// this order: `TooMany` past 10,000 segments, `NoDuration`, `BadValue` where its media number
     /// passes 2^64 - 1, `BadUri`, `RangeNoStart`, `BadRange`.
-    pub fn take_segment(&mut self, reference: &str) -> Result<Shared<Segment>, FaultKind>
+    pub fn take_segment(&mut self, reference: &str) -> Result<Segment, FaultKind>
         ensures { TakesSegment (λ base before. said_by_uri limited base before reference.now) self.old self.new result }
     {
         if self.is_full() {
@@ -295,33 +304,31 @@ impl<'a> ReaderState<'a> {
     }
 }
 
-// What is kept of a segment for the next one's byte range: itself, where it is a part of its resource.
-fn last_part(segment: &Shared<Segment>) -> Result<Option<Shared<Segment>>, AllocError>
+// What is kept of a segment for the next one's byte range, where it is a part of its resource (4.3.2.2).
+fn last_part(segment: &Segment) -> Result<Option<Part>, AllocError>
     ensures { IfOk result (λ last. extent_after last ≡ extent_with segment.now.uri segment.now.byte_range) }
 {
-    match segment.byte_range {
-        None => Ok(None),
-        Some(_) => Ok(Some(segment.clone()?)),
-    }
+    let Some(byte_range) = segment.byte_range else {
+        return Ok(None);
+    };
+    let uri = segment.uri.clone()?;
+    Ok(Some(Part { uri, byte_range }))
 }
 
 fn byte_range_after(
     length: u64,
     uri: &str,
-    last: &Option<Shared<Segment>>,
+    last: &Option<Part>,
 ) -> Result<Option<ByteRange>, FaultKind>
     ensures { result ≡ byte_range_after length uri.now (extent_after last.now) }
 {
     let Some(last) = last else {
         return Err(FaultKind::RangeNoStart);
     };
-    let Some(byte_range) = last.byte_range else {
-        return Err(FaultKind::RangeNoStart);
-    };
     if uri != last.uri.as_str() {
         return Err(FaultKind::RangeNoStart);
     }
-    let Some(offset) = byte_range.offset.checked_add(byte_range.length) else {
+    let Some(offset) = last.byte_range.offset.checked_add(last.byte_range.length) else {
         return Err(FaultKind::BadRange);
     };
     match length.checked_add(offset) {

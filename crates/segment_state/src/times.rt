@@ -4,7 +4,7 @@ ghost use Rattle.playlist_model.specs.Said as said;
 ghost use Rattle.segment_state.specs.Running.{TakesExactly};
 
 use crate::ReaderState;
-use playlist_model::{FaultKind, read_instant};
+use playlist_model::FaultKind;
 
 impl<'a> ReaderState<'a> {
     /// The instant at which the next segment begins (4.3.2.6). Of several, the last stands. `BadTime`
@@ -12,7 +12,7 @@ impl<'a> ReaderState<'a> {
     pub fn time_tag(&mut self, rest: &str) -> Result<(), FaultKind>
         ensures { TakesExactly (λ base before. said_by_tag limited base before said.time_tag rest.now) self.old self.new result }
     {
-        let Ok(instant) = read_instant(rest) else {
+        let Ok(instant) = self.times.read(rest) else {
             return Err(FaultKind::BadTime);
         };
         self.program_date_time = Some(instant);

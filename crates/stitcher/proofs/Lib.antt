@@ -4,3 +4,5 @@ pub mod Counting
 pub mod Parts
 pub mod Runs
 pub mod Outcomes
+pub mod Kept
+pub mod Cursors

@@ -15,7 +15,7 @@ use Rattle.stitcher.specs.declared.ends.Ends.{Ends}
 use Rattle.stitcher.specs.Written.{written_item}
 use Rattle.stitcher.specs.StitchedSegments.{mark_with, mark_in, meant, IsDecided, AreDecided, rest_from, rest_in, ends_in, stitched_segments}
 use Rattle.stitcher.specs.Making.{is_same_run, pod_with}
-use Rattle.stitcher.specs.Inner.Making.{counted, begun_with, part_of, part_at, part_due, whole_from, goes_on_to_last, pieces_at, pieces_on, rest_on, pieces_between}
+use Rattle.stitcher.specs.Inner.Making.{counted, begun_with, part_of, part_due, whole_from, goes_on_to_last, pieces_at, pieces_on, rest_on, pieces_between}
 use Rattle.stitcher.proofs.Counting.{numbers_count_on}
 use Rattle.stitcher.proofs.Parts.{whole_is_part, due_is_part, rest_is_part}
 
@@ -137,11 +137,3 @@ in_order store first ends marked d =
     ap (λ ps. map written_item (reverse (numbered first ps))) (whole_in_order store ends marked d)
     ∙ (ap (λ items. map written_item (reverse items)) (numbers_count_on first pieces)
     ∙ ap (map written_item) (reverse-reverse (counted first None pieces)))
-
--- where a run begins, a part of its pod stands
-pub run_begins : (store : Store) (so_far : Option ℕ) (previous : Option (List ℕ)) (m : MarkedSegment) (later : List MarkedSegment) (id : List ℕ) (pod : Pod)
-    → is_same_run m.mark previous ≡ false → m.mark ≡ Some id → pod_for store id ≡ Some pod
-    → pieces_at store so_far previous m later ≡ part_of (part_at so_far m.mark later) (pod_pieces (record { id = id; pod = pod }))
-run_begins store so_far previous m later id pod same is found =
-    let part = part_at so_far m.mark later in
-    ap (λ b. cond b [] (begun_with store part m m.mark)) same ∙ (ap (begun_with store part m) is ∙ ap (λ o. part_of part (pod_with id o)) found)

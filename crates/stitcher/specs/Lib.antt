@@ -3,8 +3,8 @@ pub mod Laws
 pub mod FaultTexts
 pub mod Written
 pub mod StitchedSegments
-pub mod Held
 pub mod Making
 pub mod Stitched
 pub mod Paced
+pub mod Stretches
 pub mod Inner

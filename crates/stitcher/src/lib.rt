@@ -12,6 +12,7 @@ mod making;
 mod marked;
 mod origin_text;
 mod played;
+mod stitched_list;
 mod stitched_rows;
 
 pub use ends::{Ends, Rest};
@@ -21,6 +22,7 @@ pub use making::{is_same_run, stitch};
 pub use marked::{MarkedSegment, Numbers};
 pub use origin_text::TextRef;
 pub use played::SegmentRef;
+pub use stitched_list::{StitchedItems, StitchedList};
 
 /// A segment as it stands in a written playlist. Its own numbers and time are not those of `segment`.
 #[derive(Drop)]

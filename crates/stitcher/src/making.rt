@@ -1,24 +1,27 @@
 //! The stitched list of marked segments, as it is made.
-ghost use Rattle.std.specs.Prelude.{◌≡◌, Bool, true, false, List, [], ◌∷◌, None, OnOk, IfOk, IfErr, option_map};
+ghost use Rattle.std.specs.Prelude.{◌≡◌, ◌++◌, ◌≤◌, Bool, true, false, List, [], ◌∷◌, map, take, drop, length, None, OnOk, IfOk, IfErr, option_map};
 ghost use Rattle.std.specs.List.{list_all};
 ghost use Rattle.pod_store.specs.Marks.{Mark};
 ghost use Rattle.pod_store.specs.Pods.{Pod};
 ghost use Rattle.stitcher.specs.Stitched.{ad_piece, ad_pieces, next_numbers, pieces_of_ads, with_keys};
 ghost use Rattle.stitcher.specs.StitchedSegments.{AreDecided, RefusesNumber, item_fits, stitched_segments};
-ghost use Rattle.stitcher.specs.Making.{is_same_run, plain};
-ghost use Rattle.stitcher.specs.Inner.Making.{Passes, Puts, goes_on_to_last, numbers_fit, numbers_with, part_after, part_after_one, part_at, part_here, part_of, pieces_at, pushed, rest_on, shows_next, steps_from, whole_from};
+ghost use Rattle.pod_store.specs.Store.{pod_for};
+ghost use Rattle.playlist_model.specs.Numbering.{segment_numbers};
+ghost use Rattle.stitcher.specs.Making.{is_same_run, plain, pod_with};
+ghost use Rattle.stitcher.specs.Inner.Making.{Passes, Puts, after_front, front_pieces, goes_on_to_last, kept_on, last_of_run, numbers_fit, numbers_with, part_after, part_after_one, part_at, part_here, part_of, pushed, rest_on, shows_next, steps_from, unmarked_front, whole_from};
+ghost use Rattle.stitcher.specs.Stretches.{kept_items};
 
-use crate::OutSegment;
 use crate::copies::{AdParts, ad_parts, ad_segment};
 use crate::ends::{Ends, Rest};
 use crate::fault::StitchFault;
 use crate::marked::{MarkedSegment, Numbers};
-use crate::played::SegmentRef;
+use crate::stitched_list::{StitchedList, Stretch};
 use fixed_duration::Nanos;
-use playlist_model::{Instant, Shared, Text};
+use playlist_model::{Items, Segment, Shared, Text};
 use pod_store::{Ad, Pod, PodSegment, PodStore};
 use std::alloc::{AllocError, Global};
 use std::marker::Model;
+use std::mem;
 
 /// The last item of a list.
 #[derive(Clone, Copy)]
@@ -47,15 +50,19 @@ pub struct Part {
 pub struct Stitching<'a> {
     first: Numbers,
     last: Option<Last>,
-    items: Vec<OutSegment<'a>>,
+    stretches: Vec<Stretch<'a>>,
+    // The segments of ads after the last stretch.
+    ads: Vec<Segment>,
 }
 
 impl<'a> Model for Stitching<'a> {
+    ghost use Rattle.std.specs.Prelude.{◌++◌, map};
     ghost use Rattle.stitcher.specs.Inner.Making.{Made};
+    ghost use Rattle.stitcher.specs.Stretches.{ad_item, stretches_items};
 
     ghost Value = { Made };
 
-    ghost view = { λ a. record { first = a.first; last = a.last; items = a.items.items } };
+    ghost view = { λ a. record { first = a.first; last = a.last; items = stretches_items a.stretches.items ++ map ad_item a.ads.items } };
 }
 
 fn numbers_of(media: u64, discontinuity: u64, steps: u64) -> Numbers
@@ -81,6 +88,49 @@ fn next_numbers(numbers: Numbers, steps: u64) -> Result<Numbers, StitchFault>
         return Err(StitchFault::NumberRange);
     };
     Ok(numbers_of(media, discontinuity, steps))
+}
+
+// The last of kept segments that follow each other, the first of which has these numbers.
+fn last_of_run(
+    numbers: Numbers,
+    first: &MarkedSegment,
+    later: &[MarkedSegment],
+) -> Result<Last, StitchFault>
+    requires { numbers_fit numbers ≡ true }
+    ensures ok { IfOk result (λ last. (last ≡ last_of_run numbers first.now later.now) × (list_all item_fits (kept_items numbers (first.now ∷ later.now)) ≡ true)) }
+    ensures err { IfErr result (λ e. (e ≡ StitchFault.NumberRange) × (list_all item_fits (kept_items numbers (first.now ∷ later.now)) ≡ false)) }
+{
+    let mut numbers = numbers;
+    let mut here = first;
+    let mut rest = later;
+    while let Some((next, later)) = rest.split_first() {
+        let before = here.segment.discontinuity_sequence;
+        let steps = next.segment.discontinuity_sequence.saturating_sub(before);
+        numbers = next_numbers(numbers, steps)?;
+        here = next;
+        rest = later;
+    }
+    Ok(Last {
+        numbers,
+        origin: Some(here.segment.discontinuity_sequence),
+    })
+}
+
+// How many segments in front have no mark.
+fn unmarked_front(segments: &[MarkedSegment]) -> usize
+    ensures count { result ≡ unmarked_front segments.now }
+    ensures within { result ≤ length segments.now }
+{
+    let mut count: usize = 0;
+    let mut rest = segments;
+    while let Some((here, later)) = rest.split_first() {
+        if here.mark.is_some() {
+            return count;
+        }
+        count += 1;
+        rest = later;
+    }
+    count
 }
 
 /// Whether both are marked, with one break: a segment of this mark goes on the run of one of that mark.
@@ -166,15 +216,16 @@ fn part_at(ends: &Ends, mark: &Option<Shared<Text>>, later: &[MarkedSegment]) ->
 }
 
 impl<'a> Stitching<'a> {
-    // An empty list with room for so many items.
-    fn with_room(alloc: Global, first: Numbers, room: usize) -> Result<Stitching<'a>, AllocError>
-        ensures { IfOk result (λ s. s ≡ record { first = first; last = None; items = [] }) }
+    // An empty list.
+    fn new(alloc: Global, first: Numbers) -> Stitching<'a>
+        ensures { result ≡ record { first = first; last = None; items = [] } }
     {
-        Ok(Stitching {
+        Stitching {
             first,
             last: None,
-            items: Vec::with_capacity(alloc, room)?,
-        })
+            stretches: Vec::new(alloc),
+            ads: Vec::new(alloc),
+        }
     }
 
     // The steps to a kept segment of this discontinuity number; of the first none are counted.
@@ -202,37 +253,75 @@ impl<'a> Stitching<'a> {
         }
     }
 
-    fn push(
-        &mut self,
-        segment: SegmentRef<'a>,
-        time: Option<Instant>,
-        numbers: Numbers,
-        origin: Option<u64>,
-    ) -> Result<(), StitchFault>
-        ensures ok { OnOk result (self.new ≡ pushed self.old segment.entry time numbers origin) }
+    fn push_ad(&mut self, segment: Segment) -> Result<(), StitchFault>
+        ensures ok { OnOk result (self.new ≡ pushed self.old segment None (segment_numbers segment) None) }
         ensures err { IfErr result (λ e. e ≡ StitchFault.OutOfMemory) }
     {
-        self.items.push(OutSegment {
-            media_sequence: numbers.media_sequence,
-            discontinuity_sequence: numbers.discontinuity_sequence,
-            discontinuities: numbers.discontinuities,
-            program_date_time: time,
-            segment,
-        })?;
-        self.last = Some(Last { numbers, origin });
+        let numbers = numbers_of(
+            segment.media_sequence,
+            segment.discontinuity_sequence,
+            segment.discontinuities,
+        );
+        self.ads.push(segment)?;
+        self.last = Some(Last {
+            numbers,
+            origin: None,
+        });
         Ok(())
     }
 
-    // Puts a segment of the origin at the end.
-    fn keep(&mut self, marked: &'a MarkedSegment) -> Result<(), StitchFault>
-        requires { numbers_fit self.old.first ≡ true }
-        ensures ok { OnOk result (Puts self.old self.new (plain marked.now ∷ [])) }
-        ensures err { IfErr result (λ e. RefusesNumber e (Passes self.old (plain marked.now ∷ []))) }
+    // Ends the stretch with kept segments, the first of which has these numbers.
+    fn push_kept(
+        &mut self,
+        alloc: Global,
+        kept: &'a [MarkedSegment],
+        numbers: Numbers,
+        last: Last,
+    ) -> Result<(), StitchFault>
+        ensures ok { OnOk result (self.new ≡ kept_on self.old kept.now numbers last) }
+        ensures err { IfErr result (λ e. e ≡ StitchFault.OutOfMemory) }
     {
-        let origin = marked.segment.discontinuity_sequence;
-        let numbers = self.numbers_with(self.steps_to(origin))?;
-        let segment = SegmentRef::of_origin(&marked.segment);
-        self.push(segment, marked.instant, numbers, Some(origin))
+        let mut ads = mem::replace(&mut self.ads, Vec::new(alloc));
+        // The list stands as long as the playlist is written: room that nothing takes is given back.
+        ads.shrink_to_fit();
+        self.stretches.push(Stretch {
+            ads: Items::from_vec(ads),
+            kept,
+            numbers,
+        })?;
+        self.last = Some(last);
+        Ok(())
+    }
+
+    // Puts segments of the origin at the end, which follow each other.
+    fn keep(&mut self, alloc: Global, kept: &'a [MarkedSegment]) -> Result<(), StitchFault>
+        requires { numbers_fit self.old.first ≡ true }
+        ensures ok { OnOk result (Puts self.old self.new (map plain kept.now)) }
+        ensures err { IfErr result (λ e. RefusesNumber e (Passes self.old (map plain kept.now))) }
+    {
+        let Some((first, later)) = kept.split_first() else {
+            return Ok(());
+        };
+        let steps = self.steps_to(first.segment.discontinuity_sequence);
+        let numbers = self.numbers_with(steps)?;
+        let last = last_of_run(numbers, first, later)?;
+        self.push_kept(alloc, kept, numbers, last)
+    }
+
+    // Puts the unmarked segments in front of these at the end. Answers those after them.
+    fn keep_front(
+        &mut self,
+        alloc: Global,
+        segments: &'a [MarkedSegment],
+    ) -> Result<&'a [MarkedSegment], StitchFault>
+        requires { numbers_fit self.old.first ≡ true }
+        ensures ok { OnOk result (Puts self.old self.new (map plain (take (unmarked_front segments.now) segments.now))) }
+        ensures left { IfOk result (λ left. left.now ≡ drop (unmarked_front segments.now) segments.now) }
+        ensures err { IfErr result (λ e. RefusesNumber e (Passes self.old (map plain (take (unmarked_front segments.now) segments.now)))) }
+    {
+        let (kept, left) = segments.split_at(unmarked_front(segments));
+        self.keep(alloc, kept)?;
+        Ok(left)
     }
 
     // Puts a segment of an ad at the end.
@@ -251,8 +340,7 @@ impl<'a> Stitching<'a> {
     {
         let numbers = self.numbers_with(u64::from(first))?;
         let segment = ad_segment(alloc, ad, parts, segment, numbers)?;
-        let shared = Shared::new(alloc, segment)?;
-        self.push(SegmentRef::of_ad(shared), None, numbers, None)
+        self.push_ad(segment)
     }
 
     // Puts a segment of an ad at the end, where it is shown. Answers the part of those after it.
@@ -315,6 +403,24 @@ impl<'a> Stitching<'a> {
         Ok(())
     }
 
+    // Puts at the end what is shown of the pod that a break has in the store.
+    fn put_break(
+        &mut self,
+        alloc: Global,
+        id: &str,
+        part: Part,
+        store: &PodStore,
+    ) -> Result<(), StitchFault>
+        requires { numbers_fit self.old.first ≡ true }
+        ensures ok { OnOk result (Puts self.old self.new (part_of part (pod_with id.now (pod_for store.now id.now)))) }
+        ensures err { IfErr result (λ e. RefusesNumber e (Passes self.old (part_of part (pod_with id.now (pod_for store.now id.now))))) }
+    {
+        match store.pod_for(id) {
+            Some(pod) => self.put_pod(alloc, pod, part),
+            None => Ok(()),
+        }
+    }
+
     // Puts the rest of a pod at the end.
     fn put_rest(
         &mut self,
@@ -330,37 +436,56 @@ impl<'a> Stitching<'a> {
             return Ok(());
         };
         let part = from_place(rest.place);
-        match store.pod_for(rest.id.as_str()) {
-            Some(pod) => self.put_pod(alloc, pod, part),
-            None => Ok(()),
-        }
+        self.put_break(alloc, rest.id.as_str(), part, store)
     }
 
-    // Puts at the end what stands for a segment after one of this mark, before these.
-    fn put_marked(
+    // Puts at the end what stands for the first of these after a segment of this mark, and, where it has no mark, for those
+    // without one that follow it. Answers the segments after that.
+    fn put_front(
         &mut self,
         alloc: Global,
-        marked: &'a MarkedSegment,
-        later: &'a [MarkedSegment],
+        segments: &'a [MarkedSegment],
         previous: &Option<Shared<Text>>,
         store: &PodStore,
         ends: &Ends,
-    ) -> Result<(), StitchFault>
+    ) -> Result<&'a [MarkedSegment], StitchFault>
         requires { numbers_fit self.old.first ≡ true }
-        ensures ok { OnOk result (Puts self.old self.new (pieces_at store.now ends.now.so_far previous.now marked.now later.now)) }
-        ensures err { IfErr result (λ e. RefusesNumber e (Passes self.old (pieces_at store.now ends.now.so_far previous.now marked.now later.now))) }
+        ensures ok { OnOk result (Puts self.old self.new (front_pieces store.now ends.now.so_far previous.now segments.now)) }
+        ensures left { IfOk result (λ left. left.now ≡ after_front segments.now) }
+        ensures err { IfErr result (λ e. RefusesNumber e (Passes self.old (front_pieces store.now ends.now.so_far previous.now segments.now))) }
     {
-        if is_same_run(&marked.mark, previous) {
-            return Ok(());
-        }
-        let Some(id) = &marked.mark else {
-            return self.keep(marked);
+        let Some((marked, later)) = segments.split_first() else {
+            return Ok(segments);
         };
-        let part = part_at(ends, &marked.mark, later);
-        match store.pod_for(id.as_str()) {
-            Some(pod) => self.put_pod(alloc, pod, part),
-            None => Ok(()),
+        let Some(id) = &marked.mark else {
+            return self.keep_front(alloc, segments);
+        };
+        if is_same_run(&marked.mark, previous) {
+            return Ok(later);
         }
+        let part = part_at(ends, &marked.mark, later);
+        self.put_break(alloc, id.as_str(), part, store)?;
+        Ok(later)
+    }
+
+    // The list, once all is put.
+    fn finish(self, alloc: Global) -> Result<StitchedList<'a>, StitchFault>
+        requires { list_all item_fits self.items ≡ true }
+        ensures ok { IfOk result (λ list. list ≡ self.entry.items) }
+        ensures err { IfErr result (λ e. e ≡ StitchFault.OutOfMemory) }
+    {
+        let Stitching {
+            first,
+            last: _,
+            mut stretches,
+            ads,
+        } = self;
+        stretches.push(Stretch {
+            ads: Items::from_vec(ads),
+            kept: &[],
+            numbers: first,
+        })?;
+        Ok(StitchedList::from_stretches(stretches)?)
     }
 }
 
@@ -374,20 +499,19 @@ pub fn stitch<'a>(
     store: &PodStore,
     first: Numbers,
     ends: &Ends,
-) -> Result<Vec<OutSegment<'a>>, StitchFault>
+) -> Result<StitchedList<'a>, StitchFault>
     requires { AreDecided store.now marked.now }
-    ensures ok { IfOk result (λ v. (v.items ≡ stitched_segments store.now first ends.now marked.now) × (list_all item_fits v.items ≡ true)) }
+    ensures ok { IfOk result (λ v. (v ≡ stitched_segments store.now first ends.now marked.now) × (list_all item_fits v ≡ true)) }
     ensures err { IfErr result (λ e. RefusesNumber e (list_all item_fits (stitched_segments store.now first ends.now marked.now) ≡ false)) }
 {
-    let mut stitching = Stitching::with_room(alloc, first, marked.len())?;
+    let mut stitching = Stitching::new(alloc, first);
     stitching.put_rest(alloc, &ends.rest, store)?;
     let unmarked: Option<Shared<Text>> = None;
     let mut previous = &unmarked;
     let mut rest = marked;
-    while let Some((here, later)) = rest.split_first() {
-        stitching.put_marked(alloc, here, later, previous, store, ends)?;
+    while let Some((here, _)) = rest.split_first() {
+        rest = stitching.put_front(alloc, rest, previous, store, ends)?;
         previous = &here.mark;
-        rest = later;
     }
-    Ok(stitching.items)
+    stitching.finish(alloc)
 }

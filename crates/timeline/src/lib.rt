@@ -1,14 +1,15 @@
 //! The instants at which a playlist's segments begin (RFC 8216, sections 4.3.2.6 and 6.2.1).
 #![tactic(auto)]
 
-ghost use Rattle.std.specs.Prelude.{◌≡◌, ℤ, [], ◌∷◌, IfOk, IfErr, MatchOption, option_map, pos, ◌-ℤ◌};
+ghost use Rattle.std.specs.Prelude.{◌≡◌, ◌<◌, ℤ, [], ◌∷◌, ◌++◌, length, IfOk, IfErr, MatchOption, option_map, pos, ◌-ℤ◌, ◌||◌};
+ghost use Rattle.std.specs.Option.{is_some};
 ghost use Rattle.playlist_model.specs.Instants.{bounded, ends_at, instants_after};
 ghost use Rattle.playlist_model.specs.LookBack.{or_earlier};
 ghost use Rattle.timeline.specs.Reckoned.{clamped, stack_of};
 
 use date_times::FIRST_INSTANT;
 use fixed_duration::Nanos;
-use playlist_model::{Instant, Segment, Shared};
+use playlist_model::{Instant, Segment};
 use std::alloc::{AllocError, Global};
 use std::marker::Model;
 
@@ -72,12 +73,17 @@ fn begins_at(ended: Option<i128>, segment: &Segment, reckoned: Option<i128>) -> 
     bounded(nanos_of(segment.program_date_time).or(ended).or(reckoned))
 }
 
+// Whether a segment states its time or follows one that begins somewhere, so that nothing is reckoned back for it.
+#[inline(always)]
+fn is_told(segment: &Segment, ended: &Option<i128>) -> bool
+    ensures { result ≡ (is_some segment.now.program_date_time || is_some ended.now) }
+{
+    segment.program_date_time.is_some() || ended.is_some()
+}
+
 // For each segment the first time that is stated from it on, less the durations before it: the first
 // segment's stands last.
-fn reckoned_stack(
-    alloc: Global,
-    segments: &[Shared<Segment>],
-) -> Result<Vec<Option<i128>>, AllocError>
+fn reckoned_stack(alloc: Global, segments: &[Segment]) -> Result<Vec<Option<i128>>, AllocError>
     ensures { IfOk result (λ v. v.items ≡ stack_of segments.now) }
 {
     let mut stack = Vec::with_capacity(alloc, segments.len())?;
@@ -91,12 +97,20 @@ fn reckoned_stack(
     Ok(stack)
 }
 
+// What is reckoned of the first of some segments, which stands last on their stack.
+fn pop_reckoned(stack: &mut Vec<Option<i128>>) -> Option<i128>
+    requires { 0 < length stack.old.items }
+    ensures { stack.old.items ≡ stack.new.items ++ result ∷ [] }
+{
+    stack.pop().unwrap_or(None)
+}
+
 /// The instants at which segments begin, one after the other.
 #[derive(Drop)]
 pub struct Beginnings<'a> {
     alloc: Global,
     ended: Option<i128>,
-    segments: &'a [Shared<Segment>],
+    segments: &'a [Segment],
     // What is reckoned of the segments that are left, once one of them needed it.
     stack: Option<Vec<Option<i128>>>,
 }
@@ -116,11 +130,7 @@ impl<'a> Model for Beginnings<'a> {
 impl<'a> Beginnings<'a> {
     /// The instant at which each of these segments begins, after one that ended at `ended`, if any: its stated time; else
     /// where the one before it ended; else back from the first time stated later; none outside the range of instants.
-    pub fn new(
-        alloc: Global,
-        ended: Option<i128>,
-        segments: &'a [Shared<Segment>],
-    ) -> Beginnings<'a>
+    pub fn new(alloc: Global, ended: Option<i128>, segments: &'a [Segment]) -> Beginnings<'a>
         ensures { result ≡ instants_after ended segments.now }
     {
         Beginnings {
@@ -137,19 +147,18 @@ impl<'a> Beginnings<'a> {
         ensures next { IfOk result (λ next. MatchOption next ((self.old ≡ []) × (self.new ≡ [])) (λ begun. self.old ≡ begun ∷ self.new)) }
         ensures refused { IfErr result (λ _. self.new ≡ self.old) }
     {
-        let segments = self.segments;
+        let (segments, ended) = (self.segments, self.ended);
         let Some((segment, later)) = segments.split_first() else {
             return Ok(None);
         };
-        // Most segments state a time or follow one that begins somewhere, so that nothing is reckoned back.
-        if self.stack.is_none() && segment.program_date_time.is_none() && self.ended.is_none() {
+        if self.stack.is_none() && !is_told(segment, &ended) {
             self.stack = Some(reckoned_stack(self.alloc, segments)?);
         }
         let reckoned = match &mut self.stack {
-            Some(stack) => stack.pop().unwrap_or(None),
+            Some(stack) => pop_reckoned(stack),
             None => None,
         };
-        let begun = begins_at(self.ended, segment, reckoned);
+        let begun = begins_at(ended, segment, reckoned);
         self.ended = ends_at(&begun, segment.duration);
         self.segments = later;
         Ok(Some(begun))

@@ -1,5 +1,5 @@
 -- What proofs and inner functions say with the definitions of `Listed`.
-use Rattle.std.specs.Prelude.{ℕ, ◌+◌, if◌then◌else◌, Some, None, true, Bool, not, nat_lt, map, filter, List, ◌∷◌, [], Option, is_some}
+use Rattle.std.specs.Prelude.{◌≡◌, ℕ, ◌+◌, ◌-◌, drop, length, if◌then◌else◌, Some, None, true, Bool, not, nat_lt, map, filter, List, ◌∷◌, [], Option, is_some}
 use Rattle.std.specs.Borrow.{Bor}
 use Rattle.playlist_model.specs.declared.Segment.{Segment}
 use Rattle.stitcher.specs.Stitched.{Numbers}
@@ -9,6 +9,10 @@ use Rattle.playlist_model.specs.declared.DateRange.{DateRange}
 use Rattle.break_finder.specs.Inner.Kept.{has_text}
 use Rattle.stitcher.specs.declared.marked.MarkedSegment.{MarkedSegment as Held}
 use Rattle.channel_spec.specs.Live.{date_range_text}
+
+-- a list ends with these
+abbrev pub IsTail : List Segment → List Segment → Type 0
+IsTail tail segments = drop (length segments - length tail) segments ≡ tail
 
 -- the segment is numbered after this one
 abbrev pub is_after : ℕ → Segment → Bool

@@ -1,7 +1,8 @@
 -- How far a playlist has been read.
-use Rattle.std.specs.Prelude.{◌≡◌, List, None, Some, Result, IsOk, MatchResult}
+use Rattle.std.specs.Prelude.{◌≡◌, ◌≢◌, ℕ, unwrap_or, List, None, Some, Result, IsOk, MatchResult}
 use Rattle.url.specs.Parts.{Parts}
 use Rattle.playlist_model.specs.declared.FaultKind.{FaultKind}
+use Rattle.playlist_model.specs.declared.FaultKind.TheVariants.{OutOfMemory}
 use Rattle.playlist_model.specs.declared.DateRange.{DateRange}
 use Rattle.playlist_model.specs.declared.Segment.{Segment}
 use Rattle.playlist_model.specs.declared.Playlist.{Playlist}
@@ -37,8 +38,20 @@ TakesLine outcome old new result =
     (λ _. IsOk (outcome old.base before) × (new ≡ progress_at old.base (with_said before (outcome old.base before))))
     (λ e. Refuses e (outcome old.base before))
 
--- the whole text's own fault, or the playlist
+-- the playlist of what is read, of this target duration
+abbrev pub playlist_from : Progress → ℕ → Playlist
+playlist_from p target = record {
+  version = unwrap_or p.heading.version 1;
+  target_duration = target;
+  playlist_type = p.heading.playlist_type;
+  independent_segments = p.heading.independent_segments;
+  end_list = p.heading.end_list;
+  date_ranges = p.date_ranges;
+  segments = p.segments;
+}
+
+-- the whole text's own fault, a failed allocation apart, or the playlist
 abbrev pub Ends : Progress → Result Playlist FaultKind → Type 0
 Ends progress result =
     (before : List Said) → progress ≡ progress_at progress.base before →
-    MatchResult result (λ playlist. (whole_fault before ≡ None) × (playlist ≡ playlist_of before)) (λ e. whole_fault before ≡ Some e)
+    MatchResult result (λ playlist. (whole_fault before ≡ None) × (playlist ≡ playlist_of before)) (λ e. e ≢ OutOfMemory → whole_fault before ≡ Some e)

@@ -29,10 +29,10 @@ returns-in_err-write_segments-clause-err g c =
     let p = c.args.playlist.now in
     let front = string_bytes c.in_ok-held.held in
     let date_ranges = date_ranges_text c.as_slice.result.now in
-    let segments = said_text (segments_owed none_yet c.as_slice-2.result.now) in
+    let segments = said_text (segments_owed none_yet c.items.result) in
     let end = said_text (ended_owed p.end_list) in
     let held = string_bytes c.write_date_ranges.new.held in
-    let e = text_from p front c.as_slice.result.now c.as_slice-2.result.now c.in_ok-held.ensures c.as_slice.ensures c.as_slice-2.ensures in
+    let e = text_from p front c.as_slice.result.now c.items.result c.in_ok-held.ensures c.as_slice.ensures c.items.ensures in
     on_err c.from_residual-in_err-write_segments.result _
     (front_in_segments _ _ _ front date_ranges held segments end (playlist_text p) e c.in_ok-write_date_ranges.ensures.ok c.in_err-write_segments.ensures.err)
 
@@ -41,11 +41,11 @@ returns-clause-err g c =
     let p = c.args.playlist.now in
     let front = string_bytes c.in_ok-held.held in
     let date_ranges = date_ranges_text c.as_slice.result.now in
-    let segments = said_text (segments_owed none_yet c.as_slice-2.result.now) in
+    let segments = said_text (segments_owed none_yet c.items.result) in
     let end = said_text (ended_owed p.end_list) in
     let held = string_bytes c.write_date_ranges.new.held in
     let last = string_bytes c.write_segments.new.held in
-    let e = text_from p front c.as_slice.result.now c.as_slice-2.result.now c.in_ok-held.ensures c.as_slice.ensures c.as_slice-2.ensures in
+    let e = text_from p front c.as_slice.result.now c.items.result c.in_ok-held.ensures c.as_slice.ensures c.items.ensures in
     err_with c.write_end.result _ _
     (front_in_last _ _ _ _ front date_ranges held segments last end (playlist_text p) e c.in_ok-write_date_ranges.ensures.ok c.in_ok-write_segments.ensures.ok)
     c.write_end.ensures.err
@@ -55,11 +55,11 @@ returns-clause-ok g c =
     let p = c.args.playlist.now in
     let front = string_bytes c.in_ok-held.held in
     let date_ranges = date_ranges_text c.as_slice.result.now in
-    let segments = said_text (segments_owed none_yet c.as_slice-2.result.now) in
+    let segments = said_text (segments_owed none_yet c.items.result) in
     let end = said_text (ended_owed p.end_list) in
     let held = string_bytes c.write_date_ranges.new.held in
     let last = string_bytes c.write_segments.new.held in
-    let e = text_from p front c.as_slice.result.now c.as_slice-2.result.now c.in_ok-held.ensures c.as_slice.ensures c.as_slice-2.ensures in
+    let e = text_from p front c.as_slice.result.now c.items.result c.in_ok-held.ensures c.as_slice.ensures c.items.ensures in
     ok_with c.write_end.result _ _
     (whole_text _ _ _ _ front date_ranges held segments last end (playlist_text p) e c.in_ok-write_date_ranges.ensures.ok c.in_ok-write_segments.ensures.ok)
     c.write_end.ensures.ok

@@ -1,6 +1,6 @@
 -- What proofs and inner functions say with the definitions of `Making`.
 use Rattle.stitcher.specs.Making.{is_same_run, plain, pod_with}
-use Rattle.std.specs.Prelude.{◌≡◌, ℕ, ◌-◌, ◌^◌, ◌==◌, Bool, true, false, not, ◌&&◌, ◌||◌, nat_le, nat_lt, List, [], ◌∷◌, ◌++◌, map, ℤ, Option, Some, None, if◌then◌else◌}
+use Rattle.std.specs.Prelude.{◌≡◌, ℕ, ◌+◌, ◌-◌, ◌^◌, ◌==◌, Bool, true, false, not, ◌&&◌, ◌||◌, nat_le, nat_lt, List, [], ◌∷◌, ◌++◌, map, take, drop, ℤ, Option, Some, None, is_some, if◌then◌else◌}
 use Rattle.std.specs.List.{list_all}
 use Rattle.playlist_model.specs.declared.Segment.{Segment}
 use Rattle.stitcher.specs.Stitched.{Piece, is_kept, Numbers, next_numbers, Item}
@@ -13,6 +13,7 @@ use Rattle.stitcher.specs.declared.ends.Ends.{Ends}
 use Rattle.stitcher.specs.declared.making.Part.{Part}
 use Rattle.stitcher.specs.StitchedSegments.{item_fits}
 use Rattle.stitcher.specs.Written.{written_item}
+use Rattle.stitcher.specs.Stretches.{kept_items, numbers_on}
 
 -- ---- the list so far
 
@@ -63,6 +64,15 @@ pushed made s time n origin = record {
 
 abbrev pub last_of : Piece → Numbers → Last
 last_of p n = record { numbers = n; origin = origin_of p }
+
+-- the list with kept segments more, of which the first has these numbers
+abbrev pub kept_on : Made → List MarkedSegment → Numbers → Last → Made
+kept_on made kept n last = record { first = made.first; last = Some last; items = made.items ++ kept_items n kept }
+
+-- the last of kept segments that follow each other, the first of which has these numbers
+abbrev pub last_of_run : Numbers → MarkedSegment → List MarkedSegment → Last
+last_of_run n m [] = record { numbers = n; origin = Some m.segment.discontinuity_sequence }
+last_of_run n m (next ∷ later) = last_of_run (numbers_on n m (next ∷ later)) next later
 
 -- pieces in order, with the numbers counted on
 abbrev pub counted : Numbers → Option Last → List Piece → List Item
@@ -139,6 +149,29 @@ pieces_at store so_far previous m later = if is_same_run m.mark previous then []
 abbrev pub pieces_on : Store → Option ℕ → Option (List ℕ) → List MarkedSegment → List Piece
 pieces_on store so_far previous [] = []
 pieces_on store so_far previous (m ∷ later) = pieces_at store so_far previous m later ++ pieces_on store so_far m.mark later
+
+-- how many segments in front have no mark
+abbrev pub unmarked_front : List MarkedSegment → ℕ
+unmarked_front [] = 0
+unmarked_front (m ∷ later) = if is_some m.mark then 0 else unmarked_front later + 1
+
+-- what stands for the first of segments, and, where it has no mark, for those without one that follow it
+abbrev pub begun_in : Store → Part → List MarkedSegment → Option (List ℕ) → List Piece
+begun_in store part segments None = map plain (take (unmarked_front segments) segments)
+begun_in store part segments (Some id) = part_of part (pod_with id (pod_for store id))
+
+abbrev pub front_pieces : Store → Option ℕ → Option (List ℕ) → List MarkedSegment → List Piece
+front_pieces store so_far previous [] = []
+front_pieces store so_far previous (m ∷ later) = if is_same_run m.mark previous then [] else begun_in store (part_at so_far m.mark later) (m ∷ later) m.mark
+
+-- the segments after that
+abbrev pub after_begun : List MarkedSegment → List MarkedSegment → Option (List ℕ) → List MarkedSegment
+after_begun segments later None = drop (unmarked_front segments) segments
+after_begun segments later (Some id) = later
+
+abbrev pub after_front : List MarkedSegment → List MarkedSegment
+after_front [] = []
+after_front (m ∷ later) = after_begun (m ∷ later) later m.mark
 
 abbrev pub rest_on : Store → Option Rest → List Piece
 rest_on store None = []

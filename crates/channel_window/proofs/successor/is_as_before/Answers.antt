@@ -1,5 +1,4 @@
-use Rattle.std.proofs.Common.{◌∙◌, ap, arith}
-use Rattle.playlist_model.specs.Same.{same_segment}
+use Rattle.std.proofs.Common.{◌∙◌, arith}
 use Rattle.channel_window.proofs.Found.{was_before, was_there, was_after}
 use Rattle.channel_window.proofs.successor.is_as_before.Goals as goal
 
@@ -8,7 +7,7 @@ returns-then-segment-first c = was_before c.args.old.now c.args.segment.now c.fi
 
 pub returns-in-Some : goal.returns-in-Some
 returns-in-Some c =
-    c.same_segment.ensures.value ∙ ap (same_segment c.args.segment.now) c.deref.ensures
+    c.same_segment.ensures.value
     ∙ was_there c.args.old.now c.args.segment.now c.in-Some.other.now c.first_number-first.result c.requires c.first_number-first.ensures (omega arith) c.in-Some.ensures.lookup.0 c.in-Some.ensures.lookup.1
 
 pub returns-in-None : goal.returns-in-None

@@ -12,7 +12,7 @@ returns-in_default-clause-value c =
     let s = c.args.state.now in
     let p = c.args.playlist.now in
     let list = c.args.list.now in
-    let n = c.first_number-number.ensures ∙ ap (λ (ss : List Segment). first_number ss) c.as_slice.ensures in
+    let n = c.first_number-number.ensures ∙ ap (λ (ss : List Segment). first_number ss) (c.as_slice.ensures ∙ c.deref.ensures) in
     let item = place_found s.store (first_number p.segments) c.place_of-place.result list c.front_to.result.now c.requires.decided c.front_to.ensures.front (c.front_to.ensures.seen s.store ∙ ap (λ k. up_to k (so_far s.store list)) n) c.place_of-place.ensures in
     start_first s p list c.place_of-place.result item c.in_default.is
 
@@ -27,8 +27,8 @@ returns-clause-value c =
     let p = c.args.playlist.now in
     let list = c.args.list.now in
     let last = c.in-Some.last in
-    let n = c.first_number-number.ensures ∙ ap (λ (ss : List Segment). first_number ss) c.as_slice.ensures in
-    let k = c.first_number.ensures ∙ ap (λ (ss : List Segment). first_number ss) c.as_slice-2.ensures in
+    let n = c.first_number-number.ensures ∙ ap (λ (ss : List Segment). first_number ss) (c.as_slice.ensures ∙ c.deref.ensures) in
+    let k = c.first_number.ensures ∙ ap (λ (ss : List Segment). first_number ss) (c.as_slice-2.ensures ∙ c.deref-2.ensures) in
     let item = place_found s.store (first_number p.segments) c.place_of-place.result list c.front_to.result.now c.requires.decided c.front_to.ensures.front (c.front_to.ensures.seen s.store ∙ ap (λ k. up_to k (so_far s.store list)) n) c.place_of-place.ensures in
     let room = c.requires.room c.front_to.result.now c.front_to.ensures.front in
     let fits : c.place_of-place.result + c.rest_count.result < 2 ^ 64 = omega (arith, room, c.place_of-place.ensures, c.rest_count.ensures.value) in

@@ -1,4 +1,4 @@
-use Rattle.std.proofs.Common.{length, refl, sym, ap, ◌∙◌, arith}
+use Rattle.std.proofs.Common.{length, refl, sym, ap, ◌∙◌}
 use Rattle.std.specs.List.{list_all}
 use Rattle.stitcher.specs.StitchedSegments.{item_fits}
 use Rattle.channel_spec.specs.Kept.{numbers_on}
@@ -23,26 +23,20 @@ returns-in_err-items-clause-err c =
 pub start_of-start-requires-clause-room : goal.start_of-start-requires-clause-room
 start_of-start-requires-clause-room c =
     let s = c.args.state.now in
-    has_room s c.args.playlist.now c.args.list.now c.args.length c.in_ok-ends.ends c.in_ok-first.first c.requires.decided (c.in_ok-ends.ensures s.store) c.in_ok-first.ensures.ok c.in_ok-items.items.items c.in_ok-items.ensures.ok.0 (omega (arith, c.in_ok-items.items.small))
+    has_room s c.args.playlist.now c.args.list.now c.args.length c.in_ok-ends.ends c.in_ok-first.first c.requires.decided (c.in_ok-ends.ensures s.store) c.in_ok-first.ensures.ok c.in_ok-items.items c.in_ok-items.ensures.ok.0 c.in_ok-items.ensures.room
 
 pub rest_after-requires-clause-room : goal.rest_after-requires-clause-room
 rest_after-requires-clause-room c =
     let s = c.args.state.now in
-    has_room s c.args.playlist.now c.args.list.now c.args.length c.in_ok-ends.ends c.in_ok-first.first c.requires.decided (c.in_ok-ends.ensures s.store) c.in_ok-first.ensures.ok c.in_ok-items.items.items c.in_ok-items.ensures.ok.0 (omega (arith, c.in_ok-items.items.small))
-
-pub from_place-requires : goal.from_place-requires
-from_place-requires c =
-    let s = c.args.state.now in
-    c.start_of-start.ensures.within (length c.in_ok-items.items.items)
-    (room_left s c.args.playlist.now c.args.list.now c.args.length c.in_ok-ends.ends c.in_ok-first.first c.requires.decided (c.in_ok-ends.ensures s.store) c.in_ok-first.ensures.ok c.in_ok-items.items.items c.in_ok-items.ensures.ok.0)
+    has_room s c.args.playlist.now c.args.list.now c.args.length c.in_ok-ends.ends c.in_ok-first.first c.requires.decided (c.in_ok-ends.ensures s.store) c.in_ok-first.ensures.ok c.in_ok-items.items c.in_ok-items.ensures.ok.0 c.in_ok-items.ensures.room
 
 pub returns-clause-ok : goal.returns-clause-ok
 returns-clause-ok c =
     let s = c.args.state.now in
-    let inside = c.start_of-start.ensures.within (length c.in_ok-items.items.items)
-    (room_left s c.args.playlist.now c.args.list.now c.args.length c.in_ok-ends.ends c.in_ok-first.first c.requires.decided (c.in_ok-ends.ensures s.store) c.in_ok-first.ensures.ok c.in_ok-items.items.items c.in_ok-items.ensures.ok.0) in
-    c.in_ok-from_place.ensures
-    ∙ window_left s c.args.playlist.now c.args.list.now c.args.length c.in_ok-ends.ends c.in_ok-first.first c.requires.decided (c.in_ok-ends.ensures s.store) c.in_ok-first.ensures.ok c.in_ok-items.items.items c.start_of-start.result c.in_ok-items.ensures.ok.0 inside c.start_of-start.ensures.value
+    let inside = c.start_of-start.ensures.within (length c.in_ok-items.items)
+    (room_left s c.args.playlist.now c.args.list.now c.args.length c.in_ok-ends.ends c.in_ok-first.first c.requires.decided (c.in_ok-ends.ensures s.store) c.in_ok-first.ensures.ok c.in_ok-items.items c.in_ok-items.ensures.ok.0) in
+    c.leave_out.ensures
+    ∙ window_left s c.args.playlist.now c.args.list.now c.args.length c.in_ok-ends.ends c.in_ok-first.first c.requires.decided (c.in_ok-ends.ensures s.store) c.in_ok-first.ensures.ok c.in_ok-items.items c.start_of-start.result c.in_ok-items.ensures.ok.0 inside c.start_of-start.ensures.value
 
 pub returns-clause-fit : goal.returns-clause-fit
 returns-clause-fit c =

@@ -27,7 +27,7 @@ returns-clause-ok c =
     let same : held ≡ c.args.showing.list.items = c.as_slice-list.ensures.value in
     let all_decided : AreDecided s.store held = subst (AreDecided s.store) (sym same) c.requires.decided in
     let seen = so_far s.store held in
-    let items = c.in_ok-items.field-0.items.items in
+    let items = c.in_ok-items.field-0.items in
     let rest = c.in_ok-items.field-0.rest in
     let window : items ≡ map written_item (window_on (kept_in s) p seen n) = c.in_ok-items.ensures.ok in
     let entered_is : c.in_ok-entered.entered ≡ or_earlier (last_entered seen) s.entered = search rules in
@@ -41,7 +41,7 @@ returns-clause-ok c =
     let numbers : Numbers = record { media_sequence = inside.media_sequence; discontinuity_sequence = inside.discontinuity_sequence; discontinuities = inside.discontinuities } in
     let head_is : c.head_of-numbers.result ≡ head_of items = search rules in
     let numbers_are : numbers ≡ head_of items = c.numbers.view_is ∙ head_is in
-    let done : Refreshed = record { media_sequence = inside.media_sequence; segments = c.len.result; fresh = c.args.showing.fresh } in
+    let done : Refreshed = record { media_sequence = inside.media_sequence; segments = c.count.result; fresh = c.args.showing.fresh } in
     let next : NextState = record {
       knowledge = c.args.showing.knowledge;
       shown = c.in_ok-from_place.field-0;
@@ -65,6 +65,6 @@ returns-clause-ok c =
       lasted = refl;
       rest = c.in_ok-items.ensures.rest;
       rest_decided = c.in_ok-items.ensures.left;
-      refreshed = refreshed_seen s p held n items numbers c.len.result c.args.showing.fresh done window numbers_are (search rules) refl;
+      refreshed = refreshed_seen s p held n items numbers c.count.result c.args.showing.fresh done window numbers_are (search rules) refl;
       text = text_seen s p held n items c.in_ok-in_use.in_use.items c.in_ok-text.text window breaks (search rules);
     }

@@ -1,12 +1,12 @@
-use Rattle.std.proofs.Common.{refl, ap}
+use Rattle.std.proofs.Common.{ap}
 use Rattle.date_times.specs.Instant.{instant_of}
 use Rattle.segment_state.proofs.Timed.{stated, unstated, with_time, timed, untimed}
 use Rattle.segment_state.proofs.ReaderState.time_tag.Goals as goal
 
 pub returns-in_default : goal.returns-in_default
 returns-in_default c = λ before e.
-    let none = unstated (instant_of c.args.rest.now) _ c.read_instant.result c.read_instant.ensures c.in_default.not-Ok in
-    (untimed c.args.self.now.base before c.args.rest.now none, refl)
+    let none = unstated (instant_of c.args.rest.now) _ c.read.result c.read.ensures c.in_default.not-Ok in
+    (untimed c.args.self.now.base before c.args.rest.now none, c.self.view_is)
 
 pub returns : goal.returns
 returns c =

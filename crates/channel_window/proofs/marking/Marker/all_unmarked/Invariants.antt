@@ -5,8 +5,8 @@ use Rattle.channel_window.proofs.marking.Marker.all_unmarked.Given as goal
 
 abbrev pub invariant-loop-segment : goal.invariant-loop-segment
 invariant-loop-segment l =
-    (last : Option (List ℕ)) → l.done.items ++ mark_on l.self None last l.rest l.instants
-    ≡ l.fn.done.items ++ mark_on l.self None last l.segments l.fn.instants
+    (last : Option (List ℕ)) → l.done.items ++ mark_on l.self None last l.segments l.instants
+    ≡ l.fn.done.items ++ mark_on l.self None last l.fn.segments l.fn.instants
 
 abbrev pub decreases-loop-segment : goal.decreases-loop-segment
-decreases-loop-segment l = length l.rest
+decreases-loop-segment l = length l.segments

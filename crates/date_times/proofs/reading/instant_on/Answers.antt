@@ -5,7 +5,7 @@ use Rattle.std.specs.List.{list_all}
 use Rattle.std.specs.Char.{is_ascii_digit}
 use Rattle.date_times.specs.Instant.{is_fraction, fraction_len, fraction_nanos, zone_offset, seconds_at}
 use Rattle.date_times.proofs.TimeForms.{fraction_digits, no_fraction, clock_length, zoned, read_parts, no_zone, zone_found, rest_is}
-use Rattle.date_times.proofs.reading.instant_of.Goals as goal
+use Rattle.date_times.proofs.reading.instant_on.Goals as goal
 
 pub returns-in_err-rest : goal.returns-in_err-rest
 returns-in_err-rest c = let long = clock_length c.args.text.now c.in_ok-clock.ensures.value.0 in let l = c.in_err-rest.ensures.lookup in absurd (grind (arith, long, l))
@@ -28,7 +28,7 @@ returns-in_err-offset c =
     let fraction = ap (λ r. is_fraction (fraction_len r)) (sym rest) ∙ ap is_fraction (sym c.fraction_len-len.ensures.value) ∙ sym c.if-not-is_fraction.ensures in
     let zone = c.in_err-offset.ensures.value ∙ ap zone_offset (c.split_at.ensures.back ∙ ap (λ n. drop n c.in_ok-rest.rest.now) c.fraction_len-len.ensures.value) in
     c.from_residual-in_err-offset.ensures ∙ no_zone c.in_ok-rest.rest.now (seconds_at text) zone ∙ ap (λ r. zoned r (seconds_at text)) rest
-    ∙ sym (read_parts text c.in_ok-day.ensures.value.0 (sym c.if-not-is_at.ensures) c.in_ok-clock.ensures.value.0 fraction)
+    ∙ sym (read_parts text c.requires.0 (sym c.if-not-is_at.ensures) c.in_ok-clock.ensures.value.0 fraction)
 
 pub returns : goal.returns
 returns c =
@@ -38,15 +38,15 @@ returns c =
     let zone = c.in_ok-offset.ensures.value ∙ ap zone_offset (c.split_at.ensures.back ∙ ap (λ n. drop n c.in_ok-rest.rest.now) c.fraction_len-len.ensures.value) in
     let digits = c.after_point_of.ensures ∙ ap (drop 1) (c.split_at.ensures.front ∙ ap (λ n. take n c.in_ok-rest.rest.now) c.fraction_len-len.ensures.value) in
     let nanos = c.nanos_of_fraction-nanos.ensures.value ∙ ap fraction_nanos digits in
-    let day = c.in_ok-day.ensures.bound in
+    let day = c.requires.2 in
     let offset = c.in_ok-offset.ensures.bound in
-    let day_is : to_z w64 (of_z w64 c.in_ok-day.day) ≡ c.in_ok-day.day = to_z-of_z w64 c.in_ok-day.day (omega (arith, signed_arith, day)) in
+    let day_is : to_z w64 (of_z w64 c.args.day) ≡ c.args.day = to_z-of_z w64 c.args.day (omega (arith, signed_arith, day)) in
     let offset_is : to_z w64 (of_z w64 c.in_ok-offset.offset) ≡ c.in_ok-offset.offset = to_z-of_z w64 c.in_ok-offset.offset (omega (arith, signed_arith, offset)) in
-    let seconds : c.seconds_from_1970.result ≡ (c.in_ok-day.day *ℤ pos 86400 +ℤ pos c.in_ok-clock.clock) -ℤ c.in_ok-offset.offset = rw (day_is, offset_is) at c.seconds_from_1970.ensures in
+    let seconds : c.seconds_from_1970.result ≡ (c.args.day *ℤ pos 86400 +ℤ pos c.in_ok-clock.clock) -ℤ c.in_ok-offset.offset = rw (day_is, offset_is) at c.seconds_from_1970.ensures in
     let clock = c.in_ok-clock.ensures.bound in
     let fits : FitsSigned w64 c.seconds_from_1970.result = omega (arith, signed_arith, seconds, day, offset, clock) in
     let same = to_z-of_z w64 c.seconds_from_1970.result fits in
     c.instant_at.ensures
-    ∙ zone_found text c.in_ok-rest.rest.now c.in_ok-clock.clock c.nanos_of_fraction-nanos.result c.in_ok-day.day c.in_ok-offset.offset _ c.in_ok-day.ensures.value.1 c.in_ok-clock.ensures.value.1 nanos zone (same ∙ seconds)
+    ∙ zone_found text c.in_ok-rest.rest.now c.in_ok-clock.clock c.nanos_of_fraction-nanos.result c.args.day c.in_ok-offset.offset _ c.requires.1 c.in_ok-clock.ensures.value.1 nanos zone (same ∙ seconds)
     ∙ ap (λ r. zoned r (seconds_at text)) rest
-    ∙ sym (read_parts text c.in_ok-day.ensures.value.0 (sym c.if-not-is_at.ensures) c.in_ok-clock.ensures.value.0 fraction)
+    ∙ sym (read_parts text c.requires.0 (sym c.if-not-is_at.ensures) c.in_ok-clock.ensures.value.0 fraction)

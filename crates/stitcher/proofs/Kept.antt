@@ -1,0 +1,89 @@
+-- Kept segments that follow each other.
+use Rattle.std.proofs.Common.{◌≡◌, ℕ, Bool, true, false, ◌&&◌, List, [], ◌∷◌, ◌++◌, map, refl, ap, sym, subst, ◌∙◌, append_assoc, take, drop, add-one}
+use Rattle.std.specs.Prelude.{ℤ, Option, Some, None}
+use Rattle.std.specs.List.{list_all}
+use Rattle.std.proofs.lemmas.List.Folds.{list_all-append}
+use Rattle.playlist_model.specs.declared.Segment.{Segment}
+use Rattle.pod_store.specs.Store.{Store}
+use Rattle.stitcher.specs.Stitched.{Piece, Numbers}
+use Rattle.stitcher.specs.Written.{written_item}
+use Rattle.stitcher.specs.StitchedSegments.{item_fits}
+use Rattle.stitcher.specs.Making.{plain}
+use Rattle.stitcher.specs.declared.marked.MarkedSegment.{MarkedSegment}
+use Rattle.stitcher.specs.Stretches.{kept_item, kept_items, numbers_on}
+use Rattle.stitcher.specs.Inner.Making.{Made, numbers_after, last_of, counted, comes_to, Puts, Passes, kept_on, last_of_run, pieces_on, unmarked_front, front_pieces, after_front}
+
+-- ---- their numbers
+
+counted_run : (first n : Numbers) (m : MarkedSegment) (later : List MarkedSegment) (more : List Piece)
+    → map written_item (record { piece = plain m; numbers = n } ∷ counted first (Some (last_of (plain m) n)) (map plain later ++ more))
+    ≡ kept_items n (m ∷ later) ++ map written_item (counted first (Some (last_of_run n m later)) more)
+counted_run first n m [] more = refl
+counted_run first n m (next ∷ later) more = ap (λ t. kept_item n m ∷ t) (counted_run first (numbers_on n m (next ∷ later)) next later more)
+
+comes_run : (made : Made) (n : Numbers) (m : MarkedSegment) (later : List MarkedSegment) (more : List Piece) → n ≡ numbers_after made.first made.last (plain m)
+    → comes_to made (map plain (m ∷ later) ++ more)
+    ≡ made.items ++ (kept_items n (m ∷ later) ++ map written_item (counted made.first (Some (last_of_run n m later)) more))
+comes_run made n m later more same =
+    ap (λ k. made.items ++ map written_item (record { piece = plain m; numbers = k } ∷ counted made.first (Some (last_of (plain m) k)) (map plain later ++ more))) (sym same)
+    ∙ ap (λ t. made.items ++ t) (counted_run made.first n m later more)
+
+both_true : (a b : Bool) → a ≡ true → b ≡ true → (a && b) ≡ true
+both_true true b p q = q
+both_true false b p q = p
+
+middle_false : (a b c : Bool) → b ≡ false → (a && (b && c)) ≡ false
+middle_false true true c q = cc
+middle_false true false c q = refl
+middle_false false b c q = refl
+
+-- they are put, where their numbers fit
+pub puts_run : (made : Made) (n : Numbers) (m : MarkedSegment) (later : List MarkedSegment) → n ≡ numbers_after made.first made.last (plain m)
+    → list_all item_fits (kept_items n (m ∷ later)) ≡ true → Puts made (kept_on made (m ∷ later) n (last_of_run n m later)) (map plain (m ∷ later))
+puts_run made n m later same fits = record {
+  first = refl;
+  comes = λ more. comes_run made n m later more same
+      ∙ sym (append_assoc made.items (kept_items n (m ∷ later)) (map written_item (counted made.first (Some (last_of_run n m later)) more)));
+  fit = λ h. list_all-append item_fits made.items (kept_items n (m ∷ later)) ∙ both_true _ _ h fits;
+}
+
+pub passes_run : (made : Made) (n : Numbers) (m : MarkedSegment) (later : List MarkedSegment) → n ≡ numbers_after made.first made.last (plain m)
+    → list_all item_fits (kept_items n (m ∷ later)) ≡ false → Passes made (map plain (m ∷ later))
+passes_run made n m later same unfit more =
+    let rest = map written_item (counted made.first (Some (last_of_run n m later)) more) in
+    ap (list_all item_fits) (comes_run made n m later more same)
+    ∙ (list_all-append item_fits made.items (kept_items n (m ∷ later) ++ rest)
+    ∙ (ap (λ b. list_all item_fits made.items && b) (list_all-append item_fits (kept_items n (m ∷ later)) rest)
+    ∙ middle_false (list_all item_fits made.items) _ (list_all item_fits rest) unfit))
+
+-- ---- the segments in front that have no mark
+
+unmarked_more : (store : Store) (so_far : Option ℕ) (s : Segment) (instant : Option ℤ) (mark : Option (List ℕ)) (later : List MarkedSegment)
+    → pieces_on store so_far None later ≡ map plain (take (unmarked_front later) later) ++ pieces_on store so_far None (drop (unmarked_front later) later)
+    → let m : MarkedSegment = record { segment = s; instant = instant; mark = mark } in
+    pieces_on store so_far None (m ∷ later)
+    ≡ map plain (take (unmarked_front (m ∷ later)) (m ∷ later)) ++ pieces_on store so_far None (drop (unmarked_front (m ∷ later)) (m ∷ later))
+unmarked_more store so_far s instant None later h = rw add-one (ap (λ t. plain (record { segment = s; instant = instant; mark = None }) ∷ t) h)
+unmarked_more store so_far s instant (Some id) later h = refl
+
+unmarked_pieces : (store : Store) (so_far : Option ℕ) (list : List MarkedSegment)
+    → pieces_on store so_far None list ≡ map plain (take (unmarked_front list) list) ++ pieces_on store so_far None (drop (unmarked_front list) list)
+unmarked_pieces store so_far [] = refl
+unmarked_pieces store so_far (m ∷ later) = unmarked_more store so_far m.segment m.instant m.mark later (unmarked_pieces store so_far later)
+
+front_with : (store : Store) (so_far : Option ℕ) (previous : Option (List ℕ)) (s : Segment) (instant : Option ℤ) (mark : Option (List ℕ)) (later : List MarkedSegment)
+    → let m : MarkedSegment = record { segment = s; instant = instant; mark = mark } in
+    pieces_on store so_far previous (m ∷ later) ≡ front_pieces store so_far previous (m ∷ later) ++ pieces_on store so_far mark (after_front (m ∷ later))
+front_with store so_far previous s instant None later = unmarked_pieces store so_far (record { segment = s; instant = instant; mark = None } ∷ later)
+front_with store so_far previous s instant (Some id) later = refl
+
+pieces_front : (store : Store) (so_far : Option ℕ) (previous : Option (List ℕ)) (m : MarkedSegment) (later : List MarkedSegment)
+    → pieces_on store so_far previous (m ∷ later) ≡ front_pieces store so_far previous (m ∷ later) ++ pieces_on store so_far m.mark (after_front (m ∷ later))
+pieces_front store so_far previous m later = front_with store so_far previous m.segment m.instant m.mark later
+
+-- what stands for segments begins with what stands for those in front
+pub pieces_front_at : (store : Store) (so_far : Option ℕ) (previous : Option (List ℕ)) (list : List MarkedSegment) (m : MarkedSegment) (later : List MarkedSegment) → list ≡ m ∷ later
+    → pieces_on store so_far previous list ≡ front_pieces store so_far previous list ++ pieces_on store so_far m.mark (after_front list)
+pieces_front_at store so_far previous list m later e =
+    subst (λ (l : List MarkedSegment). pieces_on store so_far previous l ≡ front_pieces store so_far previous l ++ pieces_on store so_far m.mark (after_front l)) (sym e)
+    (pieces_front store so_far previous m later)

@@ -1,0 +1,261 @@
+//! A stitched list. It holds no item: each is made where it is asked for.
+ghost use Rattle.std.specs.Prelude.{◌≡◌, ◌∷◌, ◌+◌, [], drop, length, true, MatchOption, IfSome, IfOk};
+ghost use Rattle.std.specs.List.{list_all};
+ghost use Rattle.stitcher.specs.StitchedSegments.{item_fits};
+ghost use Rattle.stitcher.specs.Inner.Making.{numbers_fit};
+ghost use Rattle.stitcher.specs.Stretches.{ad_item, here_items, kept_item, left_items, numbers_on, stretch_items, stretches_items};
+
+use crate::OutSegment;
+use crate::marked::{MarkedSegment, Numbers};
+use crate::played::SegmentRef;
+use playlist_model::{Items, Segment};
+use std::alloc::AllocError;
+use std::marker::Model;
+
+/// The segments of ads that stand one after another, and the segments of the origin that are kept after them, up to the next ad.
+#[derive(Drop)]
+pub(crate) struct Stretch<'a> {
+    /// The ads' segments, which repeat the numbers that are written.
+    pub ads: Items<Segment>,
+    /// The kept segments.
+    pub kept: &'a [MarkedSegment],
+    /// The numbers of the first of those.
+    pub numbers: Numbers,
+}
+
+// A place in a list of stretches.
+#[derive(Drop)]
+struct Cursor<'a> {
+    ads: &'a [Segment],
+    kept: &'a [MarkedSegment],
+    numbers: Numbers,
+    later: &'a [Stretch<'a>],
+}
+
+#[inline(always)]
+fn ad_item(segment: &Segment) -> OutSegment<'_>
+    ensures { result ≡ ad_item segment.now }
+{
+    OutSegment {
+        segment: SegmentRef::new(segment),
+        media_sequence: segment.media_sequence,
+        discontinuity_sequence: segment.discontinuity_sequence,
+        discontinuities: segment.discontinuities,
+        program_date_time: None,
+    }
+}
+
+#[inline(always)]
+fn kept_item<'a>(numbers: &Numbers, marked: &'a MarkedSegment) -> OutSegment<'a>
+    ensures { result ≡ kept_item numbers.now marked.now }
+{
+    OutSegment {
+        segment: SegmentRef::new(&marked.segment),
+        media_sequence: numbers.media_sequence,
+        discontinuity_sequence: numbers.discontinuity_sequence,
+        discontinuities: numbers.discontinuities,
+        program_date_time: marked.instant,
+    }
+}
+
+// The numbers of the first of these, which follow a kept segment with those.
+#[inline(always)]
+fn numbers_on(numbers: &Numbers, here: &MarkedSegment, later: &[MarkedSegment]) -> Numbers
+    requires { numbers_fit (numbers_on numbers.now here.now later.now) ≡ true }
+    ensures { result ≡ numbers_on numbers.now here.now later.now }
+{
+    let Some(next) = later.first() else {
+        return *numbers;
+    };
+    let before = here.segment.discontinuity_sequence;
+    let steps = next.segment.discontinuity_sequence.saturating_sub(before);
+    Numbers {
+        media_sequence: numbers.media_sequence + 1,
+        discontinuity_sequence: numbers.discontinuity_sequence + steps,
+        discontinuities: steps,
+    }
+}
+
+// Goes to the next stretch that has an item, where none is left of this one.
+#[inline(always)]
+fn open_stretch<'a>(cursor: &mut Cursor<'a>)
+    ensures same { left_items cursor.new ≡ left_items cursor.old }
+    ensures open { here_items cursor.new ≡ [] → left_items cursor.new ≡ [] }
+{
+    while cursor.ads.is_empty() && cursor.kept.is_empty() {
+        let stretches = cursor.later;
+        let [stretch, later @ ..] = stretches else {
+            return;
+        };
+        cursor.ads = stretch.ads.as_slice();
+        cursor.kept = stretch.kept;
+        cursor.numbers = stretch.numbers;
+        cursor.later = later;
+    }
+}
+
+// The next item of the stretch.
+#[inline(always)]
+fn next_here<'a>(cursor: &mut Cursor<'a>) -> Option<OutSegment<'a>>
+    requires { list_all item_fits (here_items cursor.old) ≡ true }
+    ensures item { MatchOption result ((here_items cursor.old ≡ []) × (here_items cursor.new ≡ [])) (λ item. here_items cursor.old ≡ item ∷ here_items cursor.new) }
+    ensures later { cursor.new.later.now ≡ cursor.old.later.now }
+{
+    let ads = cursor.ads;
+    if let Some((segment, later)) = ads.split_first() {
+        cursor.ads = later;
+        return Some(ad_item(segment));
+    }
+    let kept = cursor.kept;
+    let Some((here, later)) = kept.split_first() else {
+        return None;
+    };
+    let item = kept_item(&cursor.numbers, here);
+    cursor.numbers = numbers_on(&cursor.numbers, here, later);
+    cursor.kept = later;
+    Some(item)
+}
+
+/// The items of a stitched list, one after the other.
+#[derive(Drop)]
+pub struct StitchedItems<'a> {
+    cursor: Cursor<'a>,
+}
+
+impl<'a> Model for StitchedItems<'a> {
+    ghost use Rattle.std.specs.Prelude.{◌≡◌, true, List};
+    ghost use Rattle.std.specs.List.{list_all};
+    ghost use Rattle.stitcher.specs.declared.OutSegment.{OutSegment};
+    ghost use Rattle.stitcher.specs.StitchedSegments.{item_fits};
+    ghost use Rattle.stitcher.specs.Stretches.{left_items};
+
+    ghost Value = { List OutSegment };
+
+    ghost view = { λ a. left_items a.cursor };
+
+    ghost invariant = { λ a. list_all item_fits (left_items a.cursor) ≡ true };
+}
+
+impl<'a> StitchedItems<'a> {
+    /// The next item, where there is one.
+    #[inline(always)]
+    pub fn next(&mut self) -> Option<OutSegment<'a>>
+        ensures { MatchOption result ((self.old ≡ []) × (self.new ≡ [])) (λ item. self.old ≡ item ∷ self.new) }
+    {
+        open_stretch(&mut self.cursor);
+        next_here(&mut self.cursor)
+    }
+
+    // Passes over the first items, so many.
+    fn pass(&mut self, count: usize)
+        ensures { self.new ≡ drop count self.old }
+    {
+        for _ in 0..count {
+            let _ = self.next();
+        }
+    }
+}
+
+// The items of stretches.
+fn items_of<'a>(stretches: &'a [Stretch<'a>]) -> StitchedItems<'a>
+    requires { list_all item_fits (stretches_items stretches.now) ≡ true }
+    ensures { result ≡ stretches_items stretches.now }
+{
+    StitchedItems {
+        cursor: Cursor {
+            ads: &[],
+            kept: &[],
+            numbers: Numbers {
+                media_sequence: 0,
+                discontinuity_sequence: 0,
+                discontinuities: 0,
+            },
+            later: stretches,
+        },
+    }
+}
+
+#[tactic(auto, using(crate::proofs::Cursors::length_stretch))]
+// How many items there are with those of a stretch, where so many can be counted.
+fn count_with(count: usize, stretch: &Stretch<'_>) -> Option<usize>
+    ensures { IfSome result (λ sum. sum ≡ count + length (stretch_items stretch.now)) }
+{
+    let with_ads = count.checked_add(stretch.ads.len())?;
+    with_ads.checked_add(stretch.kept.len())
+}
+
+// How many items stretches have, where so many can be counted.
+fn count_of(stretches: &[Stretch<'_>]) -> Option<usize>
+    ensures { IfSome result (λ count. count ≡ length (stretches_items stretches.now)) }
+{
+    let mut count: usize = 0;
+    for stretch in stretches {
+        count = count_with(count, stretch)?;
+    }
+    Some(count)
+}
+
+/// A stitched list: segments of the origin, which stay where they are, and those of ads.
+#[derive(Drop)]
+pub struct StitchedList<'a> {
+    stretches: Vec<Stretch<'a>>,
+    // How many items the stretches have.
+    count: usize,
+    // How many of those stand before the list.
+    passed: usize,
+}
+
+impl<'a> Model for StitchedList<'a> {
+    ghost use Rattle.std.specs.Prelude.{List, drop};
+    ghost use Rattle.stitcher.specs.declared.OutSegment.{OutSegment};
+    ghost use Rattle.stitcher.specs.Stretches.{IsHeld, stretches_items};
+
+    ghost Value = { List OutSegment };
+
+    ghost view = { λ a. drop a.passed (stretches_items a.stretches.items) };
+
+    ghost invariant = { λ a. IsHeld a.stretches.items a.count a.passed };
+}
+
+impl<'a> StitchedList<'a> {
+    /// The items of stretches. Fails where there are more than memory can hold.
+    pub(crate) fn from_stretches(
+        stretches: Vec<Stretch<'a>>,
+    ) -> Result<StitchedList<'a>, AllocError>
+        requires { list_all item_fits (stretches_items stretches.items) ≡ true }
+        ensures { IfOk result (λ list. list ≡ stretches_items stretches.entry.items) }
+    {
+        let Some(count) = count_of(stretches.as_slice()) else {
+            return Err(AllocError);
+        };
+        Ok(StitchedList {
+            stretches,
+            count,
+            passed: 0,
+        })
+    }
+
+    /// Its items, one after the other.
+    pub fn items(&self) -> StitchedItems<'_>
+        ensures { result ≡ self.now }
+    {
+        let mut items = items_of(self.stretches.as_slice());
+        items.pass(self.passed);
+        items
+    }
+
+    /// How many items it has.
+    pub fn count(&self) -> usize
+        ensures { result ≡ length self.now }
+    {
+        self.count - self.passed
+    }
+
+    /// Leaves out the first items, so many.
+    pub fn leave_out(&mut self, place: usize)
+        ensures { self.new ≡ drop place self.old }
+    {
+        let left = self.count - self.passed;
+        self.passed += place.min(left);
+    }
+}
