@@ -6,7 +6,7 @@ pub mod KeyOrder
 pub mod KeyLaws
 pub mod LimitLaws
 pub mod LineLaws
-pub mod Pointwise
 pub mod SameParts
 pub mod SameSegments
 pub mod MemberLists
+pub mod KeysUnder

@@ -1,3 +1,4 @@
+pub mod KeysHeld
 pub mod Lines
 pub mod Heading
 pub mod WorkedExamples

@@ -2,6 +2,7 @@ pub mod Lines
 pub mod Uri
 pub mod Carried
 pub mod Said
+pub mod EffectiveKeys
 pub mod LookBack
 pub mod Instants
 pub mod Reading

@@ -12,6 +12,7 @@ use Rattle.playlist_model.specs.declared.ByteRange.{ByteRange}
 use Rattle.playlist_model.specs.declared.InitSection.{InitSection}
 use Rattle.playlist_model.specs.declared.Segment.{Segment}
 use Rattle.playlist_model.specs.declared.DateRange.{DateRange}
+use Rattle.playlist_model.specs.EffectiveKeys.{effective_key}
 use Rattle.playlist_model.specs.Said.{Said, version, target, sequence, discontinuity_sequence, playlist_type, ended, independent, duration, byte_range, discontinuity, no_keys, key, section, time, date_range, media, Outcome, refuse_if, byte_range_end_fits}
 
 -- ---- the last line that says something (RFC 8216, 4.3)
@@ -166,10 +167,6 @@ key_of format (_ ∷ before) = key_of format before
 -- whether a key is of this format
 abbrev pub has_format : List ℕ → Key → Bool
 has_format format k = bytes_eq format k.format
-
--- a key of the format `identity` without IV has the Media Sequence Number as IV (5.2)
-abbrev pub effective_key : ℕ → Key → Key
-effective_key number k = if bytes_eq k.format (codes "identity") && is_none k.iv then record k { iv = Some number } else k
 
 -- ---- the initialisation section (4.3.2.5)
 

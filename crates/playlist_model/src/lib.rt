@@ -26,7 +26,7 @@ mod short_text;
 pub use base::{has_quote, has_scheme, same_resource};
 pub use date_times::{Instant, TimeFault, read_instant, write_instant};
 pub use fault::FaultText;
-pub use in_force::is_iv_needed;
+pub use in_force::{KeyRef, Keys, KeysIter, is_iv_needed};
 pub use items::{Items, Shared, Text};
 pub use limits::{MAX_BYTES, MAX_FORMATS, MAX_SEGMENTS};
 pub use member::{Member, Members};
@@ -163,11 +163,8 @@ pub struct Key {
     pub other_attributes: Shared<OtherAttributes>,
 }
 
-/// The keys in force, one for each format, sorted by format.
-pub type Keys = Items<Key>;
-
 /// A media initialisation section (EXT-X-MAP; RFC 8216, section 4.3.2.5).
-#[derive(PartialEq, Drop)]
+#[derive(Drop)]
 pub struct InitSection {
     /// Its resource.
     pub uri: Shared<Text>,
@@ -178,7 +175,7 @@ pub struct InitSection {
 }
 
 /// A media segment (RFC 8216, sections 3 and 4.3.2).
-#[derive(PartialEq, Drop)]
+#[derive(Drop)]
 pub struct Segment {
     /// Its Media Sequence Number (section 4.3.3.2).
     pub media_sequence: u64,
@@ -246,7 +243,7 @@ pub struct DateRange {
 }
 
 /// A media playlist (RFC 8216, section 4), as a reader has it.
-#[derive(PartialEq, Drop)]
+#[derive(Drop)]
 pub struct Playlist {
     /// EXT-X-VERSION, which is 1 where none is stated.
     pub version: u64,

@@ -3,7 +3,7 @@ ghost use Rattle.std.specs.Prelude.{◌≡◌, true, ◌↔◌};
 ghost use Rattle.std.specs.Cmp.Lexicographic.{pointwise};
 ghost use Rattle.playlist_model.specs.Same.{kept_parts, same_key, same_media, same_number, same_numbers, same_option, same_protection, same_section, same_segment};
 
-use crate::{InitSection, Key, Keys, Segment, Shared};
+use crate::{InitSection, KeyRef, Keys, Segment, Shared};
 
 fn is_same_iv(iv: Option<u128>, other: Option<u128>) -> bool
     ensures { result ≡ same_option same_number iv other }
@@ -13,20 +13,32 @@ fn is_same_iv(iv: Option<u128>, other: Option<u128>) -> bool
 
 #[tactic(auto, using(crate::proofs::SameParts::other_iv))]
 /// Whether two keys are the same in all their parts.
-pub fn is_same_key(a: &Key, b: &Key) -> bool
+pub fn is_same_key(a: &KeyRef<'_>, b: &KeyRef<'_>) -> bool
     ensures { result ≡ same_key a.now b.now }
 {
     // Where a key states no IV it differs from segment to segment (RFC 8216, 5.2), and in that alone.
-    if !is_same_iv(a.iv, b.iv) {
+    if !is_same_iv(a.iv(), b.iv()) {
         return false;
     }
-    a == b
+    a.format() == b.format()
+        && a.method() == b.method()
+        && a.uri() == b.uri()
+        && a.other_attributes() == b.other_attributes()
 }
 
 fn are_same_keys(one: &Keys, other: &Keys) -> bool
     ensures { result ≡ pointwise same_key one.now other.now }
 {
-    one == other
+    let mut others = other.iter();
+    for key in one.iter() {
+        let Some(other) = others.next() else {
+            return false;
+        };
+        if !is_same_key(&key, &other) {
+            return false;
+        }
+    }
+    others.next().is_none()
 }
 
 /// Whether two initialisation sections are the same, with the same keys.

@@ -9,7 +9,8 @@ use Rattle.playlist_model.specs.declared.ByteRange.{ByteRange}
 use Rattle.playlist_model.specs.declared.InitSection.{InitSection}
 use Rattle.playlist_model.specs.declared.Segment.{Segment}
 use Rattle.playlist_model.specs.Said.{Said, discontinuity, no_keys, key, key_tag_said, duration, media}
-use Rattle.playlist_model.specs.LookBack.{or_earlier, put_key, Extent, Standing, extent_with, effective_key, are_sorted}
+use Rattle.playlist_model.specs.EffectiveKeys.{effective_key}
+use Rattle.playlist_model.specs.LookBack.{or_earlier, put_key, Extent, Standing, extent_with, are_sorted}
 use Rattle.playlist_model.specs.Reading.{passes, needs_iv}
 use Rattle.date_times.specs.Instant.{in_range}
 use Rattle.playlist_model.proofs.ListTests.{all_filter}

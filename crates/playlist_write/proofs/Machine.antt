@@ -9,7 +9,8 @@ use Rattle.playlist_model.specs.declared.Segment.{Segment}
 use Rattle.playlist_model.specs.declared.DateRange.{DateRange}
 use Rattle.date_times.specs.Instant.{in_range}
 use Rattle.playlist_model.specs.Said.{Said, nothing, version, target, sequence, discontinuity_sequence, playlist_type, ended, independent, duration, byte_range, discontinuity, no_keys, key, section, time, date_range, media, Outcome, date_range_said}
-use Rattle.playlist_model.specs.LookBack.{is_media, is_discontinuity, put_key, effective_key, extent_with, byte_range_from, Standing, standing_at, segments_of, date_ranges_of}
+use Rattle.playlist_model.specs.EffectiveKeys.{effective_key}
+use Rattle.playlist_model.specs.LookBack.{is_media, is_discontinuity, put_key, extent_with, byte_range_from, Standing, standing_at, segments_of, date_ranges_of}
 use Rattle.playlist_model.specs.Inner.Heading.{Heading, heading_at}
 use Rattle.playlist_model.specs.Reading.{said_by, said_from, at_line, unlimited, passes, needs_iv}
 use Rattle.playlist_model.proofs.SaidCounts.{counted_none}

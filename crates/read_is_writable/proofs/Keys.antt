@@ -7,7 +7,8 @@ use Rattle.std.specs.Ordering.{nat_cmp, is_lt}
 use Rattle.std.specs.Cmp.Lexicographic.{slice_cmp}
 use Rattle.playlist_model.specs.declared.Key.{Key}
 use Rattle.playlist_model.specs.Said.{Said, no_keys, key, section}
-use Rattle.playlist_model.specs.LookBack.{without_format, is_before, insert_key, keys_at, are_sorted, effective_key, section_at}
+use Rattle.playlist_model.specs.EffectiveKeys.{effective_key}
+use Rattle.playlist_model.specs.LookBack.{without_format, is_before, insert_key, keys_at, are_sorted, section_at}
 use Rattle.playlist_model.proofs.ListTests.{all_filter}
 use Rattle.playlist_model.proofs.KeyOrder.{keys_are_sorted}
 use Rattle.writable.specs.Fitting.{if_some, iv_fits, states_iv, value_fits, method_fits, others_fit}

@@ -22,7 +22,7 @@ running_of a = record {
     duration = a.durations;
     byte_range = a.byte_range;
     program_date_time = a.program_date_time;
-    keys = a.keys.items;
+    keys = a.keys;
     init_section = a.init_section;
     extent = extent_after a.last;
   };

@@ -4,7 +4,7 @@
 
 ghost use Rattle.std.specs.Prelude.{◌≡◌, ◌+◌, ◌^◌, ◌<◌, ◌≤◌, [], map, Some, None, Ok, Err, IfOk, nat_lt, length};
 ghost use Rattle.std.specs.Option.{SomeIff};
-ghost use Rattle.playlist_model.specs.LookBack.{byte_range_from, byte_range_after, effective_key, extent_with};
+ghost use Rattle.playlist_model.specs.LookBack.{byte_range_from, byte_range_after, extent_with};
 ghost use Rattle.playlist_model.specs.Reading.{limited, said_by_tag, said_by_uri};
 ghost use Rattle.playlist_model.specs.Said as said;
 ghost use Rattle.playlist_model.specs.Said.{uri_of};
@@ -14,14 +14,14 @@ ghost use Rattle.segment_state.specs.Inner.Running.{after_segment, segment_from}
 ghost use Rattle.segment_state.specs.Views.{extent_after};
 
 use crate::durations::Durations;
-use crate::keys::{copied_keys, effective_keys, put_key};
+use crate::keys::keys_with;
 use crate::references::References;
 use crate::tags::{byte_range_of, key_said, section_said};
 use date_times::TimeReader;
 use fixed_duration::Nanos;
 use playlist_model::{
-    ByteRange, FaultKind, InitSection, Instant, Items, Key, KeyTag, Keys, MAX_SEGMENTS, Segment,
-    Shared, ShortText, is_iv_needed,
+    ByteRange, FaultKind, InitSection, Instant, KeyTag, Keys, MAX_SEGMENTS, Segment, Shared,
+    ShortText, is_iv_needed,
 };
 use std::alloc::{AllocError, Global};
 use std::marker::Model;
@@ -54,7 +54,7 @@ pub struct ReaderState<'a> {
     discontinuities: u64,
     byte_range: Option<(u64, Option<u64>)>,
     program_date_time: Option<Instant>,
-    keys: Vec<Key>,
+    keys: Keys,
     init_section: Option<Shared<InitSection>>,
     times: TimeReader,
     last: Option<Part>,
@@ -89,7 +89,7 @@ impl<'a> ReaderState<'a> {
             discontinuities: 0,
             byte_range: None,
             program_date_time: None,
-            keys: Vec::new(alloc),
+            keys: Keys::none(),
             init_section: None,
             times: TimeReader::new(),
             last: None,
@@ -148,8 +148,8 @@ impl<'a> ReaderState<'a> {
         ensures { Takes (λ base before. said_by_tag limited base before said.key_tag rest.now) self.old self.new result }
     {
         match key_said(self.alloc, self.references.base(), rest)? {
-            KeyTag::End => self.keys.clear(),
-            KeyTag::Set(key) => put_key(&mut self.keys, key)?,
+            KeyTag::End => self.keys = Keys::none(),
+            KeyTag::Set(key) => self.keys = keys_with(self.alloc, &self.keys, key)?,
         }
         Ok(())
     }
@@ -161,14 +161,13 @@ impl<'a> ReaderState<'a> {
         ensures { Takes (λ base before. said_by_tag limited base before said.map_tag rest.now) self.old self.new result }
     {
         let tag = section_said(self.alloc, self.references.base(), rest)?;
-        if is_iv_needed(self.keys.as_slice()) {
+        if is_iv_needed(&self.keys) {
             return Err(FaultKind::MapWithoutIv);
         }
-        let keys = copied_keys(self.alloc, self.keys.as_slice())?;
         let section = InitSection {
             uri: tag.uri,
             byte_range: tag.byte_range,
-            keys: Items::from_vec(keys),
+            keys: self.keys.clone()?,
         };
         self.init_section = Some(Shared::new(self.alloc, section)?);
         Ok(())
@@ -213,19 +212,6 @@ impl<'a> ReaderState<'a> {
         self.discontinuity_sequence + self.discontinuity_count
     }
 
-    // The keys in force, as they decrypt the segment of this media number.
-    #[inline(always)]
-    fn effective_keys(&self, number: u64) -> Result<Keys, AllocError>
-        ensures { IfOk result (λ keys. keys ≡ map (effective_key number) self.now.standing.keys) }
-    {
-        let keys = if self.keys.is_empty() {
-            Vec::new(self.alloc)
-        } else {
-            effective_keys(self.alloc, self.keys.as_slice(), number)?
-        };
-        Ok(Items::from_vec(keys))
-    }
-
     // The initialisation section in force.
     fn section(&self) -> Result<Option<Shared<InitSection>>, AllocError>
         ensures { IfOk result (λ section. section ≡ self.now.standing.init_section) }
@@ -252,7 +238,7 @@ impl<'a> ReaderState<'a> {
             discontinuities: self.discontinuities,
             uri,
             byte_range,
-            keys: self.effective_keys(number)?,
+            keys: self.keys.under(number)?,
             init_section: self.section()?,
             duration,
             title,

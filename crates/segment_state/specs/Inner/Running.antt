@@ -3,7 +3,8 @@ use Rattle.segment_state.specs.Running.{Running}
 use Rattle.std.specs.Prelude.{◌+◌, ℕ, map, Option, None, List}
 use Rattle.playlist_model.specs.declared.Segment.{Segment}
 use Rattle.playlist_model.specs.declared.ByteRange.{ByteRange}
-use Rattle.playlist_model.specs.LookBack.{Standing, Extent, effective_key}
+use Rattle.playlist_model.specs.EffectiveKeys.{effective_key}
+use Rattle.playlist_model.specs.LookBack.{Standing, Extent}
 
 -- the segment of what stands, of this resource, byte range, and duration with its title
 abbrev pub segment_from : Standing → List ℕ → Option ByteRange → ℕ × List ℕ → Segment
