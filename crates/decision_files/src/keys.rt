@@ -11,7 +11,7 @@ ghost use Rattle.decision_files.specs.Inner.Views.{part_of};
 use crate::members::{byte_range_said, text_at};
 use crate::texts::{is_format, is_method, is_uri};
 use attr_list::read_hex_u128;
-use playlist_model::{ByteRange, InitSection, Items, Key, Keys, OtherAttributes, Shared, Text};
+use playlist_model::{ByteRange, InitSection, Key, Keys, OtherAttributes, Shared, Text};
 use pod_store::{DecisionFault, DecisionKind, Place};
 use serde_json::Value;
 use std::alloc::{AllocError, Global};
@@ -142,7 +142,7 @@ pub fn keys_of(alloc: Global, key: Option<Key>) -> Result<Keys, AllocError>
     if let Some(key) = key {
         keys.push(key)?;
     }
-    Ok(Items::from_vec(keys))
+    Keys::from_vec(alloc, keys)
 }
 
 /// The section of this part, with copies of these keys.

@@ -8,14 +8,14 @@ ghost use Rattle.owed_is_denoted.specs.Laws.{KeepsRules};
 ghost use Rattle.live_channel.specs.Inner.Typed.{keeps_rules};
 ghost use Rattle.read_is_writable.specs.Read.{key_is_text, section_is_text, uris_are_text};
 
-use playlist_model::{InitSection, Key, Segment, Shared};
+use playlist_model::{InitSection, Keys, Segment, Shared};
 use pod_store::{Decision, Decisions};
 
-fn know_keys(keys: &[Key])
+fn know_keys(keys: &Keys)
     ensures { list_all key_is_text keys.now ≡ true }
 {
-    for key in keys {
-        let _uri = key.uri.as_str();
+    for key in keys.iter() {
+        let _uri = key.uri();
     }
 }
 
@@ -24,7 +24,7 @@ fn know_section(section: &Option<Shared<InitSection>>)
 {
     if let Some(section) = section {
         let _uri = section.uri.as_str();
-        know_keys(section.keys.as_slice());
+        know_keys(&section.keys);
     }
 }
 
@@ -32,7 +32,7 @@ fn know_segment(segment: &Segment)
     ensures { uris_are_text segment.now ≡ true }
 {
     let _uri = segment.uri.as_str();
-    know_keys(segment.keys.as_slice());
+    know_keys(&segment.keys);
     know_section(&segment.init_section);
 }
 

@@ -1,5 +1,5 @@
 //! Keys that are in force together (RFC 8216, sections 4.3.2.4 and 5.2).
-ghost use Rattle.std.specs.Prelude.{◌≡◌, ◌==◌, [], IfOk, map, length, IsTrue};
+ghost use Rattle.std.specs.Prelude.{◌≡◌, ◌==◌, ◌∷◌, [], false, IfOk, MatchOption, map, length, IsTrue};
 ghost use Rattle.std.specs.Str.{is_utf8};
 ghost use Rattle.std.specs.List.{list_any};
 ghost use Rattle.playlist_model.specs.EffectiveKeys.{effective_key};
@@ -88,6 +88,13 @@ impl<'a> KeyRef<'a> {
         ensures { result.now ≡ self.now.other_attributes }
     {
         &self.stated.other_attributes
+    }
+
+    /// Whether it stands before another, as `Key::is_before` says.
+    pub fn is_before(&self, other: &KeyRef<'_>) -> bool
+        ensures { result ≡ is_before self.now other.now }
+    {
+        self.format() < other.format()
     }
 
     #[tactic(auto, using(crate::proofs::KeysUnder::all_stay))]
@@ -206,6 +213,18 @@ impl Keys {
         }
     }
 
+    /// The key, where there is one alone.
+    pub fn only(&self) -> Option<KeyRef<'_>>
+        ensures { MatchOption result ((length self.now == 1) ≡ false) (λ key. self.now ≡ key ∷ []) }
+    {
+        let mut keys = self.iter();
+        let key = keys.next()?;
+        match keys.next() {
+            Some(_) => None,
+            None => Some(key),
+        }
+    }
+
     /// A vector of copies, which share their texts. Fails only where an allocation fails.
     pub fn to_vec(&self, alloc: Global) -> Result<Vec<Key>, AllocError>
         ensures { IfOk result (λ v. v.items ≡ self.now) }
@@ -248,6 +267,18 @@ impl<'a> Model for KeysIter<'a> {
     ghost Value = { List Key };
 
     ghost view = { λ a. map (key_under a.media_sequence) a.stated.now };
+}
+
+impl<'a> KeysIter<'a> {
+    /// Those that are still to come, beside this one.
+    pub fn rest(&self) -> KeysIter<'a>
+        ensures { result ≡ self.now }
+    {
+        KeysIter {
+            stated: self.stated,
+            media_sequence: self.media_sequence,
+        }
+    }
 }
 
 impl<'a> Iterator for KeysIter<'a> {

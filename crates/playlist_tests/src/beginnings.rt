@@ -1,6 +1,6 @@
 //! Segments that are listed again. When they begin is tried on the built program (`tests/run_playlists`).
 use fixed_duration::Nanos;
-use playlist_model::{Instant, Items, Segment, Shared, ShortText, same_segment};
+use playlist_model::{Instant, Keys, Segment, Shared, ShortText, same_segment};
 use std::alloc::{AllocError, Global};
 
 /// A clear segment of this duration and title, which has no section.
@@ -11,7 +11,7 @@ pub(crate) fn segment(alloc: Global, duration: Nanos, title: &str) -> Result<Seg
         discontinuities: 0,
         uri: ShortText::copy_of(alloc, "http://origin.example/s.ts")?,
         byte_range: None,
-        keys: Items::from_vec(Vec::new(alloc)),
+        keys: Keys::none(),
         init_section: None,
         duration,
         title: Shared::new(alloc, ShortText::copy_of(alloc, title)?)?,

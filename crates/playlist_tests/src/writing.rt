@@ -35,9 +35,9 @@ http://origin.example/s.ts
 #EXT-X-ENDLIST
 ";
 
-fn keys(alloc: Global, uri: &str, iv: u128) -> Result<Items<Key>, AllocError> {
+fn keys(alloc: Global, uri: &str, iv: u128) -> Result<Keys, AllocError> {
     let key = key(alloc, "identity", uri, Some(iv))?;
-    Ok(Items::from_vec(vec![in alloc; key]?))
+    Keys::from_vec(alloc, vec![in alloc; key]?)
 }
 
 fn section(alloc: Global) -> Result<Shared<InitSection>, AllocError> {

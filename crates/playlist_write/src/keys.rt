@@ -13,7 +13,7 @@ ghost use Rattle.fixed_duration.specs.Appended.{Appends};
 
 use crate::digits::{push_last_iv, push_quote_and_iv};
 use crate::lines::{push_byte_range, push_feed, push_line};
-use playlist_model::{ByteRange, InitSection, Key};
+use playlist_model::{ByteRange, InitSection, KeyRef, Keys};
 use std::alloc::AllocError;
 use stitcher::{is_new_key, keeps_formats};
 
@@ -73,51 +73,51 @@ fn push_method(out: &mut String, method: &str) -> Result<(), AllocError>
 }
 
 // Appends what stands after the URI of a key.
-fn push_rest(out: &mut String, key: &Key) -> Result<(), AllocError>
+fn push_rest(out: &mut String, key: &KeyRef<'_>) -> Result<(), AllocError>
     ensures { Appends result out.old out.new (rest_of key.now) }
 {
-    push_iv(out, key.iv)?;
-    push_format(out, key.format.as_str())?;
-    out.push_str(key.other_attributes.as_str())?;
+    push_iv(out, key.iv())?;
+    push_format(out, key.format())?;
+    out.push_str(key.other_attributes().as_str())?;
     push_feed(out)?;
     Ok(())
 }
 
 // The same, where most keys have no other attributes.
-fn push_short_rest(out: &mut String, key: &Key) -> Result<(), AllocError>
+fn push_short_rest(out: &mut String, key: &KeyRef<'_>) -> Result<(), AllocError>
     ensures { Appends result out.old out.new (rest_of key.now) }
 {
-    if key.other_attributes.as_str().is_empty() && key.format.as_str() == "identity" {
-        push_iv_and_feed(out, key.iv)?;
+    if key.other_attributes().as_str().is_empty() && key.format() == "identity" {
+        push_iv_and_feed(out, key.iv())?;
         return Ok(());
     }
     push_rest(out, key)
 }
 
-fn push_key(out: &mut String, key: &Key) -> Result<(), AllocError>
+fn push_key(out: &mut String, key: &KeyRef<'_>) -> Result<(), AllocError>
     ensures { Appends result out.old out.new (key_line key.now) }
 {
-    push_method(out, key.method.as_str())?;
-    out.push_str(key.uri.as_str())?;
+    push_method(out, key.method())?;
+    out.push_str(key.uri())?;
     push_short_rest(out, key)?;
     Ok(())
 }
 
-fn push_keys(out: &mut String, keys: &[Key]) -> Result<(), AllocError>
+fn push_keys(out: &mut String, keys: &Keys) -> Result<(), AllocError>
     ensures { Appends result out.old out.new (said_text (set_tags keys.now)) }
 {
-    for key in keys {
-        push_key(out, key)?;
+    for key in keys.iter() {
+        push_key(out, &key)?;
     }
     Ok(())
 }
 
-fn push_new_keys(out: &mut String, old: &[Key], new: &[Key]) -> Result<(), AllocError>
+fn push_new_keys(out: &mut String, old: &Keys, new: &Keys) -> Result<(), AllocError>
     ensures { Appends result out.old out.new (said_text (set_tags (filter (is_new_key old.now) new.now))) }
 {
-    for key in new {
-        if is_new_key(old, key) {
-            push_key(out, key)?;
+    for key in new.iter() {
+        if is_new_key(old, &key) {
+            push_key(out, &key)?;
         }
     }
     Ok(())
@@ -131,7 +131,7 @@ fn push_no_keys(out: &mut String) -> Result<(), AllocError>
 }
 
 // Appends the key tags that lead from any keys to others.
-fn push_any_tags(out: &mut String, old: &[Key], new: &[Key]) -> Result<(), AllocError>
+fn push_any_tags(out: &mut String, old: &Keys, new: &Keys) -> Result<(), AllocError>
     ensures { Appends result out.old out.new (said_text (keys_owed old.now new.now)) }
 {
     if keeps_formats(old, new) {
@@ -141,34 +141,36 @@ fn push_any_tags(out: &mut String, old: &[Key], new: &[Key]) -> Result<(), Alloc
     push_keys(out, new)
 }
 
-fn is_identity(key: &Key) -> bool
+fn is_identity(key: &KeyRef<'_>) -> bool
     ensures { result ≡ is_identity key.now }
 {
-    key.format.as_str() == "identity"
+    key.format() == "identity"
 }
 
-fn has_same_iv(one: &Key, other: &Key) -> bool
+fn has_same_iv(one: &KeyRef<'_>, other: &KeyRef<'_>) -> bool
     ensures { result ≡ same_option same_number one.now.iv other.now.iv }
 {
-    one.iv == other.iv
+    one.iv() == other.iv()
 }
 
 // Whether a key differs from the one before by its initialisation vector, and not by its format.
-fn has_next_iv(old: &Key, new: &Key) -> bool
+fn has_next_iv(old: &KeyRef<'_>, new: &KeyRef<'_>) -> bool
     ensures { result ≡ (is_identity old.now && (is_identity new.now && not (same_option same_number new.now.iv old.now.iv))) }
 {
     is_identity(old) && is_identity(new) && !has_same_iv(new, old)
 }
 
 #[inline(never)]
-fn push_tags_between(out: &mut String, old: &[Key], new: &[Key]) -> Result<(), AllocError>
+fn push_tags_between(out: &mut String, old: &Keys, new: &Keys) -> Result<(), AllocError>
     ensures { Appends result out.old out.new (said_text (keys_owed old.now new.now)) }
 {
     // Most segments have one key, with an initialisation vector of their own (RFC 8216, 5.2).
-    if let ([before], [after]) = (old, new) {
-        if has_next_iv(before, after) {
-            push_key(out, after)?;
-            return Ok(());
+    if let Some(before) = old.only() {
+        if let Some(after) = new.only() {
+            if has_next_iv(&before, &after) {
+                push_key(out, &after)?;
+                return Ok(());
+            }
         }
     }
     push_any_tags(out, old, new)
@@ -176,7 +178,7 @@ fn push_tags_between(out: &mut String, old: &[Key], new: &[Key]) -> Result<(), A
 
 /// Appends the key tags that lead from keys to keys.
 #[inline(always)]
-pub fn push_key_tags(out: &mut String, old: &[Key], new: &[Key]) -> Result<(), AllocError>
+pub fn push_key_tags(out: &mut String, old: &Keys, new: &Keys) -> Result<(), AllocError>
     ensures { Appends result out.old out.new (said_text (keys_owed old.now new.now)) }
 {
     // Most playlists have no keys.

@@ -11,7 +11,7 @@ use crate::last_duration::LastDuration;
 use crate::segments::{push_segment, section_of};
 use byte_streams::{Sink, SinkFailed, hand_out};
 use date_times::TimeWriter;
-use playlist_model::{InitSection, Key};
+use playlist_model::{InitSection, Keys};
 use std::alloc::Global;
 use stitcher::{StitchedItems, TextRef};
 
@@ -74,13 +74,14 @@ pub fn write_segments<S: Sink>(
     let mut segments = segments;
     let mut times = TimeWriter::new();
     let mut last = LastDuration::new(alloc);
-    let mut keys: &[Key] = &[];
+    let no_keys = Keys::none();
+    let mut keys = &no_keys;
     let mut section: Option<&InitSection> = None;
     while let Some(next) = segments.next() {
         push_segment(held, &mut times, &mut last, keys, section, &next)?;
         hand_out_piece(held, sink)?;
         let segment = next.segment.get();
-        keys = segment.keys.as_slice();
+        keys = &segment.keys;
         section = section_of(segment).or(section);
     }
     Ok(())

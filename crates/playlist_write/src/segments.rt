@@ -12,7 +12,7 @@ use crate::last_duration::LastDuration;
 use crate::lines::{push_byte_range, push_feed, push_line};
 use date_times::TimeWriter;
 use fixed_duration::Nanos;
-use playlist_model::{ByteRange, InitSection, Instant, Key, Segment, Shared, is_same_section};
+use playlist_model::{ByteRange, InitSection, Instant, Keys, Segment, Shared, is_same_section};
 use std::alloc::{AllocError, Global};
 use stitcher::{OutSegment, StitchedItems};
 
@@ -62,24 +62,24 @@ fn changed_section<'a>(
 }
 
 // The keys in force after a changed section.
-fn keys_then<'a>(keys: &'a [Key], changed: Option<&'a InitSection>) -> &'a [Key]
+fn keys_then<'a>(keys: &'a Keys, changed: Option<&'a InitSection>) -> &'a Keys
     ensures { result.now ≡ keys_then keys.now (option_copied changed.entry) }
 {
     match changed {
-        Some(section) => section.keys.as_slice(),
+        Some(section) => &section.keys,
         None => keys,
     }
 }
 
 fn push_changed_section(
     out: &mut String,
-    keys: &[Key],
+    keys: &Keys,
     changed: Option<&InitSection>,
 ) -> Result<(), AllocError>
     ensures { Appends result out.old out.new (said_text (section_owed keys.now (option_copied changed.entry))) }
 {
     if let Some(section) = changed {
-        push_key_tags(out, keys, section.keys.as_slice())?;
+        push_key_tags(out, keys, &section.keys)?;
         push_section(out, section)?;
     }
     Ok(())
@@ -172,7 +172,7 @@ pub fn push_segment<'a>(
     out: &mut String,
     times: &mut TimeWriter,
     last: &mut LastDuration<'a>,
-    keys: &[Key],
+    keys: &Keys,
     section: Option<&InitSection>,
     next: &OutSegment<'a>,
 ) -> Result<(), AllocError>
@@ -183,7 +183,7 @@ pub fn push_segment<'a>(
     let changed = changed_section(section, &segment.init_section);
     push_steps(out, next.discontinuities)?;
     push_changed_section(out, keys, changed)?;
-    push_key_tags(out, keys_then(keys, changed), segment.keys.as_slice())?;
+    push_key_tags(out, keys_then(keys, changed), &segment.keys)?;
     push_time_tag(out, times, next.program_date_time)?;
     push_media(out, last, segment)?;
     Ok(())
@@ -210,12 +210,13 @@ pub fn push_segments(
     let mut segments = segments;
     let mut times = TimeWriter::new();
     let mut last = LastDuration::new(alloc);
-    let mut keys: &[Key] = &[];
+    let no_keys = Keys::none();
+    let mut keys = &no_keys;
     let mut section: Option<&InitSection> = None;
     while let Some(next) = segments.next() {
         push_segment(out, &mut times, &mut last, keys, section, &next)?;
         let segment = next.segment.get();
-        keys = segment.keys.as_slice();
+        keys = &segment.keys;
         section = section_of(segment).or(section);
     }
     Ok(())

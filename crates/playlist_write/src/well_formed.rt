@@ -59,7 +59,7 @@ fn segment_fits(out: &OutSegment<'_>) -> bool
     let segment = out.segment.get();
     numbers_are_words(out)
         && resource_fits(segment)
-        && effective_keys_fit(segment.keys.as_slice())
+        && effective_keys_fit(&segment.keys)
         && optional_section_fits(&segment.init_section)
         && duration_fits(segment.duration)
         && is_clean(segment.title.as_str())

@@ -5,18 +5,10 @@ ghost use Rattle.stitcher.specs.Stitched.{ad_piece, with_keys};
 ghost use Rattle.stitcher.specs.Written.{written_segment};
 
 use crate::marked::Numbers;
-use playlist_model::{InitSection, Items, Key, Keys, Segment, Shared, ShortText};
+use playlist_model::{InitSection, Segment, Shared, ShortText};
 use pod_store::{Ad, PodSegment};
 use std::alloc::{AllocError, Global};
 use std::marker::Model;
-
-/// A copy of keys, which shares their texts.
-fn copied_keys(alloc: Global, keys: &[Key]) -> Result<Keys, AllocError>
-    ensures { IfOk result (λ k. k ≡ keys.now) }
-{
-    let vec = Vec::from_clones(alloc, keys)?;
-    Ok(Items::from_vec(vec))
-}
 
 /// A copy of a section that has owners.
 fn shared_section(
@@ -55,11 +47,10 @@ fn ad_section(alloc: Global, ad: &Ad) -> Result<Option<Shared<InitSection>>, All
     let Some(section) = &ad.init_section else {
         return Ok(None);
     };
-    let keys = copied_keys(alloc, ad.keys.as_slice())?;
     let section = InitSection {
         uri: section.uri.clone()?,
         byte_range: section.byte_range,
-        keys,
+        keys: ad.keys.clone()?,
     };
     Ok(Some(Shared::new(alloc, section)?))
 }
@@ -97,7 +88,7 @@ pub fn ad_segment(
         discontinuities: numbers.discontinuities,
         uri: ShortText::copy_of(alloc, segment.uri.as_str())?,
         byte_range: segment.byte_range,
-        keys: copied_keys(alloc, ad.keys.as_slice())?,
+        keys: ad.keys.clone()?,
         init_section: shared_section(&parts.init_section)?,
         duration: segment.duration,
         title: parts.title.clone()?,

@@ -6,67 +6,82 @@ ghost use Rattle.playlist_model.specs.Same.{same_key};
 ghost use Rattle.stitcher.specs.KeyTags.{is_new_key, keeps_formats, transition, after_tags};
 
 use crate::StitchFault;
-use playlist_model::{Key, KeyTag, is_same_key};
+use playlist_model::{KeyRef, KeyTag, Keys, is_same_key};
 use std::alloc::{AllocError, Global};
 
-fn has_format(keys: &[Key], format: &str) -> bool
+fn has_format(keys: &Keys, format: &str) -> bool
     ensures { result ≡ list_any (has_format format.now) keys.now }
 {
-    keys.iter().any(|k: &Key| format == k.format.as_str())
+    for key in keys.iter() {
+        if format == key.format() {
+            return true;
+        }
+    }
+    false
 }
 
 /// Whether each format of the old keys is one of the new keys too: else their end has to be said.
-pub fn keeps_formats(old: &[Key], new: &[Key]) -> bool
+pub fn keeps_formats(old: &Keys, new: &Keys) -> bool
     ensures { result ≡ keeps_formats old.now new.now }
 {
-    old.iter().all(|k: &Key| has_format(new, k.format.as_str()))
+    for key in old.iter() {
+        if !has_format(new, key.format()) {
+            return false;
+        }
+    }
+    true
 }
 
-fn is_among(keys: &[Key], key: &Key) -> bool
+fn is_among(keys: &Keys, key: &KeyRef<'_>) -> bool
     ensures { result ≡ list_any (same_key key.now) keys.now }
 {
-    keys.iter().any(|k: &Key| is_same_key(key, k))
+    for other in keys.iter() {
+        if is_same_key(key, &other) {
+            return true;
+        }
+    }
+    false
 }
 
 /// Whether a key is not among these, as it is.
-pub fn is_new_key(keys: &[Key], key: &Key) -> bool
+pub fn is_new_key(keys: &Keys, key: &KeyRef<'_>) -> bool
     ensures { result ≡ is_new_key keys.now key.now }
 {
     !is_among(keys, key)
 }
 
-fn tag_of(key: &Key) -> Result<KeyTag, AllocError>
+fn tag_of(key: &KeyRef<'_>) -> Result<KeyTag, AllocError>
     ensures { IfOk result (λ tag. tag ≡ KeyTag.Set key.now) }
 {
-    Ok(KeyTag::Set(key.clone()?))
+    Ok(KeyTag::Set(key.to_key()?))
 }
 
 // A tag for each key that is not among the old ones as it is.
-fn tags_of_new(alloc: Global, old: &[Key], new: &[Key]) -> Result<Vec<KeyTag>, AllocError>
+fn tags_of_new(alloc: Global, old: &Keys, new: &Keys) -> Result<Vec<KeyTag>, AllocError>
     ensures { IfOk result (λ tags. tags.items ≡ map KeyTag.Set (filter (is_new_key old.now) new.now)) }
 {
     let mut tags = Vec::new(alloc);
-    for key in new {
-        if is_new_key(old, key) {
-            tags.push(tag_of(key)?)?;
+    for key in new.iter() {
+        if is_new_key(old, &key) {
+            tags.push(tag_of(&key)?)?;
         }
     }
     Ok(tags)
 }
 
 // The end of all keys, and a tag for each of these.
-fn tags_after_end(alloc: Global, keys: &[Key]) -> Result<Vec<KeyTag>, AllocError>
+fn tags_after_end(alloc: Global, keys: &Keys) -> Result<Vec<KeyTag>, AllocError>
     ensures { IfOk result (λ tags. tags.items ≡ KeyTag.End ∷ map KeyTag.Set keys.now) }
 {
     let mut tags = Vec::new(alloc);
     tags.push(KeyTag::End)?;
-    for key in keys {
-        tags.push(tag_of(key)?)?;
+    for key in keys.iter() {
+        tags.push(tag_of(&key)?)?;
     }
     Ok(tags)
 }
 
-fn tags_between(alloc: Global, old: &[Key], new: &[Key]) -> Result<Vec<KeyTag>, AllocError>
+fn tags_between(alloc: Global, old: &Keys, new: &Keys) -> Result<Vec<KeyTag>, AllocError>
     ensures { IfOk result (λ tags. tags.items ≡ transition old.now new.now) }
 {
     if keeps_formats(old, new) {
@@ -78,7 +93,7 @@ fn tags_between(alloc: Global, old: &[Key], new: &[Key]) -> Result<Vec<KeyTag>, 
 /// The key tags that lead from the keys in force to others, each sorted by format with one key for
 /// each (RFC 8216, section 4.3.2.4): where a format ends, METHOD=NONE and every new key, else each new
 /// key that isn't in force as it is.
-pub fn transition(alloc: Global, old: &[Key], new: &[Key]) -> Result<Vec<KeyTag>, StitchFault>
+pub fn transition(alloc: Global, old: &Keys, new: &Keys) -> Result<Vec<KeyTag>, StitchFault>
     ensures tags { IfOk result (λ tags. tags.items ≡ transition old.now new.now) }
 
     // It counts nothing.

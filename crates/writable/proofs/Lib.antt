@@ -1,2 +1,1 @@
-pub mod EachRest
 pub mod Hexadecimal

@@ -5,7 +5,7 @@ ghost use Rattle.playlist_model.specs.LookBack.{is_before, are_sorted};
 ghost use Rattle.writable.specs.Fitting.{if_some, byte_range_fits, iv_fits, others_fit, method_fits, key_fits, keys_fit, states_iv, effective_keys_fit, section_fits};
 
 use crate::texts::{is_clean, quoted_uri_fits, value_fits};
-use playlist_model::{ByteRange, InitSection, Key, OtherAttributes, is_iv_needed};
+use playlist_model::{ByteRange, InitSection, KeyRef, Keys, KeysIter, OtherAttributes, is_iv_needed};
 
 /// Whether a byte range ends below 2^64, where there is one.
 pub fn byte_range_fits(byte_range: Option<ByteRange>) -> bool
@@ -41,59 +41,75 @@ fn iv_fits(iv: Option<u128>) -> bool
     }
 }
 
-fn key_fits(key: &Key) -> bool
+fn key_fits(key: &KeyRef<'_>) -> bool
     ensures { result ≡ key_fits key.now }
 {
-    value_fits(key.format.as_str(), true)
-        && method_fits(key.method.as_str())
-        && quoted_uri_fits(key.uri.as_str())
-        && iv_fits(key.iv)
-        && others_fit(&key.other_attributes)
+    value_fits(key.format(), true)
+        && method_fits(key.method())
+        && quoted_uri_fits(key.uri())
+        && iv_fits(key.iv())
+        && others_fit(key.other_attributes())
 }
 
-fn all_fit(keys: &[Key]) -> bool
+fn all_fit(keys: &Keys) -> bool
     ensures { result ≡ list_all key_fits keys.now }
 {
-    keys.iter().all(|key: &Key| key_fits(key))
-}
-
-fn stands_before(key: &Key, later: &[Key]) -> bool
-    ensures { result ≡ list_all (is_before key.now) later.now }
-{
-    later.iter().all(|other: &Key| key.is_before(other))
-}
-
-fn are_sorted(keys: &[Key]) -> bool
-    ensures { result ≡ are_sorted keys.now }
-{
-    for i in 0..keys.len() {
-        if !stands_before(&keys[i], &keys[i + 1..]) {
+    for key in keys.iter() {
+        if !key_fits(&key) {
             return false;
         }
     }
     true
 }
 
-fn keys_fit(keys: &[Key]) -> bool
+fn stands_before(key: &KeyRef<'_>, later: KeysIter<'_>) -> bool
+    ensures { result ≡ list_all (is_before key.now) later.entry }
+{
+    for other in later {
+        if !key.is_before(&other) {
+            return false;
+        }
+    }
+    true
+}
+
+fn are_sorted(keys: &Keys) -> bool
+    ensures { result ≡ are_sorted keys.now }
+{
+    let mut later = keys.iter();
+    while let Some(key) = later.next() {
+        if !stands_before(&key, later.rest()) {
+            return false;
+        }
+    }
+    true
+}
+
+fn keys_fit(keys: &Keys) -> bool
     ensures { result ≡ keys_fit keys.now }
 {
     all_fit(keys) && are_sorted(keys)
 }
 
-fn states_iv(key: &Key) -> bool
+fn states_iv(key: &KeyRef<'_>) -> bool
     ensures { result ≡ states_iv key.now }
 {
-    !(key.format.as_str() == "identity" && key.iv.is_none())
+    !(key.format() == "identity" && key.iv().is_none())
 }
 
-fn all_state_ivs(keys: &[Key]) -> bool
+fn all_state_ivs(keys: &Keys) -> bool
     ensures { result ≡ list_all states_iv keys.now }
 {
-    keys.iter().all(|key: &Key| states_iv(key))
+    for key in keys.iter() {
+        if !states_iv(&key) {
+            return false;
+        }
+    }
+    true
 }
 
 /// Whether these can be the keys of a segment: those of the format `identity` have an IV.
-pub fn effective_keys_fit(keys: &[Key]) -> bool
+pub fn effective_keys_fit(keys: &Keys) -> bool
     ensures { result ≡ effective_keys_fit keys.now }
 {
     keys_fit(keys) && all_state_ivs(keys)
@@ -103,7 +119,7 @@ pub fn effective_keys_fit(keys: &[Key]) -> bool
 pub fn section_fits(section: &InitSection) -> bool
     ensures { result ≡ section_fits section.now }
 {
-    let keys = section.keys.as_slice();
+    let keys = &section.keys;
     quoted_uri_fits(section.uri.as_str())
         && byte_range_fits(section.byte_range)
         && keys_fit(keys)

@@ -1,4 +1,4 @@
-use Rattle.std.proofs.Common.{◌≡◌, ◌++◌, take, string_bytes}
+use Rattle.std.proofs.Common.{◌≡◌, ◌++◌, string_bytes}
 use Rattle.std.specs.Prelude.{filter}
 use Rattle.stitcher.specs.KeyTags.{is_new_key}
 use Rattle.playlist_write.specs.Owed.{said_text}
@@ -6,4 +6,4 @@ use Rattle.playlist_write.specs.Inner.Owed.{set_tags}
 use Rattle.playlist_write.proofs.keys.push_new_keys.Given as goal
 
 abbrev pub invariant-loop-key : goal.invariant-loop-key
-invariant-loop-key l = string_bytes l.out ≡ string_bytes l.initial.out ++ said_text (set_tags (filter (is_new_key l.old) (take l.key-index l.«new»)))
+invariant-loop-key l = string_bytes l.out ++ said_text (set_tags (filter (is_new_key l.old) l.key-iterator)) ≡ string_bytes l.initial.out ++ said_text (set_tags (filter (is_new_key l.old) l.initial.key-iterator))

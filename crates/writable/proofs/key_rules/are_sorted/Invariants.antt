@@ -1,6 +1,9 @@
-use Rattle.std.proofs.Common.{◌≡◌, drop}
+use Rattle.std.proofs.Common.{◌≡◌, length}
 use Rattle.playlist_model.specs.LookBack.{are_sorted}
 use Rattle.writable.proofs.key_rules.are_sorted.Given as goal
 
-abbrev pub invariant-loop-i : goal.invariant-loop-i
-invariant-loop-i l = are_sorted (drop l.i l.keys) ≡ are_sorted l.keys
+abbrev pub invariant-loop-key : goal.invariant-loop-key
+invariant-loop-key l = are_sorted l.later ≡ are_sorted l.initial.later
+
+abbrev pub decreases-loop-key : goal.decreases-loop-key
+decreases-loop-key l = length l.later
