@@ -47,10 +47,11 @@ fn ad_section(alloc: Global, ad: &Ad) -> Result<Option<Shared<InitSection>>, All
     let Some(section) = &ad.init_section else {
         return Ok(None);
     };
+    let keys = ad.keys.clone()?;
     let section = InitSection {
         uri: section.uri.clone()?,
         byte_range: section.byte_range,
-        keys: ad.keys.clone()?,
+        keys,
     };
     Ok(Some(Shared::new(alloc, section)?))
 }
