@@ -21,4 +21,4 @@ returns c =
     let s = string_bytes c.args.out.now in
     let key = c.args.key.now in
     as_text s (grown3 s (codes "#EXT-X-KEY:METHOD=" ++ (key.method ++ codes ",URI=\"")) key.uri (rest_of key)
-    (rw (c.as_str.ensures.text ∙ c.deref.ensures) at c.in_ok-push_method.ensures) (rw (c.as_str-2.ensures.text ∙ c.deref-2.ensures) at c.in_ok-push_str.ensures.bytes) c.in_ok-push_short_rest.ensures) (key_pieces key)
+    (rw c.method.ensures at c.in_ok-push_method.ensures) (rw c.uri.ensures.text at c.in_ok-push_str.ensures.bytes) c.in_ok-push_short_rest.ensures) (key_pieces key)

@@ -8,4 +8,4 @@ pub returns : goal.returns
 returns c =
     let key = c.args.key.now in
     grown4 (string_bytes c.args.out.now) (34 ∷ after_commas (iv_pairs key.iv)) (after_commas (format_pairs key.format)) key.other_attributes (10 ∷ [])
-    c.in_ok-push_iv.ensures (rw (c.as_str.ensures.text ∙ c.deref.ensures) at c.in_ok-push_format.ensures) (rw (c.as_str-2.ensures.text ∙ c.deref-2.ensures) at c.in_ok-push_str.ensures.bytes) c.in_ok-push_feed.ensures
+    (rw c.iv.ensures at c.in_ok-push_iv.ensures) (rw c.format.ensures at c.in_ok-push_format.ensures) (rw (c.as_str.ensures.text ∙ c.other_attributes.ensures) at c.in_ok-push_str.ensures.bytes) c.in_ok-push_feed.ensures
