@@ -6,3 +6,4 @@ pub mod OnLiterals
 pub mod TagIds
 pub mod FirstEntered
 pub mod SpanLaws
+pub mod Quiet

@@ -1,11 +1,11 @@
 //! The breaks that can be entered, and the one that a segment enters.
-ghost use Rattle.std.specs.Prelude.{◌≡◌, ℕ, Bool, List, map, option_map, IfOk};
+ghost use Rattle.std.specs.Prelude.{◌≡◌, ℕ, Bool, true, List, Option, None, map, option_map, IfOk};
 ghost use Rattle.std.specs.List.{All};
 ghost use Rattle.std.specs.Option.{option_copied};
 ghost use Rattle.pod_store.specs.Store.{Store};
 ghost use Rattle.break_finder.specs.Breaks.{Break};
 ghost use Rattle.break_finder.specs.Kept.{break_at};
-ghost use Rattle.break_finder.specs.Entering.{entered};
+ghost use Rattle.break_finder.specs.Entering.{EntryLimits, entered};
 ghost use Rattle.break_finder.specs.Entrances.{entrances_in, taken, Tells};
 
 use crate::described::Described;
@@ -111,6 +111,33 @@ impl<'a> Entrances<'a> {
         match span_at(self.spans.as_slice(), self.place, instant) {
             Some(span) => span.entered(last),
             None => first_entered(self.list.as_slice(), self.tolerance, last, instant),
+        }
+    }
+
+    #[tactic(auto, using(crate::proofs::Quiet::none_taken))]
+    // Whether this is in the span found last, and no break is entered in that.
+    #[inline(always)]
+    fn is_in_closed_span(&self, instant: Instant) -> bool
+        ensures { result ≡ true → (last : Option (List ℕ)) → taken self.now.tolerance last instant self.now.found ≡ None }
+    {
+        match span_at(self.spans.as_slice(), self.place, instant) {
+            Some(span) => span.is_closed(),
+            None => false,
+        }
+    }
+
+    #[tactic(auto, using(crate::proofs::Quiet::none_entered))]
+    /// Whether it is seen at once that a segment at this instant enters none of them, whichever was entered last: so it is
+    /// of most segments between two breaks. Takes no memory.
+    #[inline(always)]
+    pub fn is_quiet(&self, instant: Option<Instant>) -> bool
+        ensures { result ≡ true → (m : EntryLimits) → (store : Store) → (breaks : List Break)
+            → m.tolerance ≡ self.now.tolerance → self.now.found ≡ entrances_in m.target_duration m.mapped store breaks
+            → entered m store breaks instant ≡ None }
+    {
+        match instant {
+            Some(instant) => self.is_in_closed_span(instant),
+            None => true,
         }
     }
 

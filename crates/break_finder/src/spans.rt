@@ -1,5 +1,5 @@
 //! Time cut into spans, in each of which the same break is entered.
-ghost use Rattle.std.specs.Prelude.{◌≡◌, ◌++◌, ◌∷◌, [], ◌≤ℤ◌, ◌+ℤ◌, ◌-ℤ◌, pos, int_lt, ◌&&◌, ℕ, ℤ, true, List, Some, None, option_map, IfOk, IfSome};
+ghost use Rattle.std.specs.Prelude.{◌≡◌, ◌++◌, ◌∷◌, [], ◌≤ℤ◌, ◌+ℤ◌, ◌-ℤ◌, pos, int_lt, ◌&&◌, ℕ, ℤ, true, List, Some, None, option_map, is_none, IfOk, IfSome};
 ghost use Rattle.std.specs.List.{All};
 ghost use Rattle.std.specs.Option.{option_copied, option_or};
 ghost use Rattle.break_finder.specs.Breaks.{is_near, is_not_past};
@@ -70,6 +70,13 @@ impl<'a> TimeSpan<'a> {
         ensures { result ≡ is_in self.now instant }
     {
         self.from <= instant && instant < self.to
+    }
+
+    /// Whether no break is entered in it.
+    pub fn is_closed(&self) -> bool
+        ensures { result ≡ is_none self.now.first }
+    {
+        self.first.is_none()
     }
 
     /// The ID of the break that is entered in it after this last one.

@@ -61,6 +61,10 @@ pub none_entered : (limits : entering.EntryLimits) (store : Store) (breaks : Lis
 none_entered limits store breaks None h = refl
 none_entered limits store breaks (Some instant) h = ap (option_map id_of) (none_enters limits store instant breaks h)
 
+pub none_next : (m : Moment) (newest last : Option (List ℕ)) (instant : Option ℤ) → newest ≡ None → entering.entered (limits m last) m.store m.breaks instant ≡ None → next_id m newest last instant ≡ None
+none_next m None last instant e none = none
+none_next m (Some id) last instant e none = absurd (cc)
+
 pub none_marked : (m : Moment) (last : Option (List ℕ)) (s : Segment) (later : List Segment) (instant : Option ℤ) (instants : List (Option ℤ)) → is_empty m.store ≡ true
     → mark_on m None last (s ∷ later) (instant ∷ instants) ≡ record { segment = s; instant = instant; mark = None } ∷ mark_on m None last later instants
 none_marked m last s later instant instants empty =

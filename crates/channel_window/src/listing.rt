@@ -1,5 +1,5 @@
 //! The segments that a channel holds, the oldest first: the newest of them, those of a playlist that come after it, and parts of them.
-ghost use Rattle.std.specs.Prelude.{◌≡◌, ◌≤◌, ◌+◌, ◌++◌, List, IfOk, length, filter, drop};
+ghost use Rattle.std.specs.Prelude.{◌≡◌, ◌≤◌, ◌+◌, ◌++◌, ℕ, true, List, Option, IfOk, length, filter, drop};
 ghost use Rattle.pod_store.specs.Marks.{newest_mark};
 ghost use Rattle.playlist_model.specs.LookBack.{or_earlier};
 ghost use Rattle.stitcher.specs.Stitched.{up_to};
@@ -170,6 +170,17 @@ fn capped(store: &PodStore, mark: &Option<Shared<Text>>, duration: Nanos, so_far
     }
 }
 
+#[tactic(auto, using(crate::proofs::Lengths::ends_unmarked))]
+// Whether there are some of which the newest has no mark.
+fn ends_unmarked(marked: &[MarkedSegment]) -> bool
+    ensures { result ≡ true → (store : Store) (newest : Option (List ℕ)) (before : ℕ) → length_after store newest before marked.now ≡ 0 }
+{
+    match marked.split_last() {
+        Some((newest, _)) => newest.mark.is_none(),
+        None => false,
+    }
+}
+
 /// How long the newest run has lasted with these segments, after one of this mark and a run that had lasted so long.
 pub fn length_after(
     store: &PodStore,
@@ -179,6 +190,10 @@ pub fn length_after(
 ) -> Nanos
     ensures { result ≡ length_after store.now newest.now so_far marked.now }
 {
+    // No run goes on after a segment without a mark, and most segments have none.
+    if ends_unmarked(marked) {
+        return Nanos(0);
+    }
     let mut previous = newest;
     let mut length = so_far.0;
     let mut rest = marked;

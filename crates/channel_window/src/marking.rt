@@ -224,6 +224,26 @@ fn marked_with(
 }
 
 impl<'a> Marker<'a> {
+    #[inline(always)]
+    fn is_quiet(&self, instant: Option<Instant>) -> bool
+        ensures { result ≡ true → (last : Option (List ℕ)) → entered (limits self.now last) self.now.store self.now.breaks instant ≡ None }
+    {
+        self.entrances.is_quiet(instant)
+    }
+
+    #[tactic(auto, using(crate::proofs::Marked::none_next))]
+    // Whether it is seen at once that no break marks a segment at this instant, after one of this mark.
+    #[inline(always)]
+    fn is_unmarked(&self, before: &Option<Shared<Text>>, instant: Option<Instant>) -> bool
+        ensures before { result ≡ true → before.now ≡ None }
+        ensures next { result ≡ true → (last : Option (List ℕ)) → next_id self.now before.now last instant ≡ None }
+    {
+        match before {
+            Some(_) => false,
+            None => self.is_quiet(instant),
+        }
+    }
+
     // The next segment with its mark; how far the marks are is told after it.
     fn next(
         &mut self,
@@ -236,6 +256,9 @@ impl<'a> Marker<'a> {
         ensures run { IfOk result (λ m. run.new ≡ record { before = m.mark; entered = or_earlier m.mark run.old.entered }) }
         ensures kept { self.new ≡ self.old }
     {
+        if self.is_unmarked(&run.before, *instant) {
+            return Ok(marked_with(segment, instant, None));
+        }
         let staying = self.stays(&run.before, *instant);
         let mark = self.next_id(alloc, staying, &run.before, &run.entered, *instant)?;
         enter(&mut run.entered, &mark)?;

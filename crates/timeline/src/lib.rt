@@ -1,11 +1,13 @@
 //! The instants at which a playlist's segments begin (RFC 8216, sections 4.3.2.6 and 6.2.1).
 #![tactic(auto)]
 
-ghost use Rattle.std.specs.Prelude.{◌≡◌, ◌<◌, ℤ, [], ◌∷◌, ◌++◌, length, IfOk, IfErr, MatchOption, option_map, pos, ◌-ℤ◌, ◌||◌};
+ghost use Rattle.std.specs.Prelude.{◌≡◌, ℤ, List, [], ◌∷◌, ◌++◌, IfOk, IfErr, MatchOption, option_map, pos, ◌-ℤ◌, ◌||◌};
+ghost use Rattle.std.specs.List.{list_all};
 ghost use Rattle.std.specs.Option.{is_some};
 ghost use Rattle.playlist_model.specs.Instants.{bounded, ends_at, instants_after};
 ghost use Rattle.playlist_model.specs.LookBack.{or_earlier};
-ghost use Rattle.timeline.specs.Reckoned.{clamped, stack_of};
+ghost use Rattle.timeline.specs.Reckoned.{clamped, reckoned, stack_of, IsKept};
+ghost use Rattle.timeline.specs.Inner.Reckoned.{is_unstated};
 
 use date_times::FIRST_INSTANT;
 use fixed_duration::Nanos;
@@ -97,12 +99,40 @@ fn reckoned_stack(alloc: Global, segments: &[Segment]) -> Result<Vec<Option<i128
     Ok(stack)
 }
 
-// What is reckoned of the first of some segments, which stands last on their stack.
-fn pop_reckoned(stack: &mut Vec<Option<i128>>) -> Option<i128>
-    requires { 0 < length stack.old.items }
-    ensures { stack.old.items ≡ stack.new.items ++ result ∷ [] }
+fn is_unstated(segment: &Segment) -> bool
+    ensures { result ≡ is_unstated segment.now }
 {
-    stack.pop().unwrap_or(None)
+    segment.program_date_time.is_none()
+}
+
+// Whether none of these segments states its time.
+fn are_unstated(segments: &[Segment]) -> bool
+    ensures { result ≡ list_all is_unstated segments.now }
+{
+    segments.iter().all(|segment| is_unstated(segment))
+}
+
+#[tactic(auto, using(crate::proofs::Kept::unstated_kept, crate::proofs::Kept::stack_kept))]
+// What is kept of these segments. In most playlists either the first states its time or none does, and then no memory is taken.
+fn kept_of(alloc: Global, segments: &[Segment]) -> Result<Vec<Option<i128>>, AllocError>
+    ensures { IfOk result (λ v. IsKept v.items segments.now) }
+{
+    if are_unstated(segments) {
+        return Ok(Vec::new(alloc));
+    }
+    reckoned_stack(alloc, segments)
+}
+
+#[tactic(auto, using(crate::proofs::Kept::popped_first, crate::proofs::Kept::popped_others, crate::proofs::Kept::none_first, crate::proofs::Kept::none_others))]
+// What is reckoned of the first of some segments, of which this is kept; then it is of the others.
+fn pop_reckoned(kept: &mut Vec<Option<i128>>) -> Option<i128>
+    ensures first { (s : Segment) (later : List Segment) → IsKept kept.old.items (s ∷ later) → result ≡ reckoned (s ∷ later) }
+    ensures others { (s : Segment) (later : List Segment) → IsKept kept.old.items (s ∷ later) → IsKept kept.new.items later }
+{
+    match kept.pop() {
+        Some(reckoned) => reckoned,
+        None => None,
+    }
 }
 
 /// The instants at which segments begin, one after the other.
@@ -111,20 +141,20 @@ pub struct Beginnings<'a> {
     alloc: Global,
     ended: Option<i128>,
     segments: &'a [Segment],
-    // What is reckoned of the segments that are left, once one of them needed it.
-    stack: Option<Vec<Option<i128>>>,
+    // What is kept of the segments that are left, once one of them needed what is reckoned back.
+    kept: Option<Vec<Option<i128>>>,
 }
 
 impl<'a> Model for Beginnings<'a> {
     ghost use Rattle.std.specs.Prelude.{◌≡◌, ℤ, List, Option, IfSome, option_map};
     ghost use Rattle.playlist_model.specs.Instants.{instants_after};
-    ghost use Rattle.timeline.specs.Reckoned.{stack_of};
+    ghost use Rattle.timeline.specs.Reckoned.{IsKept};
 
     ghost Value = { List (Option ℤ) };
 
     ghost view = { λ a. instants_after a.ended a.segments.now };
 
-    ghost invariant = { λ a. IfSome (option_map (λ v. v.items) a.stack) (λ items. items ≡ stack_of a.segments.now) };
+    ghost invariant = { λ a. IfSome (option_map (λ v. v.items) a.kept) (λ items. IsKept items a.segments.now) };
 }
 
 impl<'a> Beginnings<'a> {
@@ -137,7 +167,7 @@ impl<'a> Beginnings<'a> {
             alloc,
             ended,
             segments,
-            stack: None,
+            kept: None,
         }
     }
 
@@ -151,11 +181,11 @@ impl<'a> Beginnings<'a> {
         let Some((segment, later)) = segments.split_first() else {
             return Ok(None);
         };
-        if self.stack.is_none() && !is_told(segment, &ended) {
-            self.stack = Some(reckoned_stack(self.alloc, segments)?);
+        if self.kept.is_none() && !is_told(segment, &ended) {
+            self.kept = Some(kept_of(self.alloc, segments)?);
         }
-        let reckoned = match &mut self.stack {
-            Some(stack) => pop_reckoned(stack),
+        let reckoned = match &mut self.kept {
+            Some(kept) => pop_reckoned(kept),
             None => None,
         };
         let begun = begins_at(ended, segment, reckoned);

@@ -1,6 +1,6 @@
 -- What proofs and inner functions say with the definitions of `Reckoned`.
 use Rattle.timeline.specs.Reckoned.{reckoned, stack_of}
-use Rattle.std.specs.Prelude.{◌≡◌, ℤ, List, ◌++◌, Option}
+use Rattle.std.specs.Prelude.{◌≡◌, ℤ, Bool, List, ◌++◌, Option, is_none}
 use Rattle.playlist_model.specs.declared.Segment.{Segment}
 
 -- some of the last segments are reckoned
@@ -9,3 +9,6 @@ pub record Walked (segments rest : List Segment) (stack : List (Option ℤ)) (af
   pub whole : rest ++ later ≡ segments
   pub stack_is : stack ≡ stack_of later
   pub after_is : after ≡ reckoned later
+
+abbrev pub is_unstated : Segment → Bool
+is_unstated s = is_none s.program_date_time

@@ -1,0 +1,23 @@
+-- Where no break is entered in a span, no segment in it enters one.
+use Rattle.std.proofs.Common.{◌≡◌, ℕ, ℤ, true, List, sym, refl, ap, ◌∙◌, Some, None}
+use Rattle.std.specs.Prelude.{Option, is_none}
+use Rattle.pod_store.specs.Store.{Store}
+use Rattle.break_finder.specs.Breaks.{Break}
+use Rattle.break_finder.specs.Entering.{EntryLimits, entered}
+use Rattle.break_finder.specs.Entrances.{Entrance, TimeSpan, Tells, but, entrances_in, is_in, taken}
+use Rattle.break_finder.proofs.FirstEntered.{first_entered}
+
+none_but : (first second last : Option (List ℕ)) → is_none first ≡ true → but first second last ≡ None
+none_but None second last closed = refl
+none_but (Some id) second last closed = absurd (cc)
+
+pub none_taken : (tolerance : ℕ) (found : List Entrance) (span : TimeSpan) (instant : ℤ) (last : Option (List ℕ)) → Tells tolerance found span → is_in span instant ≡ true → is_none span.first ≡ true
+    → taken tolerance last instant found ≡ None
+none_taken tolerance found span instant last tells inside closed = tells instant last inside ∙ none_but span.first span.second last closed
+
+pub none_entered : (m : EntryLimits) (tolerance : ℕ) (found : List Entrance) (store : Store) (breaks : List Break) (instant : ℤ)
+    → ((last : Option (List ℕ)) → taken tolerance last instant found ≡ None) → m.tolerance ≡ tolerance → found ≡ entrances_in m.target_duration m.mapped store breaks
+    → entered m store breaks (Some instant) ≡ None
+none_entered m tolerance found store breaks instant none same these =
+    sym (first_entered m store breaks instant)
+    ∙ (ap (taken m.tolerance m.last instant) (sym these) ∙ (ap (λ t. taken t m.last instant found) same ∙ none m.last))
