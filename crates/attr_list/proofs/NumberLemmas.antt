@@ -1,15 +1,19 @@
 -- What `parse` and `from_str_radix` give at texts that are known to be digits.
-use Rattle.std.proofs.Common.{◌≡◌, ℕ, ◌^◌, ◌<◌, ◌≤◌, Bool, true, false, cond, List, [], ◌∷◌, drop, length, get_or, refl, ap, sym, ◌∙◌, arith, rules, Ok, Err, Some, None, Result}
+use Rattle.std.proofs.Common.{◌≡◌, ℕ, zero, suc, ◌+◌, ◌-◌, ◌*◌, ◌^◌, ◌<◌, ◌≤◌, Bool, true, false, cond, List, [], ◌∷◌, take, drop, length, get_or, refl, ap, sym, ◌∙◌, arith, rules, Ok, Err, Some, None, Result}
 use Rattle.std.specs.Prelude.{◌&&◌, ◌==◌, nat_lt}
 use Rattle.std.specs.List.{list_all}
 use Rattle.std.specs.Char.{is_ascii_digit, is_ascii_hexdigit, digit_value}
 use Rattle.std.specs.Result.{result_ok, OkIff}
 use Rattle.std.specs.Str.Parse.{digits_value, AllDigits, ParsesUnsigned, without_leading_plus}
-use Rattle.std.proofs.lemmas.Bool.{and_parts, and_from, cond-true, cond-false, lt-ltb, le-leb, le-ltb}
+use Rattle.std.proofs.lemmas.Bool.{and_parts, and_from, cond-true, cond-false, lt-ltb, le-leb, le-ltb, ltb-true}
 use Rattle.std.proofs.lemmas.Bool.Decides.{nat_tests}
 use Rattle.std.proofs.Math.Nat.{pow-le-pow_right}
-use Rattle.std.proofs.lemmas.Int.Digits.{digits_value-lt}
-use Rattle.std.proofs.lemmas.Str.Parse.{without_leading_plus_none}
+use Rattle.std.proofs.lemmas.Int.Digits.{digits_value-lt, digits_value_more}
+use Rattle.std.proofs.lemmas.List.{take_all}
+use Rattle.std.proofs.lemmas.List.Sums.{AllPass-from_list_all}
+use Rattle.std.proofs.lemmas.Str.{digit_value_digit}
+use Rattle.std.proofs.lemmas.Str.Parse.{without_leading_plus_none, digits_value-take-le}
+use Rattle.std.specs.Int.{IsInRange}
 use Rattle.std.specs.Fmt.{decimal}
 use Rattle.std.proofs.lemmas.Str.Parse.{IsNumeralModel, numerals_by_value}
 use Rattle.std.proofs.lemmas.Fmt.{decimal_is_IsNumeral, length-decimal-le, decimal_nonempty, digits_decimal}
@@ -19,9 +23,6 @@ use Rattle.attr_list.specs.Numbers.{decimal_of, hex_of, has_up_to, has_hex_prefi
 digits_by : (p : ℕ → Bool) (radix : ℕ) (ds : List ℕ) → ((c : ℕ) → p c ≡ true → digit_value c < radix) → list_all p ds ≡ true → AllDigits radix ds
 digits_by p radix [] each h = tt
 digits_by p radix (c ∷ ds) each h = let a = and_parts _ _ h in (each c a.0, digits_by p radix ds each a.1)
-
-decimal_digit : (c : ℕ) → is_ascii_digit c ≡ true → digit_value c < 10
-decimal_digit c h = grind (arith, nat_tests)
 
 hex_digit : (c : ℕ) → is_ascii_hexdigit c ≡ true → digit_value c < 16
 hex_digit c h = grind (arith, nat_tests)
@@ -49,24 +50,58 @@ parsed k radix ds r s h l p = by r (digits_value radix ds) (2 ^ k) (l, h) (rw (p
         not_below : (v top : ℕ) → (v < top → ⊥) → top ≤ v
         not_below v top h = omega arith
 
-some_digits : (ds : List ℕ) → (length ds == 0) ≡ false → 0 < length ds
+pub some_digits : (ds : List ℕ) → (length ds == 0) ≡ false → 0 < length ds
 some_digits [] h = absurd (false_is_not_true h)
   where
     false_is_not_true : true ≡ false → ⊥
     false_is_not_true h = cc
 some_digits (d ∷ ds) h = omega arith
 
-pub decimal_read : {E : Type 0} (ds : List ℕ) (r : Result ℕ E) → (length ds == 0) ≡ false → length ds ≤ 20 → list_all is_ascii_digit ds ≡ true → ParsesUnsigned 64 10 ds r → result_ok r ≡ decimal_of ds
-decimal_read ds r some few all p =
-    let l = some_digits ds some in
-    let h = digits_by is_ascii_digit 10 ds decimal_digit all in
-    let size : has_up_to 20 ds ≡ true = and_from _ _ (lt-ltb _ _ l) (le-leb _ _ few) in
-    let parse = parsed 64 10 ds r (omega arith) h l p in
-    by ds (has_up_to 20 ds) (list_all is_ascii_digit ds) size all _ parse
-  where
-    by : (ds : List ℕ) (a b : Bool) → a ≡ true → b ≡ true → (o : _) → o ≡ cond (nat_lt (digits_value 10 ds) (2 ^ 64)) (Some (digits_value 10 ds)) None
-        → o ≡ cond (a && b && nat_lt (digits_value 10 ds) (2 ^ 64)) (Some (digits_value 10 ds)) None
-    by ds a b g h o e = rw (g, h) e
+-- ---- digits of a decimal, one after the other
+
+digit_passes : (c : ℕ) → is_ascii_digit c ≡ true → IsInRange 48 57 c
+digit_passes c h = search rules
+
+-- one digit more
+pub value_more : (ds : List ℕ) (i : ℕ) → i < length ds → is_ascii_digit (get_or ds i 0) ≡ true → digits_value 10 (take (i + 1) ds) ≡ digits_value 10 (take i ds) * 10 + (get_or ds i 0 - 48)
+value_more ds i below digit =
+    let known = digit_value_digit (get_or ds i 0) (digit_passes (get_or ds i 0) digit) in
+    digits_value_more 10 ds i below ∙ ap (λ d. digits_value 10 (take i ds) * 10 + d) (omega arith)
+
+pub digits_more : (ds : List ℕ) (i : ℕ) → i < length ds → list_all is_ascii_digit (take i ds) ≡ true → is_ascii_digit (get_or ds i 0) ≡ true → list_all is_ascii_digit (take (i + 1) ds) ≡ true
+digits_more [] i below h d = absurd (omega (arith, below))
+digits_more (c ∷ ds) zero below h d = and_from _ _ d refl
+digits_more (c ∷ ds) (suc i) below h d =
+    let more : suc i + 1 ≡ suc (i + 1) = omega arith in
+    let a = and_parts (is_ascii_digit c) (list_all is_ascii_digit (take i ds)) h in
+    rw more (and_from _ _ a.0 (digits_more ds i (omega (arith, below)) a.1 d))
+
+none_unless : (a b c : Bool) (v : ℕ) → (b ≡ true → c ≡ true → ⊥) → cond (a && b && c) (Some v) None ≡ None
+none_unless false b c v h = refl
+none_unless true false c v h = refl
+none_unless true true false v h = refl
+none_unless true true true v h = absurd (h refl refl)
+
+-- where a byte is no digit, or its digit too many, the text is no decimal
+pub no_decimal : (ds : List ℕ) (i v : ℕ) → i < length ds → v ≡ digits_value 10 (take i ds)
+    → ((is_ascii_digit (get_or ds i 0) ≡ true) × (v * 10 + (get_or ds i 0 - 48) < 2 ^ 64) → ⊥) → decimal_of ds ≡ None
+no_decimal ds i v within value h =
+    none_unless (has_up_to 20 ds) (list_all is_ascii_digit ds) (nat_lt (digits_value 10 ds) (2 ^ 64)) (digits_value 10 ds) (λ all below.
+    let digit : is_ascii_digit (get_or ds i 0) ≡ true = AllPass-from_list_all is_ascii_digit ds all i 0 within in
+    let more = value_more ds i within digit in
+    let most = digits_value-take-le 10 ds (i + 1) (omega arith) in
+    let top = ltb-true _ _ below in
+    h (digit, omega (arith, value, more, most, top)))
+
+-- where all are, it is
+pub is_decimal : (ds : List ℕ) (v n : ℕ) → 0 < length ds → length ds ≤ 20 → length ds ≤ n → v ≡ digits_value 10 (take n ds) → v < 2 ^ 64 → list_all is_ascii_digit (take n ds) ≡ true → decimal_of ds ≡ Some v
+is_decimal ds v n some few long value below digits =
+    let whole : take n ds ≡ ds = take_all n ds long in
+    let is : v ≡ digits_value 10 ds = value ∙ ap (digits_value 10) whole in
+    let all : list_all is_ascii_digit ds ≡ true = sym (ap (list_all is_ascii_digit) whole) ∙ digits in
+    let size : has_up_to 20 ds ≡ true = and_from _ _ (lt-ltb _ _ some) (le-leb _ _ few) in
+    let top : nat_lt (digits_value 10 ds) (2 ^ 64) ≡ true = lt-ltb _ _ (omega (arith, is, below)) in
+    cond-true _ _ _ (and_from _ _ (and_from _ _ size all) top) ∙ ap Some (sym is)
 
 below_top : (n l : ℕ) → n < 16 ^ l → l ≤ 32 → n < 2 ^ 128
 below_top n l h few = let most : 16 ^ l ≤ 16 ^ 32 = pow-le-pow_right {n = 16} (omega arith) few in omega arith

@@ -1,6 +1,6 @@
 //! Decimal numbers and hexadecimal sequences.
-ghost use Rattle.std.specs.Prelude.{◌≡◌, drop, true, false, MatchOption};
-ghost use Rattle.std.specs.Option.{ok_or};
+ghost use Rattle.std.specs.Prelude.{◌≡◌, ◌+◌, ◌-◌, ◌*◌, ◌^◌, ◌<◌, drop, true, false, MatchOption};
+ghost use Rattle.std.specs.Option.{ok_or, SomeIff};
 ghost use Rattle.std.specs.List.{list_all};
 ghost use Rattle.std.specs.Char.{is_ascii_digit, is_ascii_hexdigit};
 ghost use Rattle.attr_list.specs.Numbers.{decimal_of, hex_of, has_hex_prefix};
@@ -15,10 +15,28 @@ const MAX_HEX_DIGITS: usize = 32;
 pub fn read_decimal(text: &str) -> Result<u64, AttrFault>
     ensures { result ≡ ok_or (decimal_of text.now) AttrFault.BadNumber }
 {
-    if text.is_empty() || text.len() > MAX_DECIMAL_DIGITS || !is_decimal(text.as_bytes()) {
+    let digits = text.as_bytes();
+    if digits.is_empty() || digits.len() > MAX_DECIMAL_DIGITS {
         return Err(AttrFault::BadNumber);
     }
-    text.parse().ok().ok_or(AttrFault::BadNumber)
+    let mut value: u64 = 0;
+    for digit in digits {
+        let Some(more) = with_digit(value, *digit) else {
+            return Err(AttrFault::BadNumber);
+        };
+        value = more;
+    }
+    Ok(value)
+}
+
+// A number with one more digit behind it, below 2^64.
+fn with_digit(number: u64, digit: u8) -> Option<u64>
+    ensures { SomeIff result ((is_ascii_digit digit ≡ true) × (number * 10 + (digit - 48) < 2 ^ 64)) (number * 10 + (digit - 48)) }
+{
+    if !digit.is_ascii_digit() {
+        return None;
+    }
+    number.checked_mul(10)?.checked_add(u64::from(digit - b'0'))
 }
 
 /// Reads a hexadecimal sequence: `0x` or `0X` and 1 to 32 digits of either case. Anything else is
@@ -46,12 +64,6 @@ fn after_prefix(text: &str) -> Option<&str>
         [b'0', b'x' | b'X', ..] => Some(&text[2..]),
         _ => None,
     }
-}
-
-fn is_decimal(bytes: &[u8]) -> bool
-    ensures { result ≡ list_all is_ascii_digit bytes.now }
-{
-    bytes.iter().all(|b| b.is_ascii_digit())
 }
 
 fn is_hex(bytes: &[u8]) -> bool

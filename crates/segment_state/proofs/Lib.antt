@@ -1,3 +1,4 @@
+pub mod Fronts
 pub mod KeyLemmas
 pub mod Ranges
 pub mod Timed

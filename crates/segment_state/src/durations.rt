@@ -1,5 +1,5 @@
 //! The durations and titles of a playlist's segments (RFC 8216, 4.3.2.1), of which most are the same.
-ghost use Rattle.std.specs.Prelude.{◌≡◌, Some, None, Ok, IfOk, IfErr, OnOk, OnErr};
+ghost use Rattle.std.specs.Prelude.{◌≡◌, Some, None, Ok, Err, IfOk, IfErr, OnOk, OnErr, MatchResult};
 ghost use Rattle.std.specs.List.{before_first, after_first};
 ghost use Rattle.std.specs.Prelude.{◌==◌};
 ghost use Rattle.playlist_model.specs.Said.{duration, duration_said};
@@ -15,6 +15,7 @@ use std::marker::Model;
 #[derive(Drop)]
 pub struct Durations<'a> {
     alloc: Global,
+    seconds: SecondsReader<'a>,
     text: &'a str,
     said: Option<(Nanos, Shared<ShortText>)>,
     is_due: bool,
@@ -29,6 +30,63 @@ impl<'a> Model for Durations<'a> {
     ghost view = { due_of };
 
     ghost invariant = { λ a. IsSaid a.text.now a.said };
+}
+
+// Reads the seconds and the title that EXTINF states. Most texts begin as the one before, up to their comma: what that
+// front states is kept.
+#[derive(Drop)]
+struct SecondsReader<'a> {
+    front: &'a str,
+    nanos: Nanos,
+}
+
+impl<'a> Model for SecondsReader<'a> {
+    ghost use Rattle.segment_state.specs.Inner.Fronts.{IsFront};
+
+    ghost Value = { Unit {0} };
+
+    ghost view = { λ _. tt };
+
+    ghost invariant = { λ a. IsFront a.front.now a.nanos };
+}
+
+impl<'a> SecondsReader<'a> {
+    // It has read nothing yet.
+    fn new() -> SecondsReader<'a> {
+        SecondsReader {
+            front: "0,",
+            nanos: Nanos(0),
+        }
+    }
+
+    // Reads a text of another front.
+    fn read_other(&mut self, text: &'a str) -> Result<(Nanos, &'a str), FaultKind>
+        ensures { MatchResult result
+            (λ own. duration_said text.now ≡ Ok (duration own.0 own.1.now))
+            (λ e. duration_said text.now ≡ Err e) }
+    {
+        let (seconds, title) = parts_at_comma(text);
+        let Ok(nanos) = Nanos::read(seconds) else {
+            return Err(FaultKind::BadDuration);
+        };
+        if let Some(front) = text.get(..seconds.len() + 1) {
+            self.front = front;
+            self.nanos = nanos;
+        }
+        Ok((nanos, title))
+    }
+
+    // What a text states by itself. `BadDuration` where it states no duration.
+    fn read(&mut self, text: &'a str) -> Result<(Nanos, &'a str), FaultKind>
+        ensures { MatchResult result
+            (λ own. duration_said text.now ≡ Ok (duration own.0 own.1.now))
+            (λ e. duration_said text.now ≡ Err e) }
+    {
+        match text.split_at_checked(self.front.len()) {
+            Some((front, title)) if front == self.front => Ok((self.nanos, title)),
+            _ => self.read_other(text),
+        }
+    }
 }
 
 // What stands before the first comma and after it. Without one the whole text stands before it.
@@ -46,6 +104,7 @@ impl<'a> Durations<'a> {
     {
         Durations {
             alloc,
+            seconds: SecondsReader::new(),
             text: "",
             said: None,
             is_due: false,
@@ -66,14 +125,14 @@ impl<'a> Durations<'a> {
     }
 
     // What a text says by itself.
-    fn parsed(&self, text: &str) -> Result<(Nanos, Shared<ShortText>), FaultKind>
-        ensures { Gives (λ own. duration own.0 own.1) result (duration_said text.now) }
+    fn parsed(&mut self, text: &'a str) -> Result<(Nanos, Shared<ShortText>), FaultKind>
+        ensures said { Gives (λ own. duration own.0 own.1) result (duration_said text.now) }
+        ensures kept { self.new ≡ self.old }
     {
-        let (seconds, title) = parts_at_comma(text);
-        let Ok(nanos) = Nanos::read(seconds) else {
-            return Err(FaultKind::BadDuration);
-        };
-        Ok((nanos, self.title(title)?))
+        match self.seconds.read(text) {
+            Ok((nanos, title)) => Ok((nanos, self.title(title)?)),
+            Err(fault) => Err(fault),
+        }
     }
 
     // Keeps a text with what it says.

@@ -112,8 +112,12 @@ fn decimal(text: &str) -> Result<u64, FaultKind>
 pub fn byte_range_of(text: &str) -> Result<(u64, Option<u64>), FaultKind>
     ensures { result ≡ byte_range_of text.now }
 {
+    // Most state no offset.
+    if let Ok(length) = read_decimal(text) {
+        return Ok((length, None));
+    }
     let Some((length, offset)) = text.split_once('@') else {
-        return Ok((decimal(text)?, None));
+        return Err(FaultKind::BadRange);
     };
     stated_byte_range(decimal(length)?, decimal(offset)?)
 }
