@@ -11,5 +11,4 @@ pub mod Groups
 pub mod Whole
 pub mod ZerosInFront
 pub mod HexPairs
-pub mod KeyFormats
 pub mod Taken

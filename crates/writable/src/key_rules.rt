@@ -5,7 +5,9 @@ ghost use Rattle.playlist_model.specs.LookBack.{is_before, are_sorted};
 ghost use Rattle.writable.specs.Fitting.{if_some, byte_range_fits, iv_fits, others_fit, method_fits, key_fits, keys_fit, states_iv, effective_keys_fit, section_fits};
 
 use crate::texts::{is_clean, quoted_uri_fits, value_fits};
-use playlist_model::{ByteRange, InitSection, KeyRef, Keys, KeysIter, OtherAttributes, is_iv_needed};
+use playlist_model::{
+    ByteRange, InitSection, KeyRef, Keys, KeysIter, OtherAttributes, is_iv_needed,
+};
 
 /// Whether a byte range ends below 2^64, where there is one.
 pub fn byte_range_fits(byte_range: Option<ByteRange>) -> bool

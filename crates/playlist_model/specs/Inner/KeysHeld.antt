@@ -1,5 +1,5 @@
 -- The keys that are held.
-use Rattle.std.specs.Prelude.{ℕ, List, [], map}
+use Rattle.std.specs.Prelude.{List, [], map}
 use Rattle.playlist_model.specs.declared.Key.{Key}
 use Rattle.playlist_model.specs.declared.in_force.Held.{Held}
 use Rattle.playlist_model.specs.declared.in_force.Held.TheVariants.{Clear, Stated, Under}
