@@ -4,7 +4,7 @@ use crate::beginnings::segment;
 use crate::made::{key, listed, unmarked};
 use byte_streams::TestSink;
 use fixed_duration::Nanos;
-use playlist_model::{ByteRange, InitSection, Items, Key, PlaylistKind, Segment, Shared, Text};
+use playlist_model::{ByteRange, InitSection, Items, Keys, PlaylistKind, Segment, Shared, Text};
 use playlist_write::{OutPlaylist, WriteFault, write};
 use std::alloc::{AllocError, Global};
 use stitcher::{StitchedList, TextRef};
