@@ -1,4 +1,3 @@
-pub mod KeysHeld
 pub mod Lines
 pub mod Heading
 pub mod WorkedExamples

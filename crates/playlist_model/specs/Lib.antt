@@ -3,6 +3,7 @@ pub mod Uri
 pub mod Carried
 pub mod Said
 pub mod EffectiveKeys
+pub mod KeysHeld
 pub mod LookBack
 pub mod Instants
 pub mod Reading

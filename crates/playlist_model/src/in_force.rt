@@ -133,7 +133,7 @@ pub struct Keys {
 impl Model for Keys {
     ghost use Rattle.std.specs.Prelude.{List};
     ghost use Rattle.playlist_model.specs.declared.Key.{Key};
-    ghost use Rattle.playlist_model.specs.Inner.KeysHeld.{keys_held};
+    ghost use Rattle.playlist_model.specs.KeysHeld.{keys_held};
 
     ghost Value = { List Key };
 
