@@ -18,18 +18,17 @@ use fixed_duration::Nanos;
 use playlist_model::{Items, Members, Segment, Shared, Text};
 use pod_store::PodStore;
 use std::alloc::{AllocError, Global};
-use stitcher::{MarkedSegment, is_same_run};
-use timeline::ends_at;
+use stitcher::{MarkedSegment, SharedMark, is_same_run};
 
 #[tactic(auto, using(crate::proofs::Listed::newest_seen, crate::proofs::Listed::newest_decided, crate::proofs::Listed::none_seen))]
 /// The mark of the newest of these segments.
-pub fn newest_mark(shown: &[MarkedSegment]) -> Result<Option<Shared<Text>>, AllocError>
+pub fn newest_mark(alloc: Global, shown: &[MarkedSegment]) -> Result<SharedMark, AllocError>
     ensures mark { IfOk result (λ id. (store : Store) → newest_mark (so_far store shown.now) ≡ mark_in store id) }
     ensures decided { IfOk result (λ id. (store : Store) → AreDecided store shown.now → IsDecided store id) }
 {
     match shown.split_last() {
-        Some((newest, _)) => copied_text(&newest.mark),
-        None => Ok(None),
+        Some((newest, _)) => newest.mark.clone(),
+        None => Shared::new(alloc, None),
     }
 }
 
@@ -39,7 +38,7 @@ pub fn newest_end(shown: &[MarkedSegment]) -> Option<i128>
     ensures { (store : Store) → result ≡ newest_end (so_far store shown.now) }
 {
     match shown.split_last() {
-        Some((newest, _)) => ends_at(&newest.instant, newest.segment.duration),
+        Some((newest, _)) => newest.instant.end(newest.segment.duration),
         None => None,
     }
 }
@@ -119,7 +118,7 @@ fn copied(marked: &MarkedSegment) -> Result<MarkedSegment, AllocError>
     Ok(MarkedSegment {
         segment: marked.segment.clone()?,
         instant: marked.instant,
-        mark: copied_text(&marked.mark)?,
+        mark: marked.mark.clone()?,
     })
 }
 
@@ -204,7 +203,7 @@ pub fn length_after(
             0
         };
         length = capped(store, &here.mark, here.segment.duration, before);
-        previous = &here.mark;
+        previous = &*here.mark;
         rest = later;
     }
     Nanos(length)

@@ -13,8 +13,8 @@ use playlist_model::{Instant, Member, Members, Segment, Shared, Text};
 use pod_store::PodStore;
 use std::alloc::{AllocError, Global};
 use std::marker::Model;
-use stitcher::MarkedSegment;
-use timeline::Beginnings;
+use stitcher::{MarkedSegment, SharedMark};
+use timeline::{Beginnings, OptionalInstant};
 
 /// What marks are decided by, the known breaks and the store apart.
 #[derive(Clone, Copy)]
@@ -168,18 +168,22 @@ impl<'a> Marker<'a> {
         &mut self,
         alloc: Global,
         staying: bool,
-        newest: &Option<Shared<Text>>,
+        newest: &SharedMark,
         last: &Option<Shared<Text>>,
         instant: Option<Instant>,
-    ) -> Result<Option<Shared<Text>>, AllocError>
+    ) -> Result<SharedMark, AllocError>
         requires { staying ≡ stays self.old newest.now instant }
         ensures id { IfOk result (λ id. id ≡ next_id self.old newest.now last.now instant) }
         ensures kept { self.new ≡ self.old }
     {
         if staying {
-            return copied_text(newest);
+            return newest.clone();
         }
-        self.entered_after(alloc, last, instant)
+        let id = self.entered_after(alloc, last, instant)?;
+        if id.is_none() && newest.is_none() {
+            return newest.clone();
+        }
+        Shared::new(alloc, id)
     }
 }
 
@@ -196,29 +200,29 @@ fn enter(entered: &mut Option<Shared<Text>>, mark: &Option<Shared<Text>>) -> Res
 // How far the marks are: the mark of the segment before, and the last break entered.
 #[derive(Drop)]
 struct Run {
-    before: Option<Shared<Text>>,
+    before: SharedMark,
     entered: Option<Shared<Text>>,
 }
 
-fn run_of(newest: &Option<Shared<Text>>, last: &Option<Shared<Text>>) -> Result<Run, AllocError>
+fn run_of(newest: &SharedMark, last: &Option<Shared<Text>>) -> Result<Run, AllocError>
     ensures { IfOk result (λ run. run ≡ record { before = newest.now; entered = last.now }) }
 {
     Ok(Run {
-        before: copied_text(newest)?,
+        before: newest.clone()?,
         entered: copied_text(last)?,
     })
 }
 
 fn marked_with(
     segment: Member<Segment>,
-    instant: &Option<Instant>,
-    mark: Option<Shared<Text>>,
+    instant: OptionalInstant,
+    mark: SharedMark,
 ) -> MarkedSegment
-    ensures { result ≡ record { segment = segment; instant = instant.now; mark = mark } }
+    ensures { result ≡ record { segment = segment; instant = instant; mark = mark } }
 {
     MarkedSegment {
         segment,
-        instant: *instant,
+        instant,
         mark,
     }
 }
@@ -250,19 +254,20 @@ impl<'a> Marker<'a> {
         alloc: Global,
         run: &mut Run,
         segment: Member<Segment>,
-        instant: &Option<Instant>,
+        instant: OptionalInstant,
     ) -> Result<MarkedSegment, AllocError>
-        ensures marked { IfOk result (λ m. m ≡ record { segment = segment; instant = instant.now; mark = next_id self.old run.old.before run.old.entered instant.now }) }
+        ensures marked { IfOk result (λ m. m ≡ record { segment = segment; instant = instant; mark = next_id self.old run.old.before run.old.entered instant }) }
         ensures run { IfOk result (λ m. run.new ≡ record { before = m.mark; entered = or_earlier m.mark run.old.entered }) }
         ensures kept { self.new ≡ self.old }
     {
-        if self.is_unmarked(&run.before, *instant) {
-            return Ok(marked_with(segment, instant, None));
+        let begun = instant.get();
+        if self.is_unmarked(&run.before, begun) {
+            return Ok(marked_with(segment, instant, run.before.clone()?));
         }
-        let staying = self.stays(&run.before, *instant);
-        let mark = self.next_id(alloc, staying, &run.before, &run.entered, *instant)?;
+        let staying = self.stays(&run.before, begun);
+        let mark = self.next_id(alloc, staying, &run.before, &run.entered, begun)?;
         enter(&mut run.entered, &mark)?;
-        run.before = copied_text(&mark)?;
+        run.before = mark.clone()?;
         Ok(marked_with(segment, instant, mark))
     }
 
@@ -281,7 +286,7 @@ impl<'a> Marker<'a> {
             let Some(instant) = instants.next()? else {
                 return Ok(());
             };
-            done.push(self.next(alloc, run, segment, &instant)?)?;
+            done.push(self.next(alloc, run, segment, instant)?)?;
         }
         Ok(())
     }
@@ -289,18 +294,20 @@ impl<'a> Marker<'a> {
     // The same where no break is decided, with no fallback, and the segment before has no mark: none of these has one.
     fn all_unmarked(
         &self,
+        unmarked: &SharedMark,
         segments: &mut Members<'_, Segment>,
         instants: &mut Beginnings<'_>,
         done: &mut Vec<MarkedSegment>,
     ) -> Result<(), AllocError>
-        requires { is_empty self.now.store ≡ true }
+        requires undecided { is_empty self.now.store ≡ true }
+        requires unmarked { unmarked.now ≡ None }
         ensures { OnOk result ((last : Option (List ℕ)) → done.new.items ≡ done.old.items ++ mark_on self.now None last segments.old instants.old) }
     {
         while let Some(segment) = segments.next()? {
             let Some(begun) = instants.next()? else {
                 return Ok(());
             };
-            done.push(marked_with(segment, &begun, None))?;
+            done.push(marked_with(segment, begun, unmarked.clone()?))?;
         }
         Ok(())
     }
@@ -318,7 +325,7 @@ impl<'a> Marker<'a> {
         let (mut segments, mut instants) = (segments, instants);
         let mut done = Vec::with_capacity(alloc, segments.len())?;
         if self.store.is_empty() && run.before.is_none() {
-            self.all_unmarked(&mut segments, &mut instants, &mut done)?;
+            self.all_unmarked(&run.before, &mut segments, &mut instants, &mut done)?;
         } else {
             self.all(alloc, run, &mut segments, &mut instants, &mut done)?;
         }
@@ -333,7 +340,7 @@ pub fn mark_on(
     limits: &Limits,
     knowledge: &Knowledge,
     store: &PodStore,
-    newest: &Option<Shared<Text>>,
+    newest: &SharedMark,
     last: &Option<Shared<Text>>,
     segments: Members<'_, Segment>,
     instants: Beginnings<'_>,

@@ -32,7 +32,7 @@ fn items_of(store: &PodStore, marked: &MarkedSegment) -> usize
     ensures value { result ≡ length (begun store.now marked.now marked.now.mark) }
     ensures few { result ≤ 500 }
 {
-    let Some(id) = &marked.mark else {
+    let Some(id) = &*marked.mark else {
         return 1;
     };
     match store.pod_for(id.as_str()) {
@@ -56,7 +56,7 @@ pub fn place_of(store: &PodStore, held: &[MarkedSegment]) -> usize
             start += items;
             items = items_of(store, here);
         }
-        previous = &here.mark;
+        previous = &*here.mark;
         rest = later;
     }
     start

@@ -55,7 +55,7 @@ pub fn shown_with(
     ensures { IfOk result (λ a. IsShown tolerance state.now playlist.now a) }
 {
     let shown = state.shown.as_slice();
-    let newest = newest_mark(shown)?;
+    let newest = newest_mark(alloc, shown)?;
     let knowledge = state.knowledge.carry(alloc, playlist, text_in(&newest))?;
     let fresh = fresh_of(shown, playlist.segments.as_slice());
     let segments = list_with(alloc, fresh, &playlist.segments)?;

@@ -135,7 +135,7 @@ fn rest_from(
     let Some((newest, _)) = gone.split_last() else {
         return Ok(None);
     };
-    let Some(id) = &newest.mark else {
+    let Some(id) = &*newest.mark else {
         return Ok(None);
     };
     Ok(Some(Rest {
@@ -276,7 +276,7 @@ fn first_numbers(
         });
     };
     let segment = &first.segment;
-    if let Some(id) = &first.mark {
+    if let Some(id) = &*first.mark {
         know_pod(store, id.as_str());
         return first_with_pod(segment);
     }

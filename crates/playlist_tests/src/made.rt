@@ -3,10 +3,11 @@ ghost use Rattle.std.specs.Prelude.{◌≡◌, IfOk, codes, []};
 ghost use Rattle.pod_store.specs.Store.{nothing_decided};
 ghost use Rattle.stitcher.specs.StitchedSegments.{AreDecided};
 
-use playlist_model::{Instant, Items, Key, Members, OtherAttributes, Segment, Shared};
+use playlist_model::{Items, Key, Members, OtherAttributes, Segment, Shared};
 use pod_store::PodStore;
 use std::alloc::{AllocError, Global};
 use stitcher::{Ends, MarkedSegment, Numbers, StitchedList, stitch};
+use timeline::OptionalInstant;
 
 /// A key of method AES-128, of this format, resource and IV, with no other attribute.
 pub fn key(alloc: Global, format: &str, uri: &str, iv: Option<u128>) -> Result<Key, AllocError>
@@ -33,8 +34,8 @@ pub(crate) fn unmarked(
     while let Some(segment) = segments.next()? {
         done.push(MarkedSegment {
             segment,
-            instant: Some(Instant(1_714_564_800_000_000_000)),
-            mark: None,
+            instant: OptionalInstant::from_nanos(Some(1_714_564_800_000_000_000)),
+            mark: Shared::new(alloc, None)?,
         })?;
     }
     Ok(done)

@@ -19,7 +19,7 @@ pub use ends::{Ends, Rest};
 pub use fault::StitchFault;
 pub use key_tags::{is_new_key, keeps_formats, transition};
 pub use making::{is_same_run, stitch};
-pub use marked::{MarkedSegment, Numbers};
+pub use marked::{MarkedSegment, Numbers, SharedMark};
 pub use origin_text::TextRef;
 pub use played::SegmentRef;
 pub use stitched_list::{StitchedItems, StitchedList};

@@ -179,7 +179,7 @@ fn goes_on_to_last(mark: &Option<Shared<Text>>, later: &[MarkedSegment]) -> bool
         if !is_same_run(&here.mark, previous) {
             return false;
         }
-        previous = &here.mark;
+        previous = &*here.mark;
         rest = later;
     }
     true
@@ -457,7 +457,7 @@ impl<'a> Stitching<'a> {
         let Some((marked, later)) = segments.split_first() else {
             return Ok(segments);
         };
-        let Some(id) = &marked.mark else {
+        let Some(id) = &*marked.mark else {
             return self.keep_front(alloc, segments);
         };
         if is_same_run(&marked.mark, previous) {
@@ -511,7 +511,7 @@ pub fn stitch<'a>(
     let mut rest = marked;
     while let Some((here, _)) = rest.split_first() {
         rest = stitching.put_front(alloc, rest, previous, store, ends)?;
-        previous = &here.mark;
+        previous = &*here.mark;
     }
     stitching.finish(alloc)
 }

@@ -54,7 +54,7 @@ fn kept_item<'a>(numbers: &Numbers, marked: &'a MarkedSegment) -> OutSegment<'a>
         media_sequence: numbers.media_sequence,
         discontinuity_sequence: numbers.discontinuity_sequence,
         discontinuities: numbers.discontinuities,
-        program_date_time: marked.instant,
+        program_date_time: marked.instant.get(),
     }
 }
 

@@ -4,25 +4,20 @@
 ghost use Rattle.std.specs.Prelude.{◌≡◌, ℤ, List, [], ◌∷◌, ◌++◌, IfOk, IfErr, MatchOption, option_map, pos, ◌-ℤ◌, ◌||◌};
 ghost use Rattle.std.specs.List.{list_all};
 ghost use Rattle.std.specs.Option.{is_some};
-ghost use Rattle.playlist_model.specs.Instants.{bounded, ends_at, instants_after};
+ghost use Rattle.playlist_model.specs.Instants.{bounded, instants_after};
 ghost use Rattle.playlist_model.specs.LookBack.{or_earlier};
 ghost use Rattle.timeline.specs.Reckoned.{clamped, reckoned, stack_of, IsKept};
 ghost use Rattle.timeline.specs.Inner.Reckoned.{is_unstated};
 
 use date_times::FIRST_INSTANT;
-use fixed_duration::Nanos;
 use playlist_model::{Instant, Segment};
 use std::alloc::{AllocError, Global};
 use std::marker::Model;
 
 pub mod laws;
+mod optional_instant;
 
-// The instant, unless it lies outside the range of instants.
-fn bounded(nanos: Option<i128>) -> Option<Instant>
-    ensures { result ≡ bounded nanos }
-{
-    Instant::from_nanos(nanos?)
-}
+pub use optional_instant::OptionalInstant;
 
 fn nanos_of(instant: Option<Instant>) -> Option<i128>
     ensures { result ≡ instant }
@@ -57,22 +52,12 @@ fn reckoned_here(segment: &Segment, after: Option<i128>) -> Option<i128>
     }
 }
 
-/// Where a segment of this duration ends, if it begins at an instant.
-pub fn ends_at(begun: &Option<Instant>, duration: Nanos) -> Option<i128>
-    ensures { result ≡ ends_at begun.now duration }
-{
-    match begun {
-        Some(begun) => Some(i128::from(begun.0) + i128::from(duration.0)),
-        None => None,
-    }
-}
-
 // Where a segment begins: at its stated time, else where the one before it ended, else back from the
 // first time that is stated later.
-fn begins_at(ended: Option<i128>, segment: &Segment, reckoned: Option<i128>) -> Option<Instant>
+fn begins_at(ended: Option<i128>, segment: &Segment, reckoned: Option<i128>) -> OptionalInstant
     ensures { result ≡ bounded (or_earlier segment.now.program_date_time (or_earlier ended reckoned)) }
 {
-    bounded(nanos_of(segment.program_date_time).or(ended).or(reckoned))
+    OptionalInstant::from_nanos(nanos_of(segment.program_date_time).or(ended).or(reckoned))
 }
 
 // Whether a segment states its time or follows one that begins somewhere, so that nothing is reckoned back for it.
@@ -173,7 +158,7 @@ impl<'a> Beginnings<'a> {
 
     /// Where the next segment begins, if there is one. Where an allocation fails, all are still to come.
     #[inline(always)]
-    pub fn next(&mut self) -> Result<Option<Option<Instant>>, AllocError>
+    pub fn next(&mut self) -> Result<Option<OptionalInstant>, AllocError>
         ensures next { IfOk result (λ next. MatchOption next ((self.old ≡ []) × (self.new ≡ [])) (λ begun. self.old ≡ begun ∷ self.new)) }
         ensures refused { IfErr result (λ _. self.new ≡ self.old) }
     {
@@ -189,7 +174,7 @@ impl<'a> Beginnings<'a> {
             None => None,
         };
         let begun = begins_at(ended, segment, reckoned);
-        self.ended = ends_at(&begun, segment.duration);
+        self.ended = begun.end(segment.duration);
         self.segments = later;
         Ok(Some(begun))
     }

@@ -7,4 +7,4 @@ loop-newest-preserved c = one_passed c.args.list.now c.loop-newest.rest.now c.in
 
 pub returns-then-is_some : goal.returns-then-is_some
 returns-then-is_some c = λ store d.
-    c.in_ok-copied_text.ensures ∙ passed_to c.args.list.now c.loop-newest.rest.now c.in-Some.before.now c.in-Some.newest.now c.args.entered.now store c.loop-newest.invariant c.in-Some.ensures.cases.0 (search rules) d
+    c.in_ok-copied_text.ensures ∙ c.deref-then-is_some.ensures ∙ passed_to c.args.list.now c.loop-newest.rest.now c.in-Some.before.now c.in-Some.newest.now c.args.entered.now store c.loop-newest.invariant c.in-Some.ensures.cases.0 (search rules) d

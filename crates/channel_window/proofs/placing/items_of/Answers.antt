@@ -15,8 +15,8 @@ segments_in-requires c =
 pub returns-in-Some-pod_for-clause-value : goal.returns-in-Some-pod_for-clause-value
 returns-in-Some-pod_for-clause-value c =
     let found : pod_for c.args.store.now c.in-Some.id ≡ Some c.in-Some-pod_for.pod.now =
-    ap (pod_for c.args.store.now) (sym (c.as_str.ensures.text ∙ c.deref.ensures)) ∙ (sym c.pod_for.ensures ∙ ap option_copied c.in-Some-pod_for.is) in
-    let size = begun_pod c.args.store.now c.args.marked.now c.in-Some.id c.in-Some-pod_for.pod.now c.in-Some.is found in
+    ap (pod_for c.args.store.now) (sym (c.as_str.ensures.text ∙ c.deref-2.ensures)) ∙ (sym c.pod_for.ensures ∙ ap option_copied c.in-Some-pod_for.is) in
+    let size = begun_pod c.args.store.now c.args.marked.now c.in-Some.id c.in-Some-pod_for.pod.now (sym c.deref.ensures ∙ c.in-Some.is) found in
     let same = ap (λ (ads : List Ad). sum (map segment_count ads)) c.ads.ensures.value in
     c.segments_in.ensures ∙ same ∙ sym size
 

@@ -1,4 +1,4 @@
-use Rattle.std.proofs.Common.{ℕ, List, sym, subst, arith}
+use Rattle.std.proofs.Common.{ℕ, List, sym, subst, ◌∙◌, arith}
 use Rattle.std.specs.Prelude.{Some}
 use Rattle.stitcher.specs.StitchedSegments.{IsDecided}
 use Rattle.channel_window.proofs.Listed.{newest_decided}
@@ -21,13 +21,13 @@ returns-clause-value c =
     let list = c.args.list.now in
     let item = place_found s.store c.args.number c.place_of.result list c.front_to.result.now c.requires.decided c.front_to.ensures.front (c.front_to.ensures.seen s.store) c.place_of.ensures in
     rest_some s.store (rest_count s.store s.rest) c.args.start c.args.number c.place_of.result c.rest_count-before.result c.place_of-2.result c.saturating_sub.result list c.front_before-gone.result.now
-    c.in-Some.field-0-1.now c.in-Some.newest.now c.in-Some-mark.id c.in_ok-clone.field-0
+    c.in-Some.field-0-1.now c.in-Some.newest.now c.in-Some-deref.id c.in_ok-clone.field-0
     c.requires.decided item (sym c.rest_count-before.ensures.value) (omega (arith, c.if-start-place_of.false)) (c.front_before-gone.ensures.seen s.store) c.front_before-gone.ensures.front
-    c.in-Some.ensures.cases.0 c.in-Some-mark.is c.in_ok-clone.ensures c.place_of-2.ensures c.saturating_sub.ensures
+    c.in-Some.ensures.cases.0 (sym c.deref.ensures ∙ c.in-Some-deref.is) c.in_ok-clone.ensures c.place_of-2.ensures c.saturating_sub.ensures
 
 pub returns-clause-decided : goal.returns-clause-decided
 returns-clause-decided c =
     let s = c.args.state.now in
     let gone = c.front_before-gone.result.now in
     let d = newest_decided s.store gone c.in-Some.field-0-1.now c.in-Some.newest.now c.in-Some.ensures.cases.0 (front_decided s.store c.args.list.now gone c.requires.decided c.front_before-gone.ensures.front) in
-    subst (λ (id : List ℕ). IsDecided s.store (Some id)) (sym c.in_ok-clone.ensures) (subst (IsDecided s.store) c.in-Some-mark.is d)
+    subst (λ (id : List ℕ). IsDecided s.store (Some id)) (sym c.in_ok-clone.ensures) (subst (IsDecided s.store) (sym c.deref.ensures ∙ c.in-Some-deref.is) d)

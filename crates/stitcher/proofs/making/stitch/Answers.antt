@@ -1,5 +1,5 @@
-use Rattle.std.proofs.Common.{[], List, sym, subst, ap, ◌∙◌}
-use Rattle.std.specs.Prelude.{None}
+use Rattle.std.proofs.Common.{ℕ, [], List, sym, subst, ap, ◌∙◌}
+use Rattle.std.specs.Prelude.{Option, None}
 use Rattle.std.specs.List.{list_all}
 use Rattle.stitcher.specs.Stitched.{Numbers, Piece}
 use Rattle.stitcher.specs.declared.marked.MarkedSegment.{MarkedSegment}
@@ -48,8 +48,9 @@ loop-here-preserved c =
     let walks = subst (λ (ps : List Piece). Walks (nothing c.args.first) c.loop-here.stitching all ps) (pieces_front_at store ends.so_far previous rest here c.in-Some.field-0-1.now c.in-Some.ensures.cases.0) c.loop-here.invariant.walks in
     record {
       fits = ap numbers_fit put.first ∙ c.loop-here.invariant.fits;
-      walks = subst (λ (left : List MarkedSegment). Walks (nothing c.args.first) c.put_front.new.self all (pieces_on store ends.so_far here.mark left)) (sym c.in_ok-rest.ensures.left)
-          (walks_on (nothing c.args.first) c.loop-here.stitching c.put_front.new.self all (front_pieces store ends.so_far previous rest) (pieces_on store ends.so_far here.mark (after_front rest)) walks put);
+      walks = subst (λ (mark : Option (List ℕ)). Walks (nothing c.args.first) c.put_front.new.self all (pieces_on store ends.so_far mark c.in_ok-rest.rest.now)) (sym c.deref-previous.ensures)
+          (subst (λ (left : List MarkedSegment). Walks (nothing c.args.first) c.put_front.new.self all (pieces_on store ends.so_far here.mark left)) (sym c.in_ok-rest.ensures.left)
+          (walks_on (nothing c.args.first) c.loop-here.stitching c.put_front.new.self all (front_pieces store ends.so_far previous rest) (pieces_on store ends.so_far here.mark (after_front rest)) walks put));
       fit = put.fit c.loop-here.invariant.fit;
     }
 

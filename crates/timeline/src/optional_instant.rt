@@ -1,0 +1,70 @@
+//! An instant, or none, in the room of one number.
+ghost use Rattle.std.specs.Prelude.{◌≡◌};
+ghost use Rattle.playlist_model.specs.Instants.{bounded, ends_at};
+
+use date_times::Instant;
+use fixed_duration::Nanos;
+use std::marker::Model;
+
+// The least number of 64 bits lies before every instant in range.
+const NO_INSTANT: i64 = i64::MIN;
+
+/// An instant in the years 1900 to 2199, or none. It takes half the room of an `Option<Instant>`, and a channel holds one for
+/// each segment.
+#[derive(Clone, Copy)]
+pub struct OptionalInstant {
+    nanos: i64,
+}
+
+impl Model for OptionalInstant {
+    ghost use Rattle.std.specs.Prelude.{ℤ, Option};
+    ghost use Rattle.timeline.specs.OptionalInstants.{instant_held, number_of};
+    ghost use Rattle.std.proofs.Common.{arith};
+
+    ghost Value = { Option ℤ };
+
+    ghost view = { λ a. instant_held a.nanos };
+
+    ghost inverse = { λ instant. record { nanos = number_of instant } };
+
+    ghost inverse_ok = { λ a h. Prim.grind (arith) };
+}
+
+impl OptionalInstant {
+    /// The instant so many nanoseconds from 1970; none outside the years 1900 to 2199.
+    #[inline(always)]
+    pub fn from_nanos(nanos: Option<i128>) -> OptionalInstant
+        ensures { result ≡ bounded nanos }
+    {
+        let held = match nanos {
+            Some(nanos) => Instant::from_nanos(nanos),
+            None => None,
+        };
+        match held {
+            Some(instant) => OptionalInstant { nanos: instant.0 },
+            None => OptionalInstant { nanos: NO_INSTANT },
+        }
+    }
+
+    /// The instant, where there is one.
+    #[inline(always)]
+    pub fn get(self) -> Option<Instant>
+        ensures { result ≡ self }
+    {
+        if self.nanos == NO_INSTANT {
+            return None;
+        }
+        Some(Instant(self.nanos))
+    }
+
+    /// Where a segment of this duration ends that begins at this instant, if there is one.
+    #[inline(always)]
+    pub fn end(self, duration: Nanos) -> Option<i128>
+        ensures { result ≡ ends_at self duration }
+    {
+        match self.get() {
+            Some(begun) => Some(i128::from(begun.0) + i128::from(duration.0)),
+            None => None,
+        }
+    }
+}
