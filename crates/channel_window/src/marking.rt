@@ -54,10 +54,12 @@ struct Marker<'a> {
     knowledge: &'a Knowledge,
     store: &'a PodStore,
     entrances: Entrances<'a>,
+    // None, which the segments without a mark own together.
+    unmarked: SharedMark,
 }
 
 impl<'a> Model for Marker<'a> {
-    ghost use Rattle.std.specs.Prelude.{◌≡◌};
+    ghost use Rattle.std.specs.Prelude.{◌≡◌, None};
     ghost use Rattle.break_finder.specs.Entrances.{entrances_in};
     ghost use Rattle.channel_spec.specs.Marking.{Moment};
 
@@ -65,7 +67,7 @@ impl<'a> Model for Marker<'a> {
 
     ghost view = { λ a. record { tolerance = a.limits.tolerance; target_duration = a.limits.target_duration; mapped = a.limits.mapped; breaks = a.knowledge.now; store = a.store.now } };
 
-    ghost invariant = { λ a. a.entrances ≡ record { tolerance = a.limits.tolerance; found = entrances_in a.limits.target_duration a.limits.mapped a.store.now a.knowledge.now } };
+    ghost invariant = { λ a. (a.entrances ≡ record { tolerance = a.limits.tolerance; found = entrances_in a.limits.target_duration a.limits.mapped a.store.now a.knowledge.now }) × (a.unmarked ≡ None) };
 }
 
 // What decides them for about so many segments.
@@ -90,6 +92,7 @@ fn marker_of<'a>(
             store,
             segments,
         )?,
+        unmarked: Shared::new(alloc, None)?,
     })
 }
 
@@ -180,8 +183,8 @@ impl<'a> Marker<'a> {
             return newest.clone();
         }
         let id = self.entered_after(alloc, last, instant)?;
-        if id.is_none() && newest.is_none() {
-            return newest.clone();
+        if id.is_none() {
+            return self.unmarked.clone();
         }
         Shared::new(alloc, id)
     }
@@ -294,20 +297,18 @@ impl<'a> Marker<'a> {
     // The same where no break is decided, with no fallback, and the segment before has no mark: none of these has one.
     fn all_unmarked(
         &self,
-        unmarked: &SharedMark,
         segments: &mut Members<'_, Segment>,
         instants: &mut Beginnings<'_>,
         done: &mut Vec<MarkedSegment>,
     ) -> Result<(), AllocError>
-        requires undecided { is_empty self.now.store ≡ true }
-        requires unmarked { unmarked.now ≡ None }
+        requires { is_empty self.now.store ≡ true }
         ensures { OnOk result ((last : Option (List ℕ)) → done.new.items ≡ done.old.items ++ mark_on self.now None last segments.old instants.old) }
     {
         while let Some(segment) = segments.next()? {
             let Some(begun) = instants.next()? else {
                 return Ok(());
             };
-            done.push(marked_with(segment, begun, unmarked.clone()?))?;
+            done.push(marked_with(segment, begun, self.unmarked.clone()?))?;
         }
         Ok(())
     }
@@ -325,7 +326,7 @@ impl<'a> Marker<'a> {
         let (mut segments, mut instants) = (segments, instants);
         let mut done = Vec::with_capacity(alloc, segments.len())?;
         if self.store.is_empty() && run.before.is_none() {
-            self.all_unmarked(&run.before, &mut segments, &mut instants, &mut done)?;
+            self.all_unmarked(&mut segments, &mut instants, &mut done)?;
         } else {
             self.all(alloc, run, &mut segments, &mut instants, &mut done)?;
         }

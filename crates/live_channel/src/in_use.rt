@@ -20,7 +20,7 @@ fn push_mark(marks: &mut Vec<Shared<Text>>, mark: &Option<Shared<Text>>) -> Resu
     }
 }
 
-#[tactic(auto, using(crate::proofs::Marks::none_before, crate::proofs::Marks::one_there))]
+#[tactic(auto, using(crate::proofs::Marks::none_there, crate::proofs::Marks::none_before, crate::proofs::Marks::one_there))]
 // Puts the break of a segment, where it has one and is numbered from this number on, after others.
 fn push_marked(
     marks: &mut Vec<Shared<Text>>,
@@ -29,7 +29,8 @@ fn push_marked(
 ) -> Result<(), AllocError>
     ensures { OnOk result (marks.new.items ≡ marks.old.items ++ mark_held number marked.now) }
 {
-    if marked.segment.media_sequence < number {
+    // Most segments have no mark.
+    if marked.mark.is_none() || marked.segment.media_sequence < number {
         return Ok(());
     }
     push_mark(marks, &marked.mark)
