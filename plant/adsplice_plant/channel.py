@@ -1,0 +1,274 @@
+"""A channel's feed: reads its list, makes the channel in adsplice where it isn't there, and gives it decisions and lists."""
+from __future__ import annotations
+
+import time
+from collections.abc import Callable
+from pathlib import Path
+
+from . import decisions, faults, playlist
+from .decisions import Decision, Folder
+from .journal import Event, Journal
+from .origin import FileOrigin, Origin, Read, WebOrigin, read_whole
+from .pauses import Pauses
+from .settings import Settings
+from .web import Answer, Client
+from .words import now_text
+
+REFUSALS = 2  # in a row that make a channel anew
+MOST_REFUSALS = 32  # where it has to be made anew again and again
+QUIET = 60.0  # seconds without a refusal after which two are enough again
+SOON = 1.0  # seconds to the next look where the target duration isn't known
+AWAY = {0, 500, 502, 503, 504}  # statuses after which the same request is tried again with growing pauses
+
+Say = Callable[[str], None]
+
+
+class Channel:
+    """The feed of the channel that `settings` tell of. `client` makes its requests, and `say` prints a line. Each of its
+    states is told once: one that is as it was isn't told again."""
+
+    def __init__(self, settings: Settings, client: Client, say: Say, longest_pause: float, keep_days: float) -> None:
+        self.settings, self.client, self.say = settings, client, say
+        self.url = f"{settings.at}/channels/{settings.name}"
+        self.origin: Origin = WebOrigin(settings.origin, client) if settings.is_web() else FileOrigin(Path(settings.origin))
+        self.folder = Folder(settings.decisions, keep_days)
+        self.journal = Journal(settings.keep / f"{settings.name}.events", self.opening) if settings.keep else None
+        self.away, self.missing = Pauses(0.5, longest_pause), Pauses(0.5, longest_pause)
+        self.list: bytes | None = None  # the newest whole one
+        self.is_made = self.is_pushed = False
+        self.target: int | None = None
+        self.listed: set[str] = set()
+        self.states: dict[str, tuple[str, str]] = {}
+        self.refused = 0  # lists in a row
+        self.since = 0.0  # when the first of these was refused
+        self.patience, self.remade = REFUSALS, 0.0
+
+    # ---- telling
+
+    def tell(self, who: str, status: int, fault: str, text: str) -> None:
+        """Prints a line of `who` (`origin`, `adsplice`, or a decision file), with the status and the fault's name, unless it
+        is in the same state as before."""
+        state = (str(status or "-"), fault)
+        if self.states.get(who) == state:
+            return
+        self.states[who] = state
+        self.say(f"{now_text()} {self.settings.name} {who} {status or '-'} {fault or '-'}: {text}")
+
+    def note(self, what: str, answer: Answer, body: bytes = b"") -> None:
+        """Keeps an event for the monitor and the explainer."""
+        if self.journal:
+            try:
+                self.journal.add(what, answer.status, answer.why or answer.line(), body)
+            except OSError as fault:
+                self.tell("journal", 0, "", f"{self.journal.path}: {fault.strerror}; goes on without it")
+
+    def opening(self) -> list[Event]:
+        """What a new file of kept events begins with: the channel, and the decisions that it holds."""
+        found = [Event(now_text(), "channel", 201, "", self.settings.body().decode())]
+        bodies = [self.fallback()] + [it.body for it in self.folder.open()]
+        return found + [Event(now_text(), "decisions", 204, "", it.decode("utf-8", "replace")) for it in bodies if it]
+
+    # ---- requests
+
+    def put(self, what: str, body: bytes) -> Answer:
+        """PUTs `body` to the channel (`what` is ``), or to its `origin` or `decisions`."""
+        answer = self.client.ask("PUT", f"{self.url}/{what}" if what else self.url, body)
+        self.note(what or "channel", answer, body)
+        return answer
+
+    def fallback(self) -> bytes | None:
+        """The fallback file's bytes; none where there is no such file, which is told."""
+        if self.settings.fallback is None:
+            return None
+        try:
+            return self.settings.fallback.read_bytes()
+        except OSError as fault:
+            self.tell("fallback", 0, "", f"{self.settings.fallback}: {fault.strerror}; goes on without it")
+            return None
+
+    def make(self) -> bool:
+        """Makes the channel where it isn't there, and gives it the fallback and the open decisions; whether it is there."""
+        answer = self.put("", self.settings.body())
+        if answer.status not in (201, 409):
+            self.failed(answer, "makes the channel as soon as it can")
+            return False
+        self.is_made, self.is_pushed = True, False
+        self.folder.start_anew()
+        self.folder.look()
+        text = "makes the channel" if answer.status == 201 else "the channel is there already; goes on with it"
+        self.states.pop("adsplice", None)
+        self.tell("adsplice", answer.status, "", text)
+        body = self.fallback()
+        return body is None or self.give_fallback(body)
+
+    def give_fallback(self, body: bytes) -> bool:
+        """Gives the fallback file's `body`; whether the feed may go on."""
+        answer = self.put("decisions", body)
+        if answer.status in AWAY or answer.status == 404:
+            self.is_made = False
+            self.failed(answer, "gives the fallback again as soon as it can")
+            return False
+        if answer.status != 204:
+            self.tell("fallback", answer.status, answer.line(), f"{faults.meaning(answer.status, answer.line())}; goes on without it")
+        return True
+
+    def failed(self, answer: Answer, does: str) -> None:
+        """Tells that adsplice, or a server in front of it, didn't do what it was asked, and what the feed `does`."""
+        what = answer.why or faults.meaning(answer.status, answer.line())
+        self.tell("adsplice", answer.status, faults.name_of(answer.line()), f"{what}; {does}")
+
+    # ---- decisions
+
+    def decide(self) -> bool:
+        """Gives the decision files that wait; whether the feed may go on. A list that enters a break comes after them."""
+        for it in self.folder.waiting():
+            if not self.give(it):
+                return False
+        return True
+
+    def give(self, decision: Decision) -> bool:
+        """Gives one decision file; whether the feed may go on."""
+        answer = self.put("decisions", decision.body)
+        who, line = f"decisions/{decision.path.name}", answer.line()
+        if answer.status == 404 or answer.status in AWAY:
+            self.gone(answer)
+            return False
+        if answer.status == 204:
+            self.folder.given(decision)
+            self.tell(who, 204, "", self.taken_text(decision))
+        elif faults.code_of(line) == "J9":
+            self.give_rest(decision, who)
+        elif faults.code_of(line) == "J10":
+            self.tell(who, answer.status, faults.name_of(line), f"{faults.meaning(answer.status, line)}; tries it again")
+        else:
+            decision.state = "refused"
+            self.tell(who, answer.status, line, f"{faults.meaning(answer.status, line)}; leaves it, and takes it once it is written anew "
+                                                f"(adsplice-pod --check {decision.path})")
+        return True
+
+    @staticmethod
+    def taken_text(decision: Decision) -> str:
+        """What is told of `decision`, which was taken."""
+        if decision.kind == "breaks":
+            return f"decides {', '.join(decision.ids)}"
+        return f"withdraws {decision.ids[0]}" if decision.kind == "withdraw" else "sets the fallback"
+
+    def give_rest(self, decision: Decision, who: str) -> None:
+        """One break of `decision` has begun with another pod, so none of it was taken: gives each of its breaks by itself."""
+        begun = []
+        if decision.kind == "breaks" and len(decision.ids) > 1:
+            for name, body in zip(decision.ids, decisions.each_alone(decision.body)):
+                if self.put("decisions", body).status == 409:
+                    begun.append(name)
+        else:
+            begun = decision.ids
+        self.folder.given(decision)
+        self.tell(who, 409, "J9 Used", f"{', '.join(begun)} has begun, and keeps its pod; decides the rest of it, if there is one")
+
+    def gone(self, answer: Answer) -> None:
+        """adsplice is away (`answer` is none, or of a server in front), or has been started anew (404)."""
+        if answer.status == 404:
+            self.is_made = False
+            self.failed(answer, "makes it, and gives it fallback, decisions and list")
+        else:
+            self.failed(answer, "tries again with growing pauses")
+
+    # ---- lists
+
+    def push(self) -> bool:
+        """PUTs the newest list; whether that is over, and not to be tried again with a pause."""
+        assert self.list is not None
+        answer = self.put("origin", self.list)
+        line = answer.line()
+        if answer.status == 204:
+            self.taken()
+            return True
+        if answer.status == 404 or answer.status in AWAY:
+            self.gone(answer)
+            return False
+        self.is_pushed = not faults.follows_badly(line)  # (one that doesn't read needn't be sent again)
+        if faults.follows_badly(line):
+            return self.refuse(answer)
+        self.tell("adsplice", answer.status, line, f"{faults.meaning(answer.status, line)}; waits for the next list")
+        return True
+
+    def taken(self) -> None:
+        """A list was taken."""
+        self.is_pushed = True
+        if time.monotonic() - self.remade > QUIET:
+            self.patience = REFUSALS
+        text = f"the list is taken again, after {self.refused} that followed badly" if self.refused else "the list is taken"
+        self.refused = 0
+        self.tell("adsplice", 204, "", text)
+
+    def refuse(self, answer: Answer) -> bool:
+        """A list doesn't follow the last one. Where that stays, the channel is made anew; whether that came to its end."""
+        self.refused += 1
+        name = faults.name_of(answer.line())
+        what = f"{faults.meaning(answer.status, answer.line())} ({answer.line()})"
+        if self.refused < self.patience:
+            self.tell("adsplice", answer.status, name, f"{what}; tries again, and makes the channel anew at refusal {self.patience} in a row")
+            return True
+        self.states.pop("adsplice", None)
+        self.tell("adsplice", answer.status, name, f"{what}; it stays so: deletes the channel and makes it anew")
+        self.patience = min(MOST_REFUSALS, self.patience * 2)
+        self.remade, self.refused, self.is_made = time.monotonic(), 0, False
+        gone = self.client.ask("DELETE", self.url)
+        self.note("delete", gone)
+        if gone.status not in (204, 404):
+            self.failed(gone, "tries again with growing pauses")
+            return False
+        return self.make() and self.decide() and self.push()
+
+    # ---- turns
+
+    def look(self) -> Read:
+        """Reads the origin, and what its list lists where that is new."""
+        found = read_whole(self.origin, self.settings.unended)
+        if found.body is not None:
+            if found.body != self.list:
+                self.list, self.is_pushed = found.body, False
+                listed = playlist.read(found.body)
+                self.target, self.listed = listed.target or self.target, listed.ids()
+        if found.moved:
+            self.tell("redirect", found.status, "", f"the origin leads to {found.moved}; references stay relative to {self.settings.base} (--base)")
+        if found.why:
+            self.note("read", Answer(found.status, why=found.why))
+            self.tell("origin", found.status, "", f"{found.why}; reads it again with growing pauses")
+        elif self.states.get("origin", ("200", ""))[0] != "200":
+            self.tell("origin", 200, "", "the list is read again")
+        return found
+
+    def interval(self) -> float:
+        """The seconds from one look at the origin to the next: half of the target duration."""
+        return max(0.25, self.target / 2) if self.target else SOON
+
+    def turn(self) -> float:
+        """One turn: looks at the origin and the folder, gives adsplice what is new, and answers the seconds to the next one."""
+        begun = time.monotonic()
+        found = self.look()
+        self.folder.look()
+        if not self.give_all():
+            return self.away.next()
+        self.away.reset()
+        for it in self.folder.retire(self.listed) if self.list is not None else []:
+            self.tell(f"decisions/{it.path.name}", 0, "", f"{', '.join(it.ids)} is no longer listed; moves the file to done")
+            self.states.pop(f"decisions/{it.path.name}", None)
+        if found.why:
+            return min(self.missing.next(), max(self.interval(), 0.5) * 4)
+        self.missing.reset()
+        return max(0.05, self.interval() - (time.monotonic() - begun))
+
+    def give_all(self) -> bool:
+        """Gives adsplice the channel, the decisions and the list, as far as they are new; whether all was answered."""
+        if not self.is_made and not self.make():
+            return False
+        if not self.decide():
+            return self.is_made is False and self.again()
+        if self.list is None or self.is_pushed:
+            return True
+        return self.push() or (self.is_made is False and self.again())
+
+    def again(self) -> bool:
+        """adsplice was started anew: makes the channel, and gives it all that is open, at once; whether all was answered."""
+        return self.make() and self.decide() and (self.list is None or self.push())

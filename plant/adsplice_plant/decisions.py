@@ -1,0 +1,144 @@
+"""The decision files of a channel: a folder into which an ad decision server, or a client of it, puts them.
+
+A file is written under another name (one that begins with a point, or doesn't end in .json) and renamed, so that it is
+there as a whole or not at all. It stays in the folder while a break of it is listed, or may still be, and is then moved to
+the folder `done` in it.
+"""
+import json
+import os
+import time
+from collections.abc import Iterable
+from dataclasses import dataclass, field
+from pathlib import Path
+
+DAY = 86400
+MAX_BYTES = 4_194_304  # adsplice takes no longer file
+
+
+@dataclass
+class Decision:
+    """A file of the folder: `kind` is `breaks`, `withdraw` or `fallback`, and empty where it doesn't say; `ids` are those of
+    its breaks; `state` is `new`, `given`, `refused` or `done`; `listed` are the breaks that were seen in a playlist."""
+
+    path: Path
+    stamp: tuple[int, int, int]
+    body: bytes
+    kind: str
+    ids: list[str]
+    state: str = "new"
+    listed: set[str] = field(default_factory=set)
+
+
+def said_by(body: bytes) -> tuple[str, list[str]]:
+    """The kind of the decision file `body`, and the IDs of its breaks; ("", []) where it doesn't say. adsplice judges it."""
+    try:
+        found = json.loads(body)
+    except (ValueError, RecursionError):
+        return "", []
+    if not isinstance(found, dict):
+        return "", []
+    kind = next((it for it in ("breaks", "withdraw", "fallback") if it in found), "")
+    breaks = found.get("breaks")
+    if kind == "breaks" and isinstance(breaks, list):
+        return kind, [str(it["id"]) for it in breaks if isinstance(it, dict) and "id" in it]
+    return kind, [str(found["withdraw"])] if kind == "withdraw" else []
+
+
+def each_alone(body: bytes) -> list[bytes]:
+    """The decision file `body` of several breaks as a file for each: one break that has begun doesn't keep the others out."""
+    return [json.dumps({"breaks": [it]}).encode() for it in json.loads(body)["breaks"]]
+
+
+class Folder:
+    """The decision files of the folder `path`; none where there is no folder for a channel. Those in `done` are taken away
+    after `keep_days` days."""
+
+    def __init__(self, path: Path | None, keep_days: float) -> None:
+        self.path, self.keep_days = path, keep_days
+        self.decisions: dict[Path, Decision] = {}
+
+    def look(self) -> None:
+        """Finds new and changed files, and forgets those that somebody took away."""
+        if self.path is None:
+            return
+        found = dict(self.files(self.path))
+        self.decisions = {path: it for path, it in self.decisions.items() if path in found}
+        for path, stamp in found.items():
+            known = self.decisions.get(path)
+            if known is None or known.stamp != stamp:
+                self.take(path, stamp)
+
+    def files(self, folder: Path) -> Iterable[tuple[Path, tuple[int, int, int]]]:
+        """The decision files in `folder`, each with what shows that it changed, in the order in which they were written."""
+        found = []
+        try:
+            for it in os.scandir(folder):
+                if it.name.endswith(".json") and not it.name.startswith(".") and it.is_file():
+                    of = it.stat()
+                    found.append((Path(it.path), (of.st_mtime_ns, of.st_size, of.st_ino)))
+        except OSError:
+            return []
+        return sorted(found, key=lambda it: (it[1][0], it[0]))
+
+    def take(self, path: Path, stamp: tuple[int, int, int]) -> None:
+        """Reads the file `path`, which has the stamp `stamp`."""
+        try:
+            body = path.read_bytes()[: MAX_BYTES + 1]
+        except OSError:
+            return
+        self.decisions.pop(path, None)  # (a changed one comes last)
+        self.decisions[path] = Decision(path, stamp, body, *said_by(body))
+
+    def waiting(self) -> list[Decision]:
+        """Those that were not yet given to the controller."""
+        return [it for it in self.decisions.values() if it.state == "new"]
+
+    def open(self) -> list[Decision]:
+        """Those that the controller holds: they are given to it again where its channel is made anew."""
+        return [it for it in self.decisions.values() if it.state == "given"]
+
+    def start_anew(self) -> None:
+        """The channel was made anew: what it held is to be given to it again."""
+        for it in self.open():
+            it.state = "new"
+
+    def given(self, decision: Decision) -> None:
+        """`decision` was taken. A withdrawal is done with, and so is an older fallback, and an older file on the same breaks."""
+        decision.state = "given"
+        for it in list(self.decisions.values()):
+            if it is decision or it.state != "given":
+                continue
+            is_older_fallback = decision.kind == it.kind == "fallback"
+            if is_older_fallback or (decision.kind != "fallback" and it.kind == "breaks" and set(it.ids) <= set(decision.ids)):
+                self.finish(it)
+        if decision.kind == "withdraw":
+            self.finish(decision)
+
+    def retire(self, listed: set[str]) -> list[Decision]:
+        """Moves away the files whose breaks have all been listed and are no more, of which `listed` are the IDs that are; and
+        those that are a day old and whose breaks never came."""
+        gone = []
+        for it in self.open():
+            if it.kind != "breaks":
+                continue
+            it.listed |= listed & set(it.ids)
+            is_old = time.time() - it.stamp[0] / 1e9 > DAY
+            if not listed & set(it.ids) and (it.listed >= set(it.ids) or is_old):
+                self.finish(it)
+                gone.append(it)
+        return gone
+
+    def finish(self, decision: Decision) -> None:
+        """Moves the file of `decision` to `done`, and takes away what has been there too long."""
+        decision.state = "done"
+        done = decision.path.parent / "done"
+        try:
+            done.mkdir(exist_ok=True)
+            os.replace(decision.path, done / decision.path.name)
+            os.utime(done / decision.path.name)
+            self.decisions.pop(decision.path, None)
+            for it in os.scandir(done):
+                if time.time() - it.stat().st_mtime > self.keep_days * DAY:
+                    os.unlink(it.path)
+        except OSError:
+            pass  # (it stays where it is, and isn't given again)

@@ -1,0 +1,114 @@
+"""adsplice-feed: polls the playlists of origins and gives them, with decisions, to adsplice."""
+import argparse
+import random
+import sys
+import threading
+from pathlib import Path
+
+from . import settings as told
+from . import words
+from .channel import Channel
+from .settings import Settings
+from .web import Client
+from .words import Fault
+
+HELP = """Reads a packager's playlist and gives it to adsplice, with the decisions of its breaks.
+
+  adsplice-feed --channel news --origin http://origin.example/ch/index.m3u8 --at http://127.0.0.1:8090
+  adsplice-feed --config /etc/adsplice/feed.ini            several channels, a section each
+
+The origin is asked at half the target duration. Its list is PUT when it changed, and as a whole: one that is cut off within
+its last line is read again. The channel is made where it isn't there, with the fallback and the open decisions before the
+first list. A list that doesn't follow the last one (N1 to N9) twice in a row makes the channel anew. Where the origin or
+adsplice is away, it is tried again with growing pauses, for ever.
+
+Decision files (*.json) that are renamed into DIR are given to adsplice, stay there while their breaks are listed, are given
+again after a new start, and are then moved to DIR/done. One that is refused stays, and is taken once it is written anew.
+
+Standard output has a line for each change of state: time, channel, who (origin, adsplice, or a file), status, fault, and
+what is done about it. Exit status: 0 after SIGTERM, SIGINT or SIGHUP; 1 where it can't begin; 2 for wrong words."""
+
+EPILOG = """A config file has a section for each channel, and in [DEFAULT] what all have:
+
+  [DEFAULT]
+  at = http://127.0.0.1:8090
+  keep = /var/lib/adsplice/kept
+  [news]
+  origin = http://origin.example/ch/index.m3u8
+  decisions = /var/lib/adsplice/decisions/news
+  fallback = /etc/adsplice/fallback.json
+
+Its names are the long words above without their hyphens; `unended = yes` is --unended."""
+
+
+def read_words(arguments: list[str]) -> argparse.Namespace:
+    """What the words `arguments` say."""
+    it = words.parser("adsplice-feed", HELP)
+    it.epilog = EPILOG
+    it.add_argument("--config", type=Path, metavar="FILE", help="the channels, in place of the words of one channel")
+    it.add_argument("--channel", type=words.channel_name, metavar="NAME")
+    it.add_argument("--origin", metavar="URL_OR_FILE", help="the packager's media playlist")
+    it.add_argument("--at", type=words.web_address, metavar="URL", help="adsplice's address for PUT, such as http://127.0.0.1:8090")
+    it.add_argument("--base", type=str, metavar="URL", help="the playlist's own URL, where it differs from the origin's or that is a file")
+    it.add_argument("--tolerance", metavar="SECONDS", help="the channel's tolerance (adsplice's own is 0.1)")
+    it.add_argument("--decisions", metavar="DIR")
+    it.add_argument("--fallback", metavar="FILE", help="a decision file with a fallback, given whenever the channel is made")
+    it.add_argument("--keep", metavar="DIR", help="keeps NAME.events there, for adsplice-monitor and adsplice-explain")
+    it.add_argument("--unended", action="store_const", const="yes", help="the packager never ends its last line: take it so")
+    it.add_argument("--timeout", type=words.seconds, default=5.0, metavar="SECONDS", help="for a request with its answer (5)")
+    it.add_argument("--longest-pause", type=words.seconds, default=5.0, metavar="SECONDS", help="between two trials (5)")
+    it.add_argument("--keep-days", type=float, default=7.0, metavar="DAYS", help="that files are kept in DIR/done (7)")
+    said = it.parse_args(arguments)
+    if said.config is None and not (said.channel and said.origin and said.at):
+        it.error("--channel, --origin and --at are needed, or --config")
+    if said.config is not None and (said.channel or said.origin):
+        it.error("--config stands in place of --channel and --origin")
+    return said
+
+
+def channels_of(said: argparse.Namespace) -> list[Settings]:
+    """The channels that the words `said` tell of; raises Fault."""
+    if said.config is not None:
+        return told.read_file(said.config)
+    return [told.settings_of(said.channel, {it: getattr(said, it) for it in told.NAMES})]
+
+
+def say(line: str) -> None:
+    """Prints `line` at once. Where nobody reads standard output any more, the feed goes on."""
+    try:
+        sys.stdout.write(line + "\n")
+        sys.stdout.flush()
+    except OSError:
+        pass
+
+
+def run(channel: Channel, ending: threading.Event, delay: float) -> None:
+    """Feeds `channel` until `ending` is set; its first turn comes after `delay` seconds, so that channels don't come at once."""
+    ending.wait(delay)
+    while not ending.is_set():
+        try:
+            pause = channel.turn()
+        except Exception as fault:  # noqa: BLE001  (a channel's fault isn't to end the others)
+            channel.tell("feed", 0, type(fault).__name__, f"{fault}; goes on with the next turn")
+            pause = channel.away.next()
+        ending.wait(pause)
+
+
+def main(arguments: list[str]) -> int:
+    """Runs the feed until a signal ends it; answers the exit status."""
+    said = read_words(arguments)
+    try:
+        channels = channels_of(said)
+        feeds = [Channel(it, Client(said.timeout), say, said.longest_pause, said.keep_days) for it in channels]
+    except (Fault, OSError) as fault:
+        words.fail("adsplice-feed", str(fault))
+    ending = words.ends_by_signals()
+    spread = min(1.0, 0.05 * (len(feeds) - 1))
+    threads = [threading.Thread(target=run, args=(it, ending, random.uniform(0, spread)), name=it.settings.name, daemon=True) for it in feeds]
+    for it in threads:
+        it.start()
+    while not ending.wait(3600):
+        pass
+    for it in threads:
+        it.join(2)
+    return 0

@@ -1,0 +1,84 @@
+"""What a feed is told of its channels: by its words, or by a file of sections."""
+import argparse
+import configparser
+import json
+from collections.abc import Mapping
+from dataclasses import dataclass
+from pathlib import Path
+
+from . import words
+from .words import Fault
+
+NAMES = ("origin", "at", "base", "tolerance", "decisions", "fallback", "keep", "unended")
+
+
+@dataclass(frozen=True)
+class Settings:
+    """One channel: its `name`, the `origin` of its list (a URL or a file), adsplice's address `at`, the `base` of its
+    references, a `tolerance` in seconds, the folder of `decisions`, the `fallback` file, the folder `keep` of what is kept for
+    the monitor and the explainer, and whether its packager leaves the last line `unended`."""
+
+    name: str
+    origin: str
+    at: str
+    base: str
+    tolerance: str = ""
+    decisions: Path | None = None
+    fallback: Path | None = None
+    keep: Path | None = None
+    unended: bool = False
+
+    def is_web(self) -> bool:
+        """Whether the origin is a URL."""
+        return self.origin.startswith(("http://", "https://"))
+
+    def body(self) -> bytes:
+        """The body of the request that makes the channel."""
+        said = {"base": self.base} | ({"tolerance": self.tolerance} if self.tolerance else {})
+        return json.dumps(said).encode()
+
+
+def settings_of(name: str, said: Mapping[str, str | None]) -> Settings:
+    """The settings of the channel `name` from texts by the names of NAMES; raises Fault where they don't go together."""
+    try:
+        words.channel_name(name)
+        origin, at = said.get("origin"), words.web_address(said.get("at") or "")
+        if not origin:
+            raise Fault("names no origin")
+        is_web = origin.startswith(("http://", "https://"))
+        base = said.get("base") or (origin if is_web else "")
+        if not base:
+            raise Fault("its origin is a file, so it needs base, the URL under which the packager publishes it")
+        words.web_address(base)
+    except (argparse.ArgumentTypeError, Fault) as fault:
+        raise Fault(f"channel {name}: {fault}") from None
+    paths = {it: Path(text) if (text := said.get(it)) else None for it in ("decisions", "fallback", "keep")}
+    for it in ("decisions",):
+        if (path := paths[it]) and not path.is_dir():
+            raise Fault(f"channel {name}: {it}: there is no folder {path}")
+    if (path := paths["fallback"]) and not path.is_file():
+        raise Fault(f"channel {name}: fallback: there is no file {path}")
+    unended = (said.get("unended") or "no").lower()
+    if unended not in ("yes", "no"):
+        raise Fault(f"channel {name}: unended is yes or no, and not {unended}")
+    return Settings(name, origin, at, base, said.get("tolerance") or "", **paths, unended=unended == "yes")
+
+
+def read_file(path: Path) -> list[Settings]:
+    """The channels of the file `path`: a section each, with what all have in [DEFAULT]; raises Fault."""
+    found = configparser.ConfigParser(interpolation=None)
+    try:
+        with open(path, encoding="utf-8") as it:
+            found.read_file(it)
+    except (OSError, UnicodeDecodeError, configparser.Error) as fault:
+        text = fault.strerror if isinstance(fault, OSError) else " ".join(str(fault).split())
+        raise Fault(f"{path}: {text}") from None
+    channels = []
+    for name in found.sections():
+        unknown = set(found[name]) - set(NAMES)
+        if unknown:
+            raise Fault(f"{path}: channel {name}: there is no setting {min(unknown)}; there are {', '.join(NAMES)}")
+        channels.append(settings_of(name, dict(found[name])))
+    if not channels:
+        raise Fault(f"{path}: it has no channel: a section such as [news]")
+    return channels

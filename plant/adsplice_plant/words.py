@@ -1,0 +1,75 @@
+"""What the programs have in common: how values of their words are read, how a fault is told, and how they end."""
+import argparse
+import re
+import signal
+import sys
+import threading
+import urllib.parse
+from datetime import datetime, timezone
+from types import FrameType
+from typing import NoReturn
+
+FAULT, WRONG_WORDS = 1, 2  # exit statuses
+NAME = re.compile(r"[a-z0-9-]{1,32}")  # of a channel
+
+
+class Fault(Exception):
+    """A fault that ends a program: its text is the one line that is printed."""
+
+
+def parser(name: str, text: str) -> argparse.ArgumentParser:
+    """A reader of words for the program `name`, whose help is `text`."""
+    return argparse.ArgumentParser(prog=name, description=text, formatter_class=argparse.RawDescriptionHelpFormatter)
+
+
+def channel_name(text: str) -> str:
+    """The channel name `text`; raises where adsplice has no channel of such a name."""
+    if not NAME.fullmatch(text):
+        raise argparse.ArgumentTypeError(f"{text!r} isn't 1 to 32 of a to z, 0 to 9 and '-'")
+    return text
+
+
+def web_address(text: str) -> str:
+    """The http or https URL `text`, without a slash at its end."""
+    parts = urllib.parse.urlsplit(text)
+    if parts.scheme not in ("http", "https") or not parts.hostname:
+        raise argparse.ArgumentTypeError(f"{text!r} isn't a URL that begins with http:// or https://")
+    try:
+        parts.port  # noqa: B018  (it is read, and judged, when it is asked for)
+    except ValueError:
+        raise argparse.ArgumentTypeError(f"{text!r}: its port isn't one from 0 to 65535") from None
+    return text.rstrip("/")
+
+
+def seconds(text: str) -> float:
+    """The number of seconds `text`, more than 0 and at most a day."""
+    try:
+        value = float(text)
+    except ValueError:
+        value = 0
+    if not 0 < value <= 86400:
+        raise argparse.ArgumentTypeError(f"{text!r} isn't a number of seconds above 0, of at most a day")
+    return value
+
+
+def fail(name: str, text: str, status: int = FAULT) -> NoReturn:
+    """Ends the program `name` with the line `text` on standard error, and with exit status `status`."""
+    print(f"{name}: {text}", file=sys.stderr, flush=True)
+    sys.exit(status)
+
+
+def now_text() -> str:
+    """The time of day in UTC, to milliseconds."""
+    return datetime.now(timezone.utc).isoformat(timespec="milliseconds").replace("+00:00", "Z")
+
+
+def ends_by_signals() -> threading.Event:
+    """An event that SIGTERM, SIGINT (Ctrl-C) and SIGHUP set: the program ends with status 0 once it sees it."""
+    ending = threading.Event()
+
+    def end(_number: int, _frame: FrameType | None) -> None:
+        ending.set()
+
+    for number in (signal.SIGTERM, signal.SIGINT, signal.SIGHUP):
+        signal.signal(number, end)
+    return ending

@@ -1,0 +1,277 @@
+"""Tests of adsplice-feed: against fake origins and controllers, and with the built program."""
+import json
+import os
+import signal
+import time
+
+from tools import FALLBACK, FakeController, FakeOrigin, decided, free_port, get, listed, until
+
+NEEDS = ("httpx",)
+PROGRAM = ("httpx", "program")
+
+
+def needs(*names):
+    """Says what a test needs."""
+    def mark(test):
+        test.needs = names
+        return test
+    return mark
+
+
+def started(room, text, *words):
+    """A fake origin of a list, a fake controller, and a feed between them that has given the list."""
+    origin, controller = room.server(FakeOrigin(text)), room.server(FakeController())
+    feed = room.feed("--channel", "news", "--origin", origin.url, "--at", controller.url, "--timeout", "1.5", "--longest-pause", "1", *words)
+    feed.sees("news adsplice 204 -: the list is taken")
+    return origin, controller, feed
+
+
+def test_makes_the_channel_then_fallback_decisions_and_list(room):
+    room.write("decisions/one.json", decided(("b1", 2)))
+    fallback = room.write("fallback.json", FALLBACK)
+    origin, controller, feed = started(room, listed(0, 5), "--decisions", f"{room.path}/decisions", "--fallback", fallback)
+    asked = [(method, path) for method, path, _ in controller.asked[:4]]
+    assert asked == [("PUT", "/channels/news"), ("PUT", "/channels/news/decisions"), ("PUT", "/channels/news/decisions"), ("PUT", "/channels/news/origin")], asked
+    assert json.loads(controller.asked[0][2]) == {"base": origin.url}
+    assert controller.asked[1][2] == FALLBACK.encode() and controller.asked[2][2] == decided(("b1", 2)).encode()
+    feed.sees("news decisions/one.json 204 -: decides b1")
+
+
+def test_pushes_a_list_once_and_asks_by_its_validator(room):
+    origin, controller, feed = started(room, listed(0, 5))
+    before = origin.count("GET", "/index.m3u8")
+    time.sleep(2.5)
+    assert 2 <= origin.count("GET", "/index.m3u8") - before <= 4, "the origin is asked once a second: half of the target duration"
+    assert len(controller.puts("origin")) == 1
+    origin.text = listed(1, 6)
+    until(lambda: len(controller.puts("origin")) == 2, 5, "the new list")
+    assert controller.puts("origin")[1] == origin.text.encode()
+
+
+def test_cut_off_list_is_read_again(room):
+    origin, controller, feed = started(room, listed(0, 5))
+    origin.mode, origin.text = "cut", listed(1, 6)
+    feed.sees("news origin 200 -: the list is cut off within its last line")
+    assert len(controller.puts("origin")) == 1
+    origin.mode = ""
+    feed.sees("news origin 200 -: the list is read again", 10) if False else until(lambda: len(controller.puts("origin")) == 2, 10, "the whole list")
+    assert all(it.endswith(b"\n") for it in controller.puts("origin"))
+
+
+def test_answer_shorter_than_its_length_is_no_list(room):
+    origin, controller, feed = started(room, listed(0, 5))
+    origin.mode, origin.text = "short", listed(1, 6)
+    feed.sees("news origin - -: .*closed connection")
+    origin.mode = ""
+    until(lambda: len(controller.puts("origin")) == 2, 10, "the whole list")
+
+
+def test_origin_that_drips_is_given_up_in_time(room):
+    origin, controller, feed = started(room, listed(0, 5))
+    origin.mode, origin.text = "drip", listed(1, 6)
+    begun = time.monotonic()
+    feed.sees("news origin - -: no (whole )?answer within 1.5 s", 5)
+    assert time.monotonic() - begun < 4.5
+
+
+def test_silent_origin_and_an_origin_of_errors(room):
+    origin, controller, feed = started(room, listed(0, 5))
+    origin.mode = "silent"
+    after = feed.sees("news origin - -: no answer within 1.5 s", 6)
+    origin.mode, origin.status, origin.text = "", 503, listed(1, 6)
+    after = feed.sees("news origin 503 -: the origin answers 503", 6, after)
+    count = origin.count("GET", "/index.m3u8")
+    time.sleep(3)
+    assert origin.count("GET", "/index.m3u8") - count <= 5, "pauses grow"
+    origin.status = 200
+    feed.sees("news origin 200 -: the list is read again", 8, after)
+    until(lambda: len(controller.puts("origin")) == 2, 5, "the new list")
+
+
+def test_redirect_is_followed_and_told(room):
+    origin, controller, feed = started(room, listed(0, 5))
+    origin.mode, origin.text = "moved", listed(1, 6)
+    feed.sees("news redirect 200 -: the origin leads to .*/other.m3u8")
+    until(lambda: len(controller.puts("origin")) == 2, 5, "the new list")
+
+
+def test_refusal_that_stays_makes_the_channel_anew(room):
+    origin, controller, feed = started(room, listed(10, 15))
+    controller.refusals[("PUT", "origin")] = [(409, "N5 Back\n"), (409, "N5 Back\n")]
+    origin.text = listed(0, 5)
+    after = feed.sees("news adsplice 409 N5 Back: .*tries again")
+    after = feed.sees("news adsplice 409 N5 Back: .*it stays so: deletes the channel and makes it anew", 5, after)
+    after = feed.sees("news adsplice 201 -: makes the channel", 5, after)
+    feed.sees("news adsplice 204 -: the list is taken", 5, after)
+    assert controller.count("DELETE", "/channels/news") == 1
+
+
+def test_single_refusal_leaves_the_channel(room):
+    origin, controller, feed = started(room, listed(10, 15))
+    controller.refusals[("PUT", "origin")] = [(409, "N7 Shrunk\n")]
+    origin.text = listed(10, 14)
+    after = feed.sees("news adsplice 409 N7 Shrunk: ")
+    feed.sees("news adsplice 204 -: the list is taken again, after 1 that followed badly", 5, after)
+    assert controller.count("DELETE", "/channels/news") == 0
+
+
+def test_channel_that_has_to_be_made_again_and_again_needs_more_refusals(room):
+    origin, controller, feed = started(room, listed(10, 15))
+    controller.refusals[("PUT", "origin")] = [(409, "N5 Back\n")] * 2 + [(204, "")] + [(409, "N6 Gap\n")] * 3
+    origin.text = listed(0, 5)
+    after = feed.sees("makes it anew", 6)
+    after = feed.sees("204 -: the list is taken", 5, after)
+    origin.text = listed(1, 6)
+    feed.sees("409 N6 Gap: .* makes the channel anew at refusal 4 in a row", 5, after)
+
+
+def test_list_that_does_not_read_is_not_sent_twice(room):
+    origin, controller, feed = started(room, listed(0, 5))
+    controller.refusals[("PUT", "origin")] = [(422, "P17 NoDuration line 7\n")]
+    origin.text = listed(1, 6)
+    feed.sees("news adsplice 422 P17 NoDuration line 7: a segment has no EXTINF; waits for the next list")
+    time.sleep(2.5)
+    assert len(controller.puts("origin")) == 2
+    origin.text = listed(2, 7)
+    feed.sees("news adsplice 204 -: the list is taken", 5, 3)
+
+
+def test_away_controller_is_tried_with_growing_pauses(room):
+    origin, controller, feed = started(room, listed(0, 5))
+    controller.refusals[("PUT", "origin")] = [(502, "<html>\n"), (504, "<html>\n"), (503, ""), None]
+    origin.text = listed(1, 6)
+    after = 0
+    for status in (502, 504, 503, "-"):
+        after = feed.sees(f"news adsplice {status} -: .*tries again with growing pauses", 6, after)
+    feed.sees("news adsplice 204 -: the list is taken", 6, after)
+    assert controller.puts("origin")[-1] == origin.text.encode()
+
+
+def test_404_makes_the_channel_with_what_is_open(room):
+    room.write("decisions/one.json", decided(("b1", 2)))
+    text = listed(0, 5, [("b1", 20, 4)])
+    origin, controller, feed = started(room, text, "--decisions", f"{room.path}/decisions")
+    controller.channels.clear()
+    origin.text = listed(1, 6, [("b1", 20, 4)])
+    after = feed.sees("news adsplice 404 -: the channel isn't there; makes it")
+    after = feed.sees("news adsplice 201 -: makes the channel", 5, after)
+    feed.sees("news adsplice 204 -: the list is taken", 5, after)
+    assert [it.decode() for it in controller.puts("decisions")] == [decided(("b1", 2))] * 2
+    assert controller.puts("origin")[-1] == origin.text.encode()
+
+
+def test_decision_file_stays_while_its_break_is_listed(room):
+    path = f"{room.path}/decisions"
+    os.makedirs(path)
+    origin, controller, feed = started(room, listed(0, 5, [("b1", 4, 4)]), "--decisions", path)
+    room.write("decisions/one.json", decided(("b1", 2)))
+    feed.sees("news decisions/one.json 204 -: decides b1")
+    time.sleep(1.2)
+    assert os.listdir(path) == ["one.json"]
+    origin.text = listed(6, 11)
+    feed.sees("news decisions/one.json - -: b1 is no longer listed; moves the file to done")
+    assert os.listdir(path) == ["done"] and os.listdir(f"{path}/done") == ["one.json"]
+
+
+def test_refused_decision_file_is_told_in_words_and_taken_once_mended(room):
+    path = f"{room.path}/decisions"
+    os.makedirs(path)
+    origin, controller, feed = started(room, listed(0, 5), "--decisions", path)
+    controller.refusals[("PUT", "decisions")] = [(422, "J2 Shape break 0 ad 0 segment 0\n")]
+    room.write("decisions/one.json", decided(("b1", 2)).replace('"2"', "2"))
+    feed.sees("news decisions/one.json 422 J2 Shape break 0 ad 0 segment 0: a member is missing, or isn't of its type; leaves it")
+    time.sleep(2.2)
+    assert len(controller.puts("decisions")) == 1
+    room.write("decisions/one.json", decided(("b1", 2)))
+    feed.sees("news decisions/one.json 204 -: decides b1")
+
+
+def test_half_written_file_is_left_alone(room):
+    path = f"{room.path}/decisions"
+    os.makedirs(path)
+    origin, controller, feed = started(room, listed(0, 5), "--decisions", path)
+    for name in (".one.json", "one.json.tmp", "one.txt"):
+        with open(f"{path}/{name}", "w", encoding="utf-8") as it:
+            it.write('{"breaks":[')
+    time.sleep(1.5)
+    assert not controller.puts("decisions")
+
+
+def test_file_of_which_one_break_has_begun_decides_the_rest(room):
+    path = f"{room.path}/decisions"
+    os.makedirs(path)
+    origin, controller, feed = started(room, listed(0, 5), "--decisions", path)
+    controller.refusals[("PUT", "decisions")] = [(409, "J9 Used\n"), (409, "J9 Used\n")]
+    room.write("decisions/two.json", decided(("b1", 2), ("b2", 1)))
+    feed.sees("news decisions/two.json 409 J9 Used: b1 has begun, and keeps its pod; decides the rest")
+    assert json.loads(controller.puts("decisions")[-1])["breaks"][0]["id"] == "b2"
+
+
+def test_signals_end_it_at_once_with_status_0(room):
+    for number in (signal.SIGTERM, signal.SIGINT, signal.SIGHUP):
+        origin, controller, feed = started(room, listed(0, 5))
+        begun = time.monotonic()
+        assert feed.end(number) == 0
+        assert time.monotonic() - begun < 3
+
+
+def test_several_channels_by_a_file(room):
+    origins, controller = [room.server(FakeOrigin(listed(0, 5, name=it))) for it in "ab"], room.server(FakeController())
+    sections = "".join(f"[{name}]\norigin = {origin.url}\n" for name, origin in zip("ab", origins))
+    feed = room.feed("--config", room.write("feed.ini", f"[DEFAULT]\nat = {controller.url}\nkeep = {room.path}/kept\n{sections}"))
+    for name in "ab":
+        feed.sees(f" {name} adsplice 204 -: the list is taken")
+        path = f"{room.path}/kept/{name}.events"
+        kept = until(lambda: (lambda found: found if len(found) > 2 else None)([json.loads(line) for line in open(path, encoding="utf-8")]))
+        assert [it["what"] for it in kept] == ["channel", "channel", "origin"], kept
+        assert kept[2]["body"] == listed(0, 5, name=name) and kept[2]["status"] == 204
+    origins[0].mode = "silent"
+    origins[1].text = listed(1, 6, name="b")
+    until(lambda: listed(1, 6, name="b").encode() in controller.puts("origin"), 3, "b's list, though a's origin is silent")
+
+
+def test_wrong_words_are_one_line_and_a_status(room):
+    path = room.write("feed.ini", "[news]\norigin = http://127.0.0.1/\nat = http://127.0.0.1:1\nfalback = x\n")
+    for words, status, text in (
+            (["--config", path], 1, "there is no setting falback"), (["--config", f"{room.path}/no.ini"], 1, "No such file"),
+            (["--channel", "News", "--origin", "a", "--at", "http://h"], 2, "isn't 1 to 32 of"), (["--channel", "news"], 2, "are needed"),
+            (["--channel", "n", "--origin", "x.m3u8", "--at", "http://h"], 1, "needs base"), (["--channel", "n", "--origin", "http://h", "--at", "h"], 2, "isn't a URL"),
+            (["--channel", "n", "--origin", "http://h/", "--at", "http://h", "--fallback", "no.json"], 1, "there is no file no.json"),
+            (["--channel", "n", "--origin", "http://h/", "--at", "http://h:99999"], 2, "its port")):
+        found, out, err = room.run("adsplice-feed", *words)
+        assert (found, out) == (status, "") and text in err and "Traceback" not in err, (words, found, err)
+        assert status == 2 or err.count("\n") == 1, err
+
+
+@needs(*PROGRAM)
+def test_goes_on_after_adsplice_was_killed(room):
+    port = free_port()
+    first = room.adsplice(port)
+    os.makedirs(f"{room.path}/decisions")
+    room.write("decisions/one.json", decided(("b1", 2)))
+    playlist = room.write("index.m3u8", listed(0, 3, [("b1", 8, 4)]))
+    feed = room.feed("--channel", "news", "--origin", playlist, "--base", "http://origin.example/ch/index.m3u8", "--at", f"http://127.0.0.1:{port}",
+                     "--decisions", f"{room.path}/decisions", "--fallback", room.write("f.json", FALLBACK))
+    feed.sees("204 -: the list is taken")
+    room.write("index.m3u8", listed(0, 6, [("b1", 8, 4)]))
+    before = until(lambda: (lambda it: it if "b1-1.ts" in it else None)(get(f"http://127.0.0.1:{port}/channels/news/live.m3u8")[1]))
+    assert get(f"http://127.0.0.1:{port}/channels/news/why")[1] == "b1\tFilled\n"
+    first.kill()
+    first.wait()
+    time.sleep(0.2)
+    room.adsplice(port)
+    room.write("index.m3u8", listed(0, 7, [("b1", 8, 4)]))
+    after = until(lambda: get(f"http://127.0.0.1:{port}/channels/news/live.m3u8")[1], 8, "the list after the start")
+    assert after.startswith(before.rstrip("\n")), (before, after)
+
+
+@needs(*PROGRAM)
+def test_goes_on_after_numbers_began_again(room):
+    port = free_port()
+    room.adsplice(port)
+    playlist = room.write("index.m3u8", listed(50, 55))
+    feed = room.feed("--channel", "news", "--origin", playlist, "--base", "http://origin.example/ch/index.m3u8", "--at", f"http://127.0.0.1:{port}")
+    feed.sees("204 -: the list is taken")
+    room.write("index.m3u8", listed(0, 5, name="t"))
+    feed.sees("news adsplice 409 N5 Back", 5)
+    until(lambda: "/t5.ts" in get(f"http://127.0.0.1:{port}/channels/news/live.m3u8")[1], 6, "the new list")
