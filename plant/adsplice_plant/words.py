@@ -73,3 +73,13 @@ def ends_by_signals() -> threading.Event:
     for number in (signal.SIGTERM, signal.SIGINT, signal.SIGHUP):
         signal.signal(number, end)
     return ending
+
+
+def ends_cleanly() -> None:
+    """Has SIGTERM, SIGINT (Ctrl-C) and SIGHUP end the program through its blocks, so that what these started ends with them."""
+
+    def end(number: int, _frame: FrameType | None) -> None:
+        sys.exit(128 + number)
+
+    for it in (signal.SIGTERM, signal.SIGINT, signal.SIGHUP):
+        signal.signal(it, end)

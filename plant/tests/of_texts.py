@@ -1,2 +1,88 @@
-"""Tests."""
+"""Tests of what the programs read: instants, durations, lists, pauses, and that a type checker passes."""
+import re
+import subprocess
+import sys
+
+from tools import PLANT, listed
+
+sys.path.insert(0, PLANT)
+from adsplice_plant import faults, judge, playlist, splice  # noqa: E402
+from adsplice_plant.pauses import Pauses  # noqa: E402
+
 NEEDS = ()
+
+
+def test_instants(room):
+    day = 1_714_564_800  # 2024-05-01T12:00:00Z: 19,844 days after 1970-01-01, and 12 hours
+    assert 19_844 * 86_400 + 43_200 == day
+    for text, owed in (("2024-05-01T12:00:00Z", day * 10**9), ("2024-05-01T14:00:10.25+02:00", (day + 10) * 10**9 + 250_000_000),
+                       ("2024-05-01T12:00:00.000000001-0030", (day + 1800) * 10**9 + 1), ("2024-05-01T12:00:00", day * 10**9),
+                       ("2024-02-30T00:00:00Z", None), ("2024-05-01 12:00:00Z", None), ("", None)):
+        assert playlist.read_instant(text) == owed, text
+    assert playlist.instant_text(day * 10**9 + 1) == "2024-05-01T12:00:00.000000001Z"
+    assert playlist.instant_text(day * 10**9 + 250_000_000) == "2024-05-01T12:00:00.250Z"
+
+
+def test_durations(room):
+    for text, owed in (("2", 2 * 10**9), ("6.006", 6_006_000_000), (".5", 500_000_000), ("5.", 5 * 10**9), ("9.9766666666666", 9_976_666_666), (".", None), ("-1", None)):
+        assert playlist.read_duration(text) == owed, text
+    assert [playlist.seconds_text(it) for it in (2 * 10**9, -350_000_000, 0)] == ["2", "-0.35", "0"]
+
+
+def test_a_list(room):
+    found = playlist.read(listed(7, 9, [("b1", 18, 4)]).encode())
+    assert (found.target, found.first, [it.uri for it in found.segments]) == (2, 7, ["s7.ts", "s8.ts", "s9.ts"])
+    assert [playlist.instant_text(it.begins)[17:23] for it in found.segments] == ["14.000", "16.000", "18.000"]
+    assert found.ids() == {"b1"} and found.ranges[0].length() == 4 * 10**9 and playlist.instant_text(found.end())[17:19] == "20"
+
+
+def test_instants_before_the_first_stated_one(room):
+    text = "#EXTM3U\n#EXT-X-TARGETDURATION:2\n#EXTINF:2,\na.ts\n#EXTINF:1.5,\nb.ts\n#EXT-X-PROGRAM-DATE-TIME:2024-05-01T12:00:10Z\n#EXTINF:2,\nc.ts\n"
+    assert [playlist.instant_text(it.begins)[17:22] for it in playlist.read(text.encode()).segments] == ["06.50", "08.50", "10.00"]
+
+
+def test_whole_lists(room):
+    assert playlist.is_whole(b"#EXTM3U\ns1.ts\n") and playlist.is_whole(b"#EXTM3U\n#EXT-X-ENDLIST")
+    assert not playlist.is_whole(b"#EXTM3U\ns1") and not playlist.is_whole(b"")
+
+
+def test_pauses_grow_to_their_most(room):
+    pauses = Pauses(0.5, 4)
+    owed = [0.5, 1, 2, 4, 4, 4]
+    assert all(0.75 * most <= it <= 1.25 * most for it, most in zip([pauses.next() for _ in owed], owed))
+    pauses.reset()
+    assert pauses.next() <= 0.625
+
+
+def test_each_printed_fault_has_a_meaning(room):
+    codes = [f"P{n}" for n in range(1, 25)] + [f"N{n}" for n in range(1, 11)] + [f"J{n}" for n in (*range(1, 8), 9, 10, 11)] + ["C1", "C2"]
+    assert set(codes) == set(faults.MEANINGS)
+    assert faults.name_of("N8 Changed 17") == "N8 Changed" and faults.name_of("<html>") == ""
+    assert faults.follows_badly("N9 Ended") and not faults.follows_badly("N10 NumberRange")
+
+
+def test_sections_field_by_field(room):
+    # 35 bytes: splice_insert, event 1, out of the network, program, immediate, break_duration 2,700,000 ticks of 90 kHz
+    out = "0xFC302000000000000000FFF00F05000000017FFFFE002932E000010000000000000000"
+    assert splice.told(out) == "a splice_insert that leaves the network (event 1, immediate, 30 s)"
+    back = "0xFC301B00000000000000FFF00A05000000017F5F0001000000000000 0000".replace(" ", "")
+    assert splice.told(back) == "a splice_insert that returns to the network (event 1, immediate)"
+    assert splice.told("0xFC301600000000000000FFF00505" + "00000001FF" + "0000" + "00000000") == "a splice_insert that is cancelled (event 1)"
+    assert splice.told(out[:-2]) == "a section that doesn't read: its section_length says 32 bytes after it, and there are 31"
+    assert splice.told("0xFC301100000000000000FFF0000600000000000000") .startswith("a section with a time_signal")
+    assert splice.told("FC30") == "no hexadecimal text: it has to begin with 0x"
+    assert splice.told("0xFC3") == "no hexadecimal text: its 3 digits are an odd number"
+
+
+def test_types(room):
+    done = subprocess.run(["mypy", "--strict", "--cache-dir", f"{room.path}/types", "adsplice_plant"], cwd=PLANT, capture_output=True, text=True, check=False)
+    assert done.returncode == 0, done.stdout
+
+
+test_types.needs = ("mypy", "httpx", "prometheus_client")
+
+
+def test_wrong_members_are_found_in_order(room):
+    wrong = judge.judge(b'{"breaks":[{"id":"b","ads":[{"segments":[{"uri":"//h/a","duration":2}]}]}]}')
+    assert wrong.line() == 'break 0, ad 0, segment 0: `duration` has to be a string, as "2"' and wrong.code == "J2"
+    assert re.search("uri", judge.judge(b'{"breaks":[{"id":"b","ads":[{"segments":[{"uri":"//h/a","duration":"2"}]}]}]}').text)

@@ -1,0 +1,157 @@
+"""adsplice-pod: makes a decision file of ads' own playlists, and judges decision files."""
+import argparse
+import json
+import sys
+from typing import Any
+
+from . import faults, judge, playlist, words
+from .ads import Advertisement, local_base, read_ad
+from .program import NEVER, find_program, run_vod
+from .words import Fault
+
+HELP = """Makes a decision file for a break of the playlists of its ads, or judges a decision file.
+
+  adsplice-pod ID ad1/index.m3u8 ad2/index.m3u8 --at http://ads.example > decisions.json
+  adsplice-pod --fallback ad1/index.m3u8 --at http://ads.example > fallback.json
+  adsplice-pod --check decisions.json
+
+The playlists are read by adsplice itself: byte ranges, keys and initialisation sections as RFC 8216 has them. A file's URL is
+the one of --at with the file's path behind it; an ad may also be named by its URL, and is then fetched. Warnings go to
+standard error, a line each: a segment over the target duration, a pod that isn't as long as its break, ads of which some
+have an initialisation section and some haven't, an ad with several keys.
+
+--check prints `right`, or the member that is wrong, in words. A member that adsplice doesn't know, and so ignores, is told.
+
+Exit status: 0 done (or right); 1 a fault, or a wrong file; 2 wrong words; with --strict also 1 after a warning."""
+NEAR = playlist.SECOND // 10  # how far a pod's length may be from its break's
+
+
+def read_words(arguments: list[str]) -> argparse.Namespace:
+    """What the words `arguments` say."""
+    it = words.parser("adsplice-pod", HELP)
+    it.add_argument("names", nargs="*", metavar="ID PLAYLIST", help="the break's ID, and the playlists of its ads in their order")
+    it.add_argument("--fallback", action="store_true", help="makes a fallback: no ID")
+    it.add_argument("--at", type=words.web_address, metavar="URL", help="under which the folder is published from which the playlists' paths are")
+    it.add_argument("--target", type=int, metavar="SECONDS", help="the channel's EXT-X-TARGETDURATION")
+    it.add_argument("--length", type=words.seconds, metavar="SECONDS", help="how long the break lasts")
+    it.add_argument("--check", metavar="FILE", help="judges a decision file (- is standard input)")
+    it.add_argument("--strict", action="store_true", help="a warning is a fault")
+    it.add_argument("--program", metavar="PATH", help="the built adsplice, where it isn't beside this program, on the path or in /opt/adsplice")
+    said = it.parse_args(arguments)
+    if said.check is None and len(said.names) < (1 if said.fallback else 2):
+        it.error("an ID and at least one playlist are needed, or --check FILE")
+    if said.check is not None and said.names:
+        it.error("--check takes one file and no playlists")
+    return said
+
+
+def body_of(name: str) -> bytes:
+    """The bytes of the file, or of the URL, `name`; raises Fault."""
+    if name.startswith(("http://", "https://")):
+        from .web import Client  # (the one use of it: files need no library)
+        answer = Client(10).ask("GET", name)
+        if answer.status != 200:
+            raise Fault(f"{name}: {answer.why or f'status {answer.status}'}")
+        return answer.body
+    try:
+        if name == "-":
+            return sys.stdin.buffer.read()
+        with open(name, "rb") as it:
+            return it.read()
+    except OSError as fault:
+        raise Fault(f"{name}: {fault.strerror}") from None
+
+
+def read_ads(program: str, names: list[str], at: str | None) -> list[Advertisement]:
+    """The ads of the playlists `names`, which are published under `at`, read by `program`."""
+    found = []
+    for name in names:
+        is_web = name.startswith(("http://", "https://"))
+        if not is_web and at is None:
+            raise Fault(f"{name} is a file: --at says under which URL it is published")
+        found.append(read_ad(program, name, name if is_web else local_base(at or "", name), body_of(name)))
+    return found
+
+
+def warnings_of(ads: list[Advertisement], target: int | None, length: float | None) -> list[str]:
+    """What is to be told of `ads` as a pod for a channel of the `target` duration and a break of `length` seconds."""
+    found = [it for ad in ads for it in ad.warnings]
+    for ad in ads:
+        segments = [it for part in ad.parts for it in part.segments]
+        for number, it in enumerate(segments if target is not None else []):
+            whole = ((playlist.read_duration(it["duration"]) or 0) + playlist.SECOND // 2) // playlist.SECOND
+            if target is not None and whole > target:
+                found.append(f"{ad.name}: segment {number} lasts {it['duration']} s, which is {whole} s rounded, over the target of {target} s: "
+                             "its break stays empty (DoesNotFit)")
+    mapped = {ad.name for ad in ads if any(part.map is not None for part in ad.parts)}
+    if mapped and len(mapped) < len({ad.name for ad in ads}):
+        bare = next(ad.name for ad in ads if ad.name not in mapped)
+        found.append(f"{min(mapped)} has an initialisation section (EXT-X-MAP) and {bare} has none: such a pod fits no channel (DoesNotFit)")
+    if length is not None:
+        by = sum(it.duration() for it in ads) - round(length * playlist.SECOND)
+        if abs(by) > NEAR:
+            what = "longer than its break: players fall behind" if by > 0 else "shorter than its break: pictures stand still"
+            found.append(f"the pod lasts {playlist.seconds_text(sum(it.duration() for it in ads))} s and is {playlist.seconds_text(abs(by))} s {what}")
+    return found
+
+
+def written(ads: list[Advertisement], break_id: str | None) -> bytes:
+    """The decision file of a pod of `ads` for the break `break_id`, or as the fallback where there is none."""
+    members = [part.member() for ad in ads for part in ad.parts]
+    found: dict[str, Any] = {"fallback": {"ads": members}} if break_id is None else {"breaks": [{"id": break_id, "ads": members}]}
+    return (json.dumps(found, indent=2, ensure_ascii=False) + "\n").encode()
+
+
+def verdict(program: str, body: bytes) -> str:
+    """What is wrong with the decision file `body`, by `program`: the fault, and the member in words; empty where it is right."""
+    _, fault = run_vod(program, NEVER, b"", body)
+    if fault.startswith(("P3 ", "J11 ")):  # (the empty playlist was read, or a withdrawal found no pod: the file is right)
+        return ""
+    wrong = judge.judge(body)
+    if wrong is not None and wrong.code == faults.code_of(fault):
+        return f"{wrong.line()} ({fault})"
+    return f"{faults.meaning(0, fault)} ({fault})"
+
+
+def check(program: str, name: str) -> int:
+    """Judges the decision file `name` by `program`; answers the exit status."""
+    body = body_of(name)
+    wrong = verdict(program, body)
+    if wrong:
+        print(f"{name}: {wrong}")
+        return words.FAULT
+    for it in judge.strange_members(body):
+        print(f"{name}: {it}")
+    print(f"{name}: right")
+    return 0
+
+
+def make(program: str, said: argparse.Namespace) -> int:
+    """Writes the decision file that the words `said` ask for, read by `program`; answers the exit status."""
+    break_id, names = (None, said.names) if said.fallback else (said.names[0], said.names[1:])
+    ads = read_ads(program, names, said.at)
+    warnings = warnings_of(ads, said.target, said.length)
+    body = written(ads, break_id)
+    wrong = verdict(program, body)
+    if wrong:
+        raise Fault(wrong)
+    for it in warnings:
+        print(f"adsplice-pod: {it}", file=sys.stderr)
+    if warnings and said.strict:
+        return words.FAULT
+    sys.stdout.buffer.write(body)
+    sys.stdout.buffer.flush()
+    return 0
+
+
+def main(arguments: list[str]) -> int:
+    """Makes or judges a decision file; answers the exit status."""
+    said = read_words(arguments)
+    words.ends_cleanly()
+    try:
+        program = find_program(said.program)
+        return check(program, said.check) if said.check is not None else make(program, said)
+    except Fault as fault:
+        words.fail("adsplice-pod", str(fault))
+    except BrokenPipeError:
+        return words.FAULT
