@@ -71,19 +71,32 @@ class Process:
             raise Fault(f"{program}: {fault.strerror}") from None
 
     def __enter__(self) -> "Process":
+        try:
+            self.wait()
+        except BaseException:  # (a signal, too: what was started ends)
+            self.end()
+            raise
+        return self
+
+    def wait(self) -> None:
+        """Returns once the process answers; raises Fault where it doesn't."""
         for _ in range(SECONDS * 50):
             if self.running.poll() is not None:
                 raise Fault(f"adsplice ended with status {self.running.returncode}")
             try:
                 self.ask("GET", "/")
-                return self
+                return
             except OSError:
                 time.sleep(0.02)
         raise Fault("adsplice doesn't answer")
 
-    def __exit__(self, _kind: type[BaseException] | None, _value: BaseException | None, _trace: TracebackType | None) -> None:
+    def end(self) -> None:
+        """Ends the process."""
         self.running.kill()
         self.running.wait()
+
+    def __exit__(self, _kind: type[BaseException] | None, _value: BaseException | None, _trace: TracebackType | None) -> None:
+        self.end()
 
     def ask(self, method: str, path: str, body: bytes | None = None) -> tuple[int, str]:
         """The status and the body of the answer to a request of `method` for `path` with the bytes `body`."""

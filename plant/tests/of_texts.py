@@ -69,7 +69,7 @@ def test_sections_field_by_field(room):
     assert splice.told(back) == "a splice_insert that returns to the network (event 1, immediate)"
     assert splice.told("0xFC301600000000000000FFF00505" + "00000001FF" + "0000" + "00000000") == "a splice_insert that is cancelled (event 1)"
     assert splice.told(out[:-2]) == "a section that doesn't read: its section_length says 32 bytes after it, and there are 31"
-    assert splice.told("0xFC301100000000000000FFF0000600000000000000") .startswith("a section with a time_signal")
+    assert splice.told("0xFC301600000000000000FFF00506" + "FE00000000" + "0000" + "00000000") == "a section with a time_signal; adsplice takes splice_insert alone"
     assert splice.told("FC30") == "no hexadecimal text: it has to begin with 0x"
     assert splice.told("0xFC3") == "no hexadecimal text: its 3 digits are an odd number"
 
