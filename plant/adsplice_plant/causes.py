@@ -226,6 +226,7 @@ class Explainer:
         if pod is None:
             return "it is filled"
         own = any(it.place <= place for it in self.history.pods.get(name, []))
-        lasts = f"{sum(len(ad['segments']) for ad in pod.ads)} segments, {seconds_text(pod.duration())} s"
+        count = sum(len(ad["segments"]) for ad in pod.ads)
+        lasts = f"{count} segment{'s' * (count != 1)}, {seconds_text(pod.duration())} s"
         differs = length is not None and abs(length - pod.duration()) > self.history.tolerance
         return f"it is filled by {'its own pod' if own else 'the fallback'} ({lasts})" + (f", and lasts {seconds_text(length or 0)} s itself" if differs else "")

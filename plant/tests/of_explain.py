@@ -3,9 +3,16 @@ import json
 import os
 import signal
 import subprocess
+import sys
 import time
+from pathlib import Path
 
 from tools import FALLBACK, PLANT, PYTHON, decided, listed, until
+
+sys.path.insert(0, PLANT)
+from adsplice_plant import explain as explained  # noqa: E402
+from adsplice_plant.causes import Explainer  # noqa: E402
+from adsplice_plant.history import replay  # noqa: E402
 
 NEEDS = ("program",)
 MISTAKES = f"{PLANT}/mistakes"
@@ -38,10 +45,13 @@ def test_each_mistake_has_its_sentence(room):
         with open(f"{MISTAKES}/{name}", encoding="utf-8") as it:
             files, owed = parts_of(it.read())
         paths = [room.write(f"{name}.d/{file}", body) for file, body in files]
-        status, out, err = explain(room, *paths)
-        if status != 3 or owed not in out.splitlines() or err:
-            found.append(f"{name}: owed\n    {owed}\n  said ({status})\n    {out}{err}")
+        given = explained.given_by_files([Path(it) for it in paths], explained.BASE, None)
+        lines, is_well = explained.report(Explainer(replay(room.program, given)), None)
+        if is_well or owed not in lines:
+            found.append(f"{name}: owed\n    {owed}\n  said\n    " + "\n    ".join(lines))
     assert not found, "\n".join(found)
+    status, out, err = explain(room, *paths)
+    assert (status, err) == (3, "") and out.splitlines() == lines, (status, out, err)
 
 
 def test_filled_breaks_are_told_by_their_pods(room):

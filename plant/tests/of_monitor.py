@@ -1,2 +1,184 @@
-"""Tests."""
-NEEDS = ()
+"""Tests of adsplice-monitor: with fake servers, what a feed kept, and the built program."""
+import json
+import os
+import re
+import shutil
+import signal
+import subprocess
+import sys
+import time
+import urllib.request
+from datetime import datetime, timedelta, timezone
+
+from tools import FALLBACK, PLANT, PYTHON, FakeServer, decided, free_port, get, listed, until
+
+sys.path.insert(0, PLANT)
+from adsplice_plant.journal import Journal  # noqa: E402
+from adsplice_plant.kept import Kept  # noqa: E402
+
+NEEDS = ("httpx", "prometheus_client")
+PROGRAM = (*NEEDS, "program")
+SAMPLE = re.compile(r"^(\w+)(?:\{(.*)\})? (\S+)$")
+
+
+class FakeChannels(FakeServer):
+    """A controller whose channels have the lists `lists`."""
+
+    def __init__(self):
+        self.lists, self.why = {}, "b1\tFilled\nb2\tWaiting\nb3\tWaiting\n"
+        super().__init__()
+
+    def answer(self, method, path, body, fields):
+        _, _, name, what = f"{path}///".split("/")[:4]
+        if name not in self.lists:
+            return 404, {}, b"not found\n"
+        return 200, {}, (self.why if what == "why" else self.lists[name]).encode()
+
+
+def fresh(behind, last=5):
+    """A list whose end is so many seconds behind real time."""
+    begin = datetime.now(timezone.utc) - timedelta(seconds=behind + 2 * (last + 1))
+    return listed(0, last).replace("2024-05-01T12:00:00.000Z", begin.strftime("%Y-%m-%dT%H:%M:%S.%f")[:-3] + "Z")
+
+
+def figures(text):
+    """The samples of a text: (name, labels) to value."""
+    return {(it[1], it[2] or ""): float(it[3]) for line in text.splitlines() if (it := SAMPLE.match(line))}
+
+
+def test_once_tells_late_and_still_channels(room):
+    server = room.server(FakeChannels())
+    at = f"http://127.0.0.1:{server.port}"
+    server.lists = {"news": fresh(1), "old": fresh(30)}
+    status, out, err = room.run("adsplice-monitor", "--at", at, "--channel", "old", "--once", "--interval", "0.1")
+    assert status == 2 and re.match(r"# CRITICAL: old is late: its end is 3\d\.\d s behind real time \(over 6 s\)\n", out), (status, out, err)
+    status, out, err = room.run("adsplice-monitor", "--at", at, "--channel", "news", "--still", "0.6", "--once", "--interval", "0.1")
+    assert status == 2 and re.match(r"# CRITICAL: news stands still for \d\.\d s \(over 0.6 s\)\n", out), (status, out, err)
+    assert figures(out)[("adsplice_breaks", 'channel="news",why="Waiting"')] == 2
+    status, out, err = room.run("adsplice-monitor", "--at", at, "--channel", "none", "--process", "http://127.0.0.1:1", "--once")
+    assert status == 2 and out.startswith("# CRITICAL: none answers 404, and the process at http://127.0.0.1:1 doesn't answer\n"), out
+
+
+def test_once_is_well_where_the_list_changes(room):
+    server = room.server(FakeChannels())
+    server.lists = {"news": fresh(1)}
+    it = subprocess.Popen([PYTHON, f"{PLANT}/adsplice-monitor", "--at", f"http://127.0.0.1:{server.port}", "--channel", "news", "--once", "--interval", "0.1",
+                           "--process", f"http://127.0.0.1:{server.port}"], stdout=subprocess.PIPE, text=True)
+    room.running.append(it)
+    until(lambda: server.count("GET", "/channels/news/live.m3u8") > 1)
+    server.lists = {"news": fresh(0.5, 6)}
+    out = it.communicate(timeout=10)[0]
+    found = figures(out)
+    assert it.returncode == 0 and out.startswith("# OK: 1 channels go on\n"), out
+    assert found[("adsplice_up", f'process="127.0.0.1:{server.port}"')] == 1 and found[("adsplice_target_duration_seconds", 'channel="news"')] == 2
+    assert 0.3 < found[("adsplice_end_behind_seconds", 'channel="news"')] < 6, out
+
+
+def test_ended_list_is_neither_late_nor_still(room):
+    server = room.server(FakeChannels())
+    server.lists = {"news": listed(0, 5) + "#EXT-X-ENDLIST\n"}
+    status, out, _ = room.run("adsplice-monitor", "--at", f"http://127.0.0.1:{server.port}", "--channel", "news", "--once")
+    assert status == 0, out
+
+
+def test_exporter_counts_what_the_feed_kept(room):
+    server, port = room.server(FakeChannels()), free_port()
+    server.lists = {"news": fresh(1)}
+    os.makedirs(f"{room.path}/kept")
+    from pathlib import Path
+    journal = Journal(Path(room.path) / "kept" / "news.events", lambda: [])
+    for status, fault in ((204, ""), (409, "N5 Back"), (409, "N5 Back"), (409, "N8 Changed 17"), (502, "<html>")):
+        journal.add("origin", status, fault, b"#EXTM3U\n")
+    journal.add("read", 0, "no answer")
+    it = subprocess.Popen([PYTHON, f"{PLANT}/adsplice-monitor", "--at", f"http://127.0.0.1:{server.port}", "--channel", "news", "--interval", "0.1",
+                           "--listen", f"127.0.0.1:{port}", "--kept", f"{room.path}/kept"], stderr=subprocess.PIPE, text=True)
+    room.running.append(it)
+
+    def count(status, fault):
+        text = get(f"http://127.0.0.1:{port}/metrics")[1]
+        return figures(text).get(("adsplice_feed_requests_total", f'channel="news",fault="{fault}",status="{status}",what="origin"'))
+
+    until(lambda: count(409, "N5 Back") == 2, 10, "the count of N5")
+    assert count(409, "N8 Changed") == 1 and count(502, "") == 1 and count(204, "") == 1
+    journal.add("origin", 409, "N5 Back", b"")
+    until(lambda: count(409, "N5 Back") == 3, 5, "the next one")
+    it.send_signal(signal.SIGTERM)
+    assert it.wait(5) == 0 and it.stderr.read() == ""
+
+
+def test_kept_events_are_followed_into_a_new_file(room):
+    from pathlib import Path
+    path = Path(room.path) / "news.events"
+    journal, kept = Journal(path, lambda: []), Kept(path)
+    journal.add("origin", 204, "", listed(0, 5, [("b1", 4, 4)]).encode())
+    journal.add("decisions", 204, "", decided(("b1", 2)).encode())
+    kept.follow()
+    assert set(kept.ranges) == {"b1"} and [it[0] for it in kept.pods["b1"].segments] == ["http://ads.example/b1-0.ts", "http://ads.example/b1-1.ts"]
+    journal.add("origin", 409, "N5 Back", b"")
+    journal.size = 1 << 30
+    journal.add("origin", 409, "N5 Back", b"")
+    with open(path, "a", encoding="utf-8") as it:
+        it.write('{"at":"2024')  # (half a line: the feed is writing it)
+    kept.follow()
+    kept.follow()
+    assert kept.answers["origin", "409", "N5 Back"] == 2 and kept.answers["origin", "204", ""] == 1
+
+
+def test_as_run_log(room):
+    from pathlib import Path
+    port, exporter = free_port(), free_port()
+    room.adsplice(port)
+    at = f"http://127.0.0.1:{port}"
+    journal = Journal(Path(room.path) / "kept" / "news.events", lambda: [])
+
+    def put(what, body):
+        request = urllib.request.Request(f"{at}/channels/news/{what}".rstrip("/"), body.encode(), method="PUT")
+        with urllib.request.urlopen(request, timeout=10) as reply:
+            journal.add(what or "channel", reply.status, "", body.encode())
+
+    put("", json.dumps({"base": "http://origin.example/ch/index.m3u8"}))
+    put("decisions", FALLBACK)
+    put("decisions", decided(("b1", 3)))
+    breaks = [("b1", 8, 4), ("b2", 20, 2), ("b3", 27, 2)]  # b1 has a pod of 3 segments, b2 the fallback's one, b3 misses the segments by 1 s
+    log = f"{room.path}/as-run.jsonl"
+    it = subprocess.Popen([PYTHON, f"{PLANT}/adsplice-monitor", "--at", at, "--channel", "news", "--interval", "0.05", "--listen", f"127.0.0.1:{exporter}",
+                           "--kept", f"{room.path}/kept", "--as-run", log])
+    room.running.append(it)
+    until(lambda: "adsplice_up" in get(f"http://127.0.0.1:{exporter}/metrics")[1])
+    for last in range(5, 26):
+        first = max(0, last - 5)
+        put("origin", listed(first, last, [it for it in breaks if it[1] + it[2] > 2 * first]))
+        time.sleep(0.2)
+    found = until(lambda: (lambda lines: lines if len(lines) == 3 else None)([json.loads(line) for line in open(log, encoding="utf-8")]), 5, "three lines")
+    said = {it["id"]: (it["begin"], it["pod"], it["why"], it["shown"], it["of"]) for it in found}
+    assert said == {"b1": ("2024-05-01T12:00:08.000Z", "own", "Filled", 3, 3), "b2": ("2024-05-01T12:00:20.000Z", "fallback", "Filled", 1, 1),
+                    "b3": ("2024-05-01T12:00:27.000Z", None, "Waiting", 0, 0)}, said
+
+
+test_as_run_log.needs = PROGRAM
+
+
+def test_alerts_and_dashboard_name_figures_that_there_are(room):
+    server = room.server(FakeChannels())
+    server.lists = {"news": fresh(30)}
+    os.makedirs(f"{room.path}/kept")
+    out = room.run("adsplice-monitor", "--at", f"http://127.0.0.1:{server.port}", "--channel", "news", "--once", "--kept", f"{room.path}/kept",
+                   "--process", f"http://127.0.0.1:{server.port}")[1]
+    there = set(re.findall(r"^# TYPE (\w+)", out, re.M)) | {f"{it}_total" for it in ("adsplice_feed_requests", "adsplice_feed_unread", "adsplice_as_run")}
+    for name in ("alerts.yml", "dashboard.json"):
+        with open(f"{PLANT}/monitor/{name}", encoding="utf-8") as it:
+            text = it.read()
+        named = set(re.findall(r"\badsplice_\w+", text))
+        assert named and named <= there, named - there
+    json.loads(text)
+    if shutil.which("promtool"):
+        done = subprocess.run(["promtool", "check", "rules", f"{PLANT}/monitor/alerts.yml"], capture_output=True, text=True, check=False)
+        assert done.returncode == 0, done.stdout + done.stderr
+
+
+def test_wrong_words_are_one_line_and_a_status(room):
+    for words, status, text in ((["--channel", "news"], 2, "are needed"), (["--channel", "n", "--at", "http://h", "--as-run", "x"], 2, "needs --kept"),
+                                (["--channel", "n", "--at", "http://h", "--listen", "x"], 1, "--listen x"), (["--config", "no.ini"], 1, "No such file"),
+                                (["--channel", "n", "--at", "http://h", "--listen", "127.0.0.1:99999"], 1, "--listen")):
+        found, out, err = room.run("adsplice-monitor", *words)
+        assert (found, out) == (status, "") and text in err and "Traceback" not in err, (words, found, err)

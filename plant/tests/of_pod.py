@@ -1,8 +1,12 @@
 """Tests of adsplice-pod, with the built program."""
 import json
 import os
+import sys
 
-from tools import decided
+from tools import PLANT, decided
+
+sys.path.insert(0, PLANT)
+from adsplice_plant.pod import verdict  # noqa: E402
 
 NEEDS = ("program",)
 AD = "#EXTM3U\n#EXT-X-TARGETDURATION:6\n#EXTINF:6,\na0.ts\n#EXTINF:5.5,\na1.ts\n#EXT-X-ENDLIST\n"
@@ -69,15 +73,18 @@ RIGHT = [decided(("b1", 2), ("b2", 1)), '{"withdraw":"b1"}', '{"fallback":null}'
 def test_wrong_files_are_told_by_the_member(room):
     found = []
     for text, owed in WRONG:
-        status, out, err = pod(room, "--check", room.write("d.json", text))
-        if status != 1 or owed not in out or err or out.count("\n") != 1:
-            found.append((text[:100], owed, status, out, err))
+        said = verdict(room.program, text.encode())
+        if owed not in said or "\n" in said:
+            found.append((text[:100], owed, said))
     assert not found, found
+    status, out, err = pod(room, "--check", room.write("d.json", WRONG[0][0]))
+    assert (status, err) == (1, "") and out.startswith(f"{room.path}/d.json: {WRONG[0][1]}") and out.count("\n") == 1, (status, out, err)
 
 
 def test_right_files_are_right(room):
     for text in RIGHT:
-        assert pod(room, "--check", room.write("d.json", text)) == (0, f"{room.path}/d.json: right\n", ""), text
+        assert verdict(room.program, text.encode()) == "", text
+    assert pod(room, "--check", room.write("d.json", RIGHT[0])) == (0, f"{room.path}/d.json: right\n", "")
     status, out, _ = pod(room, "--check", room.write("d.json", segment(durration="2")))
     assert status == 0 and "break 0, ad 0, segment 0: `durration` is no member of a segment, and is ignored" in out
 

@@ -1,0 +1,84 @@
+"""Follows what a feed keeps of a channel: refused requests by status and fault, pods that were taken, breaks that were listed."""
+import json
+from collections import Counter
+from dataclasses import dataclass, field
+from pathlib import Path
+from typing import Any
+
+from . import faults, playlist
+from .journal import Event, read_line
+from .playlist import DateRange
+
+REQUESTS = ("channel", "origin", "decisions")
+
+
+@dataclass(frozen=True)
+class Pod:
+    """The segments of a pod that was taken, each as its URI and its duration in nanoseconds."""
+
+    segments: list[tuple[str, int]]
+
+
+def pod_of(ads: list[Any]) -> Pod:
+    """The pod of the member `ads` of a decision file that was taken."""
+    return Pod([(str(it["uri"]), playlist.read_duration(str(it["duration"])) or 0) for ad in ads for it in ad["segments"]])
+
+
+@dataclass
+class Kept:
+    """What the events of the file `path` say so far."""
+
+    path: Path
+    answers: Counter[tuple[str, str, str]] = field(default_factory=Counter)  # by request, status and fault's name
+    unread: int = 0  # times that the origin couldn't be read
+    pods: dict[str, Pod] = field(default_factory=dict)
+    fallback: Pod | None = None
+    ranges: dict[str, DateRange] = field(default_factory=dict)  # those of the newest list
+    place: int = 0
+    file: int = 0  # the inode of what was read
+
+    def follow(self) -> None:
+        """Reads what came since the last time; where the feed began a new file, the rest of the one before it first."""
+        try:
+            found = self.path.stat().st_ino
+        except OSError:
+            return
+        if self.file and found != self.file:
+            self.read(Path(f"{self.path}.1"))
+            self.place = 0
+        self.file = found
+        self.read(self.path)
+
+    def read(self, path: Path) -> None:
+        """Reads the whole lines of `path` from the place on where it was left."""
+        try:
+            with open(path, "rb") as it:
+                it.seek(self.place)
+                data = it.read()
+        except OSError:
+            return
+        whole = data[: data.rfind(b"\n") + 1]
+        self.place += len(whole)
+        for line in whole.decode("utf-8", "replace").splitlines():
+            if (event := read_line(line)) is not None:
+                self.take(event)
+
+    def take(self, event: Event) -> None:
+        """Takes in one event."""
+        if event.what == "read":
+            self.unread += 1
+        if event.what in REQUESTS:
+            self.answers[event.what, str(event.status), faults.name_of(event.fault)] += 1
+        if event.status not in (201, 204):
+            return
+        if event.what == "origin":
+            self.ranges = {it.id: it for it in playlist.read(event.body.encode()).ranges}
+        elif event.what == "decisions":
+            said = json.loads(event.body)
+            for it in said.get("breaks", []):
+                self.pods.pop(it["id"], None)
+                self.pods[it["id"]] = pod_of(it["ads"])
+            while len(self.pods) > 1024:
+                self.pods.pop(next(iter(self.pods)))
+            if "fallback" in said:
+                self.fallback = pod_of(said["fallback"]["ads"]) if said["fallback"] else None

@@ -1,0 +1,201 @@
+"""adsplice-monitor: figures of channels and processes for Prometheus, a check for Nagios and cron, and the as-run log."""
+import argparse
+import sys
+import threading
+import time
+from collections.abc import Iterator
+from pathlib import Path
+
+from prometheus_client import CollectorRegistry, generate_latest, start_http_server
+from prometheus_client.core import CounterMetricFamily, GaugeMetricFamily, Metric
+from prometheus_client.registry import Collector
+
+from . import settings as told
+from . import words
+from .as_run import AsRun, Log
+from .kept import Kept
+from .watch import WORDS, Watch
+from .web import Client
+from .words import Fault
+
+HELP = """Figures of adsplice's channels for Prometheus, and an as-run log.
+
+  adsplice-monitor --at http://127.0.0.1:8090 --viewers http://127.0.0.1:8080 --channel news --process http://127.0.0.1:8081 \\
+                   --kept /var/lib/adsplice/kept --as-run /var/lib/adsplice/as-run.jsonl
+  adsplice-monitor --config /etc/adsplice/feed.ini --once      the channels of a feed; prints the figures, for Nagios and cron
+
+Serves /metrics (--listen) until a signal ends it. With --once it looks at each channel until its list has changed or its
+limit is over, prints the figures behind a comment with what is wrong, and ends.
+
+A channel is late where its list's end is further behind real time than --late, and stands still where its list didn't change
+for --still; both are three target durations where they aren't named. An ended list (EXT-X-ENDLIST) is neither.
+
+Refused pushes and the as-run log need what adsplice-feed --keep has kept (--kept, or `keep` of --config).
+
+Exit status with --once: 0 all is well; 2 a channel is late, stands still or doesn't answer, or a process doesn't answer;
+1 a fault. Wrong words are 2, too. Without --once: 0 after SIGTERM, SIGINT or SIGHUP."""
+CRITICAL = 2
+AWAY = (0, 502, 504)  # statuses that say that a process doesn't answer
+
+
+def read_words(arguments: list[str]) -> argparse.Namespace:
+    """What the words `arguments` say."""
+    it = words.parser("adsplice-monitor", HELP)
+    it.add_argument("--config", type=Path, metavar="FILE", help="the config file of adsplice-feed: its channels, addresses and kept events")
+    it.add_argument("--channel", type=words.channel_name, action="append", default=[], metavar="NAME", help="may be repeated")
+    it.add_argument("--at", type=words.web_address, metavar="URL", help="adsplice's address for PUT, which answers `why`")
+    it.add_argument("--viewers", type=words.web_address, metavar="URL", help="the viewers' address (the one of --at where it isn't named)")
+    it.add_argument("--process", type=words.web_address, action="append", default=[], metavar="URL", help="of a process: does it answer? May be repeated")
+    it.add_argument("--kept", type=Path, metavar="DIR", help="the folder of adsplice-feed --keep")
+    it.add_argument("--as-run", type=Path, metavar="FILE", help="the as-run log, to which lines are added")
+    it.add_argument("--late", type=words.seconds, metavar="SECONDS")
+    it.add_argument("--still", type=words.seconds, metavar="SECONDS")
+    it.add_argument("--interval", type=words.seconds, default=1.0, metavar="SECONDS", help="between two looks (1)")
+    it.add_argument("--listen", default="127.0.0.1:9465", metavar="HOST:PORT", help="for Prometheus (127.0.0.1:9465)")
+    it.add_argument("--once", action="store_true")
+    said = it.parse_args(arguments)
+    if said.config is None and not (said.channel and said.at):
+        it.error("--channel and --at are needed, or --config")
+    if said.as_run is not None and said.kept is None and said.config is None:
+        it.error("--as-run needs --kept")
+    return said
+
+
+def watches_of(said: argparse.Namespace) -> list[Watch]:
+    """A watch for each channel that the words `said` name; raises Fault."""
+    channels = [(it, said.at, said.kept) for it in said.channel]
+    if said.config is not None:
+        known = {it.name: (it.name, said.at or it.at, said.kept or it.keep) for it in told.read_file(said.config)}
+        channels = [known[it] for it in said.channel or known if it in known]
+        if missing := set(said.channel) - set(known):
+            raise Fault(f"{said.config}: there is no channel {min(missing)}")
+    log = Log(said.as_run) if said.as_run else None
+    found = []
+    for name, at, folder in channels:
+        kept = Kept(folder / f"{name}.events") if folder else None
+        found.append(Watch(name, f"{said.viewers or at}/channels/{name}/live.m3u8", f"{at}/channels/{name}/why", Client(5), kept,
+                           AsRun(name, log) if log and kept else None, said.late, said.still))
+    return found
+
+
+class Processes:
+    """The processes at `urls`, and whether each answers."""
+
+    def __init__(self, urls: list[str]) -> None:
+        self.urls, self.client = urls, Client(3)
+        self.up: dict[str, bool] = {}
+
+    def look(self) -> None:
+        """Asks each process; any answer of its own will do."""
+        self.up = {it: self.client.ask("GET", f"{it}/").status not in AWAY for it in self.urls}
+
+
+class Figures(Collector):
+    """The figures of `watches` and `processes` as Prometheus takes them."""
+
+    def __init__(self, watches: list[Watch], processes: Processes) -> None:
+        self.watches, self.processes = watches, processes
+
+    def collect(self) -> Iterator[Metric]:
+        """All figures as they are now."""
+        up = GaugeMetricFamily("adsplice_up", "Whether a process answers", labels=["process"])
+        for url, is_up in self.processes.up.items():
+            up.add_metric([url.partition("://")[2]], float(is_up))
+        yield up
+        yield from self.lists()
+        yield from self.pushes()
+
+    def lists(self) -> Iterator[Metric]:
+        """The figures of the channels' lists and breaks."""
+        answers = GaugeMetricFamily("adsplice_channel_up", "Whether a channel's playlist is answered", labels=["channel"])
+        behind = GaugeMetricFamily("adsplice_end_behind_seconds", "How far the playlist's end is behind real time", labels=["channel"])
+        still = GaugeMetricFamily("adsplice_unchanged_seconds", "Seconds since the playlist changed", labels=["channel"])
+        target = GaugeMetricFamily("adsplice_target_duration_seconds", "EXT-X-TARGETDURATION", labels=["channel"])
+        ended = GaugeMetricFamily("adsplice_ended", "Whether the playlist has ended (EXT-X-ENDLIST)", labels=["channel"])
+        breaks = GaugeMetricFamily("adsplice_breaks", "Known breaks by the word of why", labels=["channel", "why"])
+        lines = CounterMetricFamily("adsplice_as_run", "Breaks that were written to the as-run log", labels=["channel"])
+        for it in self.watches:
+            with it.lock:
+                answers.add_metric([it.name], float(it.status == 200))
+                late = it.behind()
+                if late is not None:
+                    behind.add_metric([it.name], late)
+                still.add_metric([it.name], it.unchanged())
+                ended.add_metric([it.name], float(it.is_ended))
+                if it.target:
+                    target.add_metric([it.name], it.target)
+                for word in WORDS:
+                    breaks.add_metric([it.name, word], it.words[word])
+                lines.add_metric([it.name], it.lines)
+        yield from (answers, behind, still, target, ended, breaks, lines)
+
+    def pushes(self) -> Iterator[Metric]:
+        """The figures of what the feeds kept."""
+        answers = CounterMetricFamily("adsplice_feed_requests", "Requests of the feed by status and fault", labels=["channel", "what", "status", "fault"])
+        unread = CounterMetricFamily("adsplice_feed_unread", "Times that the feed couldn't read its origin", labels=["channel"])
+        for it in self.watches:
+            if it.kept is None:
+                continue
+            with it.lock:
+                for (what, status, fault), count in sorted(it.kept.answers.items()):
+                    answers.add_metric([it.name, what, status, fault], count)
+                unread.add_metric([it.name], it.kept.unread)
+        yield from (answers, unread)
+
+
+def once(watches: list[Watch], processes: Processes, registry: CollectorRegistry, interval: float) -> int:
+    """Looks at each of `watches` until its list has changed or its limit is over, every `interval` seconds; prints the figures
+    of `registry`, and answers the exit status."""
+    processes.look()
+    for it in watches:
+        it.look()
+    begun = {it.name: it.body for it in watches}
+    while waiting := [it for it in watches if it.status == 200 and it.body == begun[it.name] and not it.troubles() and not it.is_ended]:
+        time.sleep(interval)
+        for it in waiting:
+            it.look()
+    troubles = [text for it in watches for text in it.troubles()]
+    troubles += [f"the process at {url} doesn't answer" for url, is_up in processes.up.items() if not is_up]
+    print(f"# {'CRITICAL: ' + ', and '.join(troubles) if troubles else f'OK: {len(watches)} channels go on'}")
+    sys.stdout.write(generate_latest(registry).decode())
+    return CRITICAL if troubles else 0
+
+
+def follow(watch: Watch, ending: threading.Event, interval: float) -> None:
+    """Looks at `watch` every `interval` seconds until `ending` is set."""
+    while not ending.wait(interval):
+        try:
+            watch.look()
+        except Exception as fault:  # noqa: BLE001  (one channel's fault isn't to end the figures of the others)
+            print(f"{words.now_text()} {watch.name}: {type(fault).__name__}: {fault}", file=sys.stderr, flush=True)
+
+
+def serve(watches: list[Watch], processes: Processes, registry: CollectorRegistry, said: argparse.Namespace) -> int:
+    """Serves the figures of `registry`, as the words `said` ask for, until a signal ends it; answers the exit status."""
+    host, _, port = said.listen.rpartition(":")
+    try:
+        start_http_server(int(port), host, registry)
+    except (OSError, ValueError, OverflowError) as fault:
+        raise Fault(f"--listen {said.listen}: {getattr(fault, 'strerror', None) or fault}") from None
+    ending = words.ends_by_signals()
+    for it in watches:
+        threading.Thread(target=follow, args=(it, ending, said.interval), daemon=True).start()
+    while not ending.is_set():
+        processes.look()
+        ending.wait(max(said.interval, 1))
+    return 0
+
+
+def main(arguments: list[str]) -> int:
+    """Watches; answers the exit status."""
+    said = read_words(arguments)
+    try:
+        watches, processes = watches_of(said), Processes(said.process)
+        registry = CollectorRegistry()
+        registry.register(Figures(watches, processes))
+        if said.once:
+            words.ends_cleanly()
+            return once(watches, processes, registry, said.interval)
+        return serve(watches, processes, registry, said)
+    except (Fault, OSError) as fault:
+        words.fail("adsplice-monitor", str(fault))
