@@ -40,8 +40,8 @@ class Plant:
 
     def channel(self, name, plan, kind=Relay):
         """Starts a channel with a plan of breaks, by a kind of relay; answers that."""
-        relay = kind(name, plan, f"{self.room}/site/media/programme/index.m3u8", self.operator, self.site)
-        self.relays.append(relay.start())
+        relay = kind(name, plan, f"{self.room}/site/media/programme/index.m3u8", self.operator, self.site, f"{self.room}/feed")
+        self.relays.append(relay.start(self.processes))
         return relay
 
     def page(self, name):

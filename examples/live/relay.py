@@ -1,16 +1,19 @@
-"""The relay of the first channel: between the packager and adsplice, it signals breaks and decides them.
+"""The relay of the first channel: between the packager and adsplice-feed, it signals breaks and decides them.
 
-In a real plant three parties do this: the encoder turns the cue of the programme (SCTE 35) into a date range, an ad server
-chooses the advertisements, and the packager pushes its playlist. Here one loop does it by the clock of the segments.
+In a real plant two parties do this: the encoder turns the cue of the programme (SCTE 35) into a date range, and an ad server
+chooses the advertisements. Here one loop does it by the clock of the segments: it writes the signalled list to a file, which
+adsplice-feed reads and gives to adsplice, and the decisions into the feed's folder.
 """
 import json
+import os
 import re
+import subprocess
 import threading
 import time
 from datetime import datetime, timedelta, timezone
 
 import media
-from tools import request
+from tools import ROOT, write_aside
 
 # A splice_info_section with a splice_insert that leaves the network (ANSI/SCTE 35, 9.6 and 9.7.3)
 OUT = "0xFC302000000000000000FFF00F05000000017FFFFE002932E00001" + "0" * 16
@@ -58,38 +61,42 @@ def read_instant(text):
 
 
 class Relay:
-    """Reads the packager's playlist, and pushes it with the date ranges of the plan's breaks to a channel."""
+    """Reads the packager's playlist, and writes it with the date ranges of the plan's breaks for a channel's feed, which it starts."""
 
-    def __init__(self, name, plan, playlist, operator, site):
-        self.name, self.plan, self.playlist, self.site = name, plan, playlist, site
-        self.url = f"{operator}/channels/{name}"
+    def __init__(self, name, plan, playlist, operator, site, room):
+        self.name, self.plan, self.playlist, self.site, self.operator = name, plan, playlist, site, operator
+        self.signalled_list, self.decisions = f"{room}/{name}/index.m3u8", f"{room}/{name}/decisions"
+        self.fallback, self.kept = f"{room}/{name}/fallback.json", f"{room}/kept"
         self.sent, self.decided, self.faults, self.going = None, -1, [], True
-        self.thread = threading.Thread(target=self.run, daemon=True)
+        self.thread, self.feed = threading.Thread(target=self.run, daemon=True), None
+        os.makedirs(self.decisions)
+        ads = media.pod(plan.fallback, f"{site}/media/ads", plan.cut)
+        write_aside(self.fallback, json.dumps({"fallback": {"ads": ads}}))
 
-    def put(self, what, body):
-        """A PUT's status; one that is refused is kept, and told unless it was refused so before."""
-        status, _, text = request("PUT", self.url + what, body)
-        said = "" if text.startswith("<") else text.strip()  # (nginx's own pages say no more than the status)
-        fault = f"{status} {said}".strip() if status else "no answer"
-        if status not in (201, 204) and fault not in self.faults[-1:]:
-            print(f"{self.name}: PUT {what or 'channel'}: {fault}", flush=True)
-            self.faults.append(fault)
-        return status
+    def feed_words(self):
+        """The words of the channel's feed."""
+        return [f"{ROOT}/plant/adsplice-feed", "--channel", self.name, "--at", self.operator, "--origin", self.signalled_list,
+                "--base", f"{self.site}/media/programme/index.m3u8", "--decisions", self.decisions, "--fallback", self.fallback, "--keep", self.kept]
 
-    def make(self):
-        """Makes the channel, with a fallback for breaks that get no pod of their own."""
-        self.put("", json.dumps({"base": f"{self.site}/media/programme/index.m3u8"}))
-        self.put("/decisions", json.dumps({"fallback": {"ads": media.pod(self.plan.fallback, f"{self.site}/media/ads", self.plan.cut)}}))
-        self.decided = -1
+    def listen(self, lines):
+        """Reads the feed's lines; those of what was refused, or wasn't answered, are told and kept, each once in a row."""
+        for line in lines:
+            _, name, who, rest = line.rstrip("\n").split(" ", 3)
+            said, _, text = rest.partition(": ")
+            is_refused = said[0] in "45" and not text.startswith("the channel is there")
+            if not is_refused and not (who == "adsplice" and said[0] == "-"):
+                continue
+            if said not in self.faults[-1:]:
+                self.faults.append(said)
+                print(f"{name}: {who}: {rest}", flush=True)
 
     def decide(self, turn):
-        """The decision on a break, until it was taken once (409: the break has begun)."""
+        """Writes the decision on a break for the feed, once."""
         if turn <= self.decided:
             return
         if self.plan.is_decided(turn):
             ads = media.pod(self.plan.own, f"{self.site}/media/ads", self.plan.cut)
-            if self.put("/decisions", json.dumps({"breaks": [{"id": f"break-{turn}", "ads": ads}]})) not in (204, 409):
-                return
+            write_aside(f"{self.decisions}/break-{turn}.json", json.dumps({"breaks": [{"id": f"break-{turn}", "ads": ads}]}))
         self.decided = turn
 
     def date_range(self, turn, first, begins):
@@ -111,29 +118,29 @@ class Relay:
         return text.replace("#EXTM3U\n", "\n".join(["#EXTM3U", *lines, ""]), 1)
 
     def turn(self):
-        """Pushes the playlist if it has changed; a channel that isn't there any more is made anew."""
+        """Writes the list anew where the packager's has changed: first the decisions that it needs, then the list itself."""
         try:
             with open(self.playlist, encoding="utf-8") as it:
                 text = it.read()
         except FileNotFoundError:
             return
-        if text == self.sent:
-            return
-        status = self.put("/origin", self.signalled(text))
-        if status == 404:
-            self.make()
-            status = self.put("/origin", self.signalled(text))
-        if status == 204:
+        if text != self.sent:
+            write_aside(self.signalled_list, self.signalled(text))
             self.sent = text
 
     def run(self):
         """Until it is told to end."""
         while self.going:
             self.turn()
-            time.sleep(0.2)
+            time.sleep(0.1)
 
-    def start(self):
-        """Makes the channel, and starts."""
-        self.make()
+    def start_feed(self, processes):
+        """Starts the feed as one of `processes`; one that was there is no more."""
+        self.feed = processes.start(self.feed_words(), stdout=subprocess.PIPE, stderr=None, text=True)
+        threading.Thread(target=self.listen, args=(self.feed.stdout,), daemon=True).start()
+
+    def start(self, processes):
+        """Starts, with its feed as one of `processes`."""
+        self.start_feed(processes)
         self.thread.start()
         return self

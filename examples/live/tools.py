@@ -14,9 +14,17 @@ ROOT = os.path.dirname(os.path.dirname(HERE))
 PACKAGES = {"ip": "iproute2", "unshare": "util-linux"}
 
 
+def is_there(name):
+    """Whether a program is installed, or a package of Debian's Python (`python3-httpx`, which adsplice-feed needs)."""
+    if not name.startswith("python3-"):
+        return shutil.which(name) is not None
+    words = ["/usr/bin/python3", "-c", f"import {name.removeprefix('python3-')}"]
+    return os.path.exists(words[0]) and subprocess.run(words, capture_output=True, check=False).returncode == 0
+
+
 def lacking(*programs):
     """A sentence that names the programs that aren't installed, and the Debian packages that have them; or none."""
-    names = [it for it in programs if not shutil.which(it)]
+    names = [it for it in programs if not is_there(it)]
     if not names:
         return None
     packages = " ".join(PACKAGES.get(it, it) for it in names)
@@ -111,6 +119,13 @@ class Processes:
         return self.start(["nginx", "-c", configuration, "-g", "daemon off;"])
 
 
+def write_aside(path, text):
+    """Writes a file under another name and renames it, so that nobody reads a part of it."""
+    with open(f"{path}.new", "w", encoding="utf-8") as it:
+        it.write(text)
+    os.replace(f"{path}.new", path)
+
+
 def replaced(text, pairs):
     """A text with each old part, which has to stand there, replaced by its new one."""
     for old, new in pairs:
@@ -120,18 +135,29 @@ def replaced(text, pairs):
     return text
 
 
+# The rest of a machine's configuration, of which nginx.conf is a part (conf.d).
+FRAME = """worker_processes auto;
+worker_rlimit_nofile 16384;
+error_log /var/log/nginx/error.log warn;
+pid /run/nginx.pid;
+events { worker_connections 8000; }
+http {
+PART
+}
+"""
+
+
 def configure_nginx(room, ports, viewers, operator, server="", changes=()):
-    """Writes nginx.conf to a folder: the example on these ports, its files in the folder, a server more; answers its path."""
+    """Writes nginx.conf to a folder: the example on these ports within FRAME, its files in the folder, a server more; answers its path."""
     with open(f"{HERE}/nginx.conf", encoding="utf-8") as it:
-        text = it.read()
+        text = FRAME.replace("PART", it.read() + server)
     for folder in ("log", "cache"):
         os.makedirs(f"{room}/{folder}", exist_ok=True)
     pairs = [("127.0.0.1:8081", f"127.0.0.1:{ports[0]}"), ("127.0.0.1:8082", f"127.0.0.1:{ports[1]}"), ("808[12]", f"{ports[0]}|{ports[1]}"),
              ("listen 8080", f"listen {viewers}"), ("127.0.0.1:8090", f"127.0.0.1:{operator}"), ("/var/log/nginx", f"{room}/log"),
              ("/run/nginx.pid", f"{room}/nginx.pid"), ("/var/cache/adsplice", f"{room}/cache"), *changes]
-    text = replaced(text, pairs).rstrip().removesuffix("}") + server + "}\n"
     with open(f"{room}/nginx.conf", "w", encoding="utf-8") as it:
-        it.write(text)
+        it.write(replaced(text, pairs))
     return f"{room}/nginx.conf"
 
 

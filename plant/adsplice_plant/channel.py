@@ -17,6 +17,7 @@ from .words import now_text
 REFUSALS = 2  # in a row that make a channel anew
 MOST_REFUSALS = 32  # where it has to be made anew again and again
 QUIET = 60.0  # seconds without a refusal after which two are enough again
+OFTEN = 0.25  # seconds between two looks at a file, and the least between two at a URL
 SOON = 1.0  # seconds to the next look where the target duration isn't known
 AWAY = {0, 500, 502, 503, 504}  # statuses after which the same request is tried again with growing pauses
 
@@ -240,8 +241,9 @@ class Channel:
         return found
 
     def interval(self) -> float:
-        """The seconds from one look at the origin to the next: half of the target duration."""
-        return max(0.25, self.target / 2) if self.target else SOON
+        """The seconds from one look at the origin to the next: half of the target duration, and of a file no more than OFTEN."""
+        pause = max(OFTEN, self.target / 2) if self.target else SOON
+        return pause if self.settings.is_web() else min(pause, OFTEN)
 
     def turn(self) -> float:
         """One turn: looks at the origin and the folder, gives adsplice what is new, and answers the seconds to the next one."""

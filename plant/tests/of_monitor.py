@@ -52,7 +52,8 @@ def test_once_tells_late_and_still_channels(room):
     server.lists = {"news": fresh(1), "old": fresh(30)}
     status, out, err = room.run("adsplice-monitor", "--at", at, "--channel", "old", "--once", "--interval", "0.1")
     assert status == 2 and re.match(r"# CRITICAL: old is late: its end is 3\d\.\d s behind real time \(over 6 s\)\n", out), (status, out, err)
-    status, out, err = room.run("adsplice-monitor", "--at", at, "--channel", "news", "--still", "0.6", "--once", "--interval", "0.1")
+    server.lists["news"] = fresh(1)
+    status, out, err = room.run("adsplice-monitor", "--at", at, "--channel", "news", "--late", "60", "--still", "0.6", "--once", "--interval", "0.1")
     assert status == 2 and re.match(r"# CRITICAL: news stands still for \d\.\d s \(over 0.6 s\)\n", out), (status, out, err)
     assert figures(out)[("adsplice_breaks", 'channel="news",why="Waiting"')] == 2
     status, out, err = room.run("adsplice-monitor", "--at", at, "--channel", "none", "--process", "http://127.0.0.1:1", "--once")
