@@ -79,7 +79,7 @@ class AsRun:
             if it.word == "Filled":
                 self.place(name, it, listed, kept)
                 self.count(it, listed)
-        return sum(self.write(name, it) for name, it in list(self.breaks.items()) if self.has_left(name, it, listed, words, kept))
+        return sum(self.write(name, it, kept) for name, it in list(self.breaks.items()) if self.has_left(name, it, listed, words, kept))
 
     def place(self, name: str, seen: Seen, listed: Listed, kept: Kept) -> None:
         """Finds where in `listed` the pod of the break `name` begins: the pod's URIs, nearest to its START-DATE."""
@@ -121,9 +121,12 @@ class AsRun:
             return name not in words or words[name] != "Filled"
         return listed.first >= seen.first + len(seen.pod.segments)
 
-    def write(self, name: str, seen: Seen) -> bool:
-        """Writes the line of the break `name`; whether it was written."""
+    def write(self, name: str, seen: Seen, kept: Kept) -> bool:
+        """Writes the line of the break `name`; whether it was written. A pod that no list had, since the channel was made anew
+        as soon as the break began, is the one that `kept` has for it."""
         del self.breaks[name]
+        if seen.pod is None and seen.word == "Filled":
+            seen.pod, seen.is_own = kept.pods.get(name, kept.fallback), name in kept.pods
         start = seen.range.start()
         begins = seen.begins if seen.begins is not None else start
         pod = None if seen.word != "Filled" or seen.pod is None else "own" if seen.is_own else "fallback"

@@ -164,7 +164,8 @@ class Channel:
         else:
             begun = decision.ids
         self.folder.given(decision)
-        self.tell(who, 409, "J9 Used", f"{', '.join(begun)} has begun, and keeps its pod; decides the rest of it, if there is one")
+        rest = [it for it in decision.ids if it not in begun]
+        self.tell(who, 409, "J9 Used", f"{', '.join(begun)} has begun, and keeps its pod" + (f"; decides {', '.join(rest)}" if rest else ""))
 
     def gone(self, answer: Answer) -> None:
         """adsplice is away (`answer` is none, or of a server in front), or has been started anew (404)."""

@@ -203,7 +203,7 @@ def test_file_of_which_one_break_has_begun_decides_the_rest(room):
     origin, controller, feed = started(room, listed(0, 5), "--decisions", path)
     controller.refusals[("PUT", "decisions")] = [(409, "J9 Used\n"), (409, "J9 Used\n")]
     room.write("decisions/two.json", decided(("b1", 2), ("b2", 1)))
-    feed.sees("news decisions/two.json 409 J9 Used: b1 has begun, and keeps its pod; decides the rest")
+    feed.sees("news decisions/two.json 409 J9 Used: b1 has begun, and keeps its pod; decides b2")
     assert json.loads(controller.puts("decisions")[-1])["breaks"][0]["id"] == "b2"
 
 

@@ -172,8 +172,8 @@ def test_alerts_and_dashboard_name_figures_that_there_are(room):
         named = set(re.findall(r"\badsplice_\w+", text))
         assert named and named <= there, named - there
     json.loads(text)
-    if shutil.which("promtool"):
-        done = subprocess.run(["promtool", "check", "rules", f"{PLANT}/monitor/alerts.yml"], capture_output=True, text=True, check=False)
+    for words in (["check", "rules", f"{PLANT}/monitor/alerts.yml"], ["test", "rules", f"{PLANT}/tests/alerts_test.yml"]) if shutil.which("promtool") else ():
+        done = subprocess.run(["promtool", *words], capture_output=True, text=True, check=False)
         assert done.returncode == 0, done.stdout + done.stderr
 
 
