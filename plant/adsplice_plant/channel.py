@@ -19,7 +19,7 @@ MOST_REFUSALS = 32  # where it has to be made anew again and again
 QUIET = 60.0  # seconds without a refusal after which two are enough again
 OFTEN = 0.25  # seconds between two looks at a file, and the least between two at a URL
 SOON = 1.0  # seconds to the next look where the target duration isn't known
-AWAY = {0, 500, 502, 503, 504}  # statuses after which the same request is tried again with growing pauses
+JUDGED = {409, 413, 422}  # statuses by which adsplice refuses what it was given; after others the same is tried again with pauses
 
 Say = Callable[[str], None]
 
@@ -35,6 +35,7 @@ class Channel:
         self.folder = Folder(settings.decisions, keep_days)
         self.journal = Journal(settings.keep / f"{settings.name}.events", self.opening) if settings.keep else None
         self.away, self.missing = Pauses(0.5, longest_pause), Pauses(0.5, longest_pause)
+        self.fallback_stamp: tuple[int, int, int] | None = None  # of the file that was given
         self.list: bytes | None = None  # the newest whole one
         self.is_made = self.is_pushed = False
         self.target: int | None = None
@@ -87,6 +88,10 @@ class Channel:
             self.tell("fallback", 0, "", f"{self.settings.fallback}: {fault.strerror}; goes on without it")
             return None
 
+    def stamp(self) -> tuple[int, int, int] | None:
+        """What shows that the fallback file changed; none where there is none."""
+        return decisions.stamp_of(self.settings.fallback) if self.settings.fallback else None
+
     def make(self) -> bool:
         """Makes the channel where it isn't there, and gives it the fallback and the open decisions; whether it is there."""
         answer = self.put("", self.settings.body())
@@ -104,8 +109,9 @@ class Channel:
 
     def give_fallback(self, body: bytes) -> bool:
         """Gives the fallback file's `body`; whether the feed may go on."""
+        self.fallback_stamp = self.stamp()
         answer = self.put("decisions", body)
-        if answer.status in AWAY or answer.status == 404:
+        if answer.status != 204 and answer.status not in JUDGED:
             self.is_made = False
             self.failed(answer, "gives the fallback again as soon as it can")
             return False
@@ -131,7 +137,7 @@ class Channel:
         """Gives one decision file; whether the feed may go on."""
         answer = self.put("decisions", decision.body)
         who, line = f"decisions/{decision.path.name}", answer.line()
-        if answer.status == 404 or answer.status in AWAY:
+        if answer.status != 204 and answer.status not in JUDGED:
             self.gone(answer)
             return False
         if answer.status == 204:
@@ -185,7 +191,7 @@ class Channel:
         if answer.status == 204:
             self.taken()
             return True
-        if answer.status == 404 or answer.status in AWAY:
+        if answer.status not in JUDGED:
             self.gone(answer)
             return False
         self.is_pushed = not faults.follows_badly(line)  # (one that doesn't read needn't be sent again)
@@ -266,6 +272,11 @@ class Channel:
         """Gives adsplice the channel, the decisions and the list, as far as they are new; whether all was answered."""
         if not self.is_made and not self.make():
             return False
+        if (stamp := self.stamp()) not in (None, self.fallback_stamp) and (body := self.fallback()):
+            if not self.give_fallback(body):
+                return False
+            self.states.pop("fallback", None)
+            self.tell("fallback", 204, "", "the file has changed: sets it anew")
         if not self.decide():
             return self.is_made is False and self.again()
         if self.list is None or self.is_pushed:

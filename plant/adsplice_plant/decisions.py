@@ -29,6 +29,15 @@ class Decision:
     listed: set[str] = field(default_factory=set)
 
 
+def stamp_of(path: Path) -> tuple[int, int, int] | None:
+    """What shows that the file `path` changed: when it was written, its size, and its inode; none where it isn't there."""
+    try:
+        found = path.stat()
+    except OSError:
+        return None
+    return found.st_mtime_ns, found.st_size, found.st_ino
+
+
 def said_by(body: bytes) -> tuple[str, list[str]]:
     """The kind of the decision file `body`, and the IDs of its breaks; ("", []) where it doesn't say. adsplice judges it."""
     try:
@@ -73,9 +82,8 @@ class Folder:
         found = []
         try:
             for it in os.scandir(folder):
-                if it.name.endswith(".json") and not it.name.startswith(".") and it.is_file():
-                    of = it.stat()
-                    found.append((Path(it.path), (of.st_mtime_ns, of.st_size, of.st_ino)))
+                if it.name.endswith(".json") and not it.name.startswith(".") and it.is_file() and (stamp := stamp_of(Path(it.path))):
+                    found.append((Path(it.path), stamp))
         except OSError:
             return []
         return sorted(found, key=lambda it: (it[1][0], it[0]))

@@ -186,6 +186,24 @@ def test_refused_decision_file_is_told_in_words_and_taken_once_mended(room):
     feed.sees("news decisions/one.json 204 -: decides b1")
 
 
+def test_decision_file_outlives_a_front_that_refuses(room):
+    path = f"{room.path}/decisions"
+    os.makedirs(path)
+    origin, controller, feed = started(room, listed(0, 5), "--decisions", path)
+    controller.refusals[("PUT", "decisions")] = [(401, "<html>\n"), (429, "<html>\n"), (503, "")]
+    room.write("decisions/one.json", decided(("b1", 2)))
+    feed.sees("news adsplice 401 -: status 401; tries again with growing pauses")
+    feed.sees("news decisions/one.json 204 -: decides b1", 8)
+
+
+def test_changed_fallback_is_given(room):
+    fallback = room.write("fallback.json", FALLBACK)
+    origin, controller, feed = started(room, listed(0, 5), "--fallback", fallback)
+    room.write("fallback.json", FALLBACK.replace("f-0", "g-0"))
+    feed.sees("news fallback 204 .*: the file has changed: sets it anew")
+    assert [it.decode() for it in controller.puts("decisions")] == [FALLBACK, FALLBACK.replace("f-0", "g-0")]
+
+
 def test_half_written_file_is_left_alone(room):
     path = f"{room.path}/decisions"
     os.makedirs(path)
