@@ -10,7 +10,7 @@ from .kept import Kept, Pod
 from .playlist import DateRange, Listed, Segment, instant_text
 from .words import now_text
 
-NEAR = 30 * playlist.SECOND  # how far a pod may begin from its break, where breaks follow one another and pods are longer
+NEAR = 10 * playlist.SECOND  # how far a pod may begin from its break: the greatest tolerance
 REMEMBERED = 500  # lines of a file that were written before: no break of theirs is written again
 
 
@@ -86,16 +86,15 @@ class AsRun:
         if seen.first is not None:
             return
         start = seen.range.start()
-        best: tuple[int, int, int, Pod, bool] | None = None
-        for pod, is_own in ((kept.pods.get(name), True), (kept.fallback, False)):
-            for it in listed.segments if pod is not None and start is not None else []:
-                assert pod is not None and start is not None
-                for begins, first in starts_of(it, pod):
-                    found = (abs(begins - start), first, begins, pod, is_own)
-                    if found[0] <= NEAR and not self.is_claimed(first, seen) and (best is None or found[:2] < best[:2]):
-                        best = found
-        if best is not None:
-            seen.first, seen.begins, seen.pod, seen.is_own = best[1], best[2] if seen.begins is None else seen.begins, best[3], best[4]
+        is_own = name in kept.pods if seen.pod is None else seen.is_own
+        pod = seen.pod or kept.pods.get(name, kept.fallback)
+        if pod is None or start is None:
+            return
+        found = [(abs(begins - start), first, begins) for it in listed.segments for begins, first in starts_of(it, pod)
+                 if abs(begins - start) <= NEAR and not self.is_claimed(first, seen)]
+        if found:
+            _, seen.first, begins = min(found)
+            seen.pod, seen.is_own, seen.begins = pod, is_own, begins if seen.begins is None else seen.begins
 
     def is_claimed(self, first: int, seen: Seen) -> bool:
         """Whether another break than `seen` has the segment of the number `first`."""

@@ -155,7 +155,8 @@ class Explainer:
             for place, it in enumerate(ad["segments"]):
                 whole = ((playlist.read_duration(it["duration"]) or 0) + playlist.SECOND // 2) // playlist.SECOND
                 if whole > target:
-                    return f"ad {number}, segment {place} of its pod lasts {it['duration']} s, which is {whole} s rounded, over the target duration of {target} s"
+                    return (f"ad {number}, segment {place} of its pod lasts {it['duration']} s, which is {whole} s rounded, "
+                            f"over the target duration of {target} s")
         for number, ad in enumerate(pod.ads):
             if ("map" in ad) != has_map:
                 return f"ad {number} of its pod has {'an' if 'map' in ad else 'no'} initialisation section (map), and the programme has {'one' if has_map else 'none'}"
@@ -202,7 +203,8 @@ class Explainer:
         start = self.ranges[name].start() or 0
         if pod is not None and pod.place > place:
             which = "decision" if name in self.history.pods else "fallback"
-            return f"the {which} came after {of}, and would have entered it: that one was listed first by {step.given.name}, and the {which} is {self.history.steps[pod.place].given.name}"
+            late = self.history.steps[pod.place].given.name
+            return f"the {which} came after {of}, and would have entered it: that one was listed first by {step.given.name}, and the {which} is {late}"
         listed_at = next(n for n, it in enumerate(self.history.steps) if it.status == 204 and it.listed is not None and name in it.listed.ids())
         if listed_at > place:
             return f"its EXT-X-DATERANGE came after {of}, and would have entered it: that one was listed first by {step.given.name}"

@@ -252,19 +252,23 @@ class Channel:
         pause = max(OFTEN, self.target / 2) if self.target else SOON
         return pause if self.settings.is_web() else min(pause, OFTEN)
 
+    def longest(self) -> float:
+        """The seconds that a pause before another trial may grow to: a target duration."""
+        return max(1.0, float(self.target or SOON))
+
     def turn(self) -> float:
         """One turn: looks at the origin and the folder, gives adsplice what is new, and answers the seconds to the next one."""
         begun = time.monotonic()
         found = self.look()
         self.folder.look()
         if not self.give_all():
-            return self.away.next()
+            return min(self.away.next(), self.longest())
         self.away.reset()
         for it in self.folder.retire(self.listed) if self.list is not None else []:
             self.tell(f"decisions/{it.path.name}", 0, "", f"{', '.join(it.ids)} is no longer listed; moves the file to done")
             self.states.pop(f"decisions/{it.path.name}", None)
         if found.why:
-            return min(self.missing.next(), max(self.interval(), 0.5) * 4)
+            return min(self.missing.next(), self.longest())
         self.missing.reset()
         return max(0.05, self.interval() - (time.monotonic() - begun))
 

@@ -20,7 +20,7 @@ HELP = """Reads a packager's playlist and gives it to adsplice, with the decisio
 The origin is asked at half the target duration. Its list is PUT when it changed, and as a whole: one that is cut off within
 its last line is read again. The channel is made where it isn't there, with the fallback and the open decisions before the
 first list. A list that doesn't follow the last one (N1 to N9) twice in a row makes the channel anew. Where the origin or
-adsplice is away, it is tried again with growing pauses, for ever.
+adsplice is away, it is tried again with pauses that grow to a target duration, for ever.
 
 Decision files (*.json) that are renamed into DIR are given to adsplice, stay there while their breaks are listed, are given
 again after a new start, and are then moved to DIR/done. One that is refused stays, and is taken once it is written anew.
@@ -56,7 +56,7 @@ def read_words(arguments: list[str]) -> argparse.Namespace:
     it.add_argument("--keep", metavar="DIR", help="keeps NAME.events there, for adsplice-monitor and adsplice-explain")
     it.add_argument("--unended", action="store_const", const="yes", help="the packager never ends its last line: take it so")
     it.add_argument("--timeout", type=words.seconds, default=5.0, metavar="SECONDS", help="for a request with its answer (5)")
-    it.add_argument("--longest-pause", type=words.seconds, default=5.0, metavar="SECONDS", help="between two trials (5)")
+    it.add_argument("--longest-pause", type=words.seconds, default=5.0, metavar="SECONDS", help="between two trials (5, and no more than a target duration)")
     it.add_argument("--keep-days", type=float, default=7.0, metavar="DAYS", help="that files are kept in DIR/done (7)")
     said = it.parse_args(arguments)
     if said.config is None and not (said.channel and said.origin and said.at):

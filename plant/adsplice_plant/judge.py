@@ -67,7 +67,8 @@ def look_at_file(found: Any) -> None:
     """Looks at a whole file."""
     need(isinstance(found, dict), "J2", "", "the file has to be an object with one member: `breaks`, `withdraw` or `fallback`")
     there = sorted(set(found) & MEMBERS["file"])
-    need(len(there) == 1, "J2", "", f"the file has to have one member of `breaks`, `withdraw` and `fallback`, and has {' and '.join(f'`{it}`' for it in there) or 'none'}")
+    has = " and ".join(f"`{it}`" for it in there) or "none"
+    need(len(there) == 1, "J2", "", f"the file has to have one member of `breaks`, `withdraw` and `fallback`, and has {has}")
     if there == ["withdraw"]:
         look_at_id(found["withdraw"], "", "withdraw")
     elif there == ["fallback"]:

@@ -80,5 +80,6 @@ class Kept:
                 self.pods[it["id"]] = pod_of(it["ads"])
             while len(self.pods) > 1024:
                 self.pods.pop(next(iter(self.pods)))
+            self.pods.pop(said.get("withdraw", ""), None)
             if "fallback" in said:
                 self.fallback = pod_of(said["fallback"]["ads"]) if said["fallback"] else None

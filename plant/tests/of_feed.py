@@ -70,21 +70,21 @@ def test_origin_that_drips_is_given_up_in_time(room):
     origin, controller, feed = started(room, listed(0, 5))
     origin.mode, origin.text = "drip", listed(1, 6)
     begun = time.monotonic()
-    feed.sees("news origin - -: no (whole )?answer within 1.5 s", 5)
+    feed.sees("news origin - -: no (whole )?answer within 1.5 s")
     assert time.monotonic() - begun < 4.5
 
 
 def test_silent_origin_and_an_origin_of_errors(room):
     origin, controller, feed = started(room, listed(0, 5))
     origin.mode = "silent"
-    after = feed.sees("news origin - -: no answer within 1.5 s", 6)
+    after = feed.sees("news origin - -: no answer within 1.5 s")
     origin.mode, origin.status, origin.text = "", 503, listed(1, 6)
-    after = feed.sees("news origin 503 -: the origin answers 503", 6, after)
+    after = feed.sees("news origin 503 -: the origin answers 503", 20, after)
     count = origin.count("GET", "/index.m3u8")
     time.sleep(3)
     assert origin.count("GET", "/index.m3u8") - count <= 5, "pauses grow"
     origin.status = 200
-    feed.sees("news origin 200 -: the list is read again", 8, after)
+    feed.sees("news origin 200 -: the list is read again", 20, after)
     until(lambda: len(controller.puts("origin")) == 2, 5, "the new list")
 
 
@@ -100,9 +100,9 @@ def test_refusal_that_stays_makes_the_channel_anew(room):
     controller.refusals[("PUT", "origin")] = [(409, "N5 Back\n"), (409, "N5 Back\n")]
     origin.text = listed(0, 5)
     after = feed.sees("news adsplice 409 N5 Back: .*tries again")
-    after = feed.sees("news adsplice 409 N5 Back: .*it stays so: deletes the channel and makes it anew", 5, after)
-    after = feed.sees("news adsplice 201 -: makes the channel", 5, after)
-    feed.sees("news adsplice 204 -: the list is taken", 5, after)
+    after = feed.sees("news adsplice 409 N5 Back: .*it stays so: deletes the channel and makes it anew", 20, after)
+    after = feed.sees("news adsplice 201 -: makes the channel", 20, after)
+    feed.sees("news adsplice 204 -: the list is taken", 20, after)
     assert controller.count("DELETE", "/channels/news") == 1
 
 
@@ -111,7 +111,7 @@ def test_single_refusal_leaves_the_channel(room):
     controller.refusals[("PUT", "origin")] = [(409, "N7 Shrunk\n")]
     origin.text = listed(10, 14)
     after = feed.sees("news adsplice 409 N7 Shrunk: ")
-    feed.sees("news adsplice 204 -: the list is taken again, after 1 that followed badly", 5, after)
+    feed.sees("news adsplice 204 -: the list is taken again, after 1 that followed badly", 20, after)
     assert controller.count("DELETE", "/channels/news") == 0
 
 
@@ -119,10 +119,10 @@ def test_channel_that_has_to_be_made_again_and_again_needs_more_refusals(room):
     origin, controller, feed = started(room, listed(10, 15))
     controller.refusals[("PUT", "origin")] = [(409, "N5 Back\n")] * 2 + [(204, "")] + [(409, "N6 Gap\n")] * 3
     origin.text = listed(0, 5)
-    after = feed.sees("makes it anew", 6)
-    after = feed.sees("204 -: the list is taken", 5, after)
+    after = feed.sees("makes it anew")
+    after = feed.sees("204 -: the list is taken", 20, after)
     origin.text = listed(1, 6)
-    feed.sees("409 N6 Gap: .* makes the channel anew at refusal 4 in a row", 5, after)
+    feed.sees("409 N6 Gap: .* makes the channel anew at refusal 4 in a row", 20, after)
 
 
 def test_list_that_does_not_read_is_not_sent_twice(room):
@@ -133,7 +133,7 @@ def test_list_that_does_not_read_is_not_sent_twice(room):
     time.sleep(2.5)
     assert len(controller.puts("origin")) == 2
     origin.text = listed(2, 7)
-    feed.sees("news adsplice 204 -: the list is taken", 5, 3)
+    feed.sees("news adsplice 204 -: the list is taken", 5)
 
 
 def test_away_controller_is_tried_with_growing_pauses(room):
@@ -142,8 +142,8 @@ def test_away_controller_is_tried_with_growing_pauses(room):
     origin.text = listed(1, 6)
     after = 0
     for status in (502, 504, 503, "-"):
-        after = feed.sees(f"news adsplice {status} -: .*tries again with growing pauses", 6, after)
-    feed.sees("news adsplice 204 -: the list is taken", 6, after)
+        after = feed.sees(f"news adsplice {status} -: .*tries again with growing pauses", 20, after)
+    feed.sees("news adsplice 204 -: the list is taken", 20, after)
     assert controller.puts("origin")[-1] == origin.text.encode()
 
 
@@ -154,8 +154,8 @@ def test_404_makes_the_channel_with_what_is_open(room):
     controller.channels.clear()
     origin.text = listed(1, 6, [("b1", 20, 4)])
     after = feed.sees("news adsplice 404 -: the channel isn't there; makes it")
-    after = feed.sees("news adsplice 201 -: makes the channel", 5, after)
-    feed.sees("news adsplice 204 -: the list is taken", 5, after)
+    after = feed.sees("news adsplice 201 -: makes the channel", 20, after)
+    feed.sees("news adsplice 204 -: the list is taken", 20, after)
     assert [it.decode() for it in controller.puts("decisions")] == [decided(("b1", 2))] * 2
     assert controller.puts("origin")[-1] == origin.text.encode()
 
@@ -193,7 +193,7 @@ def test_decision_file_outlives_a_front_that_refuses(room):
     controller.refusals[("PUT", "decisions")] = [(401, "<html>\n"), (429, "<html>\n"), (503, "")]
     room.write("decisions/one.json", decided(("b1", 2)))
     feed.sees("news adsplice 401 -: status 401; tries again with growing pauses")
-    feed.sees("news decisions/one.json 204 -: decides b1", 8)
+    feed.sees("news decisions/one.json 204 -: decides b1")
 
 
 def test_changed_fallback_is_given(room):
@@ -291,5 +291,5 @@ def test_goes_on_after_numbers_began_again(room):
     feed = room.feed("--channel", "news", "--origin", playlist, "--base", "http://origin.example/ch/index.m3u8", "--at", f"http://127.0.0.1:{port}")
     feed.sees("204 -: the list is taken")
     room.write("index.m3u8", listed(0, 5, name="t"))
-    feed.sees("news adsplice 409 N5 Back", 5)
+    feed.sees("news adsplice 409 N5 Back")
     until(lambda: "/t5.ts" in get(f"http://127.0.0.1:{port}/channels/news/live.m3u8")[1], 6, "the new list")

@@ -10,7 +10,7 @@ import time
 import urllib.request
 from datetime import datetime, timedelta, timezone
 
-from tools import FALLBACK, PLANT, PYTHON, FakeServer, decided, free_port, get, listed, until
+from tools import FALLBACK, PLANT, PYTHON, FakeServer, decided, free_port, get, instant, listed, until
 
 sys.path.insert(0, PLANT)
 from adsplice_plant.journal import Journal  # noqa: E402
@@ -64,7 +64,7 @@ def test_once_is_well_where_the_list_changes(room):
     server = room.server(FakeChannels())
     server.lists = {"news": fresh(1)}
     it = subprocess.Popen([PYTHON, f"{PLANT}/adsplice-monitor", "--at", f"http://127.0.0.1:{server.port}", "--channel", "news", "--once", "--interval", "0.1",
-                           "--process", f"http://127.0.0.1:{server.port}"], stdout=subprocess.PIPE, text=True)
+                           "--late", "60", "--still", "60", "--process", f"http://127.0.0.1:{server.port}"], stdout=subprocess.PIPE, text=True)
     room.running.append(it)
     until(lambda: server.count("GET", "/channels/news/live.m3u8") > 1)
     server.lists = {"news": fresh(0.5, 6)}
@@ -157,6 +157,30 @@ def test_as_run_log(room):
 
 
 test_as_run_log.needs = PROGRAM
+
+
+def test_as_run_log_of_a_channel_that_is_made_anew_within_a_break(room):
+    from pathlib import Path
+    from adsplice_plant import playlist
+    from adsplice_plant.as_run import AsRun, Log
+    from adsplice_plant.kept import pod_of
+    path = Path(room.path) / "as-run.jsonl"
+    run, kept = AsRun("news", Log(path)), Kept(Path("none"))
+    kept.pods = {"b4": pod_of([{"segments": [{"uri": f"p{n}", "duration": "2"} for n in range(5)]}])}
+    kept.fallback = pod_of([{"segments": [{"uri": f"f{n}", "duration": "2"} for n in range(5)]}])
+    starts = {"b4": 20, "b5": 50}
+
+    def look(first, numbers, words):
+        kept.ranges = {it: playlist.DateRange(it, {"START-DATE": instant(starts[it]), "DURATION": "10"}, 1) for it in words}
+        parts = [f"#EXTINF:2,\n{it}\n" if isinstance(it, str) else f"#EXT-X-PROGRAM-DATE-TIME:{instant(2 * it)}\n#EXTINF:2,\ns{it}\n" for it in numbers]
+        run.look(playlist.read(f"#EXTM3U\n#EXT-X-TARGETDURATION:2\n#EXT-X-MEDIA-SEQUENCE:{first}\n{''.join(parts)}".encode()), words, kept)
+
+    look(5, [*range(5, 10), "p0", "p1"], {"b4": "Filled", "b5": "Waiting"})
+    for last in range(12, 31):  # (its numbers begin again after two segments of the pod; b4 stays listed until b5 is over)
+        look(0, [it if it < 25 else f"f{it - 25}" for it in range(12, last)], {"b4": "Waiting", "b5": "Filled" if last > 25 else "Waiting"})
+    look(20, [40, 41], {})
+    with open(path, encoding="utf-8") as it:
+        assert [(said["id"], said["pod"], said["shown"], said["of"]) for said in map(json.loads, it)] == [("b4", "own", 2, 5), ("b5", "fallback", 5, 5)]
 
 
 def test_alerts_and_dashboard_name_figures_that_there_are(room):

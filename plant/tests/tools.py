@@ -71,8 +71,13 @@ class FakeServer:
             def log_message(self, *_):
                 pass
 
-        http.server.ThreadingHTTPServer.daemon_threads = True
-        self.server = http.server.ThreadingHTTPServer(("127.0.0.1", port), Handler)
+        class Server(http.server.ThreadingHTTPServer):
+            daemon_threads = True
+
+            def handle_error(self, *_):
+                pass  # (a client that went away)
+
+        self.server = Server(("127.0.0.1", port), Handler)
         self.port = self.server.server_port
         threading.Thread(target=self.server.serve_forever, args=(0.05,), daemon=True).start()
 
@@ -197,7 +202,7 @@ def get(url):
         return 0, ""
 
 
-def until(check, seconds=10, what="it"):
+def until(check, seconds=20, what="it"):
     """Waits until `check()` holds, and answers what it answered; raises where it doesn't within that time."""
     end = time.monotonic() + seconds
     while time.monotonic() < end:
@@ -274,7 +279,7 @@ class Feed:
         for line in self.process.stdout:
             self.lines.append(line.rstrip("\n"))
 
-    def sees(self, pattern, seconds=10, after=0):
+    def sees(self, pattern, seconds=20, after=0):
         """Waits for a line that has a pattern, of those from place `after` on; answers its place."""
         def find():
             places = [n for n, line in enumerate(list(self.lines)) if n >= after and re.search(pattern, line)]
