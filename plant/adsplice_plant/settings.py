@@ -53,9 +53,11 @@ def settings_of(name: str, said: Mapping[str, str | None]) -> Settings:
     except (argparse.ArgumentTypeError, Fault) as fault:
         raise Fault(f"channel {name}: {fault}") from None
     paths = {it: Path(text) if (text := said.get(it)) else None for it in ("decisions", "fallback", "keep")}
-    for it in ("decisions",):
-        if (path := paths[it]) and not path.is_dir():
-            raise Fault(f"channel {name}: {it}: there is no folder {path}")
+    if path := paths["decisions"]:
+        try:
+            path.mkdir(parents=True, exist_ok=True)
+        except OSError as fault:
+            raise Fault(f"channel {name}: decisions: {path}: {fault.strerror}") from None
     if (path := paths["fallback"]) and not path.is_file():
         raise Fault(f"channel {name}: fallback: there is no file {path}")
     unended = (said.get("unended") or "no").lower()

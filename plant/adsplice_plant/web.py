@@ -1,4 +1,5 @@
 """Requests with a bound on their whole time, over connections that are kept (httpx, Debian's python3-httpx)."""
+import re
 import time
 from collections.abc import Mapping
 from dataclasses import dataclass, field
@@ -48,7 +49,7 @@ class Client:
         except httpx.TimeoutException:
             return Answer(0, why=f"no answer within {self.limit:g} s")
         except (httpx.HTTPError, httpx.InvalidURL, OSError) as fault:
-            return Answer(0, why=str(fault).partition("\n")[0] or type(fault).__name__)
+            return Answer(0, why=re.sub(r"^\[Errno -?\d+\] ", "", str(fault).partition("\n")[0]) or type(fault).__name__)
 
     def close(self) -> None:
         """Closes its connections."""
