@@ -95,7 +95,7 @@ def main(arguments: list[str]) -> int:
     try:
         given = given_by_files(said.files, said.base, said.tolerance) if said.files else given_by_journal(said.kept)
         lines, is_well = report(Explainer(replay(find_program(said.program), given)), said.only)
-        print("\n".join(lines))
+        words.write_out("\n".join([*lines, ""]))
         return 0 if is_well else EMPTY
     except (Fault, OSError) as fault:
         words.fail("adsplice-explain", str(fault))

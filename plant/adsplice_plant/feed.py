@@ -1,7 +1,6 @@
 """adsplice-feed: polls the playlists of origins and gives them, with decisions, to adsplice."""
 import argparse
 import random
-import sys
 import threading
 from pathlib import Path
 
@@ -73,15 +72,6 @@ def channels_of(said: argparse.Namespace) -> list[Settings]:
     return [told.settings_of(said.channel, {it: getattr(said, it) for it in told.NAMES})]
 
 
-def say(line: str) -> None:
-    """Prints `line` at once. Where nobody reads standard output any more, the feed goes on."""
-    try:
-        sys.stdout.write(line + "\n")
-        sys.stdout.flush()
-    except OSError:
-        pass
-
-
 def run(channel: Channel, ending: threading.Event, delay: float) -> None:
     """Feeds `channel` until `ending` is set; its first turn comes after `delay` seconds, so that channels don't come at once."""
     ending.wait(delay)
@@ -99,7 +89,7 @@ def main(arguments: list[str]) -> int:
     said = read_words(arguments)
     try:
         channels = channels_of(said)
-        feeds = [Channel(it, Client(said.timeout), say, said.longest_pause, said.keep_days) for it in channels]
+        feeds = [Channel(it, Client(said.timeout), lambda line: words.write_out(f"{line}\n"), said.longest_pause, said.keep_days) for it in channels]
     except (Fault, OSError) as fault:
         words.fail("adsplice-feed", str(fault))
     ending = words.ends_by_signals()

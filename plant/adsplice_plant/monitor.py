@@ -35,6 +35,7 @@ Refused pushes and the as-run log need what adsplice-feed --keep has kept (--kep
 Exit status with --once: 0 all is well; 2 a channel is late, stands still or doesn't answer, or a process doesn't answer;
 1 a fault. Wrong words are 2, too. Without --once: 0 after SIGTERM, SIGINT or SIGHUP."""
 CRITICAL = 2
+AGAIN = 3.0  # seconds for which a channel without a list is looked at again
 AWAY = (0, 502, 504)  # statuses that say that a process doesn't answer
 
 
@@ -143,21 +144,29 @@ class Figures(Collector):
         yield from (answers, unread)
 
 
+def is_open(watch: Watch, begun: bytes, until: float) -> bool:
+    """Whether `watch` is to be looked at again: its list is still the one that it `begun` with, and isn't late or still yet; or
+    it has no list, as while its channel is made anew, and `until` (a moment of the monotonic clock) hasn't come."""
+    if watch.status != 200:
+        return time.monotonic() < until
+    return watch.body == begun and not watch.troubles() and not watch.is_ended
+
+
 def once(watches: list[Watch], processes: Processes, registry: CollectorRegistry, interval: float) -> int:
     """Looks at each of `watches` until its list has changed or its limit is over, every `interval` seconds; prints the figures
     of `registry`, and answers the exit status."""
     processes.look()
     for it in watches:
         it.look()
-    begun = {it.name: it.body for it in watches}
-    while waiting := [it for it in watches if it.status == 200 and it.body == begun[it.name] and not it.troubles() and not it.is_ended]:
+    begun, until = {it.name: it.body for it in watches}, time.monotonic() + AGAIN
+    while waiting := [it for it in watches if is_open(it, begun[it.name], until)]:
         time.sleep(interval)
         for it in waiting:
             it.look()
     troubles = [text for it in watches for text in it.troubles()]
     troubles += [f"the process at {url} doesn't answer" for url, is_up in processes.up.items() if not is_up]
-    print(f"# {'CRITICAL: ' + ', and '.join(troubles) if troubles else f'OK: {len(watches)} channels go on'}")
-    sys.stdout.write(generate_latest(registry).decode())
+    first = f"CRITICAL: {', and '.join(troubles)}" if troubles else f"OK: {len(watches)} channels go on"
+    words.write_out(f"# {first}\n{generate_latest(registry).decode()}")
     return CRITICAL if troubles else 0
 
 

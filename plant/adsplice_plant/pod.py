@@ -118,11 +118,9 @@ def check(program: str, name: str) -> int:
     body = body_of(name)
     wrong = verdict(program, body)
     if wrong:
-        print(f"{name}: {wrong}")
+        words.write_out(f"{name}: {wrong}\n")
         return words.FAULT
-    for it in judge.strange_members(body):
-        print(f"{name}: {it}")
-    print(f"{name}: right")
+    words.write_out("".join(f"{name}: {it}\n" for it in [*judge.strange_members(body), "right"]))
     return 0
 
 
@@ -139,8 +137,7 @@ def make(program: str, said: argparse.Namespace) -> int:
         print(f"adsplice-pod: {it}", file=sys.stderr)
     if warnings and said.strict:
         return words.FAULT
-    sys.stdout.buffer.write(body)
-    sys.stdout.buffer.flush()
+    words.write_out(body.decode())
     return 0
 
 
@@ -153,5 +150,3 @@ def main(arguments: list[str]) -> int:
         return check(program, said.check) if said.check is not None else make(program, said)
     except Fault as fault:
         words.fail("adsplice-pod", str(fault))
-    except BrokenPipeError:
-        return words.FAULT

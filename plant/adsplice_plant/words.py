@@ -1,5 +1,6 @@
 """What the programs have in common: how values of their words are read, how a fault is told, and how they end."""
 import argparse
+import os
 import re
 import signal
 import sys
@@ -56,6 +57,15 @@ def fail(name: str, text: str, status: int = FAULT) -> NoReturn:
     """Ends the program `name` with the line `text` on standard error, and with exit status `status`."""
     print(f"{name}: {text}", file=sys.stderr, flush=True)
     sys.exit(status)
+
+
+def write_out(text: str) -> None:
+    """Writes `text` to standard output in UTF-8; where nobody reads it any more (`| head`), the rest is dropped."""
+    try:
+        sys.stdout.buffer.write(text.encode("utf-8", "replace"))
+        sys.stdout.buffer.flush()
+    except BrokenPipeError:
+        os.dup2(os.open(os.devnull, os.O_WRONLY), sys.stdout.fileno())
 
 
 def now_text() -> str:
