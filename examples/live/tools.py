@@ -147,10 +147,15 @@ PART
 """
 
 
+def framed(part):
+    """A whole configuration of nginx whose part for conf.d is this."""
+    return FRAME.replace("PART", part)
+
+
 def configure_nginx(room, ports, viewers, operator, server="", changes=()):
     """Writes nginx.conf to a folder: the example on these ports within FRAME, its files in the folder, a server more; answers its path."""
     with open(f"{HERE}/nginx.conf", encoding="utf-8") as it:
-        text = FRAME.replace("PART", it.read() + server)
+        text = framed(it.read() + server)
     for folder in ("log", "cache"):
         os.makedirs(f"{room}/{folder}", exist_ok=True)
     pairs = [("127.0.0.1:8081", f"127.0.0.1:{ports[0]}"), ("127.0.0.1:8082", f"127.0.0.1:{ports[1]}"), ("808[12]", f"{ports[0]}|{ports[1]}"),
