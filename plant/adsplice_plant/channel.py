@@ -8,7 +8,7 @@ from pathlib import Path
 from . import decisions, faults, playlist
 from .decisions import Decision, Folder
 from .journal import Event, Journal
-from .origin import FileOrigin, Origin, Read, WebOrigin, read_whole
+from .origin import CUT_OFF, FileOrigin, Origin, Read, WebOrigin, read_whole
 from .pauses import Pauses
 from .settings import Settings
 from .web import Answer, Client
@@ -20,6 +20,8 @@ QUIET = 60.0  # seconds without a refusal after which two are enough again
 OFTEN = 0.25  # seconds between two looks at a file, and the least between two at a URL
 SOON = 1.0  # seconds to the next look where the target duration isn't known
 JUDGED = {409, 413, 422}  # statuses by which adsplice refuses what it was given; after others the same is tried again with pauses
+
+READ = ("200", "")  # the state of an origin that is read
 
 Say = Callable[[str], None]
 
@@ -242,8 +244,8 @@ class Channel:
             self.tell("redirect", found.status, "", f"the origin leads to {found.moved}; references stay relative to {self.settings.base} (--base)")
         if found.why:
             self.note("read", Answer(found.status, why=found.why))
-            self.tell("origin", found.status, "", f"{found.why}; reads it again with growing pauses")
-        elif self.states.get("origin", ("200", ""))[0] != "200":
+            self.tell("origin", found.status, "CutOff" if found.why == CUT_OFF else "", f"{found.why}; reads it again with growing pauses")
+        elif self.states.get("origin", READ) != READ:
             self.tell("origin", 200, "", "the list is read again")
         return found
 

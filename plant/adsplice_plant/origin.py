@@ -10,6 +10,7 @@ from .web import Client
 
 READS = 4  # of a list that is cut off within a line, before it is left for the next turn
 BETWEEN = 0.15  # seconds between these
+CUT_OFF = "the list is cut off within its last line"
 
 
 @dataclass(frozen=True)
@@ -89,4 +90,4 @@ def read_whole(origin: Origin, takes_unended: bool, sleep: Callable[[float], obj
         origin.forget()
         if left > 1:
             sleep(BETWEEN)
-    return Read(status=found.status, why="the list is cut off within its last line")
+    return Read(status=found.status, why=CUT_OFF)

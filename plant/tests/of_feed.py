@@ -51,10 +51,13 @@ def test_pushes_a_list_once_and_asks_by_its_validator(room):
 def test_cut_off_list_is_read_again(room):
     origin, controller, feed = started(room, listed(0, 5))
     origin.mode, origin.text = "cut", listed(1, 6)
-    feed.sees("news origin 200 -: the list is cut off within its last line")
+    feed.sees("news origin 200 CutOff: the list is cut off within its last line")
     assert len(controller.puts("origin")) == 1
     origin.mode = ""
     until(lambda: len(controller.puts("origin")) == 2, 10, "the whole list")
+    feed.sees("news origin 200 -: the list is read again")
+    origin.mode, origin.text = "cut", listed(2, 7)
+    feed.sees("news origin 200 CutOff", 20, len(feed.lines))
     assert all(it.endswith(b"\n") for it in controller.puts("origin"))
 
 
