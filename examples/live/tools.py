@@ -2,6 +2,7 @@
 import http.client
 import os
 import shutil
+import signal
 import socket
 import subprocess
 import sys
@@ -36,6 +37,12 @@ def find_program(words):
     if words:
         return os.path.abspath(words[0])
     return subprocess.run([f"{ROOT}/tests/build"], check=True, stdout=subprocess.PIPE, text=True).stdout.strip()
+
+
+def end_cleanly():
+    """Has SIGTERM and SIGHUP end the script through its blocks, as Ctrl-C does, so that nothing that it started is left behind."""
+    for it in (signal.SIGTERM, signal.SIGHUP):
+        signal.signal(it, lambda number, _: sys.exit(128 + number))
 
 
 def free_ports(count):
