@@ -1,4 +1,5 @@
 """Chromium without a window, driven through its debugging pipe (Chrome DevTools Protocol, JSON texts that end in a zero byte)."""
+import atexit
 import base64
 import json
 import os
@@ -6,12 +7,25 @@ import shutil
 import subprocess
 import tempfile
 
+from tools import held_signals
+
 
 class Browser:
     """A page in a Chromium of its own, which ends with its block."""
 
     def __init__(self, address, size=(1280, 580)):
-        self.room = tempfile.mkdtemp(prefix="adsplice-browser-")
+        with held_signals():
+            self.room = tempfile.mkdtemp(prefix="adsplice-browser-")
+            self.begin(size)
+            atexit.register(self.close)  # (where a signal ends the script)
+        self.held, self.count, self.session = b"", 0, None
+        target = next(it for it in self.ask("Target.getTargets")["targetInfos"] if it["type"] == "page")
+        self.session = self.ask("Target.attachToTarget", targetId=target["targetId"], flatten=True)["sessionId"]
+        self.ask("Emulation.setDeviceMetricsOverride", width=size[0], height=size[1], deviceScaleFactor=1, mobile=False)
+        self.ask("Page.navigate", url=address)
+
+    def begin(self, size):
+        """Starts the browser with a window of a size."""
         to_browser, self.requests = os.pipe()
         self.replies, from_browser = os.pipe()
         words = ["chromium", "--headless=new", "--no-sandbox", "--disable-gpu", "--mute-audio", "--no-first-run", "--disable-extensions",
@@ -22,16 +36,16 @@ class Browser:
                                         stdin=subprocess.DEVNULL, stdout=subprocess.DEVNULL, stderr=subprocess.DEVNULL, start_new_session=True)
         os.close(to_browser)
         os.close(from_browser)
-        self.held, self.count, self.session = b"", 0, None
-        target = next(it for it in self.ask("Target.getTargets")["targetInfos"] if it["type"] == "page")
-        self.session = self.ask("Target.attachToTarget", targetId=target["targetId"], flatten=True)["sessionId"]
-        self.ask("Emulation.setDeviceMetricsOverride", width=size[0], height=size[1], deviceScaleFactor=1, mobile=False)
-        self.ask("Page.navigate", url=address)
 
     def __enter__(self):
         return self
 
     def __exit__(self, *_):
+        self.close()
+
+    def close(self):
+        """Ends the browser, and takes its folder away."""
+        atexit.unregister(self.close)
         try:
             self.session = None
             self.ask("Browser.close")

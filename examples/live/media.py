@@ -13,6 +13,8 @@ WIDTH, HEIGHT, BLOCK, BITS = 320, 180, 16, 20
 KINDS = ("programme", "ad a", "ad b", "fallback")
 FILES = {"ad a": "a", "ad b": "b", "fallback": "f"}
 CLIP = 5  # segments of an advertisement's file
+# The renditions' pictures: width, height, the encoder's bits a second, and the most that a segment has with sound (BANDWIDTH)
+SIZES = ((320, 180, "200k", 400_000), (640, 360, "600k", 1_000_000), (960, 540, "1200k", 1_800_000), (1280, 720, "2500k", 3_500_000))
 LIST_SIZE = 30  # segments that the packager's playlist has: a minute, which is longer than any viewer is behind
 
 
@@ -38,7 +40,7 @@ def said(row):
 def coded(seconds=SECONDS):
     """ffmpeg's words for small pictures, a tone, and a key frame every so many seconds."""
     return ["-r", str(RATE), "-g", str(RATE * seconds), "-keyint_min", str(RATE * seconds), "-sc_threshold", "0", "-bf", "0", "-c:v", "libx264", "-preset", "ultrafast",
-            "-pix_fmt", "yuv420p", "-b:v", "200k", "-c:a", "aac", "-b:a", "48k", "-ar", "48000"]
+            "-pix_fmt", "yuv420p", "-b:v", SIZES[0][2], "-c:a", "aac", "-b:a", "48k", "-ar", "48000"]
 
 
 def titled(text):
@@ -46,26 +48,53 @@ def titled(text):
     return f"drawtext=text='{text}':fontsize=40:fontcolor=white:box=1:boxcolor=black@0.5:boxborderw=8:x=(w-tw)/2:y=(h-th)/2-10"
 
 
-def programme_words(folder):
-    """The packager: ffmpeg's test picture and tone as a live playlist of 2 s segments with dates, in a folder."""
+def split(renditions):
+    """ffmpeg's filters that make the picture of its first input in the sizes of so many renditions: [v1], [v2] .."""
+    numbers = range(1, renditions + 1)
+    names = "".join(f"[s{n}]" for n in numbers)
+    scaled = ";".join(f"[s{n}]scale={SIZES[n - 1][0]}:{SIZES[n - 1][1]}:flags=neighbor[v{n}]" for n in numbers)
+    return f"[0:v]split={renditions}{names};{scaled}"
+
+
+def programme_words(folder, renditions=1):
+    """The packager: ffmpeg's test picture and tone as live playlists of 2 s segments with dates, `folder`/1/index.m3u8 and so
+    on: renditions of one picture with the same cuts and times."""
     picture = f"testsrc2=size={WIDTH}x{HEIGHT}:rate={RATE},{numbered('programme')}"
-    return ["ffmpeg", "-v", "error", "-re", "-f", "lavfi", "-i", picture, "-re", "-f", "lavfi", "-i", "sine=frequency=440:sample_rate=48000", *coded(),
+    numbers = range(1, renditions + 1)
+    maps = [word for n in numbers for word in ("-map", f"[v{n}]", "-map", "1:a")]
+    rates = [word for n in numbers for word in (f"-b:v:{n - 1}", SIZES[n - 1][2])]
+    for n in numbers:
+        os.makedirs(f"{folder}/{n}", exist_ok=True)
+    return ["ffmpeg", "-v", "error", "-re", "-f", "lavfi", "-i", picture, "-re", "-f", "lavfi", "-i", "sine=frequency=440:sample_rate=48000",
+            "-filter_complex", split(renditions), *maps, *coded(), *rates, "-var_stream_map", " ".join(f"v:{n - 1},a:{n - 1},name:{n}" for n in numbers),
             "-f", "hls", "-hls_time", str(SECONDS), "-hls_list_size", str(LIST_SIZE), "-hls_delete_threshold", "15",
             "-hls_flags", "program_date_time+delete_segments+temp_file+independent_segments",
-            "-hls_segment_filename", f"{folder}/p-%d.ts", f"{folder}/index.m3u8"]
+            "-hls_segment_filename", f"{folder}/%v/p-%d.ts", f"{folder}/%v/index.m3u8"]
 
 
-def make_ads(folder):
-    """Makes the files of the advertisements, cut like the programme (a-0.ts ..), and in pieces of 1 s (a1-0.ts ..)."""
-    os.makedirs(folder, exist_ok=True)
+def make_ads(folder, renditions=1):
+    """Makes the files of the advertisements for each rendition, in its size, cut like the programme (1/a-0.ts ..), and in pieces
+    of 1 s (1/a1-0.ts ..)."""
     looks = {"ad a": ("0x803020", "Ad A", 660), "ad b": ("0x205080", "Ad B", 550), "fallback": ("0x306030", "Fallback", 330)}
     for kind, (colour, title, tone) in looks.items():
         picture = f"color=c={colour}:size={WIDTH}x{HEIGHT}:rate={RATE},{titled(title)},{numbered(kind)}"
-        source = ["-f", "lavfi", "-i", picture, "-f", "lavfi", "-i", f"sine=frequency={tone}:sample_rate=48000", "-t", str(CLIP * SECONDS)]
-        for seconds, name in ((SECONDS, FILES[kind]), (1, FILES[kind] + "1")):
-            words = ["ffmpeg", "-v", "error", *source, *coded(seconds), "-f", "hls", "-hls_time", str(seconds), "-hls_list_size", "0",
-                     "-hls_segment_filename", f"{folder}/{name}-%d.ts", f"{folder}/{name}.m3u8"]
-            subprocess.run(words, check=True, stdin=subprocess.DEVNULL)
+        words = ["ffmpeg", "-v", "error", "-f", "lavfi", "-i", picture, "-f", "lavfi", "-i", f"sine=frequency={tone}:sample_rate=48000"]
+        cuts = [(n, seconds) for n in range(1, renditions + 1) for seconds in (SECONDS, 1)]
+        words += ["-filter_complex", ";".join([split(renditions), *(f"[v{n}]split=2[v{n}c{SECONDS}][v{n}c1]" for n in range(1, renditions + 1))])]
+        for n, seconds in cuts:
+            os.makedirs(f"{folder}/{n}", exist_ok=True)
+            path = f"{folder}/{n}/{FILES[kind]}{'' if seconds == SECONDS else seconds}"
+            words += ["-map", f"[v{n}c{seconds}]", "-map", "1:a", "-t", str(CLIP * SECONDS), *coded(seconds), "-b:v", SIZES[n - 1][2], "-f", "hls",
+                      "-hls_time", str(seconds), "-hls_list_size", "0", "-hls_segment_filename", f"{path}-%d.ts", f"{path}.m3u8"]
+        subprocess.run(words, check=True, stdin=subprocess.DEVNULL)
+
+
+def master(addresses):
+    """The master playlist of a ladder whose renditions' playlists have these addresses (RFC 8216, 4.3.4)."""
+    lines = ["#EXTM3U", "#EXT-X-VERSION:6", "#EXT-X-INDEPENDENT-SEGMENTS"]
+    for (width, height, _, most), address in zip(SIZES, addresses):
+        lines += [f'#EXT-X-STREAM-INF:BANDWIDTH={most},RESOLUTION={width}x{height},FRAME-RATE={RATE}.000,CODECS="avc1.42c01f,mp4a.40.2"', address]
+    return "\n".join([*lines, ""])
 
 
 def pod_kinds(kinds, segments):

@@ -1,13 +1,15 @@
 """The first channel's plant: a packager, two processes of adsplice behind nginx, relays, and a site for page and media."""
 import os
 import shutil
+import subprocess
+import threading
 import time
 
 import media
-from relay import Relay
-from tools import HERE, configure_nginx, free_ports, request, wait_for
+from relay import Relay, listen
+from tools import HERE, ROOT, configure_nginx, free_ports, request, wait_for, write_aside
 
-# The page, the media, and `why`: what a real plant has on its own servers.
+# The page, the media, the master playlists and `why`: what a real plant has on its own servers.
 SITE = """
     types { text/html html; video/mp2t ts; application/vnd.apple.mpegurl m3u8; }
     server {
@@ -20,33 +22,72 @@ SITE = """
 
 
 class Plant:
-    """A programme, two processes of adsplice, nginx in front of them, and the page to watch it by."""
+    """A programme in so many renditions, two processes of adsplice, nginx in front of them, and the page to watch it by."""
 
-    def __init__(self, processes, program, room, host, port, viewers, operator):
-        self.processes, self.room = processes, room
+    def __init__(self, processes, program, room, host, port, viewers, operator, renditions=1, tell=lambda text: None):
+        """`port`, `viewers`, `operator`: of the page, of viewers' playlists, and for PUTs; `tell` prints what is done next."""
+        self.processes, self.room, self.renditions = processes, room, renditions
         self.site, self.viewers = f"http://{host}:{port}", f"http://{host}:{viewers}"
         self.ports = free_ports(2)
         self.operator = f"http://127.0.0.1:{operator}"
         self.relays = []
+        processes.stops.append(self.stop)
         os.makedirs(f"{room}/site/media/programme")
         shutil.copy(f"{HERE}/watch.html", f"{room}/site/index.html")
-        media.make_ads(f"{room}/site/media/ads")
+        tell("makes the advertisements")
+        media.make_ads(f"{room}/site/media/ads", renditions)
+        tell("starts adsplice, nginx, the packager and the feed")
         self.running = {it: processes.adsplice(program, it) for it in self.ports}
         server = SITE.replace("HOST", host).replace("PORT", str(port)).replace("ROOM", room)
         self.configuration = configure_nginx(room, self.ports, f"{host}:{viewers}", operator, server)
         self.nginx = processes.nginx(self.configuration)
         wait_for(operator)
-        self.packager = processes.start(media.programme_words(f"{room}/site/media/programme"), stderr=None)
+        self.packager = processes.start(media.programme_words(f"{room}/site/media/programme", renditions), stderr=None)
+
+    def relay(self, name, plan, rendition=1, kind=Relay):
+        """A relay of a kind between a rendition of the programme and the channel's feed."""
+        playlist = f"{self.room}/site/media/programme/{rendition}/index.m3u8"
+        self.relays.append(kind(name, plan, playlist, self.operator, self.site, f"{self.room}/feed", rendition))
+        return self.relays[-1]
 
     def channel(self, name, plan, kind=Relay):
         """Starts a channel with a plan of breaks, by a kind of relay; answers that."""
-        relay = kind(name, plan, f"{self.room}/site/media/programme/index.m3u8", self.operator, self.site, f"{self.room}/feed")
-        self.relays.append(relay.start(self.processes))
-        return relay
+        return self.relay(name, plan, kind=kind).start(self.processes)
 
-    def page(self, name):
-        """The address at which a channel is watched."""
-        return f"{self.site}/?channel={name}&playlists={self.viewers}"
+    def names(self, name):
+        """The channels of a programme, one for each rendition."""
+        return [f"{name}-{n}" for n in range(1, self.renditions + 1)]
+
+    def programme(self, name, plan, words=()):
+        """Starts a programme as a ladder with a plan of breaks: a channel for each rendition, one feed for all, with these words
+        more, and the master playlist; answers the relays, which share their list of faults."""
+        relays = [self.relay(it, plan, n) for n, it in enumerate(self.names(name), 1)]
+        folder = f"{self.room}/feed/{name}-{{}}"
+        numbers = " ".join(str(n) for n in range(1, self.renditions + 1))
+        write_aside(f"{self.room}/feed/{name}.ini", f"[{name}]\nrenditions = {numbers}\nat = {self.operator}\norigin = {folder}/index.m3u8\n"
+                    f"base = {self.site}/media/programme/{{}}/index.m3u8\ndecisions = {folder}/decisions\nfallback = {folder}/fallback.json\n"
+                    f"keep = {self.room}/feed/kept\n")
+        write_aside(f"{self.room}/site/{name}.m3u8", media.master([self.playlist(it) for it in self.names(name)]))
+        self.start_feed(name, relays, words)
+        for it in relays:
+            it.thread.start()
+        return relays
+
+    def start_feed(self, name, relays, words=()):
+        """Starts the feed of a programme's relays; one that was there is no more."""
+        feed = self.processes.start([f"{ROOT}/plant/adsplice-feed", "--config", f"{self.room}/feed/{name}.ini", *words],
+                                    stdout=subprocess.PIPE, stderr=None, text=True)
+        for it in relays:
+            it.faults, it.feed = relays[0].faults, feed
+        threading.Thread(target=listen, args=(feed.stdout, relays[0].faults), daemon=True).start()
+
+    def page(self, name, is_ladder=False):
+        """The address at which a channel, or a programme's ladder, is watched."""
+        return f"{self.site}/?{'programme' if is_ladder else 'channel'}={name}&playlists={self.viewers}"
+
+    def master(self, name):
+        """The address of a programme's master playlist."""
+        return f"{self.site}/{name}.m3u8"
 
     def playlist(self, name):
         """The address that viewers read."""
@@ -64,4 +105,6 @@ class Plant:
         """Ends the relays; the processes end with their block."""
         for it in self.relays:
             it.going = False
-            it.thread.join()
+        for it in self.relays:
+            if it.thread.is_alive():
+                it.thread.join(5)

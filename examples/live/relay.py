@@ -60,42 +60,45 @@ def read_instant(text):
     return datetime.strptime(text, "%Y-%m-%dT%H:%M:%S.%f%z")
 
 
+def listen(lines, faults):
+    """Reads a feed's lines; those of what was refused, or wasn't answered, and of renditions that came apart are told and kept
+    in `faults`, each once in a row."""
+    for line in lines:
+        _, name, who, rest = line.rstrip("\n").split(" ", 3)
+        said, _, text = rest.partition(": ")
+        is_refused = said[0] in "45" and not text.startswith("the channel is there")
+        if not is_refused and not (who == "adsplice" and said[0] == "-") and not said.endswith("Apart"):
+            continue
+        if said not in faults[-1:]:
+            faults.append(said)
+            print(f"{name}: {who}: {rest}", flush=True)
+
+
 class Relay:
     """Reads the packager's playlist, and writes it with the date ranges of the plan's breaks for a channel's feed, which it starts."""
 
-    def __init__(self, name, plan, playlist, operator, site, room):
-        self.name, self.plan, self.playlist, self.site, self.operator = name, plan, playlist, site, operator
+    def __init__(self, name, plan, playlist, operator, site, room, rendition=1):
+        self.name, self.plan, self.playlist, self.operator = name, plan, playlist, operator
+        self.base, self.ads = f"{site}/media/programme/{rendition}/index.m3u8", f"{site}/media/ads/{rendition}"
         self.signalled_list, self.decisions = f"{room}/{name}/index.m3u8", f"{room}/{name}/decisions"
         self.fallback, self.kept = f"{room}/{name}/fallback.json", f"{room}/kept"
         self.sent, self.decided, self.faults, self.going = None, -1, [], True
         self.thread, self.feed = threading.Thread(target=self.run, daemon=True), None
         os.makedirs(self.decisions)
-        ads = media.pod(plan.fallback, f"{site}/media/ads", plan.cut)
+        ads = media.pod(plan.fallback, self.ads, plan.cut)
         write_aside(self.fallback, json.dumps({"fallback": {"ads": ads}}))
 
     def feed_words(self):
         """The words of the channel's feed."""
         return [f"{ROOT}/plant/adsplice-feed", "--channel", self.name, "--at", self.operator, "--origin", self.signalled_list,
-                "--base", f"{self.site}/media/programme/index.m3u8", "--decisions", self.decisions, "--fallback", self.fallback, "--keep", self.kept]
-
-    def listen(self, lines):
-        """Reads the feed's lines; those of what was refused, or wasn't answered, are told and kept, each once in a row."""
-        for line in lines:
-            _, name, who, rest = line.rstrip("\n").split(" ", 3)
-            said, _, text = rest.partition(": ")
-            is_refused = said[0] in "45" and not text.startswith("the channel is there")
-            if not is_refused and not (who == "adsplice" and said[0] == "-"):
-                continue
-            if said not in self.faults[-1:]:
-                self.faults.append(said)
-                print(f"{name}: {who}: {rest}", flush=True)
+                "--base", self.base, "--decisions", self.decisions, "--fallback", self.fallback, "--keep", self.kept]
 
     def decide(self, turn):
         """Writes the decision on a break for the feed, once."""
         if turn <= self.decided:
             return
         if self.plan.is_decided(turn):
-            ads = media.pod(self.plan.own, f"{self.site}/media/ads", self.plan.cut)
+            ads = media.pod(self.plan.own, self.ads, self.plan.cut)
             write_aside(f"{self.decisions}/break-{turn}.json", json.dumps({"breaks": [{"id": f"break-{turn}", "ads": ads}]}))
         self.decided = turn
 
@@ -137,7 +140,7 @@ class Relay:
     def start_feed(self, processes):
         """Starts the feed as one of `processes`; one that was there is no more."""
         self.feed = processes.start(self.feed_words(), stdout=subprocess.PIPE, stderr=None, text=True)
-        threading.Thread(target=self.listen, args=(self.feed.stdout,), daemon=True).start()
+        threading.Thread(target=listen, args=(self.feed.stdout, self.faults), daemon=True).start()
 
     def start(self, processes):
         """Starts, with its feed as one of `processes`."""

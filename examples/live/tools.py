@@ -1,4 +1,6 @@
 """What the scripts of this folder share: processes that are started and ended, nginx's example on ports of its own, requests."""
+import argparse
+import contextlib
 import http.client
 import os
 import shutil
@@ -6,6 +8,7 @@ import signal
 import socket
 import subprocess
 import sys
+import tempfile
 import time
 import urllib.parse
 
@@ -32,17 +35,115 @@ def lacking(*programs):
     return f"not installed: {', '.join(names)} (Debian: apt-get install {packages})"
 
 
-def find_program(words):
-    """The built program: the path that the first word names, else the one that tests/build proves and builds."""
-    if words:
-        return os.path.abspath(words[0])
-    return subprocess.run([f"{ROOT}/tests/build"], check=True, stdout=subprocess.PIPE, text=True).stdout.strip()
+def fail(text, status=1):
+    """Ends the script with a line on standard error and an exit status."""
+    print(f"examples/live/{os.path.basename(sys.argv[0])}: {text}", file=sys.stderr, flush=True)
+    sys.exit(status)
+
+
+class Words(argparse.ArgumentParser):
+    """Reads a script's words; wrong ones end it with one line and status 2."""
+
+    def __init__(self, text, has_program=True):
+        """`text`: the help; `has_program`: whether the one word without a name is the program."""
+        super().__init__(prog=f"examples/live/{os.path.basename(sys.argv[0])}", description=text, formatter_class=argparse.RawDescriptionHelpFormatter)
+        if has_program:
+            self.add_argument("program", nargs="?", metavar="PROGRAM", type=built_program, help="the built program; proved and built where none is named")
+
+    def error(self, message):
+        """Ends the script with `message` in one line."""
+        fail(f"{message} (--help tells the words)", 2)
+
+
+def counted(least, most):
+    """A reader of a whole number from `least` to `most`."""
+    def read(text):
+        if not text.isascii() or not text.isdigit() or not least <= int(text) <= most:
+            raise argparse.ArgumentTypeError(f"{text!r} isn't a whole number from {least} to {most}")
+        return int(text)
+    return read
+
+
+def built_program(path):
+    """The absolute path of a built program, for a reader of words. (A script such as ./adsplice is none: it would prove and
+    build the program for half an hour, unseen.)"""
+    if not os.path.isfile(path):
+        raise argparse.ArgumentTypeError(f"there is no program {path}")
+    with open(path, "rb") as it:
+        is_built = it.read(4) == b"\x7fELF" and os.access(path, os.X_OK)
+    if not is_built:
+        raise argparse.ArgumentTypeError(f"{path} isn't the built program: ./install DIR proves and builds it, and copies it to DIR/adsplice")
+    return os.path.abspath(path)
+
+
+def find_program(named):
+    """The built program: the one that is named, or else the one that tests/build proves and builds."""
+    if named:
+        return named
+    with held_signals():
+        it = subprocess.Popen([f"{ROOT}/tests/build"], stdin=subprocess.DEVNULL, stdout=subprocess.PIPE, text=True, start_new_session=True)
+    try:
+        text = it.communicate()[0].strip()
+    except BaseException:  # (a signal: the proofs that it started end with it)
+        with contextlib.suppress(OSError):
+            os.killpg(it.pid, signal.SIGTERM)
+        it.wait()
+        raise
+    if it.returncode:
+        fail("the program couldn't be built")
+    return text
+
+
+# A signal that comes while something is started waits until that is known, so that it can be ended.
+held = {"depth": 0, "number": 0}
+
+
+@contextlib.contextmanager
+def held_signals():
+    """Within its block a signal that ends the script waits for the block's end."""
+    held["depth"] += 1
+    try:
+        yield
+    finally:
+        held["depth"] -= 1
+        if held["number"] and not held["depth"]:
+            end_by(held["number"])
+
+
+@contextlib.contextmanager
+def temporary_room(prefix):
+    """A folder that is gone with its block; nginx's workers may read it, which run as another user where root starts them."""
+    path = None
+    try:
+        with held_signals():
+            path = tempfile.mkdtemp(prefix=prefix)
+        os.chmod(path, 0o755)
+        yield path
+    finally:
+        if path:
+            with held_signals():
+                shutil.rmtree(path, ignore_errors=True)
+
+
+def end_by(number):
+    """Ends the script by a signal: one line, and then its blocks end what they started; further signals are no longer heard."""
+    for it in (signal.SIGTERM, signal.SIGHUP, signal.SIGINT):
+        signal.signal(it, signal.SIG_IGN)
+    held["number"] = 0
+    with contextlib.suppress(OSError):
+        print(f"examples/live/{os.path.basename(sys.argv[0])}: ended by {signal.Signals(number).name}; ends what it started", file=sys.stderr, flush=True)
+    sys.exit(128 + number)
 
 
 def end_cleanly():
-    """Has SIGTERM and SIGHUP end the script through its blocks, as Ctrl-C does, so that nothing that it started is left behind."""
-    for it in (signal.SIGTERM, signal.SIGHUP):
-        signal.signal(it, lambda number, _: sys.exit(128 + number))
+    """Has SIGTERM, SIGHUP and Ctrl-C end the script through its blocks, so that nothing that it started is left behind."""
+    def heard(number, _):
+        held["number"] = number
+        if not held["depth"]:
+            end_by(number)
+
+    for it in (signal.SIGTERM, signal.SIGHUP, signal.SIGINT):
+        signal.signal(it, heard)
 
 
 def free_ports(count):
@@ -77,27 +178,31 @@ def wait_for(port, host="127.0.0.1"):
             return
         except OSError:
             time.sleep(0.05)
-    sys.exit(f"{os.path.basename(sys.argv[0])}: nothing listens on port {port}")
+    fail(f"nothing listens on port {port}")
 
 
 class Processes:
-    """Processes that end with the block that started them, the last one first."""
+    """Processes that end with the block that started them, the last one first; before them, what `stops` has to call."""
 
     def __init__(self):
-        self.running = []
+        self.running, self.stops = [], []
 
     def __enter__(self):
         return self
 
     def __exit__(self, *_):
-        for it in reversed(list(self.running)):
-            self.end(it)
+        with held_signals():
+            for stop in self.stops:
+                stop()
+            for it in reversed(list(self.running)):
+                self.end(it)
 
     def start(self, words, **more):
         """Starts a process; its standard input is empty, and its standard error is left out unless `more` says where it goes."""
         more = {"stdin": subprocess.DEVNULL, "stdout": subprocess.DEVNULL, "stderr": subprocess.DEVNULL, **more}
-        it = subprocess.Popen(words, **more)
-        self.running.append(it)
+        with held_signals():
+            it = subprocess.Popen(words, **more)
+            self.running.append(it)
         return it
 
     def end(self, it, hard=False):
@@ -122,7 +227,7 @@ class Processes:
         """Starts nginx with a configuration; its first lines of complaint are shown where it doesn't start."""
         tried = subprocess.run(["nginx", "-t", "-c", configuration], capture_output=True, text=True)
         if tried.returncode:
-            sys.exit(tried.stderr)
+            fail(next(iter(tried.stderr.splitlines()), "nginx doesn't take its configuration"))
         return self.start(["nginx", "-c", configuration, "-g", "daemon off;"])
 
 
@@ -137,7 +242,7 @@ def replaced(text, pairs):
     """A text with each old part, which has to stand there, replaced by its new one."""
     for old, new in pairs:
         if old not in text:
-            sys.exit(f"nginx.conf has no {old!r} any more")
+            fail(f"nginx.conf has no {old!r} any more")
         text = text.replace(old, new)
     return text
 

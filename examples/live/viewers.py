@@ -1,4 +1,5 @@
 """Players of several kinds, each of which tells what frames it shows and when: (kind, number, seconds since it began)."""
+import atexit
 import os
 import shutil
 import subprocess
@@ -8,9 +9,10 @@ import time
 
 import media
 from browser import Browser
+from tools import held_signals
 
 # ffmpeg's filter that makes one gray byte of each of a frame's blocks
-BLOCKS = (f"crop={media.WIDTH}:{media.BLOCK}:0:{media.HEIGHT - media.BLOCK},scale={media.BITS}:1:flags=area,format=gray")
+BLOCKS = (f"scale={media.WIDTH}:{media.HEIGHT}:flags=area,crop={media.WIDTH}:{media.BLOCK}:0:{media.HEIGHT - media.BLOCK},scale={media.BITS}:1:flags=area,format=gray")
 
 
 class Pipe:
@@ -20,8 +22,10 @@ class Pipe:
         self.name, self.frames, self.began = name, [], time.monotonic()
         self.size = media.WIDTH * media.HEIGHT if is_whole else media.BITS
         self.is_whole = is_whole
-        self.process = subprocess.Popen(words, stdin=subprocess.DEVNULL, stdout=subprocess.PIPE, stderr=subprocess.DEVNULL, user=user,
-                                        start_new_session=True)
+        with held_signals():
+            self.process = subprocess.Popen(words, stdin=subprocess.DEVNULL, stdout=subprocess.PIPE, stderr=subprocess.DEVNULL, user=user,
+                                            start_new_session=True)
+            atexit.register(self.end)  # (where a signal ends the script)
         self.source = self.process.stdout
         self.thread = threading.Thread(target=self.run, daemon=True)
         self.thread.start()
@@ -43,6 +47,7 @@ class Pipe:
 
     def end(self):
         """Ends the player, and answers what it showed."""
+        atexit.unregister(self.end)
         if self.process.poll() is None:
             self.process.terminate()
             try:
@@ -116,7 +121,7 @@ class Page:
         """Ends the browser, and answers what it showed; `missed` is how many frames it says that it dropped, or didn't tell of."""
         with self.browser as it:
             self.missed = it.value("missed.dropped + missed.unseen") or 0
-            frames = [(kind, number, milliseconds / 1000) for kind, number, milliseconds in it.value("seen") or []]
+            frames = [(kind, number, milliseconds / 1000) for kind, number, milliseconds, _ in it.value("seen") or []]
             # (a frame that is told of twice in a row stood still for so long, which is looked at by its time)
             return frames[:1] + [b for a, b in zip(frames, frames[1:]) if b[:2] != a[:2]]
 

@@ -1,6 +1,7 @@
 """A channel's feed: reads its list, makes the channel in adsplice where it isn't there, and gives it decisions and lists."""
 from __future__ import annotations
 
+import threading
 import time
 from collections.abc import Callable
 from pathlib import Path
@@ -35,6 +36,7 @@ class Channel:
         self.url = f"{settings.at}/channels/{settings.name}"
         self.origin: Origin = WebOrigin(settings.origin, client) if settings.is_web() else FileOrigin(Path(settings.origin))
         self.folder = Folder(settings.decisions, keep_days)
+        self.together = threading.RLock()  # held while adsplice is given something; the renditions of a ladder have one
         self.journal = Journal(settings.keep / f"{settings.name}.events", self.opening) if settings.keep else None
         self.away, self.missing = Pauses(0.5, longest_pause), Pauses(0.5, longest_pause)
         self.fallback_stamp: tuple[int, int, int] | None = None  # of the file that was given
@@ -228,13 +230,12 @@ class Channel:
         if gone.status not in (204, 404):
             self.failed(gone, "tries again with growing pauses")
             return False
-        return self.make() and self.decide() and self.push()
+        return self.again()
 
     # ---- turns
 
-    def look(self) -> Read:
-        """Reads the origin, and what its list lists where that is new."""
-        found = read_whole(self.origin, self.settings.unended)
+    def look(self, found: Read) -> None:
+        """Takes in what was `found` at the origin, and what its list lists where that is new."""
         if found.body is not None:
             if found.body != self.list:
                 self.list, self.is_pushed = found.body, False
@@ -247,7 +248,6 @@ class Channel:
             self.tell("origin", found.status, "CutOff" if found.why == CUT_OFF else "", f"{found.why}; reads it again with growing pauses")
         elif self.states.get("origin", READ) != READ:
             self.tell("origin", 200, "", "the list is read again")
-        return found
 
     def interval(self) -> float:
         """The seconds from one look at the origin to the next: half of the target duration, and of a file no more than OFTEN."""
@@ -261,7 +261,13 @@ class Channel:
     def turn(self) -> float:
         """One turn: looks at the origin and the folder, gives adsplice what is new, and answers the seconds to the next one."""
         begun = time.monotonic()
-        found = self.look()
+        found = read_whole(self.origin, self.settings.unended)
+        with self.together:
+            return self.take_turn(found, begun)
+
+    def take_turn(self, found: Read, begun: float) -> float:
+        """The turn that began at `begun`, once `found` was found at the origin; answers the seconds to the next one."""
+        self.look(found)
         self.folder.look()
         if not self.give_all():
             return min(self.away.next(), self.longest())

@@ -101,6 +101,10 @@ class Folder:
         """Those that were not yet given to the controller."""
         return [it for it in self.decisions.values() if it.state == "new"]
 
+    def named(self, name: str) -> Decision | None:
+        """The one in the file `name`; none where there is none."""
+        return None if self.path is None else self.decisions.get(self.path / name)
+
     def open(self) -> list[Decision]:
         """Those that the controller holds: they are given to it again where its channel is made anew."""
         return [it for it in self.decisions.values() if it.state == "given"]

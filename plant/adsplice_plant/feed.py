@@ -7,6 +7,7 @@ from pathlib import Path
 from . import settings as told
 from . import words
 from .channel import Channel
+from .ladder import Ladder, Rendition
 from .settings import Settings
 from .web import Client
 from .words import Fault
@@ -24,6 +25,10 @@ adsplice is away, it is tried again with pauses that grow to a target duration, 
 Decision files (*.json) that are renamed into DIR are given to adsplice, stay there while their breaks are listed, are given
 again after a new start, and are then moved to DIR/done. One that is refused stays, and is taken once it is written anew.
 
+Renditions of one programme (--renditions '1080 720 360') are a channel each: {} in the words stands for the rendition's name.
+A decision is a file of one name in each rendition's DIR. It is given to all of them before any list that enters its break, or
+to none; they are made anew together, and it is told where their numbers come apart.
+
 Standard output has a line for each change of state: time, channel, who (origin, adsplice, or a file), status, fault, and
 what is done about it. Exit status: 0 after SIGTERM, SIGINT or SIGHUP; 1 where it can't begin; 2 for wrong words."""
 
@@ -36,6 +41,12 @@ EPILOG = """A config file has a section for each channel, and in [DEFAULT] what 
   origin = http://origin.example/ch/index.m3u8
   decisions = /var/lib/adsplice/decisions/news
   fallback = /etc/adsplice/fallback.json
+
+  [sport]
+  renditions = 1080 720 360
+  origin = http://origin.example/sport/{}/index.m3u8
+  decisions = /var/lib/adsplice/decisions/sport-{}
+  fallback = /etc/adsplice/fallback-{}.json
 
 Its names are the long words above without their hyphens; `unended = yes` is --unended."""
 
@@ -53,6 +64,7 @@ def read_words(arguments: list[str]) -> argparse.Namespace:
     it.add_argument("--decisions", metavar="DIR")
     it.add_argument("--fallback", metavar="FILE", help="a decision file with a fallback, given whenever the channel is made")
     it.add_argument("--keep", metavar="DIR", help="keeps NAME.events there, for adsplice-monitor and adsplice-explain")
+    it.add_argument("--renditions", metavar="NAMES", help="a ladder: a channel NAME-R for each rendition R of NAMES, such as '1080 720 360'")
     it.add_argument("--unended", action="store_const", const="yes", help="the packager never ends its last line: take it so")
     it.add_argument("--timeout", type=words.seconds, default=5.0, metavar="SECONDS", help="for a request with its answer (5)")
     it.add_argument("--longest-pause", type=words.seconds, default=5.0, metavar="SECONDS", help="between two trials (5, and no more than a target duration)")
@@ -69,7 +81,25 @@ def channels_of(said: argparse.Namespace) -> list[Settings]:
     """The channels that the words `said` tell of; raises Fault."""
     if said.config is not None:
         return told.read_file(said.config)
-    return [told.settings_of(said.channel, {it: getattr(said, it) for it in told.NAMES})]
+    return told.ladder_of(said.channel, {it: getattr(said, it) for it in told.NAMES})
+
+
+def feeds_of(channels: list[Settings], said: argparse.Namespace) -> list[Channel]:
+    """The feeds of `channels` by the words `said`; those of one programme share a ladder."""
+    ladders: dict[str, Ladder] = {}
+
+    def say(line: str) -> None:
+        words.write_out(f"{line}\n")
+
+    found: list[Channel] = []
+    for it in channels:
+        client = Client(said.timeout)
+        if it.programme:
+            ladder = ladders.setdefault(it.programme, Ladder(it.programme, say))
+            found.append(Rendition(it, client, say, said.longest_pause, said.keep_days, ladder))
+        else:
+            found.append(Channel(it, client, say, said.longest_pause, said.keep_days))
+    return found
 
 
 def run(channel: Channel, ending: threading.Event, delay: float) -> None:
@@ -89,7 +119,7 @@ def main(arguments: list[str]) -> int:
     said = read_words(arguments)
     try:
         channels = channels_of(said)
-        feeds = [Channel(it, Client(said.timeout), lambda line: words.write_out(f"{line}\n"), said.longest_pause, said.keep_days) for it in channels]
+        feeds = feeds_of(channels, said)
     except (Fault, OSError) as fault:
         words.fail("adsplice-feed", str(fault))
     ending = words.ends_by_signals()

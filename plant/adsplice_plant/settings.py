@@ -3,20 +3,22 @@ import argparse
 import configparser
 import json
 from collections.abc import Mapping
-from dataclasses import dataclass
+from dataclasses import dataclass, replace
 from pathlib import Path
 
 from . import words
 from .words import Fault
 
-NAMES = ("origin", "at", "base", "tolerance", "decisions", "fallback", "keep", "unended")
+NAMES = ("origin", "at", "base", "tolerance", "decisions", "fallback", "keep", "unended", "renditions")
+PLACE = "{}"  # of a rendition's name in the texts of a ladder's section
 
 
 @dataclass(frozen=True)
 class Settings:
     """One channel: its `name`, the `origin` of its list (a URL or a file), adsplice's address `at`, the `base` of its
     references, a `tolerance` in seconds, the folder of `decisions`, the `fallback` file, the folder `keep` of what is kept for
-    the monitor and the explainer, and whether its packager leaves the last line `unended`."""
+    the monitor and the explainer, whether its packager leaves the last line `unended`, and the `programme` whose rendition it
+    is, where it is one of a ladder."""
 
     name: str
     origin: str
@@ -27,6 +29,7 @@ class Settings:
     fallback: Path | None = None
     keep: Path | None = None
     unended: bool = False
+    programme: str = ""
 
     def is_web(self) -> bool:
         """Whether the origin is a URL."""
@@ -36,6 +39,24 @@ class Settings:
         """The body of the request that makes the channel."""
         said = {"base": self.base} | ({"tolerance": self.tolerance} if self.tolerance else {})
         return json.dumps(said).encode()
+
+
+def ladder_of(name: str, said: Mapping[str, str | None]) -> list[Settings]:
+    """The settings of the channel `name` from texts by the names of NAMES; those of a channel for each of the programme's
+    renditions where `renditions` names some, in whose texts PLACE stands for the rendition's name. Raises Fault."""
+    renditions = (said.get("renditions") or "").split()
+    if not renditions:
+        return [settings_of(name, said)]
+    for it in ("origin", "decisions"):
+        if said.get(it) and PLACE not in (said[it] or ""):
+            raise Fault(f"channel {name}: {it} needs {PLACE} where a rendition's name is to stand, for each has its own")
+    if len(set(renditions)) < len(renditions) or any("-" in it for it in renditions):
+        raise Fault(f"channel {name}: each rendition has a name of its own without '-': {' '.join(renditions)}")
+    found = []
+    for rendition in renditions:
+        texts = {key: value.replace(PLACE, rendition) if value else value for key, value in said.items()}
+        found.append(replace(settings_of(f"{name}-{rendition}", texts), programme=name))
+    return found
 
 
 def settings_of(name: str, said: Mapping[str, str | None]) -> Settings:
@@ -63,7 +84,7 @@ def settings_of(name: str, said: Mapping[str, str | None]) -> Settings:
     unended = (said.get("unended") or "no").lower()
     if unended not in ("yes", "no"):
         raise Fault(f"channel {name}: unended is yes or no, and not {unended}")
-    return Settings(name, origin, at, base, said.get("tolerance") or "", **paths, unended=unended == "yes")
+    return Settings(name, origin, at, base, said.get("tolerance") or "", paths["decisions"], paths["fallback"], paths["keep"], unended == "yes")
 
 
 def read_file(path: Path) -> list[Settings]:
@@ -80,7 +101,7 @@ def read_file(path: Path) -> list[Settings]:
         unknown = set(found[name]) - set(NAMES)
         if unknown:
             raise Fault(f"{path}: channel {name}: there is no setting {min(unknown)}; there are {', '.join(NAMES)}")
-        channels.append(settings_of(name, dict(found[name])))
+        channels += ladder_of(name, dict(found[name]))
     if not channels:
         raise Fault(f"{path}: it has no channel: a section such as [news]")
     return channels

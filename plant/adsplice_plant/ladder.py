@@ -1,0 +1,341 @@
+"""A ladder: the renditions of one programme, a channel each, which have equal decisions and are made anew together.
+
+A player that switches from one rendition to another goes by their numbers. These depend on the packager's cuts and marks and
+on the pods alone, so one decision that a rendition lacks keeps its discontinuity numbers apart from the others' for good.
+"""
+from __future__ import annotations
+
+import json
+import re
+import threading
+import time
+from dataclasses import replace
+
+from . import faults, playlist
+from .channel import JUDGED, Channel, Say
+from .decisions import Decision
+from .playlist import SECOND, Listed
+from .settings import Settings
+from .web import Answer, Client
+from .words import now_text
+
+STEP = 3.0  # target durations that the renditions' lists have to come into step before the channels are made without
+LATE = 2.0  # seconds after which a file that isn't there in all renditions is told
+HELD = 2.0  # target durations that a rendition whose process is away holds up a decision of the others
+TOLERANCE = SECOND // 10  # adsplice's own
+NUMBER = re.compile(r"^#EXT-X-(MEDIA|DISCONTINUITY)-SEQUENCE:(\d+)", re.M)
+
+Group = list[tuple["Rendition", Decision]]
+
+
+class Rendition(Channel):
+    """The feed of one rendition of the `ladder`; the rest is as in Channel."""
+
+    def __init__(self, settings: Settings, client: Client, say: Say, longest_pause: float, keep_days: float, ladder: Ladder) -> None:
+        super().__init__(settings, client, say, longest_pause, keep_days)
+        self.ladder, self.together = ladder, ladder.lock
+        self.tolerance = playlist.read_duration(settings.tolerance) if settings.tolerance else TOLERANCE
+        self.newest, self.reached = Listed(), 0  # of the newest list; the instant at which the last segment that was taken begins
+        self.debts: list[bytes] = []  # withdrawals that come before its next list
+        ladder.members.append(self)
+
+    def give_all(self) -> bool:
+        """Gives what is new to the ladder, and the list to this rendition; whether all was answered."""
+        if self.list is not None and not self.is_pushed:
+            self.newest = playlist.read(self.list)
+        return self.ladder.give_all(self)
+
+    def again(self) -> bool:
+        """Its channel isn't there any more: all of the ladder's are made anew; whether all was answered."""
+        return self.ladder.again(self)
+
+    def push(self) -> bool:
+        """PUTs the newest list, once what has to be withdrawn is; whether that is over."""
+        while self.debts:
+            answer = self.put("decisions", self.debts[0])
+            if answer.status != 204 and answer.status not in JUDGED:
+                self.gone(answer)
+                return False
+            self.debts.pop(0)
+        return super().push()
+
+    def taken(self) -> None:
+        """A list was taken."""
+        super().taken()
+        self.reached = max((it.begins or 0 for it in self.newest.segments), default=0)
+
+    def anew(self) -> None:
+        """Its channel was made: all is to be given to it again."""
+        self.is_made, self.is_pushed, self.refused, self.reached, self.debts = True, False, 0, 0, []
+        self.folder.start_anew()
+        self.folder.look()
+
+
+class Ladder:
+    """The renditions of the programme `name`; `say` prints a line."""
+
+    def __init__(self, name: str, say: Say) -> None:
+        self.name, self.say = name, say
+        self.lock = threading.RLock()
+        self.members: list[Rendition] = []
+        self.states: dict[str, str] = {}
+        self.step_since = 0.0  # since when the channels wait for lists in step; 0 where they don't
+        self.held: dict[str, float] = {}  # files that a rendition which is away holds up, and since when
+        self.is_resumed = False  # the channels were there when the feed began: a break that has begun has the pod that it is given again
+        self.seen: dict[str, float] = {}  # files that aren't there in all renditions, and since when
+
+    def tell(self, what: str, fault: str, text: str) -> None:
+        """Prints a line of `what`, a file or the ladder itself, with a word in place of a `fault`, once in a row."""
+        if self.states.get(what) != fault + text:
+            self.states[what] = fault + text
+            self.say(f"{now_text()} {self.name} {what} - {fault or '-'}: {text}")
+
+    def target(self) -> float:
+        """The target duration in seconds; one second where it isn't known."""
+        return float(max((it.target or 1 for it in self.members), default=1))
+
+    # ---- making the channels
+
+    def is_in_step(self) -> bool:
+        """Whether all renditions' newest lists have the same first and last media number."""
+        return len({(it.newest.first, len(it.newest.segments)) for it in self.members}) == 1 and bool(self.members[0].newest.segments)
+
+    def give_all(self, one: Rendition) -> bool:
+        """Gives what is new to all renditions, and its list to `one`; whether all was answered."""
+        if not all(it.is_made for it in self.members):
+            return self.again(one)
+        if not self.decide():
+            return not all(it.is_made for it in self.members) and self.again(one)
+        if one.list is None or one.is_pushed:
+            return True
+        if not one.push():
+            return not one.is_made and self.again(one)
+        self.compare()
+        return True
+
+    def again(self, one: Rendition) -> bool:
+        """Makes all channels anew, once their lists are in step, and gives each all that is open; whether all was answered."""
+        now = time.monotonic()
+        self.step_since = self.step_since or now
+        if not self.is_in_step() and now - self.step_since < STEP * self.target():
+            return True
+        if not self.is_in_step():
+            self.tell("ladder", "Unequal", "the renditions' lists don't begin and end with the same media numbers; makes the channels all the same")
+        if not self.make(one) or not self.decide(is_anew=True):
+            return False
+        self.step_since, self.is_resumed = 0.0, False
+        pushed = [it.push() for it in self.members if it.list is not None]
+        self.compare()
+        return all(pushed)
+
+    def make(self, one: Rendition) -> bool:
+        """Makes the channels. Where some of them are new, those that were there are made anew with them; whether all are there."""
+        answers = {it: it.put("", it.settings.body()) for it in self.members}
+        if 201 in {it.status for it in answers.values()}:
+            for it in [it for it, answer in answers.items() if answer.status == 409]:
+                gone = it.client.ask("DELETE", it.url)
+                it.note("delete", gone)
+                answers[it] = it.put("", it.settings.body()) if gone.status in (204, 404) else gone
+        for it, answer in answers.items():
+            if answer.status not in (201, 409):
+                one.failed(answer, f"makes {it.settings.name} with the other renditions as soon as it can")
+                return False
+        for it, answer in answers.items():
+            it.anew()
+            it.states.pop("adsplice", None)
+            it.tell("adsplice", answer.status, "", "makes the channel" if answer.status == 201 else "the channel is there already; goes on with it")
+        self.held.clear()
+        self.is_resumed = all(it.status == 409 for it in answers.values())
+        return True
+
+    # ---- decisions
+
+    def decide(self, is_anew: bool = False) -> bool:
+        """Gives the fallback where it changed or `is_anew`, and each decision file that waits, to all renditions or to none;
+        whether the feed may go on. A list that enters a break comes after them."""
+        if is_anew or any(it.stamp() not in (None, it.fallback_stamp) for it in self.members):
+            if not self.give_fallbacks():
+                return False
+        for it in self.members:
+            it.folder.look()
+        names = dict.fromkeys(found.path.name for it in self.members for found in it.folder.waiting())
+        return all(self.give_file(it) for it in names)
+
+    def give_fallbacks(self) -> bool:
+        """Gives each rendition its fallback file; where one is refused, none has a fallback. Whether all was answered."""
+        for it in self.members:
+            it.fallback_stamp = it.stamp()
+        bodies = [(it, body) for it in self.members if (body := it.fallback())]
+        answers = [(it, it.put("decisions", body)) for it, body in bodies]
+        if not self.are_judged(answers):
+            for it in self.members:
+                it.fallback_stamp = None
+            return False
+        refused = next(((it, answer) for it, answer in answers if answer.status != 204), None)
+        if refused is None:
+            self.states.pop("fallback", None)
+            return True
+        it, answer = refused
+        self.tell("fallback", faults.name_of(answer.line()), f"{it.settings.name}: {faults.meaning(answer.status, answer.line())} ({answer.line()}); "
+                                                             "no rendition has a fallback until its file is mended")
+        return self.are_judged([(it, it.put("decisions", b'{"fallback":null}')) for it in self.members])
+
+    @staticmethod
+    def are_judged(answers: list[tuple[Rendition, Answer]]) -> bool:
+        """Whether adsplice answered all of these requests; the first one that it didn't is told."""
+        for it, answer in answers:
+            if answer.status != 204 and answer.status not in JUDGED:
+                it.gone(answer)
+                return False
+        return True
+
+    def give_file(self, name: str) -> bool:
+        """Gives the decision that the renditions have in files of the name `name`; whether the feed may go on."""
+        found = [(it, decision) for it in self.members if (decision := it.folder.named(name)) is not None]
+        late = self.begun(sorted({id_ for _, decision in found for id_ in decision.ids}))
+        absent = [it.settings.name for it in self.members if it.folder.named(name) is None]
+        if absent:
+            return self.wait_for_rest(name, found, absent, late)
+        self.seen.pop(name, None)
+        if len({shape_of(decision.body) for _, decision in found} - {""}) > 1:
+            self.refuse(name, found, "Unequal", "the renditions' files don't have the same breaks, with ads and segments of the same lengths")
+            return True
+        if late:
+            found = [(it, without(decision, late)) for it, decision in found]
+            self.tell(f"decisions/{name}", "Late", f"{', '.join(late)} has begun in a rendition, and stays in all as it is")
+            if not found[0][1].ids:
+                return self.finish(name)
+        return self.give(name, found)
+
+    def wait_for_rest(self, name: str, found: Group, absent: list[str], late: list[str]) -> bool:
+        """The file `name` isn't there in all renditions: tells where that lasts, and gives it up once a break of it has begun."""
+        if late:
+            self.tell(f"decisions/{name}", "Late", f"{', '.join(late)} has begun, and {', '.join(absent)} has no such file; no rendition is given it")
+            return self.finish(name)
+        if time.monotonic() - self.seen.setdefault(name, time.monotonic()) > LATE:
+            self.tell(f"decisions/{name}", "Waits", f"{', '.join(absent)} has no such file; it is given once all renditions have it")
+        return True
+
+    def finish(self, name: str) -> bool:
+        """The decision in the files `name` is over; the feed may go on."""
+        for it in self.members:
+            if (decision := it.folder.named(name)) is not None:
+                it.folder.finish(decision)
+        return True
+
+    def refuse(self, name: str, group: Group, fault: str, text: str) -> None:
+        """Leaves the files `name` of `group` until they are written anew, and tells the `fault` and its `text`."""
+        for it, _ in group:
+            if (decision := it.folder.named(name)) is not None:
+                decision.state = "refused"
+        self.tell(f"decisions/{name}", fault, f"{text}; no rendition has it until its files are written anew")
+
+    def begun(self, ids: list[str]) -> list[str]:
+        """Those of the breaks `ids` that have begun in a list that a rendition has taken."""
+        starts: dict[str, int] = {}
+        for it in self.members:
+            starts |= {found.id: start for found in it.newest.ranges if (start := found.start()) is not None}
+        return [id_ for id_ in ids if id_ in starts and any(it.reached >= starts[id_] - (it.tolerance or 0) for it in self.members)]
+
+    def give(self, name: str, group: Group) -> bool:
+        """Gives the decision `name` of `group` to all renditions, or to none; whether the feed may go on."""
+        if name in self.held and time.monotonic() - self.held[name] > HELD * self.target():
+            return True  # (given once the rendition that is away is back, and all are made anew)
+        answers = []
+        for it, decision in group:
+            answers.append((it, it.put("decisions", decision.body)))
+            if answers[-1][1].status in JUDGED and faults.code_of(answers[-1][1].line()) not in (("J9", "J11") if self.is_resumed else ("J11",)):
+                return self.take_back(name, group, *answers[-1])
+        if away := [(it, answer) for it, answer in answers if answer.status != 204 and answer.status not in JUDGED]:
+            return self.hold(name, group, away)
+        for it, decision in group:
+            it.folder.given(it.folder.named(name) or decision)
+        text = Channel.taken_text(group[0][1])
+        self.tell(f"decisions/{name}", "", f"{text} in all renditions")
+        return True
+
+    def take_back(self, name: str, group: Group, refuser: Rendition, answer: Answer) -> bool:
+        """`refuser` refused the decision `name` by `answer`: those that took it lose it; whether the feed may go on."""
+        line, decision = answer.line(), group[0][1]
+        if faults.code_of(line) == "J9" and decision.kind == "breaks" and len(decision.ids) > 1:
+            alone = [[(it, without(found, [other for other in found.ids if other != one])) for it, found in group] for one in decision.ids]
+            return all(self.give(name, it) for it in alone)
+        self.withdraw(group)
+        if faults.code_of(line) == "J9":
+            for it, found in group:
+                it.folder.given(it.folder.named(name) or found)
+            self.tell(f"decisions/{name}", "J9", f"{', '.join(decision.ids)} has begun in {refuser.settings.name}, and keeps its pod; no rendition is given another one")
+        elif faults.code_of(line) == "J10":
+            self.tell(f"decisions/{name}", "J10", f"{refuser.settings.name}: {faults.meaning(answer.status, line)}; tries it again")
+        else:
+            self.refuse(name, group, faults.name_of(line), f"{refuser.settings.name}: {faults.meaning(answer.status, line)} ({line})")
+        return True
+
+    def withdraw(self, group: Group) -> None:
+        """Takes the decision of `group` back from all renditions; one that doesn't answer is told before its next list."""
+        decision = group[0][1]
+        bodies = [json.dumps({"withdraw": it}).encode() for it in decision.ids] if decision.kind == "breaks" else [b'{"fallback":null}']
+        for it, _ in group if decision.kind != "withdraw" else []:
+            for body in bodies:
+                answer = it.put("decisions", body)
+                if answer.status != 204 and answer.status not in JUDGED:
+                    it.debts.append(body)
+
+    def hold(self, name: str, group: Group, away: list[tuple[Rendition, Answer]]) -> bool:
+        """Some renditions (`away`) didn't answer. Where none did, or for a while, all lists wait; then the others go on without
+        the decision. Whether the feed may go on."""
+        for it, answer in away:
+            it.gone(answer)
+        if len(away) == len(group) or any(not it.is_made for it, _ in away):
+            return False
+        if time.monotonic() - self.held.setdefault(name, time.monotonic()) <= HELD * self.target():
+            return False
+        self.withdraw(group)
+        self.tell(f"decisions/{name}", "Away", f"{', '.join(it.settings.name for it, _ in away)} doesn't answer; no rendition is given it until all are made anew")
+        return True
+
+    # ---- numbers
+
+    def compare(self) -> None:
+        """Compares the written numbers of the renditions once all have taken lists of the same media numbers, and tells where
+        they come apart."""
+        if not self.is_in_step() or not all(it.is_pushed and it.states.get("adsplice", ("", ""))[0] == "204" for it in self.members):
+            return
+        answers = {it: it.client.ask("GET", f"{it.url}/live.m3u8") for it in self.members}
+        if any(it.status != 200 for it in answers.values()):
+            return
+        ends = {it.settings.name: end_of(answer.body.decode("utf-8", "replace")) for it, answer in answers.items()}
+        usual = max(ends.values(), key=list(ends.values()).count)
+        odd = {name: it for name, it in ends.items() if it != usual}
+        if odd:
+            text = "; ".join(f"{name} ends with media number {it[0]} and discontinuity number {it[1]}" for name, it in odd.items())
+            self.tell("ladder", "Apart", f"the renditions' numbers come apart: {text}, and the others with {usual[0]} and {usual[1]}. DELETE "
+                                         f"{self.name}'s odd channel while no break is listed: all are then made anew together")
+        elif self.states.get("ladder"):
+            self.tell("ladder", "", "the renditions' numbers are equal")
+            self.states.pop("ladder")
+
+
+def end_of(text: str) -> tuple[int, int]:
+    """The media number and the discontinuity number of the last segment of the written playlist `text` (RFC 8216, 6.2.1, 6.2.2)."""
+    said = {name: int(value) for name, value in NUMBER.findall(text)}
+    lines = text.splitlines()
+    return said.get("MEDIA", 0) + sum(it.startswith("#EXTINF:") for it in lines) - 1, said.get("DISCONTINUITY", 0) + lines.count("#EXT-X-DISCONTINUITY")
+
+
+def shape_of(body: bytes) -> str:
+    """What the decision file `body` says but for its URIs: its breaks, and the lengths of the segments of each ad to a hundredth of
+    a second. Equal for files that adsplice won't take, which it says itself."""
+    try:
+        said = json.loads(body)
+        pods = said.get("breaks") or ([{"id": "", **said["fallback"]}] if said.get("fallback") else [])
+        lengths = [(it["id"], [[round(float(one["duration"]), 2) for one in ad["segments"]] for ad in it["ads"]]) for it in pods]
+        return repr((said.get("withdraw"), sorted(lengths)))
+    except (ValueError, TypeError, KeyError, AttributeError, RecursionError):
+        return ""
+
+
+def without(decision: Decision, ids: list[str]) -> Decision:
+    """The `decision` without the breaks `ids`."""
+    rest = [] if decision.kind != "breaks" else [it for it in json.loads(decision.body)["breaks"] if it["id"] not in ids]
+    return replace(decision, body=json.dumps({"breaks": rest}).encode(), ids=[it["id"] for it in rest])

@@ -1,0 +1,214 @@
+"""Tests of a ladder in adsplice-feed: decisions for all renditions or for none, channels that are made anew together, numbers."""
+import json
+import os
+import urllib.request
+
+from tools import FALLBACK, FakeController, FakeOrigin, decided, free_port, get, listed, until
+
+NEEDS = ("httpx",)
+NAMES = ("1", "2", "3")
+
+
+def needs(*names):
+    """Says what a test needs."""
+    def mark(test):
+        test.needs = names
+        return test
+    return mark
+
+
+class Ladder:
+    """Three renditions with files for lists, and their feed: of a fake controller, or at an address."""
+
+    def __init__(self, room, at, text, *words):
+        self.room = room
+        self.push(text)
+        for name in NAMES:
+            os.makedirs(f"{room.path}/{name}/decisions", exist_ok=True)
+        self.feed = room.feed("--channel", "news", "--renditions", " ".join(NAMES), "--origin", f"{room.path}/{{}}/index.m3u8", "--at", at,
+                              "--base", "http://origin.example/{}/index.m3u8", "--decisions", f"{room.path}/{{}}/decisions", *words)
+
+    def push(self, text, names=NAMES):
+        """Writes a list for some renditions."""
+        for name in names:
+            self.room.write(f"{name}/index.m3u8", text)
+
+    def decide(self, name, text, names=NAMES):
+        """Writes a decision file for some renditions."""
+        for it in names:
+            self.room.write(f"{it}/decisions/{name}.json", text)
+
+    def taken(self, after=0):
+        """Waits until each rendition's list is taken; answers the last line's place."""
+        return max(self.feed.sees(f"news-{name} adsplice 204 -: the list is taken", 20, after) for name in NAMES)
+
+
+def asked(controller, name, what):
+    """The bodies of the PUTs to a rendition's `what`, in order."""
+    with controller.lock:
+        return [body.decode() for method, path, body in controller.asked if (method, path) == ("PUT", f"/channels/news-{name}/{what}")]
+
+
+def test_ladder_makes_a_channel_a_rendition(room):
+    controller = room.server(FakeController())
+    Ladder(room, controller.url, listed(0, 5)).taken()
+    with controller.lock:
+        found = [(path, json.loads(body)) for method, path, body in controller.asked if method == "PUT" and path.count("/") == 2]
+    assert sorted(found) == [(f"/channels/news-{it}", {"base": f"http://origin.example/{it}/index.m3u8"}) for it in NAMES], found
+
+
+def test_ladder_decision_comes_before_any_list_that_enters_its_break(room):
+    controller = room.server(FakeController())
+    ladder = Ladder(room, controller.url, listed(0, 5, [("b1", 14, 4)]))
+    ladder.taken()
+    ladder.decide("one", decided(("b1", 2)), NAMES[:2])
+    ladder.feed.sees("news decisions/one.json - Waits: news-3 has no such file")
+    assert not controller.puts("decisions")
+    ladder.decide("one", decided(("b1", 2)), NAMES[2:])
+    ladder.push(listed(0, 7, [("b1", 14, 4)]))
+    ladder.feed.sees("news decisions/one.json - -: decides b1 in all renditions")
+    until(lambda: len(controller.puts("origin")) == 6, 10, "the lists")
+    with controller.lock:
+        order = [path.split("/")[3] for method, path, body in controller.asked if method == "PUT" and path.count("/") > 2 and (b"s7.ts" in body or b"b1-0" in body)]
+    assert order == ["decisions"] * 3 + ["origin"] * 3, order
+
+
+def test_ladder_decision_that_one_refuses_is_withdrawn_from_all(room):
+    controller = room.server(FakeController())
+    ladder = Ladder(room, controller.url, listed(0, 5, [("b1", 14, 4)]))
+    ladder.taken()
+    controller.refusals[("PUT", "decisions")] = [(204, ""), (422, "J3 BadUri break 0 ad 0 segment 0\n")]
+    ladder.decide("one", decided(("b1", 2)))
+    ladder.feed.sees("news decisions/one.json - J3 BadUri: news-2: .*no rendition has it until its files are written anew")
+    assert [asked(controller, it, "decisions") for it in NAMES] == [[decided(("b1", 2)), '{"withdraw": "b1"}'], [decided(("b1", 2)), '{"withdraw": "b1"}'], ['{"withdraw": "b1"}']]
+    ladder.decide("one", decided(("b1", 1)))
+    ladder.feed.sees("news decisions/one.json - -: decides b1 in all renditions")
+
+
+def test_ladder_decision_that_is_late_in_one_is_given_to_none(room):
+    controller = room.server(FakeController())
+    breaks = [("b1", 14, 4)]
+    ladder = Ladder(room, controller.url, listed(0, 5, breaks))
+    ladder.taken()
+    ladder.push(listed(0, 7, breaks), NAMES[:1])
+    until(lambda: len(asked(controller, "1", "origin")) == 2, 10, "the list of news-1")
+    ladder.decide("one", decided(("b1", 2), ("b2", 1)))
+    ladder.feed.sees("news decisions/one.json - Late: b1 has begun in a rendition, and stays in all as it is")
+    ladder.feed.sees("news decisions/one.json - -: decides b2 in all renditions")
+    assert all([it["id"] for it in json.loads(asked(controller, name, "decisions")[0])["breaks"]] == ["b2"] for name in NAMES)
+
+
+def test_ladder_pods_of_unequal_cuts_are_given_to_none(room):
+    controller = room.server(FakeController())
+    ladder = Ladder(room, controller.url, listed(0, 5, [("b1", 14, 4)]))
+    ladder.taken()
+    ladder.decide("one", decided(("b1", 2)), NAMES[:2])
+    ladder.decide("one", decided(("b1", 4), seconds="1"), NAMES[2:])
+    ladder.feed.sees("news decisions/one.json - Unequal: ")
+    assert not controller.puts("decisions")
+
+
+def test_ladder_fallback_that_one_refuses_is_none_in_all(room):
+    controller = room.server(FakeController())
+    controller.refusals[("PUT", "decisions")] = [(204, ""), (422, "J3 BadUri ad 0 segment 0\n"), (204, "")]
+    for name in NAMES:
+        room.write(f"f-{name}.json", FALLBACK)
+    ladder = Ladder(room, controller.url, listed(0, 5), "--fallback", f"{room.path}/f-{{}}.json")
+    ladder.taken()
+    ladder.feed.sees("news fallback - J3 BadUri: news-2: ")
+    assert [asked(controller, it, "decisions")[-1] for it in NAMES] == ['{"fallback":null}'] * 3
+
+
+def test_ladder_one_that_is_gone_makes_all_anew_together(room):
+    controller = room.server(FakeController())
+    ladder = Ladder(room, controller.url, listed(0, 5, [("b1", 14, 4)]))
+    ladder.taken()
+    ladder.decide("one", decided(("b1", 2)))
+    after = ladder.feed.sees("decides b1 in all renditions")
+    controller.channels.discard("news-2")
+    ladder.push(listed(0, 6, [("b1", 14, 4)]))
+    for name in NAMES:
+        ladder.feed.sees(f"news-{name} adsplice 201 -: makes the channel", 20, after)
+    ladder.taken(after)
+    assert [controller.count("DELETE", f"/channels/news-{it}") for it in NAMES] == [1, 0, 1]
+    assert all(asked(controller, name, "decisions") == [decided(("b1", 2))] * 2 for name in NAMES)
+
+
+def test_ladder_one_whose_list_follows_badly_makes_all_anew_together(room):
+    controller = room.server(FakeController())
+    ladder = Ladder(room, controller.url, listed(10, 15))
+    after = ladder.taken()
+    controller.refusals[("PUT", "origin")] = [(409, "N5 Back\n")] * 6
+    ladder.push(listed(0, 5))
+    ladder.feed.sees("it stays so: deletes the channel and makes it anew", 20, after)
+    for name in NAMES:
+        ladder.feed.sees(f"news-{name} adsplice 201 -: makes the channel", 20, after)
+
+
+def test_ladder_waits_for_lists_in_step(room):
+    controller = room.server(FakeController())
+    for name in NAMES:
+        room.write(f"{name}/index.m3u8", listed(0, 5))
+    ladder = Ladder(room, controller.url, listed(0, 5))
+    ladder.taken()
+    controller.channels.clear()
+    ladder.push(listed(1, 6), NAMES[:1])
+    ladder.feed.sees("news-1 adsplice 404 -")
+    count = len(controller.puts("origin"))
+    until(lambda: not ladder.push(listed(1, 6)) and len(controller.puts("origin")) == count + 3, 10, "all lists")
+    assert controller.puts("origin")[-3:] == [listed(1, 6).encode()] * 3
+
+
+def test_ladder_by_a_config_file(room):
+    controller, origin = room.server(FakeController()), room.server(FakeOrigin(listed(0, 5)))
+    sections = f"[DEFAULT]\nat = {controller.url}\n[news]\nrenditions = a b\norigin = {origin.url.replace('index', '{}')}\n"
+    feed = room.feed("--config", room.write("feed.ini", sections))
+    for name in "ab":
+        feed.sees(f"news-{name} adsplice 204 -: the list is taken")
+    assert origin.count("GET", "/a.m3u8") and origin.count("GET", "/b.m3u8")
+
+
+def test_ladder_wrong_words(room):
+    for text, fault in (("renditions = a b\norigin = http://h/x.m3u8\n", "origin needs {}"), ("renditions = a a\norigin = http://h/{}.m3u8\n", "a name of its own"),
+                        ("renditions = a-1 b\norigin = http://h/{}.m3u8\n", "without '-'"),
+                        (f"renditions = a b\norigin = http://h/{{}}.m3u8\ndecisions = {room.path}\n", "decisions needs {}")):
+        status, out, err = room.run("adsplice-feed", "--config", room.write("feed.ini", f"[news]\nat = http://127.0.0.1:1\n{text}"))
+        assert status == 1 and fault in err and err.count("\n") == 1, (text, err)
+
+
+def numbers(port):
+    """Each rendition's written list without its URIs."""
+    texts = [get(f"http://127.0.0.1:{port}/channels/news-{name}/live.m3u8")[1] for name in NAMES]
+    return ["\n".join(it for it in text.splitlines() if it.startswith("#")) for text in texts]
+
+
+@needs("httpx", "program")
+def test_ladder_has_equal_numbers_after_one_rendition_was_deleted(room):
+    port = free_port()
+    room.adsplice(port)
+    breaks = [("b1", 8, 4)]
+    ladder = Ladder(room, f"http://127.0.0.1:{port}", listed(0, 3, breaks))
+    ladder.decide("one", decided(("b1", 2)))
+    ladder.taken()
+    ladder.push(listed(0, 7, breaks))
+    until(lambda: all("b1" not in it and it.count("DISCONTINUITY\n") for it in numbers(port)), 10, "the break")
+    urllib.request.urlopen(urllib.request.Request(f"http://127.0.0.1:{port}/channels/news-2", method="DELETE")).close()
+    after = len(ladder.feed.lines)
+    ladder.push(listed(1, 8, breaks))
+    ladder.taken(after)
+    found = until(lambda: (lambda it: it if len(set(it)) == 1 and it[0] else None)(numbers(port)), 10, "equal lists")
+    assert found[0].count("#EXTINF") == 8 and found[0].count("#EXT-X-DISCONTINUITY\n") == 2, found[0]
+
+
+@needs("httpx", "program")
+def test_ladder_tells_where_numbers_come_apart(room):
+    port = free_port()
+    room.adsplice(port)
+    breaks = [("b1", 8, 4)]
+    ladder = Ladder(room, f"http://127.0.0.1:{port}", listed(0, 3, breaks))
+    ladder.taken()
+    assert get(f"http://127.0.0.1:{port}/channels/news-1/why")[0] == 200
+    by_hand = urllib.request.Request(f"http://127.0.0.1:{port}/channels/news-1/decisions", decided(("b1", 2)).encode(), method="PUT")
+    urllib.request.urlopen(by_hand).close()  # (a decision that somebody gives to one rendition alone)
+    ladder.push(listed(0, 7, breaks))
+    ladder.feed.sees("news ladder - Apart: the renditions' numbers come apart: news-1 ends with media number 7 and discontinuity number 2, and the others with 7 and 0")
