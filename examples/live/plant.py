@@ -81,6 +81,12 @@ class Plant:
             it.faults, it.feed = relays[0].faults, feed
         threading.Thread(target=listen, args=(feed.stdout, relays[0].faults), daemon=True).start()
 
+    def end_relay(self, relay):
+        """Ends a channel's relay and its feed."""
+        relay.going = False
+        relay.thread.join(5)
+        self.processes.end(relay.feed)
+
     def page(self, name, is_ladder=False):
         """The address at which a channel, or a programme's ladder, is watched."""
         return f"{self.site}/?{'programme' if is_ladder else 'channel'}={name}&playlists={self.viewers}"
