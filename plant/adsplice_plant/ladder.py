@@ -309,8 +309,8 @@ class Ladder:
         odd = {name: it for name, it in ends.items() if it != usual}
         if odd:
             text = "; ".join(f"{name} ends with media number {it[0]} and discontinuity number {it[1]}" for name, it in odd.items())
-            self.tell("ladder", "Apart", f"the renditions' numbers come apart: {text}, and the others with {usual[0]} and {usual[1]}. DELETE "
-                                         f"{self.name}'s odd channel while no break is listed: all are then made anew together")
+            self.tell("ladder", "Apart", f"the renditions' numbers come apart: {text}, and the others with {usual[0]} and {usual[1]}; "
+                                         f"DELETE {next(iter(odd))} while no break is listed, and all are made anew together")
         elif self.states.get("ladder"):
             self.tell("ladder", "", "the renditions' numbers are equal")
             self.states.pop("ladder")
