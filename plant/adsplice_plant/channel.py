@@ -16,6 +16,7 @@ from .web import Answer, Client
 from .words import now_text
 
 REFUSALS = 2  # in a row that make a channel anew
+LAGS = {"N5", "N7"}  # faults of a list that may only lag: these have to last for a target duration, too
 MOST_REFUSALS = 32  # where it has to be made anew again and again
 QUIET = 60.0  # seconds without a refusal after which two are enough again
 OFTEN = 0.25  # seconds between two looks at a file, and the least between two at a URL
@@ -216,10 +217,13 @@ class Channel:
     def refuse(self, answer: Answer) -> bool:
         """A list doesn't follow the last one. Where that stays, the channel is made anew; whether that came to its end."""
         self.refused += 1
+        self.since = time.monotonic() if self.refused == 1 else self.since
         name = faults.name_of(answer.line())
         what = f"{faults.meaning(answer.status, answer.line())} ({answer.line()})"
-        if self.refused < self.patience:
-            self.tell("adsplice", answer.status, name, f"{what}; tries again, and makes the channel anew at refusal {self.patience} in a row")
+        lasts = self.longest() if faults.code_of(name) in LAGS else 0.0
+        if self.refused < self.patience or time.monotonic() - self.since < lasts:
+            at = f"refusal {self.patience} in a row" + (f", after {lasts:g} s at the earliest" if lasts else "")
+            self.tell("adsplice", answer.status, name, f"{what}; tries again, and makes the channel anew at {at}")
             return True
         self.states.pop("adsplice", None)
         self.tell("adsplice", answer.status, name, f"{what}; it stays so: deletes the channel and makes it anew")

@@ -208,12 +208,15 @@ class Ladder:
         return self.give(name, found)
 
     def wait_for_rest(self, name: str, found: Group, absent: list[str], late: list[str]) -> bool:
-        """The file `name` isn't there in all renditions: tells where that lasts, and gives it up once a break of it has begun."""
-        if late:
+        """The file `name` isn't there in all renditions: tells where that lasts, and gives it up once all its breaks (`late`) have
+        begun."""
+        if time.monotonic() - self.seen.setdefault(name, time.monotonic()) <= LATE:
+            return True
+        if late and all(set(decision.ids) <= set(late) for _, decision in found):
+            self.seen.pop(name)
             self.tell(f"decisions/{name}", "Late", f"{', '.join(late)} has begun, and {', '.join(absent)} has no such file; no rendition is given it")
             return self.finish(name)
-        if time.monotonic() - self.seen.setdefault(name, time.monotonic()) > LATE:
-            self.tell(f"decisions/{name}", "Waits", f"{', '.join(absent)} has no such file; it is given once all renditions have it")
+        self.tell(f"decisions/{name}", "Waits", f"{', '.join(absent)} has no such file; it is given once all renditions have it")
         return True
 
     def finish(self, name: str) -> bool:

@@ -100,13 +100,27 @@ def test_redirect_is_followed_and_told(room):
 
 def test_refusal_that_stays_makes_the_channel_anew(room):
     origin, controller, feed = started(room, listed(10, 15))
-    controller.refusals[("PUT", "origin")] = [(409, "N5 Back\n"), (409, "N5 Back\n")]
-    origin.text = listed(0, 5)
-    after = feed.sees("news adsplice 409 N5 Back: .*tries again")
-    after = feed.sees("news adsplice 409 N5 Back: .*it stays so: deletes the channel and makes it anew", 20, after)
+    controller.refusals[("PUT", "origin")] = [(409, "N6 Gap\n"), (409, "N6 Gap\n")]
+    origin.text = listed(30, 35)
+    after = feed.sees("news adsplice 409 N6 Gap: .*tries again")
+    after = feed.sees("news adsplice 409 N6 Gap: .*it stays so: deletes the channel and makes it anew", 20, after)
     after = feed.sees("news adsplice 201 -: makes the channel", 20, after)
     feed.sees("news adsplice 204 -: the list is taken", 20, after)
     assert controller.count("DELETE", "/channels/news") == 1
+
+
+def test_list_that_may_only_lag_is_refused_for_a_target_duration_first(room):
+    origin, controller, feed = started(room, listed(10, 15))
+    controller.refusals[("PUT", "origin")] = [(409, "N5 Back\n")] * 2
+    origin.text = listed(7, 12)
+    after = feed.sees("news adsplice 409 N5 Back: .*tries again, and makes the channel anew at refusal 2 in a row, after 2 s at the earliest")
+    until(lambda: len(controller.puts("origin")) >= 3, 5, "the second refusal")
+    origin.text = listed(11, 16)
+    feed.sees("news adsplice 204 -: the list is taken again", 20, after)
+    assert controller.count("DELETE", "/channels/news") == 0
+    controller.refusals[("PUT", "origin")] = [(409, "N5 Back\n")] * 9
+    origin.text = listed(0, 5)
+    feed.sees("it stays so: deletes the channel and makes it anew", 20, after)
 
 
 def test_single_refusal_leaves_the_channel(room):
@@ -120,7 +134,7 @@ def test_single_refusal_leaves_the_channel(room):
 
 def test_channel_that_has_to_be_made_again_and_again_needs_more_refusals(room):
     origin, controller, feed = started(room, listed(10, 15))
-    controller.refusals[("PUT", "origin")] = [(409, "N5 Back\n")] * 2 + [(204, "")] + [(409, "N6 Gap\n")] * 3
+    controller.refusals[("PUT", "origin")] = [(409, "N8 Changed 11\n")] * 2 + [(204, "")] + [(409, "N6 Gap\n")] * 3
     origin.text = listed(0, 5)
     after = feed.sees("makes it anew")
     after = feed.sees("204 -: the list is taken", 20, after)

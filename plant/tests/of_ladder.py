@@ -98,6 +98,18 @@ def test_ladder_decision_that_is_late_in_one_is_given_to_none(room):
     assert all([it["id"] for it in json.loads(asked(controller, name, "decisions")[0])["breaks"]] == ["b2"] for name in NAMES)
 
 
+def test_ladder_file_that_one_never_gets_is_given_up_once_its_break_has_begun(room):
+    controller = room.server(FakeController())
+    breaks = [("b1", 14, 4)]
+    ladder = Ladder(room, controller.url, listed(0, 5, breaks))
+    ladder.taken()
+    ladder.decide("one", decided(("b1", 2)), NAMES[:2])
+    ladder.push(listed(0, 7, breaks))
+    ladder.feed.sees("news decisions/one.json - Late: b1 has begun, and news-3 has no such file; no rendition is given it")
+    until(lambda: os.listdir(f"{room.path}/1/decisions") == os.listdir(f"{room.path}/2/decisions") == ["done"], 5, "the files' move")
+    assert not controller.puts("decisions")
+
+
 def test_ladder_pods_of_unequal_cuts_are_given_to_none(room):
     controller = room.server(FakeController())
     ladder = Ladder(room, controller.url, listed(0, 5, [("b1", 14, 4)]))
@@ -138,7 +150,7 @@ def test_ladder_one_whose_list_follows_badly_makes_all_anew_together(room):
     controller = room.server(FakeController())
     ladder = Ladder(room, controller.url, listed(10, 15))
     after = ladder.taken()
-    controller.refusals[("PUT", "origin")] = [(409, "N5 Back\n")] * 6
+    controller.refusals[("PUT", "origin")] = [(409, "N6 Gap\n")] * 6
     ladder.push(listed(0, 5))
     ladder.feed.sees("it stays so: deletes the channel and makes it anew", 20, after)
     for name in NAMES:
