@@ -1,6 +1,7 @@
 """What bytes denote under a base, or their first fault (RFC 8216, 4.3)."""
 from __future__ import annotations
 
+from collections.abc import Callable
 from typing import Any
 
 from .attributes import Attribute, attributes_of, byte_range_of, decimal_of, named, required
@@ -158,10 +159,12 @@ def placed(said: Said, name: str) -> None:
         raise Fault("P8")
 
 
-WHOLE = {"EXT-X-VERSION": version_of, "EXT-X-TARGETDURATION": number_said, "EXT-X-MEDIA-SEQUENCE": number_said,
-         "EXT-X-DISCONTINUITY-SEQUENCE": number_said, "EXT-X-PLAYLIST-TYPE": playlist_type_of, "EXT-X-ENDLIST": str}
-ALONE = {"EXTINF": duration_said, "EXT-X-BYTERANGE": byte_range_of, "EXT-X-PROGRAM-DATE-TIME": time_said,
-         "EXT-X-DATERANGE": date_range_of, "EXT-X-INDEPENDENT-SEGMENTS": str}
+WHOLE: dict[str, Callable[[str], Any]] = {
+    "EXT-X-VERSION": version_of, "EXT-X-TARGETDURATION": number_said, "EXT-X-MEDIA-SEQUENCE": number_said,
+    "EXT-X-DISCONTINUITY-SEQUENCE": number_said, "EXT-X-PLAYLIST-TYPE": playlist_type_of, "EXT-X-ENDLIST": str}
+ALONE: dict[str, Callable[[str], Any]] = {
+    "EXTINF": duration_said, "EXT-X-BYTERANGE": byte_range_of, "EXT-X-PROGRAM-DATE-TIME": time_said,
+    "EXT-X-DATERANGE": date_range_of, "EXT-X-INDEPENDENT-SEGMENTS": str}
 
 
 def said_by_tag(said: Said, base: Url, name: str, rest: str) -> Any:
@@ -262,8 +265,9 @@ def read(base: Url, given: bytes) -> Playlist:
             add_line(said, base, number, line)
         except Fault as fault:
             raise Fault(fault.code, f" line {number}") from None
-    if fault := whole_fault(said):
-        raise Fault(fault)
+    of_whole = whole_fault(said)
+    if of_whole:
+        raise Fault(of_whole)
     return Playlist(last_said(said, "EXT-X-VERSION", 1), last_said(said, "EXT-X-TARGETDURATION"),
                     last_said(said, "EXT-X-PLAYLIST-TYPE"), "EXT-X-INDEPENDENT-SEGMENTS" in said, "EXT-X-ENDLIST" in said,
                     tuple(all_said(said, "EXT-X-DATERANGE")), tuple(all_said(said, "URI")))

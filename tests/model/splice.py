@@ -12,27 +12,17 @@ INSERT = 5  # splice_insert's splice_command_type
 
 @dataclass(frozen=True)
 class Insert:
-    """9.7.3: splice_insert. The parts of a cancelled one are None; `times` are its splice_times, the program's or each
-    component's with its tag, None where the splice is immediate or no time is specified."""
+    """9.7.3: what a splice_insert says of a break: whether it leaves the network (None where it is cancelled), and its
+    break_duration's ticks."""
 
-    event_id: int
     out_of_network: bool | None = None
-    program: bool | None = None
-    immediate: bool | None = None
-    times: tuple[tuple[int, int | None], ...] = ()
-    auto_return: bool | None = None
     ticks: int | None = None
-    ids: tuple[int, int, int] | None = None
 
 
 @dataclass(frozen=True)
 class SpliceSection:
     """9.6: splice_info_section. `insert` is None for other commands, which are carried as bytes."""
 
-    pts_adjustment: int
-    cw_index: int
-    tier: int
-    command_type: int
     insert: Insert | None
     descriptors: bytes
     stuffing: bytes
@@ -52,48 +42,40 @@ class Bits:
             raise Fault("S7")
         number = int.from_bytes(self.given, "big") >> (8 * len(self.given) - self.place - count)
         self.place += count
-        return number % 2**count
+        return number & ((1 << count) - 1)
 
     def rest(self) -> bytes:
         """The bytes that are left."""
         return self.given[self.place // 8:]
 
 
-def splice_time(bits: Bits) -> int | None:
-    """9.8.1: time_specified_flag, reserved bits, and pts_time where it is specified."""
-    if not bits.take(1):
-        bits.take(7)
-        return None
-    bits.take(6)
+def splice_time(bits: Bits) -> None:
+    """9.8.1: time_specified_flag, reserved bits, and pts_time where it is specified, which no break uses (CONFORMANCE)."""
+    bits.take(39 if bits.take(1) else 7)
+
+
+def break_duration(bits: Bits) -> int:
+    """9.8.2: auto_return and reserved bits, and then the duration in ticks of 90 kHz."""
+    bits.take(7)
     return bits.take(33)
 
 
-def break_duration(bits: Bits) -> tuple[bool, int]:
-    """9.8.2: auto_return, reserved bits, and the duration in ticks of 90 kHz."""
-    auto_return = bool(bits.take(1))
-    bits.take(6)
-    return auto_return, bits.take(33)
-
-
-def splice_times(bits: Bits, program: bool, immediate: bool) -> tuple[tuple[int, int | None], ...]:
-    """9.7.3: the program's splice_time, or component_count and for each component its tag and its splice_time; none where the
-    splice is immediate."""
-    if program:
-        return () if immediate else ((0, splice_time(bits)),)
-    return tuple((bits.take(8), None if immediate else splice_time(bits)) for _ in range(bits.take(8)))
-
-
 def splice_insert(bits: Bits) -> Insert:
-    """9.7.3: splice_insert. Reserved bits are read whatever they are (CONFORMANCE)."""
-    event_id, cancelled = bits.take(32), bits.take(1)
-    bits.take(7)
+    """9.7.3: splice_event_id, a flag that cancels it, and what it says else: its flags, the time of the program or of each
+    component unless it is immediate, its duration, three numbers. Reserved bits are read whatever they are (CONFORMANCE)."""
+    bits.take(32)
+    cancelled, _ = bits.take(1), bits.take(7)
     if cancelled:
-        return Insert(event_id)
-    out, program, has_duration, immediate = (bool(bits.take(1)) for _ in range(4))
-    bits.take(4)
-    times = splice_times(bits, program, immediate)
-    auto_return, ticks = break_duration(bits) if has_duration else (None, None)
-    return Insert(event_id, out, program, immediate, times, auto_return, ticks, (bits.take(16), bits.take(8), bits.take(8)))
+        return Insert()
+    out, program, has_duration, immediate, _ = bits.take(1), bits.take(1), bits.take(1), bits.take(1), bits.take(4)
+    for _ in range(1 if program else bits.take(8)):
+        if not program:
+            bits.take(8)
+        if not immediate:
+            splice_time(bits)
+    ticks = break_duration(bits) if has_duration else None
+    bits.take(32)
+    return Insert(out == 1, ticks)
 
 
 def command_at(given: bytes, length: int, kind: int) -> tuple[Insert | None, bytes]:
@@ -132,15 +114,12 @@ def section_of(given: bytes) -> SpliceSection:
     """9.6: what the bytes of a section say; S2 to S7 where they are none. CRC_32 is kept, and not verified (CONFORMANCE)."""
     if fault := first_fault(given):
         raise Fault(fault)
-    head = Bits(given[4:14])
-    head.take(7)
-    adjustment, cw_index, tier, length, kind = (head.take(n) for n in (33, 8, 12, 12, 8))
-    insert, after = command_at(given[14:], length, kind)
+    insert, after = command_at(given[14:], int.from_bytes(given[11:13], "big") % 2**12, given[13])
     size = Bits(after).take(16)
     if len(after) < 2 + size + 4:
         raise Fault("S7")
     descriptors, stuffing, crc = after[2:2 + size], after[2 + size:-4], int.from_bytes(after[-4:], "big")
-    return SpliceSection(adjustment, cw_index, tier, kind, insert, descriptors, stuffing, crc)
+    return SpliceSection(insert, descriptors, stuffing, crc)
 
 
 def hexadecimal_section(text: str) -> SpliceSection:
