@@ -28,7 +28,7 @@ def is_lucky(rng: Random, share: float) -> bool:
 def insert_bytes(rng: Random, out: bool, ticks: int | None, cancelled: bool) -> bytes:
     """The bytes of a splice_insert: of a program or of components, immediate or with times."""
     event = rng.getrandbits(32).to_bytes(4, "big")
-    if cancelled:
+    if cancelled and is_lucky(rng, 0.5):
         return event + b"\xff"
     program, immediate = rng.choice(((True, True), (True, True), (True, False), (False, True), (False, False)))
     flags = out << 7 | program << 6 | (ticks is not None) << 5 | immediate << 4 | rng.choice((15, 15, 0))
@@ -37,7 +37,7 @@ def insert_bytes(rng: Random, out: bool, ticks: int | None, cancelled: bool) -> 
     count = rng.choice((0, 1, 3))
     target = timed if program else bytes([count]) + b"".join(bytes([n]) + timed for n in range(count))
     length = b"" if ticks is None else (ticks | rng.choice((0xFE, 0x7E, 0)) << 32).to_bytes(5, "big")
-    return event + b"\x7f" + bytes([flags]) + target + length + rng.getrandbits(32).to_bytes(4, "big")
+    return event + (b"\xff" if cancelled else b"\x7f") + bytes([flags]) + target + length + rng.getrandbits(32).to_bytes(4, "big")
 
 
 def section_bytes(rng: Random, command: bytes, kind: int, length: int) -> bytes:
@@ -64,7 +64,7 @@ def spoiled(rng: Random, section: bytes) -> str:
 
 def signal(rng: Random, out: bool = True, ticks: int | None = None) -> str:
     """A section in hexadecimal digits that leaves the network or returns to it; at times one that does neither."""
-    command, kind = insert_bytes(rng, out, ticks, is_lucky(rng, 0.04)), 5
+    command, kind = insert_bytes(rng, out, ticks, is_lucky(rng, 0.05)), 5
     if is_lucky(rng, 0.04):
         command, kind = rng.choice(((b"\xfe\0\0\0\0", 6), (b"", 0)))
     length = 0xFFF if is_lucky(rng, 0.15) else len(command)

@@ -119,6 +119,7 @@ def with_formats(rng: Random, lines: Lines) -> Lines:
 def with_sections(rng: Random, lines: Lines) -> Lines:
     """Sections and keys in any order, from the front on or from some place."""
     made = [rng.choice((key_line, map_line))(rng) for _ in range(rng.randrange(1, 4))]
+    made += ['#EXT-X-KEY:METHOD=AES-128,URI="k"', '#EXT-X-MAP:URI="i.mp4"'] if is_lucky(rng, 0.15) else []
     return [lines[0], *made, *lines[1:]] if is_lucky(rng, 0.6) else put(rng, lines, *made)
 
 
@@ -175,9 +176,9 @@ def playlist(rng: Random) -> Lines:
     if is_lucky(rng, 0.3):
         origin.add_break(rng.randrange(len(origin.pieces)), 1)
     lines = origin.window(0, len(origin.pieces) - 1, is_lucky(rng, 0.5))
-    if is_lucky(rng, 1 / 4000):
+    if is_lucky(rng, 1 / 1500):
         return of_many_segments(rng, lines)
-    if is_lucky(rng, 1 / 4000):
+    if is_lucky(rng, 1 / 1500):
         return of_many_bytes(rng, lines)
     for _ in range(rng.choice((0, 1, 1, 2, 3))):
         lines = rng.choice(GOOD)(rng, lines) if lines[1:] else lines
