@@ -7,8 +7,8 @@ from random import Random
 
 from model.attributes import decimal_of
 
-from .breaks import decision_file, json_text, of_many_breaks, withdrawal
-from .common import BASES, Origin, is_lucky, pod_ads, text_of
+from .breaks import decision_file, of_many_breaks, withdrawal
+from .common import BASES, Origin, is_lucky, json_text, pod_ads, text_of
 from .playlists import FAULTY, GOOD
 
 Lines = list[str]

@@ -89,7 +89,8 @@ def pod_ads(rng: Random, mapped: bool, target: int, length: int) -> list[dict[st
     """Ads that last about so long: as long as that, a nanosecond off, shorter or longer; each segment within the target, but at
     times."""
     total = max(0, length + rng.choice((0, 0, 0, 1, -1, -SECOND, SECOND, -length // 2, length // 2)))
-    sizes, most = [], target * SECOND
+    sizes: list[int] = []
+    most = target * SECOND
     while total > 0 and len(sizes) < 12:
         size = min(total, rng.choice((most, most, 2 * SECOND, most - 1, most // 3 + 1)))
         sizes.append(size)
@@ -99,16 +100,20 @@ def pod_ads(rng: Random, mapped: bool, target: int, length: int) -> list[dict[st
         sizes[rng.randrange(len(sizes))] = rng.choice((most + SECOND // 2 - 1, most + SECOND // 2, most + 5 * SECOND))
     if is_lucky(rng, 0.1):
         sizes.append(0)
-    ads, tag = [], rng.choice("acdxy")
+    ads: list[dict[str, object]] = []
+    tag = rng.choice("acdxy")
     while sizes:
         count = rng.choice((1, 2, len(sizes)))
         ad: dict[str, object] = {}
         if mapped != is_lucky(rng, 0.04):
-            ad["map"] = {"uri": "http://ads.example/i.mp4"} | ({"offset": 0, "length": 9} if is_lucky(rng, 0.2) else {})
+            ad["map"] = {"uri": "http://ads.example/i.mp4"}
+            if is_lucky(rng, 0.2):
+                ad["map"] = {"uri": "http://ads.example/i.mp4", "offset": 0, "length": 9}
         if is_lucky(rng, 0.15):
-            ad["key"] = {"method": rng.choice(("AES-128", "SAMPLE-AES", "X")), "uri": "http://ads.example/k", "iv": "0x0A"}
+            key = {"method": rng.choice(("AES-128", "SAMPLE-AES", "X")), "uri": "http://ads.example/k", "iv": "0x0A"}
             if is_lucky(rng, 0.4):
-                ad["key"] = {**ad["key"], "format": rng.choice(("com.widevine", "identity", "é"))}  # type: ignore[dict-item]
+                key["format"] = rng.choice(("com.widevine", "identity", "é"))
+            ad["key"] = key
         ad["segments"] = [pod_segment(rng, f"{tag}{len(ads)}{n}.ts", size) for n, size in enumerate(sizes[:count])]
         ads.append(ad)
         sizes = sizes[count:]

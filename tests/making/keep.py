@@ -7,6 +7,8 @@ from pathlib import Path
 from types import FrameType
 from typing import Any
 
+from model.values import NotModelled
+
 from .cases import outcomes
 from .stored import agrees, owed_by_model, vectors
 
@@ -34,11 +36,13 @@ class Steps:
 
 
 def reached(vector: dict[str, Any]) -> set[Feature]:
-    """All that a vector reaches."""
+    """All that a vector reaches; nothing where the model says nothing of it."""
     steps = Steps()
     sys.settrace(steps)
     try:
         case = owed_by_model(vector)
+    except NotModelled:
+        return set()
     finally:
         sys.settrace(None)
     return steps.taken | {(one, 0, 0) for one in outcomes(case)}

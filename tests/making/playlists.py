@@ -151,10 +151,12 @@ GOOD: tuple[Callable[[Random, Lines], Lines], ...] = (
 
 # ---- what may not
 
+NOTHING: Lines = []
+
 FAULTY: tuple[Callable[[Random, Lines], Lines], ...] = (
     lambda rng, lines: put(rng, lines, rng.choice(("\x00", "x\x1f", "#\x7f", "\u0085", "#EXT-X-\x9f", "cr\rhere", "#EXTINF:1,\x0b"))),
     lambda rng, lines: rng.choice((lines[1:], ["\ufeff" + lines[0], *lines[1:]], ["", *lines], ["#EXTM3U ", *lines[1:]],
-                                   ["#EXTM3U\x01", *lines[1:]], [])),
+                                   ["#EXTM3U\x01", *lines[1:]], NOTHING)),
     lambda rng, lines: put(rng, lines, rng.choice(("#EXT-X-STREAM-INF:BANDWIDTH=1", "#EXT-X-MEDIA", "#EXT-X-I-FRAME-STREAM-INF:X",
                                                    "#EXT-X-SESSION-DATA:A=1", "#EXT-X-SESSION-KEY"))),
     lambda rng, lines: put(rng, lines, "#EXT-X-I-FRAMES-ONLY"),

@@ -72,6 +72,19 @@ def many_channels(rng: Random) -> list[bytes]:
                     request("PUT", "/channels/c1", b'{"base":"http://h/"}'), request("GET", "/channels/c64/why")]
 
 
+def next_request(rng: Random, name: str, packager: Packager) -> bytes:
+    """A request to one of the channels, of any kind."""
+    makers: tuple[Callable[[], bytes], ...] = (
+        lambda: request("PUT", f"/channels/{name}/origin", origin_body(packager)),
+        lambda: request("PUT", f"/channels/{name}/origin", origin_body(packager)),
+        lambda: request("PUT", f"/channels/{name}/decisions", decisions_body(packager)),
+        lambda: request("GET", f"/channels/{name}/live.m3u8"),
+        lambda: request("GET", f"/channels/{name}/why"),
+        lambda: request("DELETE", f"/channels/{name}") if is_lucky(rng, 0.3) else request("GET", f"/channels/{name}/why"),
+        lambda: odd_request(rng, name), lambda: odd_request(rng, name))
+    return rng.choice(makers)()
+
+
 def case(rng: Random) -> list[bytes]:
     """Connections, one after the other."""
     if is_lucky(rng, 1 / 500):
@@ -81,15 +94,7 @@ def case(rng: Random) -> list[bytes]:
     asked = [request("PUT", f"/channels/{name}", channel_body(rng)) for name in names if not is_lucky(rng, 0.1)]
     for _ in range(rng.choice((4, 8, 14))):
         name = rng.choice(names)
-        packager = packagers[name]
-        asked.append(rng.choice((
-            lambda: request("PUT", f"/channels/{name}/origin", origin_body(packager)),
-            lambda: request("PUT", f"/channels/{name}/origin", origin_body(packager)),
-            lambda: request("PUT", f"/channels/{name}/decisions", decisions_body(packager)),
-            lambda: request("GET", f"/channels/{name}/live.m3u8"),
-            lambda: request("GET", f"/channels/{name}/why"),
-            lambda: request("DELETE", f"/channels/{name}") if is_lucky(rng, 0.3) else request("GET", f"/channels/{name}/why"),
-            lambda: odd_request(rng, name), lambda: odd_request(rng, name)))())
-        packager.move()
-        packager.ahead()
+        asked.append(next_request(rng, name, packagers[name]))
+        packagers[name].move()
+        packagers[name].ahead()
     return asked

@@ -138,31 +138,27 @@ class Moment:
     store: Store
 
 
-# What can keep a break from being entered, in the order in which --why tells it.
-OBSTACLES = ("no instant", "no start", "not signalled", "not decided", "does not fit", "entered last", "not near", "past its end")
-
-
 def obstacle(moment: Moment, one: Break, last: str | None, instant: int | None) -> str | None:
-    """What keeps a segment that begins at this instant from entering a break; None where it may enter. It has to be signalled,
-    decided and fitting, not the one entered last, within the tolerance of its START-DATE, and before its end where that is an
-    instant."""
+    """What keeps a segment that begins at this instant from entering a break; None where it may enter. The segment has to begin
+    within the tolerance of START-DATE, and before the end where that is an instant; the break has to be signalled, decided and
+    fitting, and not the one entered last."""
     pod = pod_for(moment.store, one.id)
     if instant is None:
         return "no instant"
     if one.start is None:
         return "no start"
+    if abs(instant - one.start) > moment.tolerance:
+        return "not near"
     if not is_leaving(one):
         return "not signalled"
     if pod is None:
         return "not decided"
     if not pod.fits(moment.target, moment.mapped):
         return "does not fit"
-    if one.id == last:
-        return "entered last"
-    if abs(instant - one.start) > moment.tolerance:
-        return "not near"
     end = end_of(one, pod.total())
-    return "past its end" if isinstance(end, int) and instant + moment.tolerance >= end else None
+    if isinstance(end, int) and instant + moment.tolerance >= end:
+        return "past its end"
+    return "entered last" if one.id == last else None
 
 
 def entered(moment: Moment, last: str | None, instant: int | None) -> Mark | None:

@@ -21,12 +21,14 @@ def segment_reason(channel: Channel, place: int) -> list[str]:
     """Lines for the segment at this place of the history: its break and why, or what kept each break known then from it."""
     shown, before = channel.history[place], channel.history[:place]
     name, moment = f"segment {shown.segment.number}", channel.moments[channel.shown_by[place]]
-    if shown.mark is None:
-        kept = [(one.id, obstacle(moment, one, last_entered(before), shown.instant)) for one in moment.breaks]
-        return [f"{name}: kept", *(f"  not in {known}: {SAID[said or 'not near']}" for known, said in kept)]
-    goes_on = before and before[-1].mark and before[-1].mark.id == shown.mark.id
-    rule = "goes on in it: it begins before its end" if goes_on else "enters it: it begins within the tolerance of its START-DATE"
-    return [f"{name}: in {shown.mark.id}; it {rule}"]
+    mark = before[-1].mark if before else None
+    if shown.mark is not None:
+        goes_on = mark is not None and mark.id == shown.mark.id
+        rule = "begins before its end" if goes_on else "begins within the tolerance of its START-DATE"
+        return [f"{name}: {'stays in' if goes_on else 'enters'} {shown.mark.id}: it {rule}"]
+    kept = [(one.id, obstacle(moment, one, last_entered(before), shown.instant)) for one in moment.breaks]
+    left = [f"  {mark.id} ends before it, or within the tolerance after it begins"] if mark else []
+    return [f"{name}: in no break", *left, *(f"  not in {known}: {SAID[said or 'not near']}" for known, said in kept)]
 
 
 def apart(nanos: int) -> str:
@@ -40,15 +42,15 @@ def waits_for(channel: Channel, one: Break) -> str:
     assert one.start is not None
     timed = [(n, shown.instant) for n, shown in enumerate(channel.history) if shown.instant is not None]
     if not timed:
-        return "no segment has a time (EXT-X-PROGRAM-DATE-TIME), so no break is entered"
+        return "no segment has a time (EXT-X-PROGRAM-DATE-TIME), so no break is entered."
     near = [n for n, instant in timed if abs(instant - one.start) <= channel.tolerance]
     newest = timed[-1][1] + channel.history[timed[-1][0]].segment.nanos
     if not near and one.start >= newest - channel.tolerance:
-        return f"it is still to come: it starts {apart(one.start - newest)} the end of the newest segment"
+        return f"it is still to come: it starts {apart(one.start - newest)} the end of the newest segment."
     if not near:
-        place, instant = min(timed, key=lambda pair: abs(pair[1] - one.start if one.start is not None else 0))
+        _, place, instant = min((abs(instant - one.start), n, instant) for n, instant in timed)
         return (f"no segment began within the tolerance of its START-DATE: segment {channel.history[place].segment.number} is "
-                f"the nearest, at {instant_text(instant)}, {apart(instant - one.start)} it")
+                f"the nearest, at {instant_text(instant)}, {apart(instant - one.start)} it.")
     return " ".join(missed(channel, one, place) for place in near)
 
 
