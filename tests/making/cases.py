@@ -24,7 +24,8 @@ class NoLongerOneList(Exception):
 
 @dataclass(frozen=True)
 class Run:
-    """A run of `adsplice vod`, with what it writes, its fault, and its exit status."""
+    """A run of `adsplice vod`, with what it writes, or its fault; `numbers` are the first number and the count of what is written,
+    and how many segments the origin shows."""
 
     name: str
     base: str
@@ -32,6 +33,7 @@ class Run:
     decisions: bytes | None
     text: str
     fault: str
+    numbers: tuple[int, int, int]
 
 
 @dataclass(frozen=True)
@@ -44,14 +46,14 @@ class Connections:
 
 def owed_run(name: str, base: str, given: bytes, decisions: bytes | None) -> Run:
     """A run, with what the model owes."""
-    text = fault = ""
     try:
         channel = Channel(base_of(base))
         channel = channel if decisions is None else decide(channel, decisions)
-        text = written(refreshed(channel, given)) or ""
+        channel = refreshed(channel, given)
     except Fault as refusal:
-        fault = str(refusal)
-    return Run(name, base, given, decisions, text, fault)
+        return Run(name, base, given, decisions, "", str(refusal), (0, 0, 0))
+    window = channel.window()
+    return Run(name, base, given, decisions, written(channel) or "", "", (window[0].media, len(window), len(channel.history)))
 
 
 def owed_connections(name: str, asked: list[bytes]) -> Connections:

@@ -13,7 +13,7 @@ ROOM = 65_536  # bytes of a reply that the driver's sink takes
 ESCAPES = {n: chr(n) if 32 <= n < 127 else f"\\x{n:02x}" for n in range(256)} | {10: "\\n", 13: "\\r", 92: "\\\\"}
 SHOWN = 200  # bytes of an answer that are shown
 
-Step = tuple[bytes, bytes]  # a line, and the front of what has to be answered
+Step = tuple[bytes, bytes]  # a line, and what has to be answered
 
 
 def escaped(body: bytes) -> bytes:
@@ -29,7 +29,8 @@ def steps_of_run(case: Run) -> Iterator[Step]:
     if case.decisions is not None and code != "C":
         yield b"decide " + escaped(case.decisions), fault if code == "J" else b"ok\n"
     if code not in ("C", "J"):
-        yield b"refresh " + escaped(case.given), fault if code else b"ok "
+        first, count, fresh = case.numbers
+        yield b"refresh " + escaped(case.given), fault if code else f"ok {first} {count} {fresh}\n".encode()
     if not case.fault:
         yield b"playlist", b"playlist\n" + case.text.encode() + b"\n"
 
@@ -60,8 +61,7 @@ def differences(driver: str, cases: list[Run | Connections]) -> list[str]:
     answers = MARKED.split(ran.stdout)[:-1]
     found: dict[str, str] = {}
     for (case, line, owed), answer in zip(steps, answers):
-        is_right = answer.startswith(owed) if owed == b"ok " else answer == owed
-        if not is_right:
+        if answer != owed:
             found.setdefault(case.name, f"{case.name}: to {line[:SHOWN]!r}: {answer[-SHOWN:]!r}, owed {owed[-SHOWN:]!r}")
     if (len(answers), ran.returncode) != (len(steps), 0):
         found["end"] = f"the driver ended after {len(answers)} of {len(steps)} lines with status {ran.returncode}"
