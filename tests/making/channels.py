@@ -28,7 +28,7 @@ class Packager:
         self.rng, self.origin = rng, Origin(rng, is_lucky(rng, 0.6))
         self.width = rng.choice((1, 2, 3, 3, 3, 5, 8))
         self.origin.grow(self.width + 1)
-        self.first, self.last, self.ended = 0, self.width - 1, False
+        self.first, self.last, self.ended, self.has_jumped = 0, self.width - 1, False, False
         self.ahead()
 
     def ahead(self) -> None:
@@ -47,9 +47,17 @@ class Packager:
         rng = self.rng
         if self.ended:
             return
-        self.last += rng.choice((1, 1, 1, 1, 1, 0, 2, self.width)) if self.width > 1 else 1
-        self.first = max(self.first, self.last - self.width + rng.choice((1, 1, 1, 1, 0)))
+        shown, step = self.last, rng.choice((1, 1, 1, 1, 0, 0, 2, self.width)) if self.width > 1 else 1
+        if shown in self.origin.last_places and is_lucky(rng, 0.35):
+            step = self.width
+        if self.has_jumped and is_lucky(rng, 0.4):
+            step = 0
+        self.last += step
+        self.first = max(self.first, self.last - self.width + rng.choice((1, 1, 1, 0)))
         self.origin.grow(max(0, self.last + 2 - len(self.origin.pieces)))
+        self.has_jumped = self.first > shown  # no segment is common with the last playlist
+        if self.has_jumped and is_lucky(rng, 0.15):
+            self.origin.discontinuity += rng.choice((1, 1, 1000, 1000, 1001))
         self.ended = is_lucky(rng, 0.04)
 
     def lines(self) -> Lines:

@@ -160,6 +160,7 @@ class Origin:
         self.pieces: list[Piece] = []
         self.ranges: list[str] = []
         self.breaks: list[tuple[str, int]] = []  # each break's ID, and how long it lasts about
+        self.last_places: set[int] = set()  # those of the last segment of a break
 
     def size(self) -> int:
         """The duration of a segment."""
@@ -175,8 +176,9 @@ class Origin:
         rng = self.rng
         if not is_lucky(rng, 0.25):
             return []
-        if is_lucky(rng, 0.25):
-            return ["#EXT-X-KEY:METHOD=NONE"]
+        if is_lucky(rng, 0.35):
+            again = ['#EXT-X-KEY:METHOD=X,URI="k",IV=0x1,KEYFORMAT="f"', '#EXT-X-KEY:METHOD=X,URI="k",KEYFORMAT="g"']
+            return ["#EXT-X-KEY:METHOD=NONE", *rng.sample(again, rng.choice((0, 1, 1, 2)))]
         name = rng.choice(FORMATS[:4])
         iv = f",IV=0x{rng.getrandbits(16):X}" if self.mapped or is_lucky(rng, 0.4) else ""
         return [f'#EXT-X-KEY:METHOD={rng.choice(("AES-128", "SAMPLE-AES"))},URI="k{rng.randrange(4)}"{iv}'
@@ -224,6 +226,7 @@ class Origin:
             rng.shuffle(said)
         self.ranges.append("#EXT-X-DATERANGE:" + ",".join(said))
         self.breaks.append((name, length))
+        self.last_places.add(place + count - 1)
 
     def more_said(self, name: str) -> str:
         """A second date range of an ID, which says more of it, or otherwise."""
