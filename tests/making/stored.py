@@ -8,7 +8,7 @@ from typing import Any
 
 from model.values import NotModelled
 
-from .cases import Connections, Run, owed_connections, owed_run
+from .cases import Connections, Run, json_line, owed_connections, owed_run
 
 VECTORS = Path(__file__).resolve().parent.parent / "vectors"
 
@@ -44,6 +44,16 @@ def agrees(vector: dict[str, Any]) -> bool:
         return replies == [reply for _, reply in case.asked]
     fault = f"{case.fault}\n" if case.fault else ""
     return (case.text.encode(), fault) == (base64.b64decode(vector["stdout"]), vector["stderr"])
+
+
+def lines_again(files: list[Path]) -> list[str]:
+    """The lines of these files with what the model owes for their inputs; those that it says nothing of stay."""
+    lines = []
+    for line in (line for file in files for line in file.read_text(encoding="utf-8").splitlines()):
+        vector = json.loads(line)
+        is_run = "connections" in vector or vector["args"][:1] == ["vod"]
+        lines.append(line if not is_run or agrees(vector) else json_line(owed_by_model(vector)))
+    return lines
 
 
 def first_disagreement() -> str | None:
