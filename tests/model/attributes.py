@@ -3,7 +3,7 @@ from __future__ import annotations
 
 from dataclasses import dataclass
 
-from .values import PAST, Fault
+from .values import PAST, Fault, or_fault
 
 MOST_ATTRIBUTES = 64  # a limit of the reader (CONFORMANCE, 4.2)
 DIGITS = set("0123456789")
@@ -75,10 +75,7 @@ def value_as(quoted: bool, one: Attribute) -> str:
 
 def required(found: list[Attribute], name: str, quoted: bool) -> str:
     """4.3: the value of an attribute that has to be there; P12 where it isn't."""
-    one = named(found, name)
-    if one is None:
-        raise Fault("P12")
-    return value_as(quoted, one)
+    return value_as(quoted, or_fault(named(found, name), "P12"))
 
 
 def decimal_of(text: str) -> int | None:

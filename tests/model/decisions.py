@@ -108,40 +108,39 @@ class Pod:
 
 # ---- what a file says. A place is the break, the ad and the segment, so far as something stands in them.
 
-def refuse(code: str, place: tuple[int | None, ...]) -> Fault:
-    """The fault at a place, which has the numbers of a break, an ad and a segment."""
-    words = zip((" break ", " ad ", " segment "), place)
-    return Fault(code, "".join(f"{word}{number}" for word, number in words if number is not None))
+Place = tuple[int | None, ...]
 
 
-def text_at(value: Any, name: str, code: str, place: tuple[int | None, ...]) -> str:
+def check(test: bool, code: str, place: Place) -> None:
+    """The fault at a place, which has the numbers of a break, an ad and a segment, unless the test holds."""
+    if not test:
+        words = zip((" break ", " ad ", " segment "), place)
+        raise Fault(code, "".join(f"{word}{number}" for word, number in words if number is not None))
+
+
+def text_at(value: Any, name: str, code: str, place: Place) -> str:
     """A member that has to be a text."""
-    text = member(value, name)
-    if not is_text(text):
-        raise refuse(code, place)
-    return str(text)
+    check(is_text(member(value, name)), code, place)
+    return str(value[name])
 
 
-def uri_checked(uri: str, place: tuple[int | None, ...]) -> str:
+def uri_checked(uri: str, place: Place) -> str:
     """J3 unless it is an absolute http or https URL of printable ASCII without quotes."""
-    if not re.fullmatch(r"https?://[!#-~]+", uri):
-        raise refuse("J3", place)
+    check(re.fullmatch(r"https?://[!#-~]+", uri) is not None, "J3", place)
     return uri
 
 
-def range_said(value: Any, place: tuple[int | None, ...]) -> Range | None:
+def range_said(value: Any, place: Place) -> Range | None:
     """J2 unless both or neither of `offset` and `length` are there, whole numbers whose sum is below 2^64."""
     said = member(value, "length"), member(value, "offset")
     if said == (..., ...):
         return None
-    numbers = [decimal_of(one) if isinstance(one, Numeral) else None for one in said]
-    length, offset = numbers
-    if length is None or offset is None or length + offset >= PAST:
-        raise refuse("J2", place)
-    return length, offset
+    length, offset = (decimal_of(one) if isinstance(one, Numeral) else None for one in said)
+    check(length is not None and offset is not None and length + offset < PAST, "J2", place)
+    return length or 0, offset or 0
 
 
-def part_said(value: Any, place: tuple[int | None, ...]) -> tuple[str, Range | None]:
+def part_said(value: Any, place: Place) -> tuple[str, Range | None]:
     """A resource and its bytes: the text J2, the URI J3, the bytes J2."""
     return uri_checked(text_at(value, "uri", "J2", place), place), range_said(value, place)
 
@@ -151,50 +150,42 @@ def quotable(text: str) -> bool:
     return text != "" and '"' not in text and not has_control(text)
 
 
-def key_said(value: Any, place: tuple[int | None, ...]) -> Keys:
+def key_said(value: Any, place: Place) -> Keys:
     """An ad's key, if it has one: not an object J2; METHOD, its URI's type, IV and format J5; its URI J3."""
     if value is ...:
         return ()
-    if not isinstance(value, dict):
-        raise refuse("J2", place)
+    check(isinstance(value, dict), "J2", place)
     method = text_at(value, "method", "J5", place)
-    if not is_name(method) or method == "NONE":
-        raise refuse("J5", place)
+    check(is_name(method) and method != "NONE", "J5", place)
     uri = uri_checked(text_at(value, "uri", "J5", place), place)
     iv = hexadecimal_of(text_at(value, "iv", "J5", place))
-    if iv is None:
-        raise refuse("J5", place)
+    check(iv is not None, "J5", place)
     name = text_at(value, "format", "J5", place) if "format" in value else "identity"
-    if not quotable(name):
-        raise refuse("J5", place)
+    check(quotable(name), "J5", place)
     return (Key(name, method, uri, iv, ""),)
 
 
-def segments_said(value: Any, before: int, place: tuple[int | None, ...]) -> tuple[PodSegment, ...]:
+def segments_said(value: Any, before: int, place: Place) -> tuple[PodSegment, ...]:
     """An ad's segments, after so many of its break: not a list J2, none J6, the 501st J7; each one's texts J2, URI J3, bytes J2,
     duration J4."""
     listed = member(value, "segments")
-    if not isinstance(listed, list) or not listed:
-        raise refuse("J6" if listed == [] else "J2", place)
+    check(isinstance(listed, list), "J2", place)
+    check(listed != [], "J6", place)
     found: list[PodSegment] = []
     for number, one in enumerate(listed):
         here = (*place, number)
-        if before + number >= MOST_POD_SEGMENTS:
-            raise refuse("J7", here)
+        check(before + number < MOST_POD_SEGMENTS, "J7", here)
         text_at(one, "uri", "J2", here)
         duration = text_at(one, "duration", "J2", here)
         uri, part = part_said(one, here)
-        nanos = duration_of(duration)
-        if nanos is None:
-            raise refuse("J4", here)
-        found.append(PodSegment(uri, part, nanos))
+        check(duration_of(duration) is not None, "J4", here)
+        found.append(PodSegment(uri, part, duration_of(duration) or 0))
     return tuple(found)
 
 
-def pod_said(ads: list[Any], place: tuple[int | None, ...]) -> Pod:
+def pod_said(ads: list[Any], place: Place) -> Pod:
     """The ads of a break, or of the fallback: none J6; of each its `map`, its `key`, its `segments`."""
-    if not ads:
-        raise refuse("J6", place)
+    check(ads != [], "J6", place)
     found: list[Ad] = []
     for number, value in enumerate(ads):
         here = (*place, number)
@@ -213,8 +204,7 @@ def is_id(text: str) -> bool:
 def break_said(value: Any, number: int, before: list[str]) -> tuple[str, Pod]:
     """A break: its ID J2, `ads` not a list J2, an ID that came before J2, then its ads."""
     name, ads = text_at(value, "id", "J2", (number,)), member(value, "ads")
-    if not is_id(name) or not isinstance(ads, list) or name in before:
-        raise refuse("J2", (number,))
+    check(is_id(name) and isinstance(ads, list) and name not in before, "J2", (number,))
     return name, pod_said(ads, (number,))
 
 
@@ -232,8 +222,7 @@ def decisions_of(given: bytes) -> Decisions:
     `withdraw` and `fallback`, then what stands in that."""
     value = json_of(given)
     breaks, withdraw, fallback = (member(value, name) for name in ("breaks", "withdraw", "fallback"))
-    if [breaks, withdraw, fallback].count(...) != 2:
-        raise refuse("J2", ())
+    check([breaks, withdraw, fallback].count(...) == 2, "J2", ())
     if isinstance(breaks, list):
         found: list[tuple[str, Pod]] = []
         for number, one in enumerate(breaks):
@@ -243,9 +232,8 @@ def decisions_of(given: bytes) -> Decisions:
         return Decisions(withdraw=str(withdraw))
     if fallback is None:
         return Decisions()
-    if isinstance(member(fallback, "ads"), list):
-        return Decisions(fallback=pod_said(fallback["ads"], (None,)))
-    raise refuse("J2", ())
+    check(isinstance(member(fallback, "ads"), list), "J2", ())
+    return Decisions(fallback=pod_said(fallback["ads"], (None,)))
 
 
 # ---- the store

@@ -5,7 +5,7 @@ from dataclasses import replace
 
 from .attributes import Attribute, attributes_of, byte_range_of, hexadecimal_of, named, required, value_as
 from .uris import Url, resolved
-from .values import Fault, Key, Keys, Range, Section
+from .values import Key, Keys, Range, Section, or_fault
 
 OWN = ("METHOD", "URI", "IV", "KEYFORMAT")
 MOST_FORMATS = 16  # a limit of the reader (CONFORMANCE, 4.3.2.4)
@@ -14,12 +14,7 @@ MOST_FORMATS = 16  # a limit of the reader (CONFORMANCE, 4.3.2.4)
 def key_iv(found: list[Attribute]) -> int | None:
     """4.3.2.4: the IV, if one is stated: a hexadecimal-sequence without quotes; P11 else."""
     one = named(found, "IV")
-    if one is None:
-        return None
-    number = hexadecimal_of(value_as(False, one))
-    if number is None:
-        raise Fault("P11")
-    return number
+    return None if one is None else or_fault(hexadecimal_of(value_as(False, one)), "P11")
 
 
 def key_of(base: Url, rest: str) -> Key | None:

@@ -9,7 +9,7 @@ from .keys import MOST_FORMATS, effective_keys, key_of, keys_after, lacks_iv, ma
 from .lines import has_control, kind_of, lines_of, name_of, rest_of
 from .times import duration_of, instant_of
 from .uris import Url, resolved
-from .values import PAST, DateRange, Fault, Playlist, Range, Section, Segment
+from .values import PAST, DateRange, Fault, Playlist, Range, Section, Segment, or_fault
 
 MOST_BYTES = 4_194_304  # limits of the reader (CONFORMANCE, 7)
 MOST_SEGMENTS = 10_000
@@ -67,17 +67,12 @@ def steps_at(said: Said) -> int:
 
 def number_said(rest: str) -> int:
     """4.2: a decimal-integer; P9 else."""
-    number = decimal_of(rest)
-    if number is None:
-        raise Fault("P9")
-    return number
+    return or_fault(decimal_of(rest), "P9")
 
 
 def version_of(rest: str) -> int:
     """4.3.1.2, 7: a decimal (P5) of 1 to 7 (P6)."""
-    number = decimal_of(rest)
-    if number is None:
-        raise Fault("P5")
+    number = or_fault(decimal_of(rest), "P5")
     if not 1 <= number <= 7:
         raise Fault("P6")
     return number
@@ -92,10 +87,7 @@ def playlist_type_of(rest: str) -> str:
 
 def length_said(text: str) -> int:
     """4.3.2.1: a duration; P10 else."""
-    nanos = duration_of(text)
-    if nanos is None:
-        raise Fault("P10")
-    return nanos
+    return or_fault(duration_of(text), "P10")
 
 
 def duration_said(rest: str) -> tuple[int, str]:
@@ -106,10 +98,7 @@ def duration_said(rest: str) -> tuple[int, str]:
 
 def time_said(text: str) -> int:
     """4.3.2.6: a date and time; P15 else."""
-    time = instant_of(text)
-    if time is None:
-        raise Fault("P15")
-    return time
+    return or_fault(instant_of(text), "P15")
 
 
 def date_range_of(rest: str) -> DateRange:
@@ -154,8 +143,9 @@ def placed(said: Said, name: str) -> None:
     EXT-X-DISCONTINUITY-SEQUENCE also before any EXT-X-DISCONTINUITY (P8)."""
     if said.get(name):
         raise Fault("P7")
-    sequence, discontinuity = name == "EXT-X-MEDIA-SEQUENCE", name == "EXT-X-DISCONTINUITY-SEQUENCE"
-    if (sequence or discontinuity) and said.get("URI") or discontinuity and said.get("EXT-X-DISCONTINUITY"):
+    if name.endswith("-SEQUENCE") and said.get("URI"):
+        raise Fault("P8")
+    if name == "EXT-X-DISCONTINUITY-SEQUENCE" and said.get("EXT-X-DISCONTINUITY"):
         raise Fault("P8")
 
 
@@ -206,9 +196,7 @@ def segment_at(said: Said, base: Url, reference: str) -> Segment:
     """4.3.2: the segment of a URI line, looking back from it. Faults in the order P24, P17, P9, P16, P14, P13."""
     if len(said.get("URI", [])) + 1 > MOST_SEGMENTS:
         raise Fault("P24")
-    duration = own(said, "EXTINF")
-    if duration is None:
-        raise Fault("P17")
+    duration: tuple[int, str] = or_fault(own(said, "EXTINF"), "P17")
     number = media_sequence_at(said)
     if number >= PAST:
         raise Fault("P9")

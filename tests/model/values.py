@@ -2,7 +2,9 @@
 from __future__ import annotations
 
 from dataclasses import dataclass
+from typing import TypeVar
 
+Value = TypeVar("Value")
 PAST = 2**64  # the first number that is too large for a playlist (RFC 8216, 4.2)
 SECOND = 10**9  # durations and instants are whole nanoseconds
 
@@ -26,6 +28,13 @@ class Fault(Exception):
         """Makes the fault of this code; `place` is what is printed after its name, such as ` line 4`."""
         super().__init__(f"{code} {NAMES[code]}{place}")
         self.code = code
+
+
+def or_fault(value: Value | None, code: str, place: str = "") -> Value:
+    """The value, or the fault of this code where there is none."""
+    if value is None:
+        raise Fault(code, place)
+    return value
 
 
 class NotModelled(Exception):
