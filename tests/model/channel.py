@@ -53,11 +53,12 @@ class Channel:
 def shown_after(moment: Moment, history: list[Shown], playlist: Playlist) -> list[Shown]:
     """The history after a refresh: each segment that is listed for the first time, with its instant and its mark."""
     after = list(history)
+    is_timed = any(segment.time is not None for segment in playlist.segments)
     for place, segment in enumerate(playlist.segments):
         if not after or segment.number > after[-1].segment.number:
             before = after[-1] if after else None
             ended = before.instant + before.segment.nanos if before is not None and before.instant is not None else None
-            instant = begins_at(ended, segment, list(playlist.segments[place + 1:]))
+            instant = begins_at(ended, segment, list(playlist.segments[place + 1:]) if is_timed else [])
             after.append(Shown(segment, instant, next_mark(moment, after, instant)))
     return after
 

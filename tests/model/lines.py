@@ -1,6 +1,9 @@
 """Lines and tags (RFC 8216, 4.1 and 4.3)."""
 from __future__ import annotations
 
+import re
+
+CONTROL = re.compile("[\x00-\x1f\x7f-\x9f]")
 FLAGS = {"EXT-X-DISCONTINUITY", "EXT-X-ENDLIST", "EXT-X-INDEPENDENT-SEGMENTS", "EXT-X-I-FRAMES-ONLY"}
 VALUED = {"EXTINF", "EXT-X-BYTERANGE", "EXT-X-KEY", "EXT-X-MAP", "EXT-X-PROGRAM-DATE-TIME", "EXT-X-DATERANGE", "EXT-X-VERSION",
           "EXT-X-TARGETDURATION", "EXT-X-MEDIA-SEQUENCE", "EXT-X-DISCONTINUITY-SEQUENCE", "EXT-X-PLAYLIST-TYPE"}
@@ -16,7 +19,7 @@ def lines_of(text: str) -> list[str]:
 
 def has_control(text: str) -> bool:
     """4.1: no character of U+0000 to U+001F or U+007F to U+009F may be there."""
-    return any(c <= "\x1f" or "\x7f" <= c <= "\x9f" for c in text)
+    return CONTROL.search(text) is not None
 
 
 def kind_of(line: str) -> str:

@@ -1,17 +1,20 @@
 """Which playlist may follow which (RFC 8216, 6.2.1 and 6.2.2, with the narrower rules of CONFORMANCE)."""
 from __future__ import annotations
 
-from dataclasses import replace
-
 from .values import Fault, Playlist, Segment
 
 MOST_STEPS = 1000  # between two windows that touch (CONFORMANCE, 6.2.1)
 
 
-def same_segment(one: Segment, other: Segment) -> bool:
-    """6.2.2: a segment that is listed again is the same in all but its title, its stated time, and where its discontinuities are
+def kept_parts(one: Segment) -> tuple[object, ...]:
+    """6.2.2: what a segment keeps while it is listed: all but its title, its stated time, and where its discontinuities are
     counted."""
-    return replace(one, title="", time=None, steps=0) == replace(other, title="", time=None, steps=0)
+    return one.number, one.discontinuity, one.uri, one.range, one.keys, one.section, one.nanos
+
+
+def same_segment(one: Segment, other: Segment) -> bool:
+    """6.2.2: a segment that is listed again is the same."""
+    return kept_parts(one) == kept_parts(other)
 
 
 def first_changed(old: Playlist, new: Playlist) -> int | None:
