@@ -1,4 +1,5 @@
 """New cases of each family of tests/make_vectors, against the test driver, for as long as time is given."""
+import signal
 import sys
 import time
 from pathlib import Path
@@ -20,25 +21,43 @@ def batch_of(family, seed, first, count):
     return [case for case in drawn if case is not None and can_be_given(case)]
 
 
-def main(folder, seconds="1800", seed=None, count=None):
-    """Draws cases until the time is up, or until there were so many of each family; the exit status."""
-    seed = SystemRandom().randrange(10**6) if seed is None else int(seed)
-    most = 10**9 if count is None else int(count)
-    driver, until = built("test_driver", folder), time.monotonic() + int(seconds)
-    print(f"soak: model, seed {seed}", flush=True)
-    given, failed = dict.fromkeys(FAMILIES, 0), 0
+def batches(driver, seed, most, until):
+    """Gives batches of each family in turn, until there were so many cases of each or the time is up. For each: its family, how
+    many cases it had, and what differs."""
     for first in range(0, most, BATCH):
         for family in FAMILIES:
             if time.monotonic() > until:
-                break
+                return
             cases = batch_of(family, seed, first, most)
-            found = differences(driver, cases)
-            given[family] += len(cases)
+            yield family, len(cases), differences(driver, cases)
+
+
+def stop(*_):
+    raise KeyboardInterrupt
+
+
+def main(folder, seconds="1800", seed=None, count=None):
+    """Draws cases until the time is up, there were so many of each family, or it is stopped; the exit status."""
+    seed = SystemRandom().randrange(10**6) if seed is None else int(seed)
+    driver, until = built("test_driver", folder), time.monotonic() + int(seconds)
+    print(f"soak: model, seed {seed}", flush=True)
+    given, failed = dict.fromkeys(FAMILIES, 0), 0
+    signal.signal(signal.SIGTERM, stop)
+    try:
+        for family, cases, found in batches(driver, seed, 10**9 if count is None else int(count), until):
+            given[family] += cases
             failed += len(found)
             for one in found:
                 print(one, flush=True)
-        if time.monotonic() > until:
-            break
-    print(", ".join(f"{number} {family}" for family, number in given.items()))
+            if family == FAMILIES[-1] and given[family] // 10_000 > (given[family] - cases) // 10_000:
+                print(told(given), flush=True)
+    except KeyboardInterrupt:
+        print("stopped")
+    print(told(given))
     print(f"soak: {sum(given.values()) - failed} passed, {failed} failed")
     return 1 if failed else 0
+
+
+def told(given):
+    """How many cases of each family were given."""
+    return ", ".join(f"{number} {family}" for family, number in given.items())

@@ -3,6 +3,7 @@ from __future__ import annotations
 
 import re
 import subprocess
+import tempfile
 from collections.abc import Iterator
 
 from .cases import Connections, Run
@@ -57,7 +58,10 @@ def differences(driver: str, cases: list[Run | Connections]) -> list[str]:
     """What the driver answers otherwise than the model owes, a text for each case that has such an answer."""
     steps = [(case, line, owed) for case in cases if can_be_given(case) for line, owed in steps_of(case)]
     given = b"".join(line + b"\n" + MARK for _, line, _ in steps)
-    ran = subprocess.run([driver], input=given, capture_output=True, timeout=SECONDS, check=False)
+    with tempfile.TemporaryFile() as file:
+        file.write(given)
+        file.seek(0)
+        ran = subprocess.run([driver], stdin=file, capture_output=True, timeout=SECONDS, check=False)
     answers = MARKED.split(ran.stdout)[:-1]
     found: dict[str, str] = {}
     for (case, line, owed), answer in zip(steps, answers):

@@ -178,9 +178,9 @@ def playlist(rng: Random) -> Lines:
     if is_lucky(rng, 0.3):
         origin.add_break(rng.randrange(len(origin.pieces)), 1)
     lines = origin.window(0, len(origin.pieces) - 1, is_lucky(rng, 0.5))
-    if is_lucky(rng, 1 / 1500):
+    if is_lucky(rng, 1 / 4000):
         return of_many_segments(rng, lines)
-    if is_lucky(rng, 1 / 1500):
+    if is_lucky(rng, 1 / 4000):
         return of_many_bytes(rng, lines)
     for _ in range(rng.choice((0, 1, 1, 2, 3))):
         lines = rng.choice(GOOD)(rng, lines) if lines[1:] else lines
