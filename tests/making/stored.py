@@ -6,11 +6,13 @@ import json
 from pathlib import Path
 from typing import Any
 
+from model.splice import Insert, crc_of, section_of
 from model.values import NotModelled
 
 from .cases import Connections, Run, json_line, owed_connections, owed_run
 
 VECTORS = Path(__file__).resolve().parent.parent / "vectors"
+SECTIONS = VECTORS.parent / "sections" / "sections.jsonl"
 
 
 def vectors(files: list[Path]) -> list[dict[str, Any]]:
@@ -44,6 +46,19 @@ def agrees(vector: dict[str, Any]) -> bool:
         return replies == [reply for _, reply in case.asked]
     fault = f"{case.fault}\n" if case.fault else ""
     return (case.text.encode(), fault) == (base64.b64decode(vector["stdout"]), vector["stderr"])
+
+
+def sections() -> list[dict[str, Any]]:
+    """Splice sections, each with its fields as two other readers of SCTE 35 tell them."""
+    return [json.loads(line) for line in SECTIONS.read_text(encoding="utf-8").splitlines()]
+
+
+def reads(section: dict[str, Any]) -> bool:
+    """Whether the model reads of a section what the other readers tell of a break, and finds its CRC_32 right."""
+    fields, given = section["fields"], bytes.fromhex(section["hex"])
+    found = section_of(given).insert
+    out = None if fields["cancel"] else fields["out"] == 1
+    return crc_of(given) == 0 and found == Insert(out, fields.get("ticks"))
 
 
 def lines_again(files: list[Path]) -> list[str]:
