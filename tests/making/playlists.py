@@ -180,7 +180,7 @@ def playlist(rng: Random) -> Lines:
     lines = origin.window(0, len(origin.pieces) - 1, is_lucky(rng, 0.5))
     if is_lucky(rng, 1 / 4000):
         return of_many_segments(rng, lines)
-    if is_lucky(rng, 1 / 4000):
+    if is_lucky(rng, 1 / 600):
         return of_many_bytes(rng, lines)
     for _ in range(rng.choice((0, 1, 1, 2, 3))):
         lines = rng.choice(GOOD)(rng, lines) if lines[1:] else lines

@@ -11,6 +11,7 @@ from typing import Any
 from .cases import FAMILIES, Connections, Run, case_of, outcomes
 
 TOP = Path(__file__).resolve().parent.parent.parent
+FOLLOWED = 200  # cases of a family whose calls are noted, which takes ten times as long
 MODEL = str(TOP / "tests" / "model")
 RUNS = ["written", "C1", *(f"P{n}" for n in range(1, 25)), *(f"J{n}" for n in (*range(1, 8), 10, 11)), "N10"]
 SHOWN = [*RUNS, "200", "201", "204", "400", "404", "405", "411", "413", "503", "E4", "409 channel",
@@ -52,12 +53,13 @@ def called_by(family: str, seed: int, number: int) -> tuple[Run | Connections | 
 
 
 def print_rows(seed: int, count: int) -> int:
-    """Prints how many of so many cases of each family reach each row and each outcome; the exit status."""
+    """Prints how many of so many cases of each family reach each outcome, and how many of the first 200 each row; the exit
+    status."""
     places: Counter[str] = Counter()
     seen: Counter[str] = Counter()
     for family in FAMILIES:
         for number in range(count):
-            case, names = called_by(family, seed, number)
+            case, names = called_by(family, seed, number) if number < FOLLOWED else (case_of(family, seed, number), set())
             places.update(names)
             seen.update(set(outcomes(case)) if case else ())
     lines = [(places[place], rule) for rule, place in rows()] + [(seen[one], one) for one in SHOWN]
