@@ -130,7 +130,7 @@ def of_many_segments(rng: Random, lines: Lines) -> Lines:
 
 def of_many_bytes(rng: Random, lines: Lines) -> Lines:
     """4,194,304 bytes, or one more."""
-    size = 4_194_304 + rng.choice((0, 1)) - sum(len(line.encode()) + 1 for line in lines)
+    size = 4_194_304 + rng.choice((0, 1, 1)) - sum(len(line.encode()) + 1 for line in lines)
     return [*lines, "#" + "x" * (size - 2)]
 
 
@@ -180,7 +180,7 @@ def playlist(rng: Random) -> Lines:
     lines = origin.window(0, len(origin.pieces) - 1, is_lucky(rng, 0.5))
     if is_lucky(rng, 1 / 4000):
         return of_many_segments(rng, lines)
-    if is_lucky(rng, 1 / 600):
+    if is_lucky(rng, 1 / 400):
         return of_many_bytes(rng, lines)
     for _ in range(rng.choice((0, 1, 1, 2, 3))):
         lines = rng.choice(GOOD)(rng, lines) if lines[1:] else lines
