@@ -21,11 +21,11 @@ def batch_of(family, seed, first, count):
     return [case for case in drawn if case is not None and can_be_given(case)]
 
 
-def batches(driver, seed, most, until):
+def batches(driver, families, seed, most, until):
     """Gives batches of each family in turn, until there were so many cases of each or the time is up. For each: its family, how
     many cases it had, and what differs."""
     for first in range(0, most, BATCH):
-        for family in FAMILIES:
+        for family in families:
             if time.monotonic() > until:
                 return
             cases = batch_of(family, seed, first, most)
@@ -36,20 +36,22 @@ def stop(*_):
     raise KeyboardInterrupt
 
 
-def main(folder, seconds="1800", seed=None, count=None):
+def main(folder, seconds="1800", seed=None, count=None, family=None):
     """Draws cases until the time is up, there were so many of each family, or it is stopped; the exit status."""
     seed = SystemRandom().randrange(10**6) if seed is None else int(seed)
     driver, until = built("test_driver", folder), time.monotonic() + int(seconds)
     print(f"soak: model, seed {seed}", flush=True)
-    given, failed = dict.fromkeys(FAMILIES, 0), 0
+    if family not in (None, *FAMILIES):
+        sys.exit(f"bench/soak: no family {family}: {', '.join(FAMILIES)}")
+    given, failed = dict.fromkeys((family,) if family else FAMILIES, 0), 0
     signal.signal(signal.SIGTERM, stop)
     try:
-        for family, cases, found in batches(driver, seed, 10**9 if count is None else int(count), until):
-            given[family] += cases
+        for of, cases, found in batches(driver, list(given), seed, 10**9 if count is None else int(count), until):
+            given[of] += cases
             failed += len(found)
             for one in found:
                 print(one, flush=True)
-            if family == FAMILIES[-1] and given[family] // 10_000 > (given[family] - cases) // 10_000:
+            if of == list(given)[-1] and given[of] // 10_000 > (given[of] - cases) // 10_000:
                 print(told(given), flush=True)
     except KeyboardInterrupt:
         print("stopped")
