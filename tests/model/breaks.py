@@ -5,7 +5,7 @@ from dataclasses import dataclass
 
 from .decisions import Pod, Store, pod_for
 from .splice import insert_said, ticks_nanos
-from .values import DateRange, Playlist, Segment
+from .values import DateRange, Playlist, Segment, first_of
 
 
 @dataclass(frozen=True)
@@ -63,9 +63,9 @@ def known_since(refreshes: list[Accepted], name: str) -> int:
 
 def break_of(name: str, tags: list[DateRange]) -> Break:
     """What these tags say of a break: the first value of each attribute, also one that is of no use."""
-    def first(attribute: str) -> object:
-        return next((value for tag in tags if (value := getattr(tag, attribute)) is not None), None)
-    return Break(name, *(first(word) for word in ("start", "end", "duration", "planned", "out", "back")))  # type: ignore[arg-type]
+    return Break(name, first_of(tag.start for tag in tags), first_of(tag.end for tag in tags),
+                 first_of(tag.duration for tag in tags), first_of(tag.planned for tag in tags),
+                 first_of(tag.out for tag in tags), first_of(tag.back for tag in tags))
 
 
 def known(refreshes: list[Accepted]) -> list[Break]:
@@ -113,8 +113,8 @@ def end_of(one: Break, total: int) -> int | str | None:
     def after(nanos: int | None) -> int | None:
         return None if one.start is None or nanos is None else one.start + nanos
     closed = CLOSED if is_returning(one) else None
-    ends = (one.end, after(one.duration), closed, after(one.planned), after(signal_nanos(one)), after(total))
-    return next((end for end in ends if end is not None), None)
+    ends: list[int | str | None] = [one.end, after(one.duration), closed, after(one.planned), after(signal_nanos(one)), after(total)]
+    return first_of(ends)
 
 
 def is_inside(one: Break | None, pod: Pod, instant: int | None, tolerance: int) -> bool:

@@ -21,12 +21,11 @@ REASONS = {200: "OK", 201: "Created", 204: "No Content", 400: "Bad Request", 404
 PLAIN, PLAYLIST = "text/plain; charset=utf-8", "application/vnd.apple.mpegurl"
 
 TOKEN = rb"[0-9A-Za-z!#$%&'*+\-.^_`|~]+"
+TARGET = rb"[\x21-\x7e\x80-\xff]+"
+BEGIN = rb"(?:\r?\n)*(" + TOKEN + rb") (" + TARGET + rb")"
 FIELD = TOKEN + rb":[\t\x20-\x7e\x80-\xff]*\r?\n"
-START = rb"(?:\r?\n)*(" + TOKEN + rb") ([\x21-\x7e\x80-\xff]+) "
-HEAD = re.compile(START + rb"HTTP/1\.[01]\r?\n((?:" + FIELD + rb")*)\r?\n")
-UNFINISHED = re.compile(rb"(?:\r?\n)*(?:\r|" + TOKEN + rb"(?: [\x21-\x7e\x80-\xff]*)?)?|" + START
-                        + rb"(?:H|HT|HTT|HTTP|HTTP/|HTTP/1|HTTP/1\.|HTTP/1\.[01]\r?)?|" + START + rb"HTTP/1\.[01]\r?\n(?:"
-                        + FIELD + rb")*(?:\r|" + TOKEN + rb"(?::[\t\x20-\x7e\x80-\xff]*\r?)?)?")
+HEAD = re.compile(BEGIN + rb" HTTP/1\.[01]\r?\n((?:" + FIELD + rb")*)\r?\n")
+SHORTEST = b"\nX / HTTP/1.1\r\nX:\r\n\r\n"  # some end of it makes a head of whatever may become one
 
 
 @dataclass(frozen=True)
@@ -84,11 +83,9 @@ def head_of(given: bytes) -> re.Match[bytes]:
 
 
 def may_become_head(given: bytes) -> bool:
-    """9112, 2.1: some bytes can follow that make a head of these, or they end inside a target."""
-    if not UNFINISHED.fullmatch(given):
-        return False
-    begun = re.match(START, given)
-    return begun is None or is_text_of_utf8(begun[2])
+    """9112, 2.1: some bytes can follow that make a head of these, or they end inside a target, which is judged at its end."""
+    heads = [HEAD.fullmatch(given + SHORTEST[place:]) for place in range(len(SHORTEST))]
+    return any(head and is_text_of_utf8(head[2]) for head in heads) or re.fullmatch(BEGIN, given) is not None
 
 
 def values_named(fields: bytes, name: str) -> list[str]:

@@ -1,6 +1,7 @@
 """What a playlist says, and the faults by which one is refused."""
 from __future__ import annotations
 
+from collections.abc import Iterable
 from dataclasses import dataclass
 from typing import TypeVar
 
@@ -35,6 +36,11 @@ def or_fault(value: Value | None, code: str, place: str = "") -> Value:
     if value is None:
         raise Fault(code, place)
     return value
+
+
+def first_of(values: Iterable[Value | None]) -> Value | None:
+    """The first that there is, if any."""
+    return next((value for value in values if value is not None), None)
 
 
 class NotModelled(Exception):
