@@ -113,8 +113,8 @@ def end_of(one: Break, total: int) -> int | str | None:
     def after(nanos: int | None) -> int | None:
         return None if one.start is None or nanos is None else one.start + nanos
     closed = CLOSED if is_returning(one) else None
-    ends: list[int | str | None] = [one.end, after(one.duration), closed, after(one.planned), after(signal_nanos(one)), after(total)]
-    return first_of(ends)
+    ends = [one.end, after(one.duration), closed, after(one.planned), after(signal_nanos(one)), after(total)]
+    return next((end for end in ends if end is not None), None)
 
 
 def is_inside(one: Break | None, pod: Pod, instant: int | None, tolerance: int) -> bool:
