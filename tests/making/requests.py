@@ -60,6 +60,8 @@ def odd_request(rng: Random, name: str) -> bytes:
         lambda: request("PUT", path, b"{}") + b"more bytes",
         lambda: of_length(rng, rng.choice((16_383, 16_384, 16_385, 20_000))),
         lambda: of_fields(rng, rng.choice((63, 64, 65))),
+        lambda: of_fields(rng, rng.choice((63, 64, 65)))[:-rng.choice((1, 2, 3, 5, 8))],
+        lambda: of_length(rng, rng.choice((16_383, 16_384, 16_385, 16_386)))[:-rng.choice((1, 2, 3, 5))],
         lambda: b"",
     )
     return rng.choice(makers)()

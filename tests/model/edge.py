@@ -24,7 +24,8 @@ TOKEN = rb"[0-9A-Za-z!#$%&'*+\-.^_`|~]+"
 TARGET = rb"[\x21-\x7e\x80-\xff]+"
 BEGIN = rb"(?:\r?\n)*(" + TOKEN + rb") (" + TARGET + rb")"
 FIELD = TOKEN + rb":[\t\x20-\x7e\x80-\xff]*\r?\n"
-HEAD = re.compile(BEGIN + rb" HTTP/1\.[01]\r?\n((?:" + FIELD + rb")*)\r?\n")
+FRONT = BEGIN + rb" HTTP/1\.[01]\r?\n((?:" + FIELD + rb")*)"
+HEAD = re.compile(FRONT + rb"\r?\n")
 SHORTEST = b"\nX / HTTP/1.1\r\nX:\r\n\r\n"  # some end of it makes a head of whatever may become one
 
 
@@ -83,7 +84,11 @@ def head_of(given: bytes) -> re.Match[bytes]:
 
 
 def may_become_head(given: bytes) -> bool:
-    """9112, 2.1: some bytes can follow that make a head of these, or they end inside a target, which is judged at its end."""
+    """9112, 2.1: some bytes can follow that make a head of these, or they end inside a target, which is judged at its end. With
+    65 whole fields they make none (docs/OPERATING.md, 400)."""
+    front = re.match(FRONT, given)
+    if front and front[3].count(b"\n") > MOST_FIELDS:
+        return False
     heads = [HEAD.fullmatch(given + SHORTEST[place:]) for place in range(len(SHORTEST))]
     return any(head and is_text_of_utf8(head[2]) for head in heads) or re.fullmatch(BEGIN, given) is not None
 
