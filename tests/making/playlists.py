@@ -8,6 +8,17 @@ from .common import BASES, FORMATS, Origin, is_lucky, text_of
 
 Lines = list[str]
 NO_BASES = ("", "ftp://h/", "http://", "//h/x", "origin.example/x", "https://h:99999/", "http://a b/", "data:x", "http://[::1")
+ODD_BASES = ("http://h/a/b/../c?d#e", "https://h:443", "http://H%41.example/x y", "http://1.2.3.4/", "http:\\\\h\\x\\y",
+             "http:h/x", "http:/h/x", "HTTPS://u@h", "http://:p@h/", "http://u:@h/", "http://@h/", "http://h:/",
+             "http://h:080/", "http://h:0/x", "http://h:65535/", "http://h:65536/", "http://[::FFFF:1.2.3.4]/",
+             "http://[1:2:3:4:5:6:7:8]/", "http://[1::8]/", "http://[::1/", "http://[1:2]/", "http://[::1%25]/",
+             "http://[v1.a]/", "http://a..b/", "http://a./x", "http://-a-/", "http://a_b/", "http://a^b/", "http://a|b/",
+             "http://a<b/", "http://a%b/", "http://a%20b/", "http://a%2fb/", "http://h?x", "http://h#x", "http://h/%zz",
+             "http://h/a;b=c", "http://h/a'b?c'd", 'http://h/"q"', "  http://h/ ", "http://h/a/./b/.", "http://h/a/%2E%2e/b",
+             "http://h//", "http://h/.", "http://h/..", "http:///x", "http:////h//x", "http://", "https:", "http:?x", "//h/",
+             "h", "/x", "http//h", "http://255.255.255.255/", "http://256.1.1.1/", "http://1.2.3.4.5/", "http://u:p:q@h/",
+             "http://u@v@h/", "http://a:b@/", "http://h:1:2/", "http://h:x/", "http://[::1]x/", "http://[::1]:80/",
+             "http://h/\xe9?\xe9#\xe9", "http://h:00000080/", "http://a\x7fb/", "http://h/\\..\\x")
 NUMBERS = ("0", "1", "00000000000000000010", "18446744073709551615", "18446744073709551616", "000000000000000000010", "-1", "+1",
            "1.0", "", " 1", "1 ", "0x1", "٣")
 DURATIONS = ("10", "9.976666666666667", "5.", ".5", "0", "999999.999999999", "1000000", "0000001.5", "", ".", "-1", "1e3", "1.2.3",
@@ -23,6 +34,11 @@ URIS = ("x.ts", "SKD://k", "http:", "a1+-.:b", "../a b?q#f", "//cdn.example/s", 
         "é.ts", "/abs/s^.ts", "?q'x", "//[", "//[::1]/x", "//256.1.1.1/", "//1.2.3.4/", "a\\b\\..\\c", "%2e%2E/x", "./", "..", "data:a\"b",
         "a\"b", "//h:65536/", "//h:80/", "//u:p@h/", "//@/", "//", "\u00a0", "\ufeff", "#not-a-comment"[1:], "{}`<>|", "x#", "x?",
         " http:y", " HTTPS://Z.Example/%", "//%41.example/", "//a%00/", "s;p=1,2!$&'()*+=@~_-")
+ODD_URIS = ("..//x", "../../../x", "./../x", "a//b", "//", "/", "///x", "\\\\h\\x", "\\x", "x\\..\\y", "?", "#", "?a#b?c#d",
+            'x?\'"<> `{}', 'x#\'"<> `{}', "%", "%41", "a%2Fb", "..%2f", "%2e", "%2E.", "%2e%2e%2f", "a/.", "a/..", "a/../",
+            "a/./", "//h", "//H/", "//h:80", "//h:443", "//h:8080/x", "//u@h", "//[::1]", "//a..", "/..", "/../x", "x;y",
+            "x:y", "./x:y", "~", "*", "(", "a b", "a\xa0b", "a\u2028b", "\u3000", "x ", "  x", "x?  ", "x#  ", "?  ",
+            "\U0001f4fa")
 RANGES = ("5@0", "5@2", "5", "5", "0", "18446744073709551610@5", "1@18446744073709551609", "1@18446744073709551609", "6", "7@18446744073709551615", "18446744073709551615", "5@", "x")
 ATTRIBUTES = ('A=1', 'B="x,y"', 'C-2=0xFf', 'D=""', "a=1", "A", "A=x y", 'A="x', 'A=1,A=2', "A=", "=1", 'A="x"y', "A=1,", ",A=1", "",
               "A =1", "A= 1", 'A=x"y', "A=\u00a0", 'A="\u3000"')
@@ -94,7 +110,7 @@ HARMLESS = ("", "   ", "# a comment", "#EXTM3U", "#EXT-X-CUE-OUT:30", "#EXT-X-UN
 def with_uri(rng: Random, lines: Lines) -> Lines:
     """One URI in another form."""
     at = rng.choice([n for n, line in enumerate(lines) if line and not line.startswith("#")] or [len(lines)])
-    return [*lines[:at], rng.choice(URIS), *lines[at + 1:]]
+    return [*lines[:at], rng.choice(rng.choice((URIS, ODD_URIS))), *lines[at + 1:]]
 
 
 def with_ranges(rng: Random, lines: Lines) -> Lines:
@@ -191,7 +207,7 @@ def playlist(rng: Random) -> Lines:
 
 def case(rng: Random) -> tuple[str, bytes, None]:
     """A run: its base, its input, and no decision file."""
-    base = rng.choice(NO_BASES) if is_lucky(rng, 0.02) else rng.choice(BASES)
+    base = rng.choice(rng.choice((NO_BASES, ODD_BASES, ODD_BASES))) if is_lucky(rng, 0.06) else rng.choice(BASES)
     lines = playlist(rng)
     given = text_of(lines, rng) if lines else b""
     if is_lucky(rng, 0.01):
