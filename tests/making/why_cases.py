@@ -22,7 +22,13 @@ def playlist(first: int, last: int, ranges: str, time: str = "#EXT-X-PROGRAM-DAT
     return f"#EXTM3U\n#EXT-X-TARGETDURATION:10\n#EXT-X-MEDIA-SEQUENCE:{first}\n{ranges}{time}{segments}"
 
 
-B1, LATER = daterange("b1", "12:00:10"), "#EXT-X-PROGRAM-DATE-TIME:2024-05-01T12:00:10Z\n"
+def time_of(number: int) -> str:
+    """The time tag of a segment, of the first six."""
+    return f"#EXT-X-PROGRAM-DATE-TIME:2024-05-01T12:00:{10 * number:02}Z\n"
+
+
+B1 = daterange("b1", "12:00:10")
+TWO = daterange("b1", "12:00:10", ",DURATION=10") + daterange("b2", "12:00:30", ",DURATION=10")
 
 # A name, the events, and the front of the line that is owed for the break b1 at their end.
 CASES = (
@@ -34,10 +40,12 @@ CASES = (
     ("no times", (POD, playlist(0, 3, B1, "")), "break b1: Waiting: no segment has a time (EXT-X-PROGRAM-DATE-TIME)"),
     ("decided too late", (playlist(0, 2, B1), POD, playlist(0, 2, B1)),
      "break b1: Waiting: it came too late: when segment 1 was first shown, no decision had given it a pod"),
-    ("announced too late", (POD, playlist(0, 2, ""), playlist(1, 3, B1, LATER)),
+    ("announced too late", (POD, playlist(0, 2, ""), playlist(1, 3, B1, time_of(1))),
      "break b1: Waiting: it came too late: when segment 1 was first shown, the playlist didn't have it."),
     ("in another break", (FALLBACK, playlist(0, 3, daterange("b0", "12:00:00", ",DURATION=20") + B1)),
      "break b1: Waiting: segment 1, which began there, belongs to the break b0."),
+    ("filled before", (FALLBACK, *(playlist(n, n + 2, TWO, time_of(n)) for n in range(5))),
+     "break b1: Waiting: it was filled from segment 1 on, and its pod has left the playlist."),
     ("over", (POD, playlist(0, 2, daterange("b1", "12:00:10", ",DURATION=0.1"))),
      "break b1: Waiting: when segment 1 was first shown, it had ended, or ends within the tolerance."),
 )
