@@ -2,3 +2,4 @@ pub mod Fronts
 pub mod KeyLemmas
 pub mod Ranges
 pub mod Timed
+pub mod EqualParts

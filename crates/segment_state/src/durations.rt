@@ -1,5 +1,5 @@
 //! The durations and titles of a playlist's segments (RFC 8216, 4.3.2.1), of which most are the same.
-ghost use Rattle.std.specs.Prelude.{◌≡◌, Some, None, Ok, Err, IfOk, IfErr, OnOk, OnErr, MatchResult};
+ghost use Rattle.std.specs.Prelude.{◌≡◌, false, Some, None, Ok, Err, IfOk, IfErr, OnOk, OnErr, MatchResult};
 ghost use Rattle.std.specs.List.{before_first, after_first};
 ghost use Rattle.std.specs.Prelude.{◌==◌};
 ghost use Rattle.playlist_model.specs.Said.{duration, duration_said};
@@ -172,6 +172,13 @@ impl<'a> Durations<'a> {
             }
             _ => self.read_other(text),
         }
+    }
+
+    /// Whether the next segment has them.
+    pub fn is_due(&self) -> bool
+        ensures { result ≡ false → self.now ≡ None }
+    {
+        self.is_due
     }
 
     /// The duration and the title that the next segment has.

@@ -25,12 +25,14 @@ use playlist_model::{
 };
 use std::alloc::{AllocError, Global};
 use std::marker::Model;
+pub use stops::Stop;
 use uri_resolver::Base;
 
 pub mod attributes;
 mod durations;
 mod keys;
 mod references;
+mod stops;
 mod tags;
 mod times;
 

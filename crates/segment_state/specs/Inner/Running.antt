@@ -3,6 +3,8 @@ use Rattle.segment_state.specs.Running.{Running}
 use Rattle.std.specs.Prelude.{◌+◌, ℕ, map, Option, None, List}
 use Rattle.playlist_model.specs.declared.Segment.{Segment}
 use Rattle.playlist_model.specs.declared.ByteRange.{ByteRange}
+use Rattle.playlist_model.specs.declared.InitSection.{InitSection}
+use Rattle.playlist_model.specs.declared.Key.{Key}
 use Rattle.playlist_model.specs.EffectiveKeys.{effective_key}
 use Rattle.playlist_model.specs.LookBack.{Standing, Extent}
 
@@ -30,6 +32,24 @@ after_segment old last = record old {
     duration = None;
     byte_range = None;
     program_date_time = None;
+    extent = last;
+  };
+}
+
+-- what stands where the lines of a playlist that was read before go on
+abbrev pub taken_at : Running → ℕ → ℕ → List Key → Option InitSection → Option Extent → Running
+taken_at old media_count discontinuity_count keys section last = record old {
+  standing = record {
+    media_sequence = old.standing.media_sequence;
+    discontinuity_sequence = old.standing.discontinuity_sequence;
+    media_count = media_count;
+    discontinuity_count = discontinuity_count;
+    discontinuities = 0;
+    duration = None;
+    byte_range = None;
+    program_date_time = None;
+    keys = keys;
+    init_section = section;
     extent = last;
   };
 }

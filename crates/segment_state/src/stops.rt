@@ -1,0 +1,213 @@
+//! What stands after a segment, so that lines which were read before can go on there after others.
+ghost use Rattle.std.specs.Prelude.{◌≡◌, ◌+◌, ◌^◌, ◌<◌, ◌≤◌, true, false, IfOk, IfErr, OnErr, MatchOption, IsTrue, Some, None};
+ghost use Rattle.std.specs.Cmp.Lexicographic.{pointwise};
+ghost use Rattle.playlist_model.specs.Same.{same_key, same_option, same_section};
+ghost use Rattle.segment_state.specs.Continued.{IsBetween, IsStop, IsReached, stopped_at};
+ghost use Rattle.segment_state.specs.Inner.Running.{taken_at};
+ghost use Rattle.segment_state.specs.Views.{extent_after};
+
+use crate::{Part, ReaderState};
+use playlist_model::{InitSection, Keys, MAX_SEGMENTS, Shared, is_same_key, is_same_section};
+use std::alloc::AllocError;
+use std::marker::Model;
+
+/// What stands after a segment.
+#[derive(Drop)]
+pub struct Stop {
+    number: u64,
+    discontinuity: u64,
+    keys: Keys,
+    init_section: Option<Shared<InitSection>>,
+    last: Option<Part>,
+}
+
+impl Model for Stop {
+    ghost use Rattle.segment_state.specs.Continued.{Stop};
+    ghost use Rattle.segment_state.specs.Views.{extent_after};
+
+    ghost Value = { Stop };
+
+    ghost view = { λ a. record { number = a.number; discontinuity = a.discontinuity; keys = a.keys; init_section = a.init_section; extent = extent_after a.last } };
+}
+
+fn are_same_keys(one: &Keys, other: &Keys) -> bool
+    ensures { result ≡ pointwise same_key one.now other.now }
+{
+    let mut others = other.iter();
+    for key in one.iter() {
+        let Some(other) = others.next() else {
+            return false;
+        };
+        if !is_same_key(&key, &other) {
+            return false;
+        }
+    }
+    others.next().is_none()
+}
+
+#[tactic(auto, using(crate::proofs::EqualParts::keys_are))]
+fn are_equal_keys(one: &Keys, other: &Keys) -> bool
+    ensures { result ≡ true → one.now ≡ other.now }
+{
+    are_same_keys(one, other)
+}
+
+#[tactic(auto, using(crate::proofs::EqualParts::some_section))]
+fn are_equal_sections(
+    one: &Option<Shared<InitSection>>,
+    other: &Option<Shared<InitSection>>,
+) -> bool
+    ensures { result ≡ true → one.now ≡ other.now }
+{
+    match (one, other) {
+        (Some(one), Some(other)) => is_same_section(one, other),
+        (None, None) => true,
+        _ => false,
+    }
+}
+
+#[tactic(auto, using(crate::proofs::EqualParts::same_extent))]
+fn is_equal_part(one: &Part, other: &Part) -> bool
+    ensures { result ≡ true → extent_after (Some one.now) ≡ extent_after (Some other.now) }
+{
+    if one.uri.as_str() != other.uri.as_str() {
+        return false;
+    }
+    if one.byte_range.length != other.byte_range.length {
+        return false;
+    }
+    one.byte_range.offset == other.byte_range.offset
+}
+
+fn are_equal_parts(one: &Option<Part>, other: &Option<Part>) -> bool
+    ensures { result ≡ true → extent_after one.now ≡ extent_after other.now }
+{
+    match (one, other) {
+        (Some(one), Some(other)) => is_equal_part(one, other),
+        (None, None) => true,
+        _ => false,
+    }
+}
+
+fn copied_part(part: &Option<Part>) -> Result<Option<Part>, AllocError>
+    ensures { IfOk result (λ copy. extent_after copy ≡ extent_after part.now) }
+{
+    let Some(part) = part else {
+        return Ok(None);
+    };
+    let uri = part.uri.clone()?;
+    Ok(Some(Part {
+        uri,
+        byte_range: part.byte_range,
+    }))
+}
+
+impl<'a> ReaderState<'a> {
+    // Whether no tag of the next segment stands.
+    fn is_between(&self) -> bool
+        ensures { result ≡ true → IsBetween self.now.standing }
+    {
+        if self.durations.is_due() {
+            return false;
+        }
+        if self.byte_range.is_some() {
+            return false;
+        }
+        if self.program_date_time.is_some() {
+            return false;
+        }
+        self.discontinuities == 0
+    }
+
+    /// What stands here, where no tag of the next segment does.
+    pub fn stop(&self) -> Result<Option<Stop>, AllocError>
+        ensures { IfOk result (λ stop. MatchOption stop (Unit {0}) (λ stop. IsStop self.now.standing stop)) }
+    {
+        if !self.is_between() {
+            return Ok(None);
+        }
+        let Some(number) = self.number() else {
+            return Ok(None);
+        };
+        Ok(Some(Stop {
+            number,
+            discontinuity: self.discontinuity_number(),
+            keys: self.keys.clone()?,
+            init_section: self.section()?,
+            last: copied_part(&self.last)?,
+        }))
+    }
+
+    /// Whether this stands here. Takes no memory.
+    pub fn stands_at(&self, stop: &Stop) -> bool
+        ensures { result ≡ true → IsStop self.now.standing stop.now }
+    {
+        if !self.is_between() {
+            return false;
+        }
+        let Some(number) = self.number() else {
+            return false;
+        };
+        if number != stop.number {
+            return false;
+        }
+        if self.discontinuity_number() != stop.discontinuity {
+            return false;
+        }
+        if !are_equal_keys(&self.keys, &stop.keys) {
+            return false;
+        }
+        if !are_equal_sections(&self.init_section, &stop.init_section) {
+            return false;
+        }
+        are_equal_parts(&self.last, &stop.last)
+    }
+
+    // Takes what stands at a stop, over the first numbers that its playlist states.
+    fn take_stop(
+        &mut self,
+        media_count: u64,
+        discontinuity_count: u64,
+        keys: Keys,
+        init_section: Option<Shared<InitSection>>,
+        last: Option<Part>,
+    )
+        requires few { media_count ≤ MAX_SEGMENTS }
+        requires room { self.old.standing.discontinuity_sequence + discontinuity_count < 2 ^ 64 }
+        ensures { self.new ≡ taken_at self.old media_count discontinuity_count keys init_section (extent_after last) }
+    {
+        self.media_count = media_count;
+        self.discontinuity_count = discontinuity_count;
+        self.discontinuities = 0;
+        self.durations.end();
+        self.byte_range = None;
+        self.program_date_time = None;
+        self.keys = keys;
+        self.init_section = init_section;
+        self.last = last;
+    }
+
+    /// Goes to a later stop, with what stands there. False where the first numbers of this playlist don't lead there; then
+    /// the state is as it was, as after a failed allocation.
+    pub fn go_to(&mut self, stop: &Stop) -> Result<bool, AllocError>
+        ensures reached { IfOk result (λ done. done ≡ true → IsReached self.old.standing stop.now × (self.new ≡ record self.old { standing = stopped_at self.old.standing stop.now })) }
+        ensures kept { IfOk result (λ done. done ≡ false → self.new ≡ self.old) }
+        ensures failed { OnErr result (self.new ≡ self.old) }
+    {
+        let Some(media_count) = stop.number.checked_sub(self.media_sequence) else {
+            return Ok(false);
+        };
+        if media_count > MAX_SEGMENTS {
+            return Ok(false);
+        }
+        let Some(discontinuity_count) = stop.discontinuity.checked_sub(self.discontinuity_sequence)
+        else {
+            return Ok(false);
+        };
+        let keys = stop.keys.clone()?;
+        let init_section = stop.init_section.clone()?;
+        let last = copied_part(&stop.last)?;
+        self.take_stop(media_count, discontinuity_count, keys, init_section, last);
+        Ok(true)
+    }
+}
