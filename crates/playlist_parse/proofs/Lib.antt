@@ -9,3 +9,9 @@ pub mod Reached
 pub mod TagNames
 pub mod DateRangeLemmas
 pub mod WholeTexts
+pub mod OtherKinds
+pub mod SameAnswers
+pub mod Scenes
+pub mod GoingOn
+pub mod JoinedLines
+pub mod GoingTo

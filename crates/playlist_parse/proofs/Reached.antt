@@ -1,5 +1,5 @@
 -- How far a reading has come.
-use Rattle.std.proofs.Common.{◌≡◌, ℕ, ◌+◌, List, [], ◌∷◌, length, refl, ap, sym, ◌∙◌, arith, subst}
+use Rattle.std.proofs.Common.{◌≡◌, ℕ, ◌+◌, List, [], ◌∷◌, ◌++◌, map, length, refl, ap, sym, ◌∙◌, arith, subst}
 use Rattle.std.specs.Prelude.{◌≢◌, Result, Ok, Err, IsOk, None, Some, MatchResult}
 use Rattle.url.specs.Parts.{Parts}
 use Rattle.playlist_model.specs.declared.FaultKind.{FaultKind}
@@ -8,20 +8,14 @@ use Rattle.playlist_model.specs.declared.Playlist.{Playlist}
 use Rattle.playlist_model.specs.Refusals.{Refuses}
 use Rattle.playlist_model.specs.Said.{Said, nothing, Outcome}
 use Rattle.playlist_model.specs.LookBack.{with_said}
-use Rattle.playlist_model.specs.Reading.{said_by, said_from, at_line, and_whole, whole_fault, playlist_of, Fault}
+use Rattle.playlist_model.specs.Reading.{said_by, said_from, at_line, and_whole, whole, whole_fault, playlist_of, Fault}
 use Rattle.playlist_model.specs.Reading.{limited}
 use Rattle.playlist_parse.specs.Answers.{Answers}
 use Rattle.playlist_parse.specs.Inner.Answers.{fault_at, line_of}
 use Rattle.playlist_parse.specs.Inner.Progress.{Progress, progress_at, Ends}
-
--- some lines after the header are read, and these are left: what the others said, with what is left, leads to the same as
--- all lines, and the next one has this number
-pub record Reached (base : Parts) (progress : Progress) (number : ℕ) (left lines : List (List ℕ)) : Type 0 where
-  pub before : List Said
-  pub progress_is : progress ≡ progress_at base before
-  pub count : length before + 1 ≡ number
-  pub within : length before + length left ≡ length lines + 1
-  pub rest : said_from (said_by limited base) before left ≡ said_from (said_by limited base) (nothing ∷ []) lines
+use Rattle.playlist_parse.specs.Inner.LineViews.{line_text}
+use Rattle.playlist_parse.specs.Inner.Reached.{Reached, Faulted, left_in}
+use Rattle.playlist_parse.specs.declared.reader.Reading.{Reading}
 
 own_base : (base : Parts) (progress : Progress) (before : List Said) → progress ≡ progress_at base before → progress ≡ progress_at progress.base before
 own_base base progress before e = e ∙ ap (λ b. progress_at b before) (sym (ap (λ (p : Progress). p.base) e))
@@ -82,3 +76,43 @@ refused {base = base} {number = number} {line = line} {left = left} {lines = lin
 pub ends : {base : Parts} {progress : Progress} {number : ℕ} {left lines : List (List ℕ)} (result : Result Playlist FaultKind) (r : Reached base progress number left lines) → Ends progress result
     → MatchResult result (λ playlist. (whole_fault r.before ≡ None) × (playlist ≡ playlist_of r.before)) (λ e. e ≢ OutOfMemory → whole_fault r.before ≡ Some e)
 ends {base = base} {progress = progress} result r h = h r.before (own_base base progress r.before r.progress_is)
+
+-- what a refused line ensures, at what is reached
+taken_err : {base : Parts} {progress : Progress} {number : ℕ} {left lines : List (List ℕ)} (line : List ℕ) (e : FaultKind) (r : Reached base progress number left lines)
+    → ((before : List Said) → progress ≡ progress_at progress.base before → Refuses e (said_by limited progress.base before line)) → Refuses e (said_by limited base r.before line)
+taken_err {base = base} {progress = progress} line e r refuses =
+    subst (λ b. Refuses e (said_by limited b r.before line)) (same_base base progress r.before r.progress_is) (refuses r.before (own_base base progress r.before r.progress_is))
+
+-- a refused line's fault is the text's
+pub line_refused : {base : Parts} {progress : Progress} {number : ℕ} {line : List ℕ} {left lines : List (List ℕ)} (e : FaultKind) (fault : Fault) (r : Reached base progress number (line ∷ left) lines)
+    → ((before : List Said) → progress ≡ progress_at progress.base before → Refuses e (said_by limited progress.base before line)) → fault ≡ fault_at e number → Faulted base fault lines
+line_refused {base = base} {number = number} {line = line} {lines = lines} e fault r refuses is =
+    subst (λ (f : Fault). Faulted base f lines) (sym is) (refused e r (taken_err line e r refuses))
+
+-- where no line is left, the text is the playlist
+pub ended : {base : Parts} {progress : Progress} {number : ℕ} {lines : List (List ℕ)} (playlist : Playlist) (r : Reached base progress number [] lines) → Ends progress (Ok playlist)
+    → and_whole (said_from (said_by limited base) (nothing ∷ []) lines) ≡ Ok playlist
+ended {base = base} {progress = progress} playlist r h =
+    let e : (whole_fault r.before ≡ None) × (playlist ≡ playlist_of r.before) = h r.before (own_base base progress r.before r.progress_is) in
+    ap and_whole (sym r.rest) ∙ ap (λ o. whole o r.before) e.0 ∙ ap Ok (sym e.1)
+
+-- a failed allocation says nothing of the text
+pub unread : (fault : Fault) (outcome : Result Playlist Fault) → fault ≡ fault_at OutOfMemory 0 → Answers (Err fault) outcome
+unread fault outcome is = subst (λ (f : Fault). Answers (Err f) outcome) (sym is) (failed OutOfMemory 0 outcome (λ some. absurd (some refl)))
+
+-- a whole text is what its lines said
+pub told_whole : {base : Parts} {progress : Progress} {number : ℕ} {left lines : List (List ℕ)} (playlist : Playlist) (r : Reached base progress number left lines) → Ends progress (Ok playlist) → playlist ≡ playlist_of r.before
+told_whole {base = base} {progress = progress} playlist r h =
+    let e : (whole_fault r.before ≡ None) × (playlist ≡ playlist_of r.before) = h r.before (own_base base progress r.before r.progress_is) in e.1
+
+-- ---- a reading
+
+-- before its first line
+pub begun_at : (base : Parts) (reading : Reading) (tail : List (List ℕ)) → reading.number ≡ 2 → ((all : List (List ℕ)) → Reached base reading.progress 2 all all)
+    → Reached base reading.progress reading.number (left_in reading ++ tail) (left_in reading ++ tail)
+begun_at base reading tail first begun = subst (λ n. Reached base reading.progress n (left_in reading ++ tail) (left_in reading ++ tail)) (sym first) (begun (left_in reading ++ tail))
+
+-- after its last one
+pub none_more : {base : Parts} (reading : Reading) (tail all : List (List ℕ)) → reading.lines ≡ [] → Reached base reading.progress reading.number (left_in reading ++ tail) all
+    → Reached base reading.progress reading.number tail all
+none_more {base = base} reading tail all none r = subst (λ ls. Reached base reading.progress reading.number (map line_text ls ++ tail) all) none r

@@ -2,3 +2,6 @@ pub mod LineViews
 pub mod Progress
 pub mod Views
 pub mod Answers
+pub mod Resumed
+pub mod Reached
+pub mod Source

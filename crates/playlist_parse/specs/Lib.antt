@@ -1,3 +1,5 @@
 pub mod LineViews
 pub mod Answers
 pub mod Inner
+pub mod Kept
+pub mod KeptLines

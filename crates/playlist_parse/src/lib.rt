@@ -5,8 +5,10 @@ mod date_range;
 mod line;
 mod progress;
 mod reader;
+mod source;
 mod tag;
 
 pub use line::{Line, LineKind, Lines, kind_of};
 pub use playlist_model::MAX_BYTES;
 pub use reader::read;
+pub use source::{Read, Source, read_after};

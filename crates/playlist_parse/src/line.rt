@@ -1,14 +1,15 @@
 //! The lines of a playlist and their kinds (RFC 8216, section 4.1).
-ghost use Rattle.std.specs.Prelude.{◌≡◌, [], ◌∷◌, map, ◌+◌, ◌^◌, ◌<◌, length, MatchOption};
+ghost use Rattle.std.specs.Prelude.{◌≡◌, [], ◌∷◌, ◌++◌, true, map, ◌+◌, ◌^◌, ◌<◌, length, MatchOption};
 ghost use Rattle.std.specs.List.{list_all, position_or_len, before_first, after_first};
 ghost use Rattle.std.specs.Str.Lines.{lines, strip_carriage_return};
 ghost use Rattle.attr_list.specs.Attributes.{slices_at};
 ghost use Rattle.playlist_model.specs.Lines.{kind_of, is_blank, is_colon, placed_lines};
 ghost use Rattle.playlist_parse.specs.LineViews.{line_kind_view, line_span, line_view, is_feed, lines_from, with_end};
-ghost use Rattle.playlist_parse.specs.Inner.LineViews.{is_plain_byte};
+ghost use Rattle.playlist_parse.specs.Inner.LineViews.{is_plain_byte, line_text};
+ghost use Rattle.playlist_parse.specs.Inner.Source.{EndsInFeed};
 
 use attr_list::Span;
-use memchr::memchr;
+use memchr::{memchr, memrchr};
 use std::marker::Model;
 
 /// What a line of a playlist is, as slices of it.
@@ -138,6 +139,67 @@ fn cut_at_feed(text: &str) -> Option<(&str, &str)>
     }
 }
 
+// Whether a text ends with a line feed.
+fn ends_in_feed(text: &str) -> bool
+    ensures { result ≡ true → EndsInFeed text.now }
+{
+    match text.as_bytes().split_last() {
+        Some((last, _)) => *last == b'\n',
+        None => false,
+    }
+}
+
+// What stands after a front of a text, where it begins so.
+fn text_after<'a>(text: &'a str, front: &str) -> Option<&'a str>
+    ensures { MatchOption result (Unit {0}) (λ later. text.now ≡ front.now ++ later.now) }
+{
+    match text.split_at_checked(front.len()) {
+        Some((same, later)) if same == front => Some(later),
+        _ => None,
+    }
+}
+
+// Whether a line that stands after this line feed names a segment.
+fn names_segment(line: &[u8]) -> bool {
+    matches!(line, [_feed, first, ..] if *first != b'#' && *first != b'\n')
+}
+
+// The place after the last line that names a segment and ends with a line feed, or the end of the text. It has no contract:
+// `cut_after_segments` looks at the place, whatever it is.
+fn end_of_segments(text: &str) -> usize {
+    let mut rest = text.as_bytes();
+    while let Some(feed) = memrchr(b'\n', rest) {
+        let Some((front, line)) = rest.split_at_checked(feed) else {
+            return text.len();
+        };
+        if names_segment(line) {
+            return feed.saturating_add(line.len()).saturating_add(1);
+        }
+        rest = front;
+    }
+    text.len()
+}
+
+/// A text in two parts.
+#[derive(Clone, Copy)]
+pub struct CutText<'a> {
+    pub front: &'a str,
+    pub tail: &'a str,
+}
+
+/// A text cut after its last line that names a segment.
+pub fn cut_after_segments(text: &str) -> CutText<'_>
+    ensures { lines text.now ≡ lines result.front.now ++ lines result.tail.now }
+{
+    match text.split_at_checked(end_of_segments(text)) {
+        Some((front, tail)) if ends_in_feed(front) => CutText { front, tail },
+        _ => CutText {
+            front: text,
+            tail: "",
+        },
+    }
+}
+
 /// The lines of a text, one after the other, as slices of it: they take no memory.
 #[derive(Drop)]
 pub struct Lines<'a> {
@@ -170,6 +232,28 @@ impl<'a> Lines<'a> {
             start: 0,
             rest: text,
         }
+    }
+
+    /// The text that is left.
+    #[tactic(auto, using(crate::proofs::JoinedLines::texts_from))]
+    pub(crate) fn left(&self) -> &'a str
+        ensures { map line_text self.now ≡ lines result.now }
+    {
+        self.rest
+    }
+
+    /// The lines after a front of the text that is left, where it begins so and the front ends with a line feed.
+    pub(crate) fn after(&self, front: &str) -> Option<Lines<'a>>
+        ensures { MatchOption result (Unit {0}) (λ later. map line_text self.now ≡ lines front.now ++ map line_text later) }
+    {
+        if !ends_in_feed(front) {
+            return None;
+        }
+        let later = text_after(self.rest, front)?;
+        Some(Lines {
+            start: self.start + front.len(),
+            rest: later,
+        })
     }
 
     /// The next line, where there is one.

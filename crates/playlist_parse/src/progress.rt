@@ -1,5 +1,5 @@
 //! A playlist as far as it has been read, and what each tag adds to it.
-ghost use Rattle.std.specs.Prelude.{◌≡◌, [], ◌∷◌, true, false, not, Some, None, Ok, Err, IfOk, is_none, unwrap_or};
+ghost use Rattle.std.specs.Prelude.{◌≡◌, [], ◌∷◌, ◌++◌, true, false, not, length, Some, None, Ok, Err, IfOk, OnOk, MatchOption, is_none, unwrap_or};
 ghost use Rattle.std.specs.List.{list_any, list_all};
 ghost use Rattle.playlist_model.specs.Reading.{said_by, said_by_kind, said_by_tag, said_by_uri, has_section, are_mixed};
 ghost use Rattle.playlist_model.specs.Lines as kinds;
@@ -7,16 +7,18 @@ ghost use Rattle.playlist_model.specs.Lines.{has_control};
 ghost use Rattle.playlist_model.specs.Said as said;
 ghost use Rattle.playlist_model.specs.Said.{number, version_of, playlist_type_of, refuse_if};
 ghost use Rattle.playlist_model.specs.Reading.{limited};
+ghost use Rattle.segment_state.specs.Continued.{IsStop};
 ghost use Rattle.playlist_parse.specs.Inner.Progress.{progress_at, playlist_from, TakesLine, Ends};
+ghost use Rattle.playlist_parse.specs.Inner.Source.{gone_to};
 
 use crate::date_range::date_range_of;
 use crate::line::{LineKind, kind_of};
 use crate::tag::{Tag, tag_of};
 use attr_list::read_decimal;
 use playlist_model::{
-    DateRange, FaultKind, Items, Playlist, PlaylistKind, Segment, Shared, has_control,
+    DateRange, FaultKind, Items, Playlist, PlaylistKind, Segment, Shared, Text, has_control,
 };
-use segment_state::ReaderState;
+use segment_state::{ReaderState, Stop};
 use std::alloc::{AllocError, Global};
 use std::marker::Model;
 use uri_resolver::Base;
@@ -45,6 +47,143 @@ impl<'a> Model for Progress<'a> {
     ghost Value = { Progress };
 
     ghost view = { progress_of };
+}
+
+/// What a header's tags have said.
+#[derive(Drop)]
+pub(crate) struct ReadHeading {
+    version: Option<u64>,
+    target_duration: Option<u64>,
+    playlist_type: Option<PlaylistKind>,
+    independent_segments: bool,
+    end_list: bool,
+    has_sequence: bool,
+    has_discontinuity_sequence: bool,
+    has_media: bool,
+}
+
+impl Model for ReadHeading {
+    ghost use Rattle.playlist_model.specs.Inner.Heading.{Heading};
+
+    ghost Value = { Heading };
+
+    ghost view = { λ a. record { version = a.version; target_duration = a.target_duration; playlist_type = a.playlist_type; independent_segments = a.independent_segments; end_list = a.end_list; has_sequence = a.has_sequence; has_discontinuity_sequence = a.has_discontinuity_sequence; has_media = a.has_media } };
+}
+
+fn is_same_number(a: Option<u64>, b: Option<u64>) -> bool
+    ensures { result ≡ true → a ≡ b }
+{
+    match (a, b) {
+        (None, None) => true,
+        (Some(a), Some(b)) => a == b,
+        _ => false,
+    }
+}
+
+fn is_same_kind(a: Option<PlaylistKind>, b: Option<PlaylistKind>) -> bool
+    ensures { result ≡ true → a ≡ b }
+{
+    match (a, b) {
+        (None, None) => true,
+        (Some(PlaylistKind::Event), Some(PlaylistKind::Event)) => true,
+        (Some(PlaylistKind::Vod), Some(PlaylistKind::Vod)) => true,
+        _ => false,
+    }
+}
+
+fn is_same_flag(a: bool, b: bool) -> bool
+    ensures { result ≡ true → a ≡ b }
+{
+    a == b
+}
+
+impl ReadHeading {
+    /// Whether a segment stood before.
+    pub fn has_media(&self) -> bool
+        ensures { result ≡ self.now.has_media }
+    {
+        self.has_media
+    }
+
+    /// Whether the other says the same.
+    pub fn is(&self, other: &ReadHeading) -> bool
+        ensures { result ≡ true → self.now ≡ other.now }
+    {
+        if !is_same_number(self.version, other.version) {
+            return false;
+        }
+        if !is_same_number(self.target_duration, other.target_duration) {
+            return false;
+        }
+        if !is_same_kind(self.playlist_type, other.playlist_type) {
+            return false;
+        }
+        if !is_same_flag(self.independent_segments, other.independent_segments) {
+            return false;
+        }
+        if !is_same_flag(self.end_list, other.end_list) {
+            return false;
+        }
+        if !is_same_flag(self.has_sequence, other.has_sequence) {
+            return false;
+        }
+        if !is_same_flag(
+            self.has_discontinuity_sequence,
+            other.has_discontinuity_sequence,
+        ) {
+            return false;
+        }
+        is_same_flag(self.has_media, other.has_media)
+    }
+}
+
+fn copied_text(text: &Option<Text>) -> Result<Option<Text>, AllocError>
+    ensures { IfOk result (λ copy. copy ≡ text.now) }
+{
+    match text {
+        Some(text) => Ok(Some(text.clone()?)),
+        None => Ok(None),
+    }
+}
+
+fn copied_date_range(date_range: &DateRange) -> Result<DateRange, AllocError>
+    ensures { IfOk result (λ copy. copy ≡ date_range.now) }
+{
+    Ok(DateRange {
+        id: date_range.id.clone()?,
+        start: date_range.start,
+        end: date_range.end,
+        duration: date_range.duration,
+        planned_duration: date_range.planned_duration,
+        scte35_out: copied_text(&date_range.scte35_out)?,
+        scte35_in: copied_text(&date_range.scte35_in)?,
+        attributes: date_range.attributes.clone()?,
+    })
+}
+
+// Puts copies of these after a list.
+fn copy_date_ranges(list: &mut Vec<DateRange>, more: &[DateRange]) -> Result<(), AllocError>
+    ensures { OnOk result (list.new.items ≡ list.old.items ++ more.now) }
+{
+    let mut rest = more;
+    while let Some((date_range, later)) = rest.split_first() {
+        list.push(copied_date_range(date_range)?)?;
+        rest = later;
+    }
+    Ok(())
+}
+
+// Puts copies of these after a list: each shares all but a short URI.
+fn copy_segments(list: &mut Vec<Segment>, more: &[Segment]) -> Result<(), AllocError>
+    ensures { OnOk result (list.new.items ≡ list.old.items ++ more.now) }
+{
+    list.reserve(more.len())?;
+    let mut rest = more;
+    while let Some((segment, later)) = rest.split_first() {
+        list.push(segment.clone()?)?;
+        rest = later;
+    }
+    Ok(())
 }
 
 impl<'a> Progress<'a> {
@@ -285,6 +424,86 @@ impl<'a> Progress<'a> {
             date_ranges: Items::from_vec(self.date_ranges),
             segments: Shared::new(self.alloc, Items::from_vec(self.segments))?,
         })
+    }
+
+    /// How many segments are read.
+    pub fn segment_count(&self) -> usize
+        ensures { result ≡ length self.now.segments }
+    {
+        self.segments.len()
+    }
+
+    /// How many date ranges are read.
+    pub fn date_range_count(&self) -> usize
+        ensures { result ≡ length self.now.date_ranges }
+    {
+        self.date_ranges.len()
+    }
+
+    /// The number of the first segment, where one is read.
+    pub fn first_number(&self) -> Option<u64> {
+        match self.segments.as_slice().first() {
+            Some(segment) => Some(segment.media_sequence),
+            None => None,
+        }
+    }
+
+    /// What the header's tags have said.
+    pub fn heading(&self) -> ReadHeading
+        ensures { result ≡ self.now.heading }
+    {
+        ReadHeading {
+            version: self.version,
+            target_duration: self.target_duration,
+            playlist_type: self.playlist_type,
+            independent_segments: self.independent_segments,
+            end_list: self.end_list,
+            has_sequence: self.has_sequence,
+            has_discontinuity_sequence: self.has_discontinuity_sequence,
+            has_media: self.has_media,
+        }
+    }
+
+    /// What stands here, where no tag of the next segment does.
+    pub fn stop(&self) -> Result<Option<Stop>, AllocError>
+        ensures { IfOk result (λ stop. MatchOption stop (Unit {0}) (λ stop. IsStop self.now.standing stop)) }
+    {
+        self.state.stop()
+    }
+
+    /// Whether this stands here.
+    pub fn stands_at(&self, stop: &Stop) -> bool
+        ensures { result ≡ true → IsStop self.now.standing stop.now }
+    {
+        self.state.stands_at(stop)
+    }
+
+    /// Goes to a stop, under the heading and with the date ranges and the segments that stand up to it. False where it can't be
+    /// told; then all is as it was.
+    pub fn go_to(
+        &mut self,
+        heading: &ReadHeading,
+        stop: &Stop,
+        date_ranges: &[DateRange],
+        segments: &[Segment],
+    ) -> Result<bool, AllocError>
+        ensures gone { IfOk result (λ done. done ≡ true → self.new ≡ gone_to self.old heading.now stop.now date_ranges.now segments.now) }
+        ensures kept { IfOk result (λ done. done ≡ false → self.new ≡ self.old) }
+    {
+        if !self.state.go_to(stop)? {
+            return Ok(false);
+        }
+        copy_date_ranges(&mut self.date_ranges, date_ranges)?;
+        copy_segments(&mut self.segments, segments)?;
+        self.version = heading.version;
+        self.target_duration = heading.target_duration;
+        self.playlist_type = heading.playlist_type;
+        self.independent_segments = heading.independent_segments;
+        self.end_list = heading.end_list;
+        self.has_sequence = heading.has_sequence;
+        self.has_discontinuity_sequence = heading.has_discontinuity_sequence;
+        self.has_media = heading.has_media;
+        Ok(true)
     }
 
     /// The playlist, where the text as a whole has no fault: `NoTarget`, `NoSegments`, `MixedMaps`.

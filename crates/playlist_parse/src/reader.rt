@@ -1,5 +1,6 @@
 //! The reader: from bytes to a playlist, or its first fault.
-ghost use Rattle.std.specs.Prelude.{◌≡◌, ◌^◌, ◌<◌, [], ◌∷◌, map, length, true, Ok, Err};
+ghost use Rattle.std.specs.Prelude.{◌≡◌, ◌+◌, ◌^◌, ◌<◌, ℕ, List, [], ◌∷◌, map, length, true, Ok, Err, IfOk, OnOk, MatchResult};
+ghost use Rattle.url.specs.Parts.{Parts};
 ghost use Rattle.std.specs.List.{list_all};
 ghost use Rattle.playlist_model.specs.Said.{nothing};
 ghost use Rattle.playlist_model.specs.Reading.{reading, said_by, said_from, and_whole};
@@ -7,6 +8,8 @@ ghost use Rattle.playlist_model.specs.Reading.{limited};
 ghost use Rattle.playlist_parse.specs.Inner.LineViews.{is_free, line_text};
 ghost use Rattle.playlist_parse.specs.Answers.{Answers};
 ghost use Rattle.playlist_parse.specs.Inner.Answers.{fault_at};
+ghost use Rattle.playlist_parse.specs.Inner.Progress.{Ends};
+ghost use Rattle.playlist_parse.specs.Inner.Reached.{Reached, Faulted, Reads, left_in};
 
 use crate::line::{Lines, has_plain_bytes};
 use crate::progress::Progress;
@@ -15,7 +18,7 @@ use std::alloc::Global;
 use uri_resolver::Base;
 
 // A fault at a line. A failed allocation stands at none.
-fn fault_at(kind: FaultKind, line: u64) -> PlaylistFault
+pub fn fault_at(kind: FaultKind, line: u64) -> PlaylistFault
     ensures { result ≡ fault_at kind line }
 {
     let line = if kind == FaultKind::OutOfMemory {
@@ -26,7 +29,82 @@ fn fault_at(kind: FaultKind, line: u64) -> PlaylistFault
     PlaylistFault { kind, line }
 }
 
-// Reads the lines after the header, those of a plain text or of any.
+/// How far a text is read.
+#[derive(Drop)]
+pub struct Reading<'a> {
+    /// What its lines have said.
+    pub progress: Progress<'a>,
+    /// The lines that are left.
+    pub lines: Lines<'a>,
+    /// The number of the next line, from 1.
+    pub number: u64,
+}
+
+/// A reading of `lines`, which stand after a header that is read.
+pub fn reading_of<'a>(alloc: Global, base: &'a Base, lines: Lines<'a>) -> Reading<'a>
+    ensures lines { result.lines ≡ lines.entry }
+    ensures number { result.number ≡ 2 }
+    ensures begun { (all : List (List ℕ)) → Reached base.now result.progress 2 all all }
+{
+    Reading {
+        progress: Progress::new(alloc, base),
+        lines,
+        number: 2,
+    }
+}
+
+/// Reads lines until `most` segments are read, or none is left. `is_plain`: no line has a control character.
+pub fn read_some<'a>(
+    reading: &mut Reading<'a>,
+    is_plain: bool,
+    most: usize,
+) -> Result<(), PlaylistFault>
+    requires few { reading.old.number + length reading.old.lines < 2 ^ 64 }
+    requires plain { is_plain ≡ true → list_all is_free (left_in reading.old) ≡ true }
+    ensures reached { (base : Parts) → Reads base reading.old result reading.new }
+    ensures plain { OnOk result (is_plain ≡ true → list_all is_free (left_in reading.new) ≡ true) }
+{
+    'lines: while reading.progress.segment_count() < most {
+        let Some(line) = reading.lines.next() else {
+            return Ok(());
+        };
+        match reading.progress.line(line.text, is_plain) {
+            Ok(()) => reading.number += 1,
+            Err(kind) => return Err(fault_at(kind, reading.number)),
+        }
+    }
+    Ok(())
+}
+
+/// Reads all lines that are left. `is_plain`: none of them has a control character.
+#[inline(always)]
+pub fn read_all<'a>(reading: &mut Reading<'a>, is_plain: bool) -> Result<(), PlaylistFault>
+    requires few { reading.old.number + length reading.old.lines < 2 ^ 64 }
+    requires plain { is_plain ≡ true → list_all is_free (left_in reading.old) ≡ true }
+    ensures reached { (base : Parts) → Reads base reading.old result reading.new }
+    ensures none_left { OnOk result (reading.new.lines ≡ []) }
+{
+    'lines: while let Some(line) = reading.lines.next() {
+        match reading.progress.line(line.text, is_plain) {
+            Ok(()) => reading.number += 1,
+            Err(kind) => return Err(fault_at(kind, reading.number)),
+        }
+    }
+    Ok(())
+}
+
+/// The playlist of a text, all of whose lines are read: or a fault of the whole text.
+pub fn playlist_of(reading: Reading<'_>) -> Result<Playlist, PlaylistFault>
+    ensures answer { (base : Parts) (all : List (List ℕ)) → Reached base reading.entry.progress reading.entry.number [] all → Answers result (and_whole (said_from (said_by limited base) (nothing ∷ []) all)) }
+    ensures whole { IfOk result (λ playlist. Ends reading.entry.progress (Ok playlist)) }
+{
+    match reading.progress.playlist() {
+        Ok(playlist) => Ok(playlist),
+        Err(kind) => Err(fault_at(kind, 0)),
+    }
+}
+
+// Reads the lines after the header.
 fn read_lines<'a>(
     alloc: Global,
     lines: Lines<'a>,
@@ -37,18 +115,10 @@ fn read_lines<'a>(
     requires plain { is_plain ≡ true → list_all is_free (map line_text lines) ≡ true }
     ensures { Answers result (and_whole (said_from (said_by limited base.now) (nothing ∷ []) (map line_text lines.entry))) }
 {
-    let mut progress = Progress::new(alloc, base);
-    let mut lines = lines;
-    let mut number: u64 = 2;
-    while let Some(line) = lines.next() {
-        match progress.line(line.text, is_plain) {
-            Ok(()) => number += 1,
-            Err(kind) => return Err(fault_at(kind, number)),
-        }
-    }
-    match progress.playlist() {
-        Ok(playlist) => Ok(playlist),
-        Err(kind) => Err(fault_at(kind, 0)),
+    let mut reading = reading_of(alloc, base, lines);
+    match read_all(&mut reading, is_plain) {
+        Ok(()) => playlist_of(reading),
+        Err(fault) => Err(fault),
     }
 }
 

@@ -1,0 +1,356 @@
+-- A reading that goes on with lines that were read before.
+use Rattle.std.proofs.Common.{◌≡◌, ℕ, ◌+◌, ◌-◌, ◌<◌, ◌≤◌, Bool, true, List, [], ◌∷◌, ◌++◌, take, drop, length, refl, ap, sym, ◌∙◌, arith, subst, length-append, append_assoc}
+use Rattle.std.specs.Prelude.{ℤ, ◌&&◌, Option, None, Some, Result, Ok, Err, IfOk, OnOk, MatchOption, unwrap_or}
+use Rattle.std.specs.List.{list_all}
+use Rattle.std.proofs.lemmas.Bool.{and_parts}
+use Rattle.std.specs.Str.Lines.{lines}
+use Rattle.std.proofs.lemmas.List.{append-nil, drop-append-le, drop_all, take_all, take-append-le}
+use Rattle.std.proofs.Math.Seq.{take-append_seam}
+use Rattle.url.specs.Parts.{Parts}
+use Rattle.playlist_model.specs.declared.Key.{Key}
+use Rattle.playlist_model.specs.declared.InitSection.{InitSection}
+use Rattle.playlist_model.specs.declared.Segment.{Segment}
+use Rattle.playlist_model.specs.declared.DateRange.{DateRange}
+use Rattle.playlist_model.specs.declared.Playlist.{Playlist}
+use Rattle.playlist_model.specs.declared.PlaylistKind.{PlaylistKind}
+use Rattle.playlist_model.specs.Said.{Said, nothing, media, date_range, Outcome}
+use Rattle.playlist_model.specs.LookBack.{Standing, standing_at, Extent, latest, the_sequence, the_discontinuity_sequence, is_media, is_discontinuity, count, segments_of, segment_at, date_ranges_of}
+use Rattle.playlist_model.specs.Inner.Heading.{Heading, heading_at}
+use Rattle.playlist_model.specs.Reading.{has, said_by, said_from, at_line, limited, playlist_of, Fault}
+use Rattle.segment_state.specs.Continued.{Stop, IsStop, stopped_at}
+use Rattle.playlist_parse.specs.Inner.Progress.{Progress, progress_at}
+use Rattle.playlist_parse.specs.Inner.Reached.{Reached, left_in}
+use Rattle.playlist_parse.specs.declared.reader.Reading.{Reading}
+use Rattle.playlist_parse.specs.Kept.{AreTaken, IsSource}
+use Rattle.playlist_parse.specs.Inner.Resumed.{Scene, scene_at, Alike, Resumed}
+use Rattle.playlist_parse.specs.Inner.LineViews.{is_free}
+use Rattle.playlist_parse.specs.Inner.Source.{Agree, TakesOver, IsSourceOf, Grown, heading_in, gone_to, gone_after}
+use Rattle.playlist_parse.specs.KeptLines.{Source, WasRead}
+use Rattle.playlist_parse.proofs.GoingOn.{goes_on}
+
+-- ---- lines after lines
+
+ok_is : {a b : List Said} → ◌≡◌ {A = Result (List Said) Fault} (Ok a) (Ok b) → a ≡ b
+ok_is h = cc h
+
+line_then : (n : ℕ) (o : Outcome Said) (f g : Said → Result (List Said) Fault) (r : Result (List Said) Fault) (all : List Said) → ((said : Said) → f said ≡ Ok all → g said ≡ r)
+    → at_line n o f ≡ Ok all → at_line n o g ≡ r
+line_then n (Ok said) f g r all k h = k said h
+line_then n (Err e) f g r all k h = absurd (cc h)
+
+-- what lines say after others that were read
+pub said_then : (read : List Said → List ℕ → Outcome Said) (before : List Said) (lines more : List (List ℕ)) (all : List Said) → said_from read before lines ≡ Ok all
+    → said_from read before (lines ++ more) ≡ said_from read all more
+said_then read before [] more all h = ap (λ b. said_from read b more) (ok_is h)
+said_then read before (line ∷ later) more all h =
+    line_then (length before + 1) (read before line) (λ said. said_from read (said ∷ before) later) (λ said. said_from read (said ∷ before) (later ++ more)) (said_from read all more) all
+    (λ said e. said_then read (said ∷ before) later more all e) h
+
+-- ---- stops
+
+abbrev scene_of : Heading → Stop → Scene
+scene_of heading stop = record {
+  heading = heading;
+  number = stop.number;
+  discontinuity = stop.discontinuity;
+  steps = 0;
+  duration = None;
+  byte_range = None;
+  time = None;
+  keys = stop.keys;
+  section = stop.init_section;
+  extent = stop.extent;
+}
+
+scene_ext : (g h : Heading) (n m d e s t : ℕ) (u v : Option (ℕ × List ℕ)) (a b : Option (ℕ × Option ℕ)) (i j : Option ℤ) (k l : List Key) (o p : Option InitSection) (x y : Option Extent)
+    → g ≡ h → n ≡ m → d ≡ e → s ≡ t → u ≡ v → a ≡ b → i ≡ j → k ≡ l → o ≡ p → x ≡ y
+    → ◌≡◌ {A = Scene} (record { heading = g; number = n; discontinuity = d; steps = s; duration = u; byte_range = a; time = i; keys = k; section = o; extent = x })
+    (record { heading = h; number = m; discontinuity = e; steps = t; duration = v; byte_range = b; time = j; keys = l; section = p; extent = y })
+scene_ext g h n m d e s t u v a b i j k l o p x y e1 e2 e3 e4 e5 e6 e7 e8 e9 e10 = cc
+
+scene_is : (before : List Said) (heading : Heading) (stop : Stop) → heading_at before ≡ heading → IsStop (standing_at before) stop → scene_at before ≡ scene_of heading stop
+scene_is before heading stop h s =
+    scene_ext _ _ _ _ _ _ _ _ _ _ _ _ _ _ _ _ _ _ _ _ h s.number s.discontinuity s.between.steps s.between.duration s.between.byte_range s.between.time s.keys s.init_section s.extent
+
+pub count_segments : (before : List Said) → length (segments_of before) ≡ count is_media before
+count_segments [] = refl
+count_segments (media resource ∷ before) =
+    let more : length (segments_of before ++ segment_at before resource ∷ []) ≡ length (segments_of before) + 1 = length-append (segments_of before) (segment_at before resource ∷ []) ∙ omega arith in
+    let there = count_segments before in
+    omega (arith, more, there)
+count_segments (_ ∷ before) = count_segments before
+
+pub alike_at : (old new : List Said) (stop : Stop) → IsStop (standing_at old) stop → IsStop (standing_at new) stop → heading_at old ≡ heading_at new → has is_media old ≡ true
+    → length (segments_of new) ≤ length (segments_of old) → Alike old new
+alike_at old new stop s t h some fewer = record {
+  scene = scene_is old (heading_at new) stop h s ∙ sym (scene_is new (heading_at new) stop refl t);
+  media = some;
+  fewer = let one = count_segments old in let other = count_segments new in omega (arith, one, other, fewer);
+}
+
+-- ---- parts of lists
+
+pub dropped_all : {A : Type 0} (xs : List A) (n : ℕ) → length xs ≤ n → [] ≡ drop n xs
+dropped_all xs n h = sym (drop_all n xs h)
+
+pub taken_all : {A : Type 0} (xs : List A) (n : ℕ) → length xs ≤ n → xs ≡ take n xs
+taken_all xs n h = sym (take_all n xs h)
+
+-- ---- what is reached
+
+drop_front : {A : Type 0} (xs ys : List A) → drop (length xs) (xs ++ ys) ≡ ys
+drop_front xs ys = drop-append-le (length xs) xs ys (omega arith) ∙ ap (λ zs. zs ++ ys) (drop_all (length xs) xs (omega arith))
+
+standing_ext : (a b c d e f g h i j : ℕ) (u v : Option (ℕ × List ℕ)) (q r : Option (ℕ × Option ℕ)) (s t : Option ℤ) (k l : List Key) (o p : Option InitSection) (x y : Option Extent)
+    → a ≡ b → c ≡ d → e ≡ f → g ≡ h → i ≡ j → u ≡ v → q ≡ r → s ≡ t → k ≡ l → o ≡ p → x ≡ y
+    → ◌≡◌ {A = Standing} (record { media_sequence = a; discontinuity_sequence = c; media_count = e; discontinuity_count = g; discontinuities = i; duration = u; byte_range = q; program_date_time = s; keys = k; init_section = o; extent = x })
+    (record { media_sequence = b; discontinuity_sequence = d; media_count = f; discontinuity_count = h; discontinuities = j; duration = v; byte_range = r; program_date_time = t; keys = l; init_section = p; extent = y })
+standing_ext a b c d e f g h i j u v q r s t k l o p x y e1 e2 e3 e4 e5 e6 e7 e8 e9 e10 e11 = cc
+
+counted : (first stated n number : ℕ) → first ≡ stated → stated + n ≡ number → number - first ≡ n
+counted first stated n number h k = omega (arith, h, k)
+
+stopped_is : (s : Standing) (stop : Stop) (heading : Heading) (said : List Said) → s.media_sequence ≡ unwrap_or (latest the_sequence said) 0
+    → s.discontinuity_sequence ≡ unwrap_or (latest the_discontinuity_sequence said) 0 → scene_at said ≡ scene_of heading stop → stopped_at s stop ≡ standing_at said
+stopped_is s stop heading said first step e =
+    standing_ext _ _ _ _ _ _ _ _ _ _ _ _ _ _ _ _ _ _ _ _ _ _ first step
+    (counted s.media_sequence (unwrap_or (latest the_sequence said) 0) (count is_media said) stop.number first (ap (λ (x : Scene). x.number) e))
+    (counted s.discontinuity_sequence (unwrap_or (latest the_discontinuity_sequence said) 0) (count is_discontinuity said) stop.discontinuity step (ap (λ (x : Scene). x.discontinuity) e))
+    (sym (ap (λ (x : Scene). x.steps) e)) (sym (ap (λ (x : Scene). x.duration) e)) (sym (ap (λ (x : Scene). x.byte_range) e)) (sym (ap (λ (x : Scene). x.time) e))
+    (sym (ap (λ (x : Scene). x.keys) e)) (sym (ap (λ (x : Scene). x.section) e)) (sym (ap (λ (x : Scene). x.extent) e))
+
+progress_ext : (a b : Parts) (g h : Heading) (s t : Standing) (d e : List DateRange) (x y : List Segment) → a ≡ b → g ≡ h → s ≡ t → d ≡ e → x ≡ y
+    → ◌≡◌ {A = Progress} (record { base = a; heading = g; standing = s; date_ranges = d; segments = x }) (record { base = b; heading = h; standing = t; date_ranges = e; segments = y })
+progress_ext a b g h s t d e x y e1 e2 e3 e4 e5 = cc
+
+-- what is taken over of a list
+taken : {A : Type 0} (here now there whole front all more : List A) → here ≡ front → there ≡ drop (length now) whole → now ≡ all → whole ≡ all ++ more → here ++ there ≡ front ++ more
+taken here now there whole front all more h t n w =
+    ap (λ xs. xs ++ there) h ∙ ap (λ xs. front ++ xs) (t ∙ ap (λ xs. drop (length xs) whole) n ∙ ap (λ xs. drop (length all) xs) w ∙ drop_front all more)
+
+heading_ext : (a b c d : Option ℕ) (k l : Option PlaylistKind) (e f g h i j m n o p : Bool) → a ≡ b → c ≡ d → k ≡ l → e ≡ f → g ≡ h → i ≡ j → m ≡ n → o ≡ p
+    → ◌≡◌ {A = Heading} (record { version = a; target_duration = c; playlist_type = k; independent_segments = e; end_list = g; has_sequence = i; has_discontinuity_sequence = m; has_media = o })
+    (record { version = b; target_duration = d; playlist_type = l; independent_segments = f; end_list = h; has_sequence = j; has_discontinuity_sequence = n; has_media = p })
+heading_ext a b c d k l e f g h i j m n o p e1 e2 e3 e4 e5 e6 e7 e8 = cc
+
+was_heading : (base : Parts) (source : Source) (last : Playlist) (was : WasRead base source last) → heading_at was.before ≡ heading_in source
+was_heading base source last was =
+    heading_ext _ _ _ _ _ _ _ _ _ _ _ _ _ _ _ _ was.version was.target_duration was.playlist_type was.independent_segments was.end_list was.has_sequence was.has_discontinuity_sequence was.has_media
+
+module _ (base : Parts) (p q new : Progress) (n m k : ℕ) (left left_now lines_here lines_there : List (List ℕ)) (common : List ℕ) (source : Source) (last : Playlist)
+    (here : Reached base p n left lines_here) (there : Reached base q m (lines common) lines_there) (was : WasRead base source last)
+    (same : lines source.text ≡ lines_there) (stop : Stop) (stop_here : IsStop p.standing stop) (stop_there : IsStop q.standing stop)
+    (heading : p.heading ≡ q.heading) (some : q.heading.has_media ≡ true) (fewer : length p.segments ≤ length q.segments)
+    (cut : left ≡ lines common ++ left_now) (is : new ≡ gone_to p (heading_in source) source.stop (drop (length q.date_ranges) (take source.date_ranges last.date_ranges)) (drop (length q.segments) (take source.segments last.segments)))
+    (number : k + m ≡ n + source.next) where
+  standing_here : p.standing ≡ standing_at here.before
+  standing_here = ap (λ (x : Progress). x.standing) here.progress_is
+
+  standing_there : q.standing ≡ standing_at there.before
+  standing_there = ap (λ (x : Progress). x.standing) there.progress_is
+
+  headings : heading_at there.before ≡ heading_at here.before
+  headings = sym (ap (λ (x : Progress). x.heading) there.progress_is) ∙ sym heading ∙ ap (λ (x : Progress). x.heading) here.progress_is
+
+  media_there : has is_media there.before ≡ true
+  media_there = sym (ap (λ (x : Progress). x.heading.has_media) there.progress_is) ∙ some
+
+  segments_fewer : length (segments_of here.before) ≤ length (segments_of there.before)
+  segments_fewer =
+      let one = ap (λ (x : Progress). length x.segments) here.progress_is in
+      let other = ap (λ (x : Progress). length x.segments) there.progress_is in
+      omega (arith, one, other, fewer)
+
+  alike : Alike there.before here.before
+  alike =
+      alike_at there.before here.before stop (subst (λ s. IsStop s stop) standing_there stop_there) (subst (λ s. IsStop s stop) standing_here stop_here) headings media_there segments_fewer
+
+  read_there : said_from (said_by limited base) there.before (lines common) ≡ Ok was.before
+  read_there = there.rest ∙ ap (said_from (said_by limited base) (nothing ∷ [])) (sym same) ∙ was.read
+
+  resumed : Resumed limited base there.before here.before (lines common) was.before
+  resumed = goes_on limited base there.before here.before (lines common) was.before alike read_there
+
+  scene_now : scene_at resumed.said ≡ scene_of (heading_in source) source.stop
+  scene_now = sym resumed.alike.scene ∙ scene_is was.before (heading_in source) source.stop (was_heading base source last was) was.stop
+
+  standing_now : stopped_at p.standing source.stop ≡ standing_at resumed.said
+  standing_now =
+      stopped_is p.standing source.stop (heading_in source) resumed.said
+      (ap (λ (s : Standing). s.media_sequence) standing_here ∙ ap (λ o. unwrap_or o 0) (sym resumed.sequence))
+      (ap (λ (s : Standing). s.discontinuity_sequence) standing_here ∙ ap (λ o. unwrap_or o 0) (sym resumed.discontinuity_sequence)) scene_now
+
+  progress_now : new ≡ progress_at base resumed.said
+  progress_now =
+      is ∙ progress_ext _ _ _ _ _ _ _ _ _ _ (ap (λ (x : Progress). x.base) here.progress_is) (sym (ap (λ (s : Scene). s.heading) scene_now)) standing_now
+      (taken p.date_ranges q.date_ranges _ (take source.date_ranges last.date_ranges) (date_ranges_of here.before) (date_ranges_of there.before) resumed.date_ranges
+      (ap (λ (x : Progress). x.date_ranges) here.progress_is) refl (ap (λ (x : Progress). x.date_ranges) there.progress_is) (sym was.date_ranges ∙ resumed.old_date_ranges)
+      ∙ sym resumed.new_date_ranges)
+      (taken p.segments q.segments _ (take source.segments last.segments) (segments_of here.before) (segments_of there.before) resumed.segments
+      (ap (λ (x : Progress). x.segments) here.progress_is) refl (ap (λ (x : Progress). x.segments) there.progress_is) (sym was.segments ∙ resumed.old_segments)
+      ∙ sym resumed.new_segments)
+
+  -- the lines that were read before are read here too
+  pub gone_on : Reached base new k left_now lines_here
+  gone_on =
+      let size : length left ≡ length (lines common) + length left_now = ap length cut ∙ length-append (lines common) left_now in record {
+        before = resumed.said;
+        progress_is = progress_now;
+        count = omega (arith, resumed.lines_read, resumed.old_lines_read, here.count, there.count, was.next, number);
+        within = omega (arith, resumed.lines_read, here.within, size);
+        rest = sym (said_then (said_by limited base) here.before (lines common) left_now resumed.said resumed.read)
+            ∙ ap (said_from (said_by limited base) here.before) (sym cut) ∙ here.rest;
+      }
+
+-- the same, over what agrees
+pub took_over : (old front new : Reading) (common : List ℕ) (source : Source) (last : Playlist) → Agree old.progress front.progress → left_in front ≡ lines common
+    → left_in old ≡ lines common ++ left_in new → new.progress ≡ gone_after old.progress front.progress source last → new.number + front.number ≡ old.number + source.next → TakesOver front source last old new
+took_over old front new common source last agree same cut is number = λ base was there tail all here.
+    gone_on base old.progress front.progress new.progress old.number front.number new.number (left_in old ++ tail) (left_in new ++ tail) all (lines source.text) common source last here
+    (subst (λ ls. Reached base front.progress front.number ls (lines source.text)) same there) was refl agree.stop agree.here agree.there agree.heading agree.some agree.fewer
+    (ap (λ ls. ls ++ tail) cut ∙ append_assoc (lines common) (left_in new) tail) is number
+
+-- where nothing changed, nothing has to be shown
+pub stayed : (front old new : Reading) (source : Source) (last : Playlist) → new ≡ old → TakesOver front source last old new
+stayed front old new source last is = λ base was there tail all here. subst (λ (x : Reading). Reached base x.progress x.number (left_in x ++ tail) all) (sym is) here
+
+-- what stands at these places was taken over
+pub taken_over : (old front new : Progress) (source : Source) (last : Playlist) → new ≡ gone_after old front source last → AreTaken last.segments new.segments (length old.segments) (length new.segments)
+taken_over old front new source last is =
+    let segments : new.segments ≡ old.segments ++ drop (length front.segments) (take source.segments last.segments) = ap (λ (x : Progress). x.segments) is in record {
+      from = length front.segments;
+      till = source.segments;
+      ordered = let size = ap length segments ∙ length-append old.segments _ in omega (arith, size);
+      within = omega arith;
+      same = ap (drop (length old.segments)) (take_all (length new.segments) new.segments (omega arith) ∙ segments) ∙ drop_front old.segments _;
+    }
+
+-- nothing was taken over
+pub none_taken : (old new : List Segment) → AreTaken old new 0 0
+none_taken old new = record { from = 0; till = 0; ordered = omega arith; within = omega arith; same = refl }
+
+pub plain_after : (front left later : List (List ℕ)) → left ≡ front ++ later → list_all is_free left ≡ true → list_all is_free later ≡ true
+plain_after front left later is h = dropped front later (ap (list_all is_free) (sym is) ∙ h)
+  where
+    dropped : (front later : List (List ℕ)) → list_all is_free (front ++ later) ≡ true → list_all is_free later ≡ true
+    dropped [] later h = h
+    dropped (line ∷ front) later h = let a = and_parts _ _ h in dropped front later a.1
+
+pub plain_front : (left front later : List (List ℕ)) → left ≡ front ++ later → list_all is_free left ≡ true → list_all is_free front ≡ true
+plain_front left front later is h = kept front later (ap (list_all is_free) (sym is) ∙ h)
+  where
+    both : {a b : Bool} → a ≡ true → b ≡ true → (a && b) ≡ true
+    both e f = grind (arith, e, f)
+
+    kept : (front later : List (List ℕ)) → list_all is_free (front ++ later) ≡ true → list_all is_free front ≡ true
+    kept [] later h = refl
+    kept (line ∷ front) later h = let a = and_parts _ _ h in both a.0 (kept front later a.1)
+
+pub few_reached : {base : Parts} {p : Progress} {n : ℕ} {left all : List (List ℕ)} → Reached base p n left all → length all < 9223372036854775808 → n + length left < 18446744073709551616
+few_reached r h = omega (arith, r.count, r.within, h)
+
+pub if_ok : {A E : Type 0} (r : Result A E) (P Q : A → Type 0) → ((x : A) → P x → Q x) → IfOk r P → IfOk r Q
+if_ok (Ok x) P Q f h = f x h
+if_ok (Err e) P Q f h = h
+
+pub on_ok : {A E : Type 0} (r : Result A E) (P Q : Type 0) → (P → Q) → OnOk r P → OnOk r Q
+on_ok (Ok x) P Q f h = f h
+on_ok (Err e) P Q f h = h
+
+-- ---- what is read first stands before what is read then
+
+record Follows (before all : List Said) : Type 0 where
+  segments : List Segment
+  date_ranges : List DateRange
+  segments_are : segments_of all ≡ segments_of before ++ segments
+  date_ranges_are : date_ranges_of all ≡ date_ranges_of before ++ date_ranges
+
+one_more : (said : Said) (before all : List Said) → Follows (said ∷ before) all → Follows before all
+one_more (media resource) before all f = record {
+  segments = segment_at before resource ∷ f.segments;
+  date_ranges = f.date_ranges;
+  segments_are = f.segments_are ∙ append_assoc (segments_of before) (segment_at before resource ∷ []) f.segments;
+  date_ranges_are = f.date_ranges_are;
+}
+one_more (date_range range) before all f = record {
+  segments = f.segments;
+  date_ranges = range ∷ f.date_ranges;
+  segments_are = f.segments_are;
+  date_ranges_are = f.date_ranges_are ∙ append_assoc (date_ranges_of before) (range ∷ []) f.date_ranges;
+}
+one_more _ before all f = record { segments = f.segments; date_ranges = f.date_ranges; segments_are = f.segments_are; date_ranges_are = f.date_ranges_are }
+
+line_follows : (n : ℕ) (o : Outcome Said) (f : Said → Result (List Said) Fault) (before all : List Said) → ((said : Said) → f said ≡ Ok all → Follows (said ∷ before) all)
+    → at_line n o f ≡ Ok all → Follows before all
+line_follows n (Ok said) f before all k h = one_more said before all (k said h)
+line_follows n (Err e) f before all k h = absurd (cc h)
+
+follows : (read : List Said → List ℕ → Outcome Said) (before : List Said) (left : List (List ℕ)) (all : List Said) → said_from read before left ≡ Ok all → Follows before all
+follows read before [] all h = record {
+  segments = [];
+  date_ranges = [];
+  segments_are = ap segments_of (sym (ok_is h)) ∙ sym (append-nil (segments_of before));
+  date_ranges_are = ap date_ranges_of (sym (ok_is h)) ∙ sym (append-nil (date_ranges_of before));
+}
+follows read before (line ∷ later) all h =
+    line_follows (length before + 1) (read before line) (λ said. said_from read (said ∷ before) later) before all (λ said e. follows read (said ∷ before) later all e) h
+
+-- what is read so far stands first in the playlist that comes of it
+pub grown : {base : Parts} {p q : Progress} {n m : ℕ} {left all : List (List ℕ)} (playlist : Playlist) → Reached base p n left all → (r : Reached base q m [] all) → playlist ≡ playlist_of r.before → Grown p playlist
+grown {base = base} playlist here end is =
+    let f = follows (said_by limited base) here.before _ end.before (here.rest ∙ sym end.rest) in record {
+      segments = f.segments;
+      date_ranges = f.date_ranges;
+      segments_are = ap (λ (x : Playlist). x.segments) is ∙ f.segments_are ∙ ap (λ xs. xs ++ f.segments) (sym (ap (λ (x : Progress). x.segments) here.progress_is));
+      date_ranges_are = ap (λ (x : Playlist). x.date_ranges) is ∙ f.date_ranges_are ∙ ap (λ xs. xs ++ f.date_ranges) (sym (ap (λ (x : Progress). x.date_ranges) here.progress_is));
+    }
+
+-- what is read further on begins with the segments that were read so far
+pub further : {base : Parts} {p q : Progress} {n m : ℕ} {left all : List (List ℕ)} → Reached base p n left all → Reached base q m [] all → (more : List Segment) × (q.segments ≡ p.segments ++ more)
+further {base = base} here end =
+    let f = follows (said_by limited base) here.before _ end.before (here.rest ∙ sym end.rest) in
+    (f.segments, ap (λ (x : Progress). x.segments) end.progress_is ∙ f.segments_are ∙ ap (λ xs. xs ++ f.segments) (sym (ap (λ (x : Progress). x.segments) here.progress_is)))
+
+-- what was taken over of some segments is taken over of these and more
+pub taken_on : {old xs : List Segment} {start end : ℕ} (ys more : List Segment) → ys ≡ xs ++ more → AreTaken old xs start end → AreTaken old ys start end
+taken_on {xs = xs} {start = start} {end = end} ys more is a =
+    let size : length ys ≡ length xs + length more = ap length is ∙ length-append xs more in record {
+      from = a.from;
+      till = a.till;
+      ordered = a.ordered;
+      within = omega (arith, a.within, size);
+      same = ap (drop start) (ap (take end) is ∙ take-append-le end xs more a.within) ∙ a.same;
+    }
+
+front_is : {A : Type 0} (all front more : List A) (n : ℕ) → all ≡ front ++ more → n ≡ length front → front ≡ take n all
+front_is all front more n is count = sym (take-append_seam front more) ∙ ap (λ k. take k (front ++ more)) (sym count) ∙ ap (take n) (sym is)
+
+-- what is kept of the lines that were read so far
+kept : {base : Parts} {p : Progress} {number : ℕ} (text : List ℕ) (source : Source) (playlist : Playlist) → Reached base p number [] (lines text)
+    → length (lines text) < 9223372036854775808 → IsSourceOf text p number source → Grown p playlist → WasRead base source playlist
+kept {p = p} text source playlist r few is g =
+    let ranges = ap (λ (x : Progress). x.date_ranges) r.progress_is in
+    let segments = ap (λ (x : Progress). x.segments) r.progress_is in
+    let heading : heading_at r.before ≡ heading_in source = sym (ap (λ (x : Progress). x.heading) r.progress_is) ∙ sym is.heading in
+    let same = ap lines is.text_is in record {
+      before = r.before;
+      few = subst (λ ls. length ls < 9223372036854775808) (sym same) few;
+      read = ap (said_from (said_by limited _) (nothing ∷ [])) same ∙ sym r.rest;
+      next = r.count ∙ sym is.next;
+      version = ap (λ (h : Heading). h.version) heading;
+      target_duration = ap (λ (h : Heading). h.target_duration) heading;
+      playlist_type = ap (λ (h : Heading). h.playlist_type) heading;
+      independent_segments = ap (λ (h : Heading). h.independent_segments) heading;
+      end_list = ap (λ (h : Heading). h.end_list) heading;
+      has_sequence = ap (λ (h : Heading). h.has_sequence) heading;
+      has_discontinuity_sequence = ap (λ (h : Heading). h.has_discontinuity_sequence) heading;
+      has_media = ap (λ (h : Heading). h.has_media) heading;
+      stop = subst (λ s. IsStop s source.stop) (ap (λ (x : Progress). x.standing) r.progress_is) is.stop;
+      segments = sym segments ∙ front_is playlist.segments p.segments g.segments source.segments g.segments_are is.segments;
+      date_ranges = sym ranges ∙ front_is playlist.date_ranges p.date_ranges g.date_ranges source.date_ranges g.date_ranges_are is.date_ranges;
+    }
+
+pub kept_source : {base : Parts} {p : Progress} {number : ℕ} (text : List ℕ) (source : Option Source) (playlist : Playlist) → Reached base p number [] (lines text)
+    → length (lines text) < 9223372036854775808 → MatchOption source (Unit {0}) (λ s. IsSourceOf text p number s) → Grown p playlist → IsSource base playlist source
+kept_source text None playlist r few is g = tt
+kept_source text (Some source) playlist r few is g = kept text source playlist r few is g

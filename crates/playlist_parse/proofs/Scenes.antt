@@ -1,0 +1,137 @@
+-- What stands after one line more.
+use Rattle.std.proofs.Common.{◌≡◌, ℕ, ◌+◌, ◌≤◌, Bool, true, false, cond, List, [], ◌∷◌, ◌++◌, length, map, refl, ap, sym, ◌∙◌, arith}
+use Rattle.std.specs.Prelude.{Some, None, ◌||◌, unwrap_or}
+use Rattle.std.specs.Result.{result_unwrap_or}
+use Rattle.playlist_model.specs.declared.Segment.{Segment}
+use Rattle.playlist_model.specs.declared.DateRange.{DateRange}
+use Rattle.playlist_model.specs.EffectiveKeys.{effective_key}
+use Rattle.playlist_model.specs.Said.{Said, nothing, version, target, sequence, discontinuity_sequence, playlist_type, ended, independent, duration, byte_range, discontinuity, no_keys, key, section, time, date_range, media}
+use Rattle.playlist_model.specs.LookBack.{latest, the_sequence, the_discontinuity_sequence, is_media, is_discontinuity, count, byte_range_from, extent_with, put_key, segments_of, date_ranges_of}
+use Rattle.playlist_model.specs.Inner.Heading.{Heading}
+use Rattle.playlist_model.specs.Reading.{has}
+use Rattle.playlist_parse.specs.Inner.Resumed.{Scene, scene_at, Alike}
+use Rattle.playlist_parse.proofs.OtherKinds.{is_other}
+
+abbrev with_heading : Scene → Heading → Scene
+with_heading s h = record s { heading = h }
+
+-- after a line that says this
+abbrev pub stepped : Said → Scene → Scene
+stepped nothing s = s
+stepped (version n) s = with_heading s (record s.heading { version = Some n })
+stepped (target n) s = with_heading s (record s.heading { target_duration = Some n })
+stepped (sequence n) s = s
+stepped (discontinuity_sequence n) s = s
+stepped (playlist_type kind) s = with_heading s (record s.heading { playlist_type = Some kind })
+stepped ended s = with_heading s (record s.heading { end_list = true })
+stepped independent s = with_heading s (record s.heading { independent_segments = true })
+stepped (duration nanos title) s = record s { duration = Some (nanos, title) }
+stepped (byte_range size offset) s = record s { byte_range = Some (size, offset) }
+stepped discontinuity s = record s { discontinuity = s.discontinuity + 1; steps = s.steps + 1 }
+stepped no_keys s = record s { keys = [] }
+stepped (key k) s = record s { keys = put_key k s.keys }
+stepped (section resource part) s = record s { section = Some (record { uri = resource; byte_range = part; keys = s.keys }) }
+stepped (time instant) s = record s { time = Some instant }
+stepped (date_range r) s = s
+stepped (media resource) s = record s {
+  heading = record s.heading { has_media = true };
+  number = s.number + 1;
+  steps = 0;
+  duration = None;
+  byte_range = None;
+  time = None;
+  extent = extent_with resource (result_unwrap_or (byte_range_from s.byte_range resource s.extent) None);
+}
+
+one_more : (a n : ℕ) → a + (n + 1) ≡ a + n + 1
+one_more a n = omega arith
+
+pub scene_step : (said : Said) (before : List Said) → is_other said ≡ true → scene_at (said ∷ before) ≡ stepped said (scene_at before)
+scene_step nothing before h = refl
+scene_step (version n) before h = refl
+scene_step (target n) before h = refl
+scene_step (sequence n) before h = absurd (cc h)
+scene_step (discontinuity_sequence n) before h = absurd (cc h)
+scene_step (playlist_type kind) before h = refl
+scene_step ended before h = refl
+scene_step independent before h = refl
+scene_step (duration nanos title) before h = refl
+scene_step (byte_range size offset) before h = refl
+scene_step discontinuity before h =
+    ap (λ n. record (stepped discontinuity (scene_at before)) { discontinuity = n })
+    (one_more (unwrap_or (latest the_discontinuity_sequence before) 0) (count is_discontinuity before))
+scene_step no_keys before h = refl
+scene_step (key k) before h = refl
+scene_step (section resource part) before h = refl
+scene_step (time instant) before h = refl
+scene_step (date_range r) before h = refl
+scene_step (media resource) before h =
+    ap (λ n. record (stepped (media resource) (scene_at before)) { number = n }) (one_more (unwrap_or (latest the_sequence before) 0) (count is_media before))
+
+-- ---- what the line adds
+
+abbrev pub segment_of : Scene → List ℕ → Segment
+segment_of s resource = record {
+  media_sequence = s.number;
+  discontinuity_sequence = s.discontinuity;
+  discontinuities = s.steps;
+  uri = resource;
+  byte_range = result_unwrap_or (byte_range_from s.byte_range resource s.extent) None;
+  keys = map (effective_key s.number) s.keys;
+  init_section = s.section;
+  duration = (unwrap_or s.duration (0, [])).0;
+  title = (unwrap_or s.duration (0, [])).1;
+  program_date_time = s.time;
+}
+
+abbrev pub segments_said : Said → Scene → List Segment
+segments_said (media resource) s = segment_of s resource ∷ []
+segments_said _ s = []
+
+abbrev pub date_ranges_said : Said → List DateRange
+date_ranges_said (date_range r) = r ∷ []
+date_ranges_said _ = []
+
+pub none_after : {A : Type 0} (xs : List A) → xs ≡ xs ++ []
+none_after [] = refl
+none_after (x ∷ xs) = ap (λ ys. x ∷ ys) (none_after xs)
+
+pub segments_step : (said : Said) (before : List Said) → segments_of (said ∷ before) ≡ segments_of before ++ segments_said said (scene_at before)
+segments_step (media resource) before = refl
+segments_step _ before = none_after (segments_of before)
+
+pub date_ranges_step : (said : Said) (before : List Said) → date_ranges_of (said ∷ before) ≡ date_ranges_of before ++ date_ranges_said said
+date_ranges_step (date_range r) before = refl
+date_ranges_step _ before = none_after (date_ranges_of before)
+
+none_more : (n : ℕ) → n ≡ n + 0
+none_more n = omega arith
+
+pub count_step : (said : Said) (before : List Said) (s : Scene) → count is_media (said ∷ before) ≡ count is_media before + length (segments_said said s)
+count_step (media resource) before s = omega arith
+count_step _ before s = none_more (count is_media before)
+
+pub sequence_step : (said : Said) (before : List Said) → is_other said ≡ true → latest the_sequence (said ∷ before) ≡ latest the_sequence before
+sequence_step (sequence n) before h = absurd (cc h)
+sequence_step _ before h = refl
+
+pub discontinuity_sequence_step : (said : Said) (before : List Said) → is_other said ≡ true → latest the_discontinuity_sequence (said ∷ before) ≡ latest the_discontinuity_sequence before
+discontinuity_sequence_step (discontinuity_sequence n) before h = absurd (cc h)
+discontinuity_sequence_step _ before h = refl
+
+-- ---- alike after it
+
+or_still : (a b : Bool) → b ≡ true → (a || b) ≡ true
+or_still true b h = refl
+or_still false b h = h
+
+fewer_still : (b : Bool) (n m : ℕ) → n ≤ m → cond b (n + 1) n ≤ cond b (m + 1) m
+fewer_still true n m h = omega (arith, h)
+fewer_still false n m h = h
+
+pub alike_next : (said : Said) (old new : List Said) → is_other said ≡ true → Alike old new → Alike (said ∷ old) (said ∷ new)
+alike_next said old new h alike = record {
+  scene = scene_step said old h ∙ ap (stepped said) alike.scene ∙ sym (scene_step said new h);
+  media = or_still (is_media said) (has is_media old) alike.media;
+  fewer = fewer_still (is_media said) (count is_media new) (count is_media old) alike.fewer;
+}

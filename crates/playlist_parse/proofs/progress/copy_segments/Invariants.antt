@@ -1,0 +1,8 @@
+use Rattle.std.proofs.Common.{◌≡◌, ◌++◌, length}
+use Rattle.playlist_parse.proofs.progress.copy_segments.Given as goal
+
+abbrev pub invariant-loop-segment : goal.invariant-loop-segment
+invariant-loop-segment l = l.list.items ++ l.rest ≡ l.initial.list.items ++ l.more
+
+abbrev pub decreases-loop-segment : goal.decreases-loop-segment
+decreases-loop-segment l = length l.rest

@@ -1,0 +1,32 @@
+use Rattle.std.proofs.Common.{rules, ◌≡◌, true, arith, ap, sym, ◌∙◌}
+use Rattle.playlist_model.specs.Inner.Heading.{Heading}
+use Rattle.segment_state.specs.Continued.{IsStop}
+use Rattle.playlist_parse.proofs.source.agrees.Goals as goal
+
+pub returns-then-segment_count : goal.returns-then-segment_count
+returns-then-segment_count c = λ no. absurd (cc no)
+
+pub returns-then-not-has_media : goal.returns-then-not-has_media
+returns-then-not-has_media c = λ no. absurd (cc no)
+
+pub returns-then-not-is : goal.returns-then-not-is
+returns-then-not-is c = λ no. absurd (cc no)
+
+pub returns-in_err-stop : goal.returns-in_err-stop
+returns-in_err-stop c = search rules
+
+pub returns-in-Some : goal.returns-in-Some
+returns-in-Some c = λ yes.
+    let media : c.has_media.result ≡ true = search rules in
+    let same : c.is.result ≡ true = search rules in
+    let there : IsStop c.args.there.now.standing c.in-Some.stop = search rules in record {
+      stop = c.in-Some.stop;
+      here = c.stands_at.ensures yes;
+      there = there;
+      heading = sym c.heading.ensures ∙ c.is.ensures same ∙ c.heading-heading.ensures;
+      some = ap (λ (h : Heading). h.has_media) (sym c.heading-heading.ensures) ∙ sym c.has_media.ensures ∙ media;
+      fewer = omega (arith, c.if-segment_count.false, c.segment_count.ensures, c.segment_count-2.ensures);
+    }
+
+pub returns-in-None : goal.returns-in-None
+returns-in-None c = λ no. absurd (cc no)

@@ -1,0 +1,139 @@
+use Rattle.std.proofs.Common.{rules, ◌≡◌, ◌+◌, ◌<◌, ◌∷◌, ◌++◌, [], List, ℕ, true, ap, length, subst, sym, ◌∙◌, arith, length-append}
+use Rattle.std.specs.List.{list_all}
+use Rattle.std.specs.Str.Lines.{lines}
+use Rattle.std.specs.Prelude.{Ok}
+use Rattle.std.proofs.lemmas.List.{append-nil}
+use Rattle.playlist_model.specs.Said.{nothing}
+use Rattle.playlist_model.specs.Reading.{said_by, said_from, and_whole, limited}
+use Rattle.playlist_parse.specs.Inner.LineViews.{is_free}
+use Rattle.playlist_parse.specs.Inner.Reached.{Reached, Faulted, left_in}
+use Rattle.playlist_parse.specs.declared.reader.Reading.{Reading}
+use Rattle.playlist_parse.proofs.Reached.{begun_at, none_more, unread}
+use Rattle.playlist_parse.proofs.GoingTo.{few_reached, plain_front, plain_after, kept_source, taken_on}
+use Rattle.playlist_parse.proofs.source.read_body.Goals as goal
+
+-- what is left at first, with the lines of the tail, is the whole body
+whole_is : (old : Reading) (front tail body : List (List ℕ)) → left_in old ≡ front → body ≡ front ++ tail → left_in old ++ tail ≡ body
+whole_is old front tail body here cut = ap (λ ls. ls ++ tail) here ∙ sym cut
+
+-- a front has no more lines than the whole
+fewer : (front tail body : List (List ℕ)) → body ≡ front ++ tail → length body < 9223372036854775808 → length front < 9223372036854775808
+fewer front tail body cut few = let size : length body ≡ length front + length tail = ap length cut ∙ length-append front tail in omega (arith, size, few)
+
+pub read_front-requires-clause-few : goal.read_front-requires-clause-few
+read_front-requires-clause-few c =
+    let cut = c.cut_after_segments-cut.result in
+    let left : left_in c.reading_of-reading.result ≡ lines cut.front.now = ap (λ ls. left_in (record c.reading_of-reading.result { lines = ls })) c.reading_of-reading.ensures.lines ∙ c.new.ensures.texts in
+    subst (λ ls. length ls < 9223372036854775808) (sym left) (fewer (lines cut.front.now) (lines cut.tail.now) (lines c.args.body.now) c.cut_after_segments-cut.ensures c.requires.few)
+
+pub read_front-requires-clause-plain : goal.read_front-requires-clause-plain
+read_front-requires-clause-plain c = λ plain.
+    let cut = c.cut_after_segments-cut.result in
+    let left : left_in c.reading_of-reading.result ≡ lines cut.front.now = ap (λ ls. left_in (record c.reading_of-reading.result { lines = ls })) c.reading_of-reading.ensures.lines ∙ c.new.ensures.texts in
+    subst (λ ls. list_all is_free ls ≡ true) (sym left) (plain_front (lines c.args.body.now) (lines cut.front.now) (lines cut.tail.now) c.cut_after_segments-cut.ensures (c.requires.plain plain))
+
+pub read_front-requires-clause-begun : goal.read_front-requires-clause-begun
+read_front-requires-clause-begun c = λ all.
+    let old = c.reading_of-reading.result in
+    subst (λ n. Reached c.args.base.now old.progress n all all) (sym c.reading_of-reading.ensures.number) (c.reading_of-reading.ensures.begun all)
+
+pub read_front-requires-clause-kept : goal.read_front-requires-clause-kept
+read_front-requires-clause-kept c = c.requires.kept
+
+pub returns-in-Err-clause-answer : goal.returns-in-Err-clause-answer
+returns-in-Err-clause-answer c =
+    let base = c.args.base.now in
+    let cut = c.cut_after_segments-cut.result in
+    let old = c.reading_of-reading.result in
+    let left : left_in old ≡ lines cut.front.now = ap (λ ls. left_in (record old { lines = ls })) c.reading_of-reading.ensures.lines ∙ c.new.ensures.texts in
+    let whole = whole_is old (lines cut.front.now) (lines cut.tail.now) (lines c.args.body.now) left c.cut_after_segments-cut.ensures in
+    subst (λ ls. Faulted base c.in-Err.fault ls) whole
+    (c.in-Err.ensures.reached (lines cut.tail.now) (left_in old ++ lines cut.tail.now) (begun_at base old (lines cut.tail.now) c.reading_of-reading.ensures.number c.reading_of-reading.ensures.begun))
+
+pub source_of-requires : goal.source_of-requires
+source_of-requires c = tt
+
+pub returns-in-Err-source_of-clause-answer : goal.returns-in-Err-source_of-clause-answer
+returns-in-Err-source_of-clause-answer c = unread c.fault_at.result _ c.fault_at.ensures
+
+pub read_tail-requires-clause-few : goal.read_tail-requires-clause-few
+read_tail-requires-clause-few c =
+    let base = c.args.base.now in
+    let cut = c.cut_after_segments-cut.result in
+    let old = c.reading_of-reading.result in
+    let new = c.read_front.new.reading in
+    let tail = lines cut.tail.now in
+    let left : left_in old ≡ lines cut.front.now = ap (λ ls. left_in (record old { lines = ls })) c.reading_of-reading.ensures.lines ∙ c.new.ensures.texts in
+    let whole = whole_is old (lines cut.front.now) tail (lines c.args.body.now) left c.cut_after_segments-cut.ensures in
+    let here = none_more new tail (left_in old ++ tail) c.in-Ok.ensures.none_left
+    (c.in-Ok.ensures.reached tail (left_in old ++ tail) (begun_at base old tail c.reading_of-reading.ensures.number c.reading_of-reading.ensures.begun)) in
+    few_reached here (subst (λ ls. length ls < 9223372036854775808) (sym whole) c.requires.few)
+
+pub read_tail-requires-clause-plain : goal.read_tail-requires-clause-plain
+read_tail-requires-clause-plain c = λ plain.
+    let cut = c.cut_after_segments-cut.result in
+    plain_after (lines cut.front.now) (lines c.args.body.now) (lines cut.tail.now) c.cut_after_segments-cut.ensures (c.requires.plain plain)
+
+pub returns-in-Ok-read_tail-clause-answer : goal.returns-in-Ok-read_tail-clause-answer
+returns-in-Ok-read_tail-clause-answer c =
+    let base = c.args.base.now in
+    let cut = c.cut_after_segments-cut.result in
+    let old = c.reading_of-reading.result in
+    let new = c.read_front.new.reading in
+    let tail = lines cut.tail.now in
+    let left : left_in old ≡ lines cut.front.now = ap (λ ls. left_in (record old { lines = ls })) c.reading_of-reading.ensures.lines ∙ c.new.ensures.texts in
+    let whole = whole_is old (lines cut.front.now) tail (lines c.args.body.now) left c.cut_after_segments-cut.ensures in
+    let here = none_more new tail (left_in old ++ tail) c.in-Ok.ensures.none_left
+    (c.in-Ok.ensures.reached tail (left_in old ++ tail) (begun_at base old tail c.reading_of-reading.ensures.number c.reading_of-reading.ensures.begun)) in
+    subst (λ ls. and_whole (said_from (said_by limited base) (nothing ∷ []) ls) ≡ Ok c.in-Ok-read_tail.playlist) whole (c.in-Ok-read_tail.ensures.answer base (left_in old ++ tail) here)
+
+pub returns-in-Ok-read_tail-clause-source : goal.returns-in-Ok-read_tail-clause-source
+returns-in-Ok-read_tail-clause-source c =
+    let base = c.args.base.now in
+    let cut = c.cut_after_segments-cut.result in
+    let old = c.reading_of-reading.result in
+    let new = c.read_front.new.reading in
+    let tail = lines cut.tail.now in
+    let left : left_in old ≡ lines cut.front.now = ap (λ ls. left_in (record old { lines = ls })) c.reading_of-reading.ensures.lines ∙ c.new.ensures.texts in
+    let here = none_more new tail (left_in old ++ tail) c.in-Ok.ensures.none_left
+    (c.in-Ok.ensures.reached tail (left_in old ++ tail) (begun_at base old tail c.reading_of-reading.ensures.number c.reading_of-reading.ensures.begun)) in
+    let front = none_more new [] (left_in old ++ []) c.in-Ok.ensures.none_left
+    (c.in-Ok.ensures.reached [] (left_in old ++ []) (begun_at base old [] c.reading_of-reading.ensures.number c.reading_of-reading.ensures.begun)) in
+    kept_source cut.front.now c.in-Ok-source_of.source c.in-Ok-read_tail.playlist
+    (subst (λ ls. Reached base new.progress new.number [] ls) (append-nil (left_in old) ∙ left) front)
+    (fewer (lines cut.front.now) tail (lines c.args.body.now) c.cut_after_segments-cut.ensures c.requires.few)
+    c.in-Ok-source_of.ensures (c.in-Ok-read_tail.ensures.grown base (left_in old ++ tail) here)
+
+pub returns-in-Ok-read_tail-clause-taken : goal.returns-in-Ok-read_tail-clause-taken
+returns-in-Ok-read_tail-clause-taken c =
+    let base = c.args.base.now in
+    let cut = c.cut_after_segments-cut.result in
+    let old = c.reading_of-reading.result in
+    let new = c.read_front.new.reading in
+    let tail = lines cut.tail.now in
+    let here = none_more new tail (left_in old ++ tail) c.in-Ok.ensures.none_left
+    (c.in-Ok.ensures.reached tail (left_in old ++ tail) (begun_at base old tail c.reading_of-reading.ensures.number c.reading_of-reading.ensures.begun)) in
+    let grown = c.in-Ok-read_tail.ensures.grown base (left_in old ++ tail) here in
+    taken_on c.in-Ok-read_tail.playlist.segments grown.segments grown.segments_are c.in-Ok.ensures.taken
+
+pub returns-in-Err-read_tail-clause-answer : goal.returns-in-Err-read_tail-clause-answer
+returns-in-Err-read_tail-clause-answer c =
+    let base = c.args.base.now in
+    let cut = c.cut_after_segments-cut.result in
+    let old = c.reading_of-reading.result in
+    let new = c.read_front.new.reading in
+    let tail = lines cut.tail.now in
+    let left : left_in old ≡ lines cut.front.now = ap (λ ls. left_in (record old { lines = ls })) c.reading_of-reading.ensures.lines ∙ c.new.ensures.texts in
+    let whole = whole_is old (lines cut.front.now) tail (lines c.args.body.now) left c.cut_after_segments-cut.ensures in
+    let here = none_more new tail (left_in old ++ tail) c.in-Ok.ensures.none_left
+    (c.in-Ok.ensures.reached tail (left_in old ++ tail) (begun_at base old tail c.reading_of-reading.ensures.number c.reading_of-reading.ensures.begun)) in
+    subst (λ ls. Faulted base c.in-Err-read_tail.fault ls) whole (c.in-Err-read_tail.ensures.answer base (left_in old ++ tail) here)
+
+pub new-requires-text-text : goal.new-requires-text-text
+new-requires-text-text c = search rules
+
+pub source_of-requires-text-text : goal.source_of-requires-text-text
+source_of-requires-text-text c = search rules
+
+pub read_tail-requires-text-tail : goal.read_tail-requires-text-tail
+read_tail-requires-text-tail c = search rules

@@ -1,0 +1,27 @@
+use Rattle.std.proofs.Common.{subst, sym}
+use Rattle.std.specs.Prelude.{IfOk}
+use Rattle.playlist_parse.specs.Kept.{AreTaken, IsKept, last_segments}
+use Rattle.playlist_parse.proofs.GoingTo.{none_taken}
+use Rattle.playlist_parse.proofs.source.take_over_last.Goals as goal
+
+pub take_over_kept-requires : goal.take_over_kept-requires
+take_over_kept-requires c = subst (λ last. IsKept c.args.base.now last c.args.source.now) c.in-Some.is c.requires
+
+pub returns-in-Some-clause-reached : goal.returns-in-Some-clause-reached
+returns-in-Some-clause-reached c = c.take_over_kept.ensures.reached
+
+pub returns-in-Some-clause-plain : goal.returns-in-Some-clause-plain
+returns-in-Some-clause-plain c = c.take_over_kept.ensures.plain
+
+pub returns-in-Some-clause-taken : goal.returns-in-Some-clause-taken
+returns-in-Some-clause-taken c =
+    subst (λ last. IfOk c.take_over_kept.result (λ taken. AreTaken (last_segments last) c.take_over_kept.new.reading.progress.segments taken.start taken.end)) (sym c.in-Some.is) c.take_over_kept.ensures.taken
+
+pub returns-in-None-clause-reached : goal.returns-in-None-clause-reached
+returns-in-None-clause-reached c = λ tail all r. r
+
+pub returns-in-None-clause-plain : goal.returns-in-None-clause-plain
+returns-in-None-clause-plain c = λ h. h
+
+pub returns-in-None-clause-taken : goal.returns-in-None-clause-taken
+returns-in-None-clause-taken c = none_taken _ _

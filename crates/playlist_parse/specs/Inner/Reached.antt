@@ -1,0 +1,38 @@
+-- How far a reading has come.
+use Rattle.std.specs.Prelude.{◌≡◌, ℕ, ◌+◌, List, [], ◌∷◌, ◌++◌, map, length, Result, Err, MatchResult}
+use Rattle.url.specs.Parts.{Parts}
+use Rattle.playlist_model.specs.Said.{Said, nothing}
+use Rattle.playlist_model.specs.Reading.{said_by, said_from, and_whole, limited, Fault}
+use Rattle.playlist_model.specs.declared.Playlist.{Playlist}
+use Rattle.playlist_parse.specs.Answers.{Answers}
+use Rattle.playlist_parse.specs.Inner.Progress.{Progress, progress_at}
+use Rattle.playlist_parse.specs.Inner.LineViews.{line_text}
+use Rattle.playlist_parse.specs.declared.reader.Reading.{Reading}
+
+-- some lines after the header are read, and these are left: what the others said, with what is left, leads to the same as
+-- all lines, and the next one has this number
+pub record Reached (base : Parts) (progress : Progress) (number : ℕ) (left lines : List (List ℕ)) : Type 0 where
+  pub before : List Said
+  pub progress_is : progress ≡ progress_at base before
+  pub count : length before + 1 ≡ number
+  pub within : length before + length left ≡ length lines + 1
+  pub rest : said_from (said_by limited base) before left ≡ said_from (said_by limited base) (nothing ∷ []) lines
+
+-- this fault is one of the whole text's
+abbrev pub Faulted : Parts → Fault → List (List ℕ) → Type 0
+Faulted base fault lines = let answer : Result Playlist Fault = Err fault in Answers answer (and_whole (said_from (said_by limited base) (nothing ∷ []) lines))
+
+-- the lines that are left of a text that is being read
+abbrev pub left_in : Reading → List (List ℕ)
+left_in reading = map line_text reading.lines
+
+-- a reading comes from here to there, whatever follows the lines that are left
+abbrev pub LeadsTo : Parts → Reading → Reading → Type 0
+LeadsTo base old new =
+    (tail all : List (List ℕ)) → Reached base old.progress old.number (left_in old ++ tail) all → Reached base new.progress new.number (left_in new ++ tail) all
+
+-- the same where no line has a fault; where one has, it is the whole text's
+abbrev pub Reads : {A : Type 0} → Parts → Reading → Result A Fault → Reading → Type 0
+Reads base old result new =
+    (tail all : List (List ℕ)) → Reached base old.progress old.number (left_in old ++ tail) all
+    → MatchResult result (λ _. Reached base new.progress new.number (left_in new ++ tail) all) (λ e. Faulted base e all)

@@ -1,0 +1,45 @@
+-- The lines that are kept of a playlist that was read (RFC 8216, 4.1 and 4.3).
+use Rattle.std.specs.Prelude.{◌≡◌, ℕ, ◌+◌, ◌^◌, ◌<◌, Bool, List, [], ◌∷◌, take, length, Option, Ok}
+use Rattle.std.specs.Str.Lines.{lines}
+use Rattle.url.specs.Parts.{Parts}
+use Rattle.playlist_model.specs.declared.Playlist.{Playlist}
+use Rattle.playlist_model.specs.declared.PlaylistKind.{PlaylistKind}
+use Rattle.playlist_model.specs.Said.{Said, nothing}
+use Rattle.playlist_model.specs.LookBack.{latest, the_version, the_target, the_sequence, the_discontinuity_sequence, the_type, is_media, is_independent, is_ended, standing_at, segments_of, date_ranges_of}
+use Rattle.playlist_model.specs.Reading.{said_by, said_from, limited, is_set, has}
+use Rattle.segment_state.specs.Continued.{Stop, IsStop}
+
+-- the lines of a text after its header, up to one that names a segment; the number of the line after them, what stands after
+-- them, how many segments and date ranges they have, and what the tags of the whole playlist say in them
+pub record Source : Type 0 where
+  pub text : List ℕ
+  pub next : ℕ
+  pub stop : Stop
+  pub segments : ℕ
+  pub date_ranges : ℕ
+  pub version : Option ℕ
+  pub target_duration : Option ℕ
+  pub playlist_type : Option PlaylistKind
+  pub independent_segments : Bool
+  pub end_list : Bool
+  pub has_sequence : Bool
+  pub has_discontinuity_sequence : Bool
+  pub has_media : Bool
+
+-- these lines were read under this base, and a playlist that begins with their segments and date ranges came of it
+pub record WasRead (base : Parts) (source : Source) (playlist : Playlist) : Type 0 where
+  pub before : List Said
+  pub few : length (lines source.text) < 2 ^ 63
+  pub read : said_from (said_by limited base) (nothing ∷ []) (lines source.text) ≡ Ok before
+  pub next : length before + 1 ≡ source.next
+  pub stop : IsStop (standing_at before) source.stop
+  pub segments : segments_of before ≡ take source.segments playlist.segments
+  pub date_ranges : date_ranges_of before ≡ take source.date_ranges playlist.date_ranges
+  pub version : latest the_version before ≡ source.version
+  pub target_duration : latest the_target before ≡ source.target_duration
+  pub playlist_type : latest the_type before ≡ source.playlist_type
+  pub independent_segments : has is_independent before ≡ source.independent_segments
+  pub end_list : has is_ended before ≡ source.end_list
+  pub has_sequence : is_set the_sequence before ≡ source.has_sequence
+  pub has_discontinuity_sequence : is_set the_discontinuity_sequence before ≡ source.has_discontinuity_sequence
+  pub has_media : has is_media before ≡ source.has_media

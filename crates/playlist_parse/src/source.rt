@@ -1,0 +1,396 @@
+//! A text that is read with what was kept of the last one: the lines that stand in both are taken over, and not read again.
+ghost use Rattle.std.specs.Prelude.{◌≡◌, ◌+◌, ◌^◌, ◌<◌, ℕ, List, [], ◌∷◌, map, length, take, drop, true, false, Some, None, IfOk, OnOk, MatchOption};
+ghost use Rattle.std.specs.List.{list_all};
+ghost use Rattle.std.specs.Str.Lines.{lines};
+ghost use Rattle.url.specs.Parts.{Parts};
+ghost use Rattle.playlist_model.specs.Said.{nothing};
+ghost use Rattle.playlist_model.specs.Reading.{reading, limited, said_by, said_from, and_whole};
+ghost use Rattle.playlist_parse.specs.Inner.LineViews.{is_free, line_text};
+ghost use Rattle.playlist_parse.specs.Inner.Reached.{Reached, LeadsTo, Reads, left_in};
+ghost use Rattle.playlist_parse.specs.Answers.{Answers};
+ghost use Rattle.playlist_parse.specs.KeptLines.{WasRead};
+ghost use Rattle.playlist_parse.specs.Inner.Source.{Agree, TakesOver, IsSourceOf, Grown, gone_after};
+ghost use Rattle.playlist_parse.specs.Kept.{AnswersRead, AreTaken, IsSource, IsKept, last_segments};
+
+use crate::line::{Lines, cut_after_segments, has_plain_bytes};
+use crate::progress::{Progress, ReadHeading};
+use crate::reader::{Reading, fault_at, playlist_of, read_all, read_some, reading_of};
+use playlist_model::{FaultKind, MAX_BYTES, Playlist, PlaylistFault, Text, text_of};
+use segment_state::Stop;
+use std::alloc::{AllocError, Global};
+use std::marker::Model;
+use std::ops::Range;
+use uri_resolver::Base;
+
+/// What is kept of a text that was read: its lines after the header up to the last one that names a segment, and what stands
+/// after them.
+#[derive(Drop)]
+pub struct Source {
+    text: Text,
+    next: u64,
+    heading: ReadHeading,
+    stop: Stop,
+    segments: usize,
+    date_ranges: usize,
+}
+
+impl Model for Source {
+    ghost use Rattle.playlist_parse.specs.KeptLines.{Source};
+
+    ghost Value = { Source };
+
+    ghost view = { λ a. record {
+      text = a.text;
+      next = a.next;
+      stop = a.stop;
+      segments = a.segments;
+      date_ranges = a.date_ranges;
+      version = a.heading.version;
+      target_duration = a.heading.target_duration;
+      playlist_type = a.heading.playlist_type;
+      independent_segments = a.heading.independent_segments;
+      end_list = a.heading.end_list;
+      has_sequence = a.heading.has_sequence;
+      has_discontinuity_sequence = a.heading.has_discontinuity_sequence;
+      has_media = a.heading.has_media;
+    } };
+}
+
+/// A playlist that was read, and what the next reading may take over from it.
+#[derive(Drop)]
+pub struct Read {
+    /// The playlist.
+    pub playlist: Playlist,
+    /// The places of those of its segments that were taken over from the last playlist.
+    pub taken: Range<usize>,
+    /// What is kept of its text; none where it has no line that names a segment and ends with a line feed.
+    pub source: Option<Source>,
+}
+
+#[tactic(auto, using(crate::proofs::GoingTo::dropped_all))]
+// The values from a place on.
+fn from_place<T>(list: &[T], place: usize) -> &[T]
+    ensures { result.now ≡ drop place list.now }
+{
+    match list.get(place..) {
+        Some(later) => later,
+        None => &[],
+    }
+}
+
+#[tactic(auto, using(crate::proofs::GoingTo::taken_all))]
+// The values up to a place.
+fn up_to<T>(list: &[T], place: usize) -> &[T]
+    ensures { result.now ≡ take place list.now }
+{
+    match list.get(..place) {
+        Some(front) => front,
+        None => list,
+    }
+}
+
+// How many segments of the last playlist stand up to the first one that is read here, by its number. It has no contract:
+// `agrees` decides, whatever it answers.
+fn place_in(last: &Playlist, progress: &Progress<'_>) -> Option<usize> {
+    let first = progress.first_number()?;
+    let before = last.segments.as_slice().first()?.media_sequence;
+    let place = first.checked_sub(before)? as usize;
+    place.checked_add(1)
+}
+
+// The number of the next line here, as many lines on as there are from `there` to `end`.
+fn number_after(here: u64, there: u64, end: u64) -> Option<u64>
+    ensures { MatchOption result (Unit {0}) (λ number. number + there ≡ here + end) }
+{
+    let lines = end.checked_sub(there)?;
+    here.checked_add(lines)
+}
+
+// The lines after a header, read up to `most` segments; none where a line has a fault.
+fn front_of<'a>(alloc: Global, text: &'a str, base: &'a Base, most: usize) -> Option<Reading<'a>>
+    requires { length (lines text.now) < 2 ^ 63 }
+    ensures { MatchOption result (Unit {0}) (λ front. Reached base.now front.progress front.number (left_in front) (lines text.now)) }
+{
+    let mut front = reading_of(alloc, base, Lines::new(text));
+    match read_some(&mut front, false, most) {
+        Ok(()) => Some(front),
+        Err(_) => None,
+    }
+}
+
+// Whether what is read here goes on as what is read there: after the same segment, under the same heading, and after no more
+// segments.
+#[tactic(none)]
+fn agrees(here: &Progress<'_>, there: &Progress<'_>) -> Result<bool, AllocError>
+    ensures { IfOk result (λ agrees. agrees ≡ true → Agree here.now there.now) }
+{
+    if here.segment_count() > there.segment_count() {
+        return Ok(false);
+    }
+    let heading = there.heading();
+    if !heading.has_media() {
+        return Ok(false);
+    }
+    if !here.heading().is(&heading) {
+        return Ok(false);
+    }
+    match there.stop()? {
+        Some(stop) => Ok(here.stands_at(&stop)),
+        None => Ok(false),
+    }
+}
+
+// Copies what a source has after what is read there. False where that can't be told; then all is as it was.
+fn copy_after(
+    here: &mut Progress<'_>,
+    there: &Progress<'_>,
+    source: &Source,
+    last: &Playlist,
+) -> Result<bool, AllocError>
+    ensures gone { IfOk result (λ done. done ≡ true → here.new ≡ gone_after here.old there.now source.now last.now) }
+    ensures kept { IfOk result (λ done. done ≡ false → here.new ≡ here.old) }
+{
+    let date_ranges = up_to(last.date_ranges.as_slice(), source.date_ranges);
+    let segments = up_to(last.segments.as_slice(), source.segments);
+    let new_ranges = from_place(date_ranges, there.date_range_count());
+    let new_segments = from_place(segments, there.segment_count());
+    here.go_to(&source.heading, &source.stop, new_ranges, new_segments)
+}
+
+#[tactic(none)]
+// Takes over the lines of a source after the segment that was read last, where the lines that are left begin with them: at
+// which places their segments stand.
+fn take_over<'a>(
+    reading: &mut Reading<'a>,
+    front: &Reading<'_>,
+    source: &Source,
+    last: &Playlist,
+) -> Result<Range<usize>, AllocError>
+    ensures reached { OnOk result (TakesOver front.now source.now last.now reading.old reading.new) }
+    ensures plain { OnOk result (list_all is_free (left_in reading.old) ≡ true → list_all is_free (left_in reading.new) ≡ true) }
+    ensures taken { IfOk result (λ taken. AreTaken last.now.segments reading.new.progress.segments taken.start taken.end) }
+{
+    if !agrees(&reading.progress, &front.progress)? {
+        return Ok(0..0);
+    }
+    let Some(later) = reading.lines.after(front.lines.left()) else {
+        return Ok(0..0);
+    };
+    let Some(next) = number_after(reading.number, front.number, source.next) else {
+        return Ok(0..0);
+    };
+    let start = reading.progress.segment_count();
+    if !copy_after(&mut reading.progress, &front.progress, source, last)? {
+        return Ok(0..0);
+    }
+    reading.lines = later;
+    reading.number = next;
+    Ok(start..reading.progress.segment_count())
+}
+
+#[tactic(none)]
+// The same, where the last playlist has the segment that was read first.
+fn take_over_from<'a>(
+    alloc: Global,
+    reading: &mut Reading<'a>,
+    base: &Base,
+    source: &Source,
+    last: &Playlist,
+) -> Result<Range<usize>, AllocError>
+    requires { WasRead base.now source.now last.now }
+    ensures reached { OnOk result (LeadsTo base.now reading.old reading.new) }
+    ensures plain { OnOk result (list_all is_free (left_in reading.old) ≡ true → list_all is_free (left_in reading.new) ≡ true) }
+    ensures taken { IfOk result (λ taken. AreTaken last.now.segments reading.new.progress.segments taken.start taken.end) }
+{
+    let Some(most) = place_in(last, &reading.progress) else {
+        return Ok(0..0);
+    };
+    match front_of(alloc, source.text.as_str(), base, most) {
+        Some(front) => take_over(reading, &front, source, last),
+        None => Ok(0..0),
+    }
+}
+
+#[tactic(none)]
+// The same, where something is kept with this playlist.
+fn take_over_kept<'a>(
+    alloc: Global,
+    reading: &mut Reading<'a>,
+    base: &Base,
+    source: &Option<Source>,
+    last: &Playlist,
+) -> Result<Range<usize>, AllocError>
+    requires { IsSource base.now last.now source.now }
+    ensures reached { OnOk result (LeadsTo base.now reading.old reading.new) }
+    ensures plain { OnOk result (list_all is_free (left_in reading.old) ≡ true → list_all is_free (left_in reading.new) ≡ true) }
+    ensures taken { IfOk result (λ taken. AreTaken last.now.segments reading.new.progress.segments taken.start taken.end) }
+{
+    match source {
+        Some(source) => take_over_from(alloc, reading, base, source, last),
+        None => Ok(0..0),
+    }
+}
+
+#[tactic(none)]
+// The same, where there is a last playlist.
+fn take_over_last<'a>(
+    alloc: Global,
+    reading: &mut Reading<'a>,
+    base: &Base,
+    source: &Option<Source>,
+    last: &Option<Playlist>,
+) -> Result<Range<usize>, AllocError>
+    requires { IsKept base.now last.now source.now }
+    ensures reached { OnOk result (LeadsTo base.now reading.old reading.new) }
+    ensures plain { OnOk result (list_all is_free (left_in reading.old) ≡ true → list_all is_free (left_in reading.new) ≡ true) }
+    ensures taken { IfOk result (λ taken. AreTaken (last_segments last.now) reading.new.progress.segments taken.start taken.end) }
+{
+    match last {
+        Some(last) => take_over_kept(alloc, reading, base, source, last),
+        None => Ok(0..0),
+    }
+}
+
+// What is kept of a text, all of whose lines are read; none where tags of a further segment stand at its end.
+fn source_of(alloc: Global, text: &str, reading: &Reading<'_>) -> Result<Option<Source>, AllocError>
+    ensures { IfOk result (λ source. MatchOption source (Unit {0}) (λ source. IsSourceOf text.now reading.now.progress reading.now.number source)) }
+{
+    let Some(stop) = reading.progress.stop()? else {
+        return Ok(None);
+    };
+    let heading = reading.progress.heading();
+    let segments = reading.progress.segment_count();
+    let date_ranges = reading.progress.date_range_count();
+    let text = Text::copy_of(alloc, text)?;
+    Ok(Some(Source {
+        text,
+        next: reading.number,
+        heading,
+        stop,
+        segments,
+        date_ranges,
+    }))
+}
+
+#[tactic(none)]
+// Reads the lines that are left, some of which may be taken over: at which places the segments of these stand.
+fn read_front<'a>(
+    alloc: Global,
+    reading: &mut Reading<'a>,
+    is_plain: bool,
+    base: &Base,
+    source: &Option<Source>,
+    last: &Option<Playlist>,
+) -> Result<Range<usize>, PlaylistFault>
+    requires few { length (left_in reading.old) < 2 ^ 63 }
+    requires plain { is_plain ≡ true → list_all is_free (left_in reading.old) ≡ true }
+    requires begun { (all : List (List ℕ)) → Reached base.now reading.old.progress reading.old.number all all }
+    requires kept { IsKept base.now last.now source.now }
+    ensures reached { Reads base.now reading.old result reading.new }
+    ensures none_left { OnOk result (reading.new.lines ≡ []) }
+    ensures taken { IfOk result (λ taken. AreTaken (last_segments last.now) reading.new.progress.segments taken.start taken.end) }
+{
+    match read_some(reading, is_plain, 1) {
+        Ok(()) => {}
+        Err(fault) => return Err(fault),
+    }
+    let taken = match take_over_last(alloc, reading, base, source, last) {
+        Ok(taken) => taken,
+        Err(_) => return Err(fault_at(FaultKind::OutOfMemory, 0)),
+    };
+    match read_all(reading, is_plain) {
+        Ok(()) => Ok(taken),
+        Err(fault) => Err(fault),
+    }
+}
+
+#[tactic(none)]
+// The playlist that is read, after the lines of this text, the last ones.
+fn read_tail<'a>(
+    reading: Reading<'a>,
+    tail: &'a str,
+    is_plain: bool,
+) -> Result<Playlist, PlaylistFault>
+    requires few { reading.number + length (lines tail.now) < 2 ^ 64 }
+    requires plain { is_plain ≡ true → list_all is_free (lines tail.now) ≡ true }
+    ensures answer { (base : Parts) (all : List (List ℕ)) → Reached base reading.entry.progress reading.entry.number (lines tail.entry.now) all → Answers result (and_whole (said_from (said_by limited base) (nothing ∷ []) all)) }
+    ensures grown { (base : Parts) (all : List (List ℕ)) → Reached base reading.entry.progress reading.entry.number (lines tail.entry.now) all → IfOk result (Grown reading.entry.progress) }
+{
+    let mut reading = reading;
+    reading.lines = Lines::new(tail);
+    match read_all(&mut reading, is_plain) {
+        Ok(()) => playlist_of(reading),
+        Err(fault) => Err(fault),
+    }
+}
+
+#[tactic(none)]
+// Reads the lines after the header. `is_plain`: none of them has a control character.
+fn read_body<'a>(
+    alloc: Global,
+    body: &'a str,
+    is_plain: bool,
+    base: &'a Base,
+    source: &Option<Source>,
+    last: &Option<Playlist>,
+) -> Result<Read, PlaylistFault>
+    requires few { length (lines body.now) < 2 ^ 63 }
+    requires plain { is_plain ≡ true → list_all is_free (lines body.now) ≡ true }
+    requires kept { IsKept base.now last.now source.now }
+    ensures answer { AnswersRead result (and_whole (said_from (said_by limited base.now) (nothing ∷ []) (lines body.entry.now))) }
+    ensures source { IfOk result (λ read. IsSource base.now read.playlist read.source) }
+    ensures taken { IfOk result (λ read. AreTaken (last_segments last.now) read.playlist.segments read.taken.start read.taken.end) }
+{
+    let cut = cut_after_segments(body);
+    let mut reading = reading_of(alloc, base, Lines::new(cut.front));
+    let taken = match read_front(alloc, &mut reading, is_plain, base, source, last) {
+        Ok(taken) => taken,
+        Err(fault) => return Err(fault),
+    };
+    let source = match source_of(alloc, cut.front, &reading) {
+        Ok(source) => source,
+        Err(_) => return Err(fault_at(FaultKind::OutOfMemory, 0)),
+    };
+    match read_tail(reading, cut.tail, is_plain) {
+        Ok(playlist) => Ok(Read {
+            playlist,
+            taken,
+            source,
+        }),
+        Err(fault) => Err(fault),
+    }
+}
+
+/// The playlist that `bytes` denote under `base`, or its first fault and the line of that: the answers of `read` (RFC 8216,
+/// section 4). `last` is the last playlist, and `source` what was kept of its text. What both texts have in common is taken
+/// over from there, and `taken` says at which places of the new playlist that is. What is kept of this text serves the next
+/// reading. Fails with `OutOfMemory` if an allocation fails.
+pub fn read_after(
+    alloc: Global,
+    bytes: &[u8],
+    base: &Base,
+    last: &Option<Playlist>,
+    source: &Option<Source>,
+) -> Result<Read, PlaylistFault>
+    requires { IsKept base.now last.now source.now }
+    ensures answer { AnswersRead result (reading limited base.now bytes.now) }
+    ensures source { IfOk result (λ read. IsSource base.now read.playlist read.source) }
+    ensures taken { IfOk result (λ read. AreTaken (last_segments last.now) read.playlist.segments read.taken.start read.taken.end) }
+{
+    let text = match text_of(bytes) {
+        Ok(text) => text,
+        Err(kind) => return Err(fault_at(kind, 0)),
+    };
+    if text.len() > MAX_BYTES {
+        return Err(fault_at(FaultKind::TooLong, 0));
+    }
+    let mut lines = Lines::new(text);
+    let Some(first) = lines.next() else {
+        return Err(fault_at(FaultKind::NoHeader, 1));
+    };
+    if first.text != "#EXTM3U" {
+        return Err(fault_at(FaultKind::NoHeader, 1));
+    }
+    let is_plain = has_plain_bytes(bytes);
+    read_body(alloc, lines.left(), is_plain, base, source, last)
+}
