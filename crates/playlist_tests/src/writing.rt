@@ -5,6 +5,7 @@ use crate::made::{key, listed, unmarked};
 use byte_streams::TestSink;
 use fixed_duration::Nanos;
 use playlist_model::{ByteRange, InitSection, Items, Keys, PlaylistKind, Segment, Shared, Text};
+use playlist_write::resumed::laid_out;
 use playlist_write::{OutPlaylist, WriteFault, write};
 use std::alloc::{AllocError, Global};
 use stitcher::{StitchedList, TextRef};
@@ -152,8 +153,8 @@ fn is_taken_in_pieces(
 }
 
 fn is_in_pieces(alloc: Global, playlist: &OutPlaylist<'_>) -> Result<bool, AllocError> {
-    let text = playlist_write::written(alloc, playlist)?;
-    is_taken_in_pieces(alloc, playlist, text.as_str().as_bytes())
+    let written = laid_out(alloc, playlist)?;
+    is_taken_in_pieces(alloc, playlist, written.text.as_str().as_bytes())
 }
 
 // What is asked of a playlist.

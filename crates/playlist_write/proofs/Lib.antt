@@ -12,3 +12,4 @@ pub mod Whole
 pub mod ZerosInFront
 pub mod HexPairs
 pub mod Taken
+pub mod GoesOn

@@ -3,3 +3,4 @@ pub mod DateRangeParts
 pub mod KeyParts
 pub mod Taken
 pub mod Room
+pub mod Laid

@@ -4,3 +4,4 @@ pub mod WellFormed
 pub mod Denoted
 pub mod Laws
 pub mod Inner
+pub mod Laid

@@ -15,9 +15,8 @@ use crate::header::{push_date_ranges, push_end, push_header};
 use crate::lines::push_line;
 use crate::pieces::{PIECE_ROOM, write_date_ranges, write_segments};
 use crate::room::room_for;
-use crate::segments::push_segments;
 use byte_streams::{Sink, SinkFailed, hand_out};
-use playlist_model::{Items, PlaylistKind, Text};
+use playlist_model::{Items, PlaylistKind};
 use std::alloc::{AllocError, Global};
 use stitcher::{StitchedList, TextRef};
 
@@ -29,6 +28,7 @@ mod last_duration;
 pub mod laws;
 mod lines;
 mod pieces;
+pub mod resumed;
 mod room;
 mod segments;
 mod well_formed;
@@ -89,24 +89,6 @@ fn front_of(alloc: Global, room: usize, playlist: &OutPlaylist<'_>) -> Result<St
     push_line(&mut text, "#EXTM3U")?;
     push_header(&mut text, playlist)?;
     Ok(text)
-}
-
-// The text of a playlist.
-fn make_text(alloc: Global, playlist: &OutPlaylist<'_>) -> Result<String, AllocError>
-    ensures { IfOk result (λ text. string_bytes text ≡ playlist_text playlist.now) }
-{
-    let mut text = front_of(alloc, room_for(playlist), playlist)?;
-    push_date_ranges(&mut text, playlist.date_ranges.as_slice())?;
-    push_segments(alloc, &mut text, playlist.segments.items())?;
-    push_end(&mut text, playlist.end_list)?;
-    Ok(text)
-}
-
-/// The whole text of a playlist.
-pub fn written(alloc: Global, playlist: &OutPlaylist<'_>) -> Result<Text, AllocError>
-    ensures { IfOk result (λ text. text ≡ playlist_text playlist.now) }
-{
-    Ok(Text::from_string(make_text(alloc, playlist)?))
 }
 
 // Adds the end to what is held, and hands all of it out.

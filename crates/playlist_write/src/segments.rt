@@ -198,26 +198,3 @@ pub fn section_of(segment: &Segment) -> Option<&InitSection>
         None => None,
     }
 }
-
-/// Appends the lines of all segments.
-pub fn push_segments(
-    alloc: Global,
-    out: &mut String,
-    segments: StitchedItems<'_>,
-) -> Result<(), AllocError>
-    ensures { Appends result out.old out.new (said_text (segments_owed none_yet segments.entry)) }
-{
-    let mut segments = segments;
-    let mut times = TimeWriter::new();
-    let mut last = LastDuration::new(alloc);
-    let no_keys = Keys::none();
-    let mut keys = &no_keys;
-    let mut section: Option<&InitSection> = None;
-    while let Some(next) = segments.next() {
-        push_segment(out, &mut times, &mut last, keys, section, &next)?;
-        let segment = next.segment.get();
-        keys = &segment.keys;
-        section = section_of(segment).or(section);
-    }
-    Ok(())
-}

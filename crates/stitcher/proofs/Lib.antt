@@ -6,3 +6,4 @@ pub mod Runs
 pub mod Outcomes
 pub mod Kept
 pub mod Cursors
+pub mod Cuts

@@ -1,3 +1,4 @@
 pub mod Making
 pub mod Stitched
 pub mod StitchedRows
+pub mod Cuts

@@ -18,7 +18,7 @@ mod stitched_rows;
 pub use ends::{Ends, Rest};
 pub use fault::StitchFault;
 pub use key_tags::{is_new_key, keeps_formats, transition};
-pub use making::{is_same_run, stitch};
+pub use making::{is_same_run, stitch, stitch_at};
 pub use marked::{MarkedSegment, Numbers, SharedMark};
 pub use origin_text::TextRef;
 pub use played::SegmentRef;

@@ -308,11 +308,31 @@ impl<'a> Stitching<'a> {
         self.push_kept(alloc, kept, numbers, last)
     }
 
-    // Puts the unmarked segments in front of these at the end. Answers those after them.
+    // Puts segments of the origin at the end, which follow each other: those before the cut as one stretch, and those after it as
+    // another.
+    fn keep_in_two(
+        &mut self,
+        alloc: Global,
+        kept: &'a [MarkedSegment],
+        cut: usize,
+    ) -> Result<(), StitchFault>
+        requires { numbers_fit self.old.first ≡ true }
+        ensures ok { OnOk result (Puts self.old self.new (map plain kept.now)) }
+        ensures err { IfErr result (λ e. RefusesNumber e (Passes self.old (map plain kept.now))) }
+    {
+        let (before, after) = kept.split_at(cut.min(kept.len()));
+        self.keep(alloc, before)?;
+        self.keep(alloc, after)?;
+        Ok(())
+    }
+
+    // Puts the unmarked segments in front of these at the end, in two stretches where the cut is among them. Answers those after
+    // them.
     fn keep_front(
         &mut self,
         alloc: Global,
         segments: &'a [MarkedSegment],
+        cut: usize,
     ) -> Result<&'a [MarkedSegment], StitchFault>
         requires { numbers_fit self.old.first ≡ true }
         ensures ok { OnOk result (Puts self.old self.new (map plain (take (unmarked_front segments.now) segments.now))) }
@@ -320,7 +340,7 @@ impl<'a> Stitching<'a> {
         ensures err { IfErr result (λ e. RefusesNumber e (Passes self.old (map plain (take (unmarked_front segments.now) segments.now)))) }
     {
         let (kept, left) = segments.split_at(unmarked_front(segments));
-        self.keep(alloc, kept)?;
+        self.keep_in_two(alloc, kept, cut)?;
         Ok(left)
     }
 
@@ -445,6 +465,7 @@ impl<'a> Stitching<'a> {
         &mut self,
         alloc: Global,
         segments: &'a [MarkedSegment],
+        cut: usize,
         previous: &Option<Shared<Text>>,
         store: &PodStore,
         ends: &Ends,
@@ -458,7 +479,7 @@ impl<'a> Stitching<'a> {
             return Ok(segments);
         };
         let Some(id) = &*marked.mark else {
-            return self.keep_front(alloc, segments);
+            return self.keep_front(alloc, segments, cut);
         };
         if is_same_run(&marked.mark, previous) {
             return Ok(later);
@@ -504,13 +525,30 @@ pub fn stitch<'a>(
     ensures ok { IfOk result (λ v. (v ≡ stitched_segments store.now first ends.now marked.now) × (list_all item_fits v ≡ true)) }
     ensures err { IfErr result (λ e. RefusesNumber e (list_all item_fits (stitched_segments store.now first ends.now marked.now) ≡ false)) }
 {
+    stitch_at(alloc, marked, 0, store, first, ends)
+}
+
+/// The same, in which a stretch ends where so many segments are put: its items from there on are found at once.
+pub fn stitch_at<'a>(
+    alloc: Global,
+    marked: &'a [MarkedSegment],
+    cut: usize,
+    store: &PodStore,
+    first: Numbers,
+    ends: &Ends,
+) -> Result<StitchedList<'a>, StitchFault>
+    requires { AreDecided store.now marked.now }
+    ensures ok { IfOk result (λ v. (v ≡ stitched_segments store.now first ends.now marked.now) × (list_all item_fits v ≡ true)) }
+    ensures err { IfErr result (λ e. RefusesNumber e (list_all item_fits (stitched_segments store.now first ends.now marked.now) ≡ false)) }
+{
     let mut stitching = Stitching::new(alloc, first);
     stitching.put_rest(alloc, &ends.rest, store)?;
     let unmarked: Option<Shared<Text>> = None;
     let mut previous = &unmarked;
     let mut rest = marked;
     while let Some((here, _)) = rest.split_first() {
-        rest = stitching.put_front(alloc, rest, previous, store, ends)?;
+        let left = cut.saturating_sub(marked.len().saturating_sub(rest.len()));
+        rest = stitching.put_front(alloc, rest, left, previous, store, ends)?;
         previous = &*here.mark;
     }
     stitching.finish(alloc)

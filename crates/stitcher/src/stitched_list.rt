@@ -1,8 +1,9 @@
 //! A stitched list. It holds no item: each is made where it is asked for.
-ghost use Rattle.std.specs.Prelude.{◌≡◌, ◌∷◌, ◌+◌, [], drop, length, true, MatchOption, IfSome, IfOk};
+ghost use Rattle.std.specs.Prelude.{◌≡◌, ◌∷◌, ◌+◌, nat_le, ◌≤◌, [], drop, length, true, MatchOption, IfSome, IfOk};
 ghost use Rattle.std.specs.List.{list_all};
 ghost use Rattle.stitcher.specs.StitchedSegments.{item_fits};
 ghost use Rattle.stitcher.specs.Inner.Making.{numbers_fit};
+ghost use Rattle.stitcher.specs.Inner.Cuts.{stretches_within, left_from};
 ghost use Rattle.stitcher.specs.Stretches.{ad_item, here_items, kept_item, left_items, numbers_on, stretch_items, stretches_items};
 
 use crate::OutSegment;
@@ -195,6 +196,57 @@ fn count_of(stretches: &[Stretch<'_>]) -> Option<usize>
     Some(count)
 }
 
+// Whether a stretch ends within so many items.
+fn ends_within(stretch: &Stretch<'_>, count: usize) -> bool
+    ensures { result ≡ nat_le (length stretch.now.ads + length stretch.now.kept.now) count }
+{
+    match stretch.ads.len().checked_add(stretch.kept.len()) {
+        Some(items) => items <= count,
+        None => false,
+    }
+}
+
+// How many stretches in front end within so many items.
+fn stretches_within(stretches: &[Stretch<'_>], count: usize) -> usize
+    ensures value { result ≡ stretches_within count stretches.now }
+    ensures within { result ≤ length stretches.now }
+{
+    let mut place = 0;
+    let mut left = count;
+    for stretch in stretches {
+        if !ends_within(stretch, left) {
+            return place;
+        }
+        left = left - stretch.ads.len() - stretch.kept.len();
+        place += 1;
+    }
+    place
+}
+
+// How many items are still to be passed over after those.
+fn left_from(stretches: &[Stretch<'_>], count: usize) -> usize
+    ensures { result ≡ left_from count stretches.now }
+{
+    let mut left = count;
+    for stretch in stretches {
+        if !ends_within(stretch, left) {
+            return left;
+        }
+        left = left - stretch.ads.len() - stretch.kept.len();
+    }
+    left
+}
+
+// The items of stretches from a place on.
+fn items_at<'a>(stretches: &'a [Stretch<'a>], count: usize) -> StitchedItems<'a>
+    requires { list_all item_fits (stretches_items stretches.now) ≡ true }
+    ensures { result ≡ drop count (stretches_items stretches.now) }
+{
+    let mut items = items_of(&stretches[stretches_within(stretches, count)..]);
+    items.pass(left_from(stretches, count));
+    items
+}
+
 /// A stitched list: segments of the origin, which stay where they are, and those of ads.
 #[derive(Drop)]
 pub struct StitchedList<'a> {
@@ -242,6 +294,16 @@ impl<'a> StitchedList<'a> {
         let mut items = items_of(self.stretches.as_slice());
         items.pass(self.passed);
         items
+    }
+
+    /// Its items from a place on, one after the other: the stretches before it are passed over at once.
+    pub fn items_from(&self, place: usize) -> StitchedItems<'_>
+        ensures { result ≡ drop place self.now }
+    {
+        items_at(
+            self.stretches.as_slice(),
+            self.passed + place.min(self.count - self.passed),
+        )
     }
 
     /// How many items it has.

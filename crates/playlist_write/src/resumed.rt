@@ -1,0 +1,302 @@
+//! The text of a playlist as it is written: made whole, or from the text that was written last. The lines of a segment depend on
+//! the segment before it alone, so those of segments that stood there are copied in one piece.
+ghost use Rattle.std.specs.Prelude.{◌≡◌, ◌++◌, ◌+◌, drop, take, length, IfOk, OnOk, IfSome, string_bytes};
+ghost use Rattle.std.specs.Option.{option_copied};
+ghost use Rattle.playlist_model.specs.LookBack.{or_earlier};
+ghost use Rattle.playlist_write.specs.Owed.{none_yet, said_text, segment_owed, segments_owed, after_segment, ended_owed, playlist_text};
+ghost use Rattle.playlist_write.specs.Laid.{after_segments, states_all, current_of, IsLaid, IsFrontLength, StandsAgain};
+ghost use Rattle.playlist_write.specs.Inner.Laid.{front_text};
+
+use crate::header::{push_date_ranges, push_end};
+use crate::last_duration::LastDuration;
+use crate::room::room_for;
+use crate::segments::push_segment;
+use crate::{OutPlaylist, front_of};
+use date_times::TimeWriter;
+use playlist_model::{InitSection, Keys, Segment, Shared, Text};
+use std::alloc::{AllocError, Global};
+use std::marker::Model;
+use stitcher::{OutSegment, StitchedItems, StitchedList};
+
+/// A text that was written, with what its next version needs: the places where the lines of its segments begin and end, and
+/// the keys and the section that are in force at their end.
+#[derive(Drop)]
+pub struct WrittenText {
+    /// The text.
+    pub text: Shared<Text>,
+    /// Where the lines of the first segment begin.
+    pub from: usize,
+    /// Where those of the last one end.
+    pub till: usize,
+    /// The keys in force there.
+    pub keys: Keys,
+    /// The section in force there.
+    pub section: Option<Shared<InitSection>>,
+}
+
+// Keys and a section that are in force.
+#[derive(Drop)]
+struct InForce<'a> {
+    keys: &'a Keys,
+    section: &'a Option<Shared<InitSection>>,
+}
+
+impl<'a> Model for InForce<'a> {
+    ghost use Rattle.playlist_write.specs.Owed.{Current};
+
+    ghost Value = { Current };
+
+    ghost view = { λ a. record { keys = a.keys.now; init_section = a.section.now } };
+}
+
+fn section_in<'a>(section: &'a Option<Shared<InitSection>>) -> Option<&'a InitSection>
+    ensures { option_copied result ≡ section.now }
+{
+    match section {
+        Some(section) => Some(section),
+        None => None,
+    }
+}
+
+fn force_after<'a>(before: &InForce<'a>, segment: &'a Segment) -> InForce<'a>
+    ensures { result ≡ record { keys = segment.now.keys; init_section = or_earlier segment.now.init_section before.now.init_section } }
+{
+    let section = if segment.init_section.is_some() {
+        &segment.init_section
+    } else {
+        before.section
+    };
+    InForce {
+        keys: &segment.keys,
+        section,
+    }
+}
+
+// Appends the lines of the segment `next` after lines with `before` in force. Answers what is in force then.
+fn push_next<'a>(
+    out: &mut String,
+    times: &mut TimeWriter,
+    last: &mut LastDuration<'a>,
+    before: &InForce<'a>,
+    next: &OutSegment<'a>,
+) -> Result<InForce<'a>, AllocError>
+    ensures text { OnOk result (string_bytes out.new ≡ string_bytes out.old ++ said_text (segment_owed before.now next.now)) }
+    ensures force { IfOk result (λ f. f ≡ after_segment before.now next.now) }
+{
+    push_segment(
+        out,
+        times,
+        last,
+        before.keys,
+        section_in(before.section),
+        next,
+    )?;
+    Ok(force_after(before, next.segment.get()))
+}
+
+// Appends the lines of the first `most` segments, or of all, after lines with `before` in force. Answers what is in force then.
+fn push_first<'a>(
+    alloc: Global,
+    out: &mut String,
+    before: InForce<'a>,
+    segments: StitchedItems<'a>,
+    most: usize,
+) -> Result<InForce<'a>, AllocError>
+    ensures text { OnOk result (string_bytes out.new ≡ string_bytes out.old ++ said_text (segments_owed before.entry (take most segments.entry))) }
+    ensures force { IfOk result (λ f. f ≡ after_segments before.entry (take most segments.entry)) }
+{
+    let mut segments = segments;
+    let mut times = TimeWriter::new();
+    let mut last = LastDuration::new(alloc);
+    let mut force = before;
+    let mut left = most;
+    while left > 0 {
+        let Some(next) = segments.next() else {
+            return Ok(force);
+        };
+        force = push_next(out, &mut times, &mut last, &force, &next)?;
+        left -= 1;
+    }
+    Ok(force)
+}
+
+// Appends the lines of all these segments after lines with `before` in force. Answers what is in force then.
+fn push_all<'a>(
+    alloc: Global,
+    out: &mut String,
+    before: InForce<'a>,
+    segments: StitchedItems<'a>,
+) -> Result<InForce<'a>, AllocError>
+    ensures text { OnOk result (string_bytes out.new ≡ string_bytes out.old ++ said_text (segments_owed before.entry segments.entry)) }
+    ensures force { IfOk result (λ f. f ≡ after_segments before.entry segments.entry) }
+{
+    let mut segments = segments;
+    let mut times = TimeWriter::new();
+    let mut last = LastDuration::new(alloc);
+    let mut force = before;
+    while let Some(next) = segments.next() {
+        force = push_next(out, &mut times, &mut last, &force, &next)?;
+    }
+    Ok(force)
+}
+
+// The keys and the section that are in force at the end of a text that was written.
+fn force_at_end(last: &WrittenText) -> InForce<'_>
+    ensures { result ≡ current_of last.now }
+{
+    InForce {
+        keys: &last.keys,
+        section: &last.section,
+    }
+}
+
+// A written text, whose segments' lines stand from `from` up to `till` with `end` in force after them.
+fn with_end(
+    alloc: Global,
+    text: String,
+    from: usize,
+    till: usize,
+    end: &InForce<'_>,
+) -> Result<WrittenText, AllocError>
+    ensures text { IfOk result (λ w. w.text ≡ string_bytes text) }
+    ensures from { IfOk result (λ w. w.from ≡ from) }
+    ensures till { IfOk result (λ w. w.till ≡ till) }
+    ensures end { IfOk result (λ w. current_of w ≡ end.now) }
+{
+    Ok(WrittenText {
+        text: Shared::new(alloc, Text::from_string(text))?,
+        from,
+        till,
+        keys: end.keys.clone()?,
+        section: end.section.clone()?,
+    })
+}
+
+// How many bytes a text has so far.
+fn length_of(text: &String) -> usize
+    ensures { result ≡ length (string_bytes text.now) }
+{
+    text.len()
+}
+
+#[tactic(auto, unfolding(crate::specs::Inner::Laid::front_text))]
+// The lines before the segments, in a text with room for all of the playlist.
+fn all_before(alloc: Global, playlist: &OutPlaylist<'_>) -> Result<String, AllocError>
+    ensures { IfOk result (λ text. string_bytes text ≡ front_text playlist.now) }
+{
+    let mut text = front_of(alloc, room_for(playlist), playlist)?;
+    push_date_ranges(&mut text, playlist.date_ranges.as_slice())?;
+    Ok(text)
+}
+
+/// The whole text of a playlist (RFC 8216, section 4), made anew. Fails only if an allocation fails.
+pub fn laid_out(alloc: Global, playlist: &OutPlaylist<'_>) -> Result<WrittenText, AllocError>
+    ensures text { IfOk result (λ w. w.text ≡ playlist_text playlist.now) }
+    ensures laid { IfOk result (IsLaid playlist.now.segments) }
+{
+    let mut text = all_before(alloc, playlist)?;
+    let from = length_of(&text);
+    let (no_keys, no_section) = (Keys::none(), None);
+    let nothing = InForce {
+        keys: &no_keys,
+        section: &no_section,
+    };
+    let end = push_all(alloc, &mut text, nothing, playlist.segments.items())?;
+    let till = length_of(&text);
+    push_end(&mut text, playlist.end_list)?;
+    Ok(with_end(alloc, text, from, till, &end)?)
+}
+
+// Whether what is in force after the first of these is what it states itself, whatever stood before it.
+fn states_all(before: &InForce<'_>, segments: StitchedItems<'_>) -> bool
+    ensures { result ≡ states_all before.now segments.entry }
+{
+    let mut segments = segments;
+    match segments.next() {
+        Some(first) => { first.segment.get().init_section.is_some() || before.section.is_none() }
+        None => false,
+    }
+}
+
+/// How many bytes the lines of the first `gone` segments and of the one after them take. None if that one doesn't state all
+/// that is in force after it: then its lines depend on what was before it.
+pub fn front_length(
+    alloc: Global,
+    segments: &StitchedList<'_>,
+    gone: usize,
+) -> Result<Option<usize>, AllocError>
+    ensures { IfOk result (λ n. IfSome n (IsFrontLength segments.now gone)) }
+{
+    let mut lines = String::new(alloc);
+    let (no_keys, no_section) = (Keys::none(), None);
+    let nothing = InForce {
+        keys: &no_keys,
+        section: &no_section,
+    };
+    let force = push_first(alloc, &mut lines, nothing, segments.items(), gone)?;
+    if !states_all(&force, segments.items_from(gone)) {
+        return Ok(None);
+    }
+    push_first(alloc, &mut lines, force, segments.items_from(gone), 1)?;
+    Ok(Some(length_of(&lines)))
+}
+
+// The lines of a text's segments, less their first `length` bytes.
+fn lines_after(last: &WrittenText, length: usize) -> Option<&str>
+    ensures { IfSome result (λ lines. lines.now ≡ drop (last.now.from + length) (take last.now.till last.now.text)) }
+{
+    let from = last.from.checked_add(length)?;
+    let (lines, _) = last.text.as_str().split_at_checked(last.till)?;
+    let (_, lines) = lines.split_at_checked(from)?;
+    Some(lines)
+}
+
+// The text of a playlist in three parts: its first segment is written, `lines` are copied, and `fresh` is written, with what
+// was in force at the end of the last text.
+fn joined(
+    alloc: Global,
+    playlist: &OutPlaylist<'_>,
+    last: &WrittenText,
+    lines: &str,
+    fresh: StitchedItems<'_>,
+) -> Result<WrittenText, AllocError>
+    ensures text { IfOk result (λ w. w.text ≡ front_text playlist.now ++ ((said_text (segments_owed none_yet (take 1 playlist.now.segments)) ++ (lines.now ++ said_text (segments_owed (current_of last.now) fresh.entry))) ++ said_text (ended_owed playlist.now.end_list))) }
+    ensures from { IfOk result (λ w. w.from ≡ length (front_text playlist.now)) }
+    ensures till { IfOk result (λ w. w.till ≡ length (front_text playlist.now ++ (said_text (segments_owed none_yet (take 1 playlist.now.segments)) ++ (lines.now ++ said_text (segments_owed (current_of last.now) fresh.entry))))) }
+    ensures end { IfOk result (λ w. current_of w ≡ after_segments (current_of last.now) fresh.entry) }
+{
+    let mut text = all_before(alloc, playlist)?;
+    let from = length_of(&text);
+    let (no_keys, no_section) = (Keys::none(), None);
+    let nothing = InForce {
+        keys: &no_keys,
+        section: &no_section,
+    };
+    push_first(alloc, &mut text, nothing, playlist.segments.items(), 1)?;
+    text.push_str(lines)?;
+    let end = push_all(alloc, &mut text, force_at_end(last), fresh)?;
+    let till = length_of(&text);
+    push_end(&mut text, playlist.end_list)?;
+    with_end(alloc, text, from, till, &end)
+}
+
+/// The text that `laid_out` makes, of which lines stand in the text that was written last: the playlist's first `again`
+/// segments are the last ones of `last`, and `length` is what `front_length` tells of those in front of them. Fails only if an
+/// allocation fails.
+pub fn laid_after(
+    alloc: Global,
+    playlist: &OutPlaylist<'_>,
+    last: &WrittenText,
+    length: usize,
+    again: usize,
+) -> Result<WrittenText, AllocError>
+    requires { StandsAgain playlist.now.segments last.now length again }
+    ensures text { IfOk result (λ w. w.text ≡ playlist_text playlist.now) }
+    ensures laid { IfOk result (IsLaid playlist.now.segments) }
+{
+    let Some(lines) = lines_after(last, length) else {
+        return laid_out(alloc, playlist);
+    };
+    let fresh = playlist.segments.items_from(again);
+    Ok(joined(alloc, playlist, last, lines, fresh)?)
+}
