@@ -16,11 +16,13 @@ use Rattle.break_finder.specs.Known.{Accepted, known, carry}
 use Rattle.break_finder.specs.Breaks.{Break}
 use Rattle.channel_spec.specs.Marking.{mark_id, last_entered, is_new, history_after}
 use Rattle.channel_spec.specs.Successor.{first_number, end_number, is_mapped, fault_if}
-use Rattle.channel_spec.specs.Live.{Told, told, refusal, succession_fault, acceptance, moment, after_refresh, breaks_in_use, item_segment, states_instant, owed_for, window_after, written_date_ranges, place_of, gone_before, rest_over, rest_id, ids_in, marks_from, in_use_with, date_ranges_left, start_after}
+use Rattle.channel_spec.specs.Live.{Told, told, refusal, succession_fault, acceptance, moment, after_refresh, breaks_in_use, item_segment, states_instant, owed_for, window_after, last_playlist, written_date_ranges, place_of, gone_before, rest_over, rest_id, ids_in, marks_from, in_use_with, date_ranges_left, start_after}
 use Rattle.break_finder.specs.Laws.{CarriesKnown}
 use Rattle.channel_spec.specs.LiveLaws.{Linked, GoesOn}
-use Rattle.channel_spec.specs.Kept.{Kept, shown_from, head_numbers, kept_of, kept_acceptance, kept_moment, show_on, kept_list, kept_window, kept_breaks, kept_refusal, kept_after, kept_owed, date_ranges_after, length_on, kept_length, stitched_on, kept_items, kept_rest}
+use Rattle.channel_spec.specs.Kept.{Kept, shown_from, head_numbers, kept_of, kept_acceptance, kept_moment, show_on, kept_list, kept_window, kept_breaks, kept_refusal, kept_after, kept_owed, date_ranges_after, length_on, kept_length, stitched_on, kept_items, kept_rest, window_by}
 use Rattle.channel_spec.specs.Inner.Kept.{kept_start}
+use Rattle.channel_spec.specs.LastWindow.{last_items, ItemsGoOn}
+use Rattle.channel_spec.proofs.Growth.{numbered_grows}
 use Rattle.channel_spec.specs.KeptLaws.{KeptFollows}
 use Rattle.channel_spec.proofs.Risen.{FallFrom}
 use Rattle.channel_spec.proofs.Fills.{IsStore}
@@ -187,6 +189,8 @@ pub record FollowsFrom (k : Kept) (tolerance : ℕ) (p : Playlist) (t : Told) : 
   pub window_is : refusal tolerance t p ≡ None → kept_window tolerance k p ≡ window_after (after_refresh tolerance t p) p
   pub date_ranges_is : refusal tolerance t p ≡ None → date_ranges_after tolerance k p ≡ written_date_ranges (after_refresh tolerance t p) p
   pub owed_is : refusal tolerance t p ≡ None → kept_owed tolerance k p ≡ owed_for (after_refresh tolerance t p) p
+  pub last_is : reverse (last_items k) ≡ window_by (last_playlist t.accepted) t.start t.history
+  pub items_on : succession_fault (last_playlist t.accepted) p ≡ None → GoesOn (last_items k) (kept_items tolerance k p)
 
 pub kept_ext : (store store' : Store) (breaks breaks' : List Break) (last : Option Playlist) (shown shown' : List Marked) (entered entered' : Option (List ℕ)) (numbers numbers' : Numbers) (n n' : ℕ) (rest rest' : Option Rest)
     → store ≡ store' → breaks ≡ breaks' → shown ≡ shown' → entered ≡ entered' → numbers ≡ numbers' → n ≡ n' → rest ≡ rest'
@@ -239,6 +243,8 @@ follow_first tolerance p store start =
       window_is = λ e. windows;
       date_ranges_is = λ e. date_ranges_by p (kept_window tolerance kept p) (window_after (after_refresh tolerance t p) p) (kept_breaks tolerance kept p) (breaks_in_use (place_of number history) number history) windows ids;
       owed_is = λ e. owed_same p (kept_window tolerance kept p) (window_after (after_refresh tolerance t p) p) (kept_breaks tolerance kept p) (breaks_in_use (place_of number history) number history) windows ids;
+      last_is = refl;
+      items_on = λ e. (kept_items tolerance kept p, sym (append-nil (kept_items tolerance kept p)));
     }
 
 -- ---- each later one
@@ -297,6 +303,13 @@ module _ (tolerance : ℕ) (p : Playlist) (a : Accepted) (earlier : List Accepte
         let is : pieces ≡ front' ++ (q ∷ []) = e ∙ (ap (λ xs. more ++ xs) stood_is ∙ sym (append_assoc more front (q ∷ []))) in
         ap (λ (xs : List Piece). reverse (from_place (place + length b.below) (numbered first xs))) (f ∙ ap (λ xs. xs ++ b.below) is)
         ∙ (ap (λ xs. reverse xs) (from_over first place front' q b.below) ∙ ap (λ (xs : List Piece). reverse (from_place place (numbered n xs))) (sym is))
+
+    last_written : reverse (numbered n stood) ≡ window_after t a.playlist
+    last_written =
+        let items = numbered n stood in
+        sym (ap (λ k. reverse (from_place k (due_list a.playlist.end_list (newer ++ (s ∷ gone))))) (omega (arith, b.size))
+        ∙ (window_on [] stood (due_stitched a.playlist.end_list (newer ++ (s ∷ gone))) 0 refl old_is
+        ∙ ap (λ xs. reverse xs) (take_all (length items - 0) items (omega arith))))
 
     kept_there : (end : ℕ) → s.segment.media_sequence ≡ first_number a.playlist.segments → shown_from (first_number a.playlist.segments) (newer ++ (s ∷ gone)) ≡ newer ++ (s ∷ [])
         → FallFrom end (newer ++ (s ∷ gone)) → kept_of t ≡ kept n
@@ -390,6 +403,8 @@ module _ (tolerance : ℕ) (p : Playlist) (a : Accepted) (earlier : List Accepte
           window_is = λ r. windows (or_none fault _ r);
           date_ranges_is = λ r. let e = or_none fault _ r in date_ranges_by p (kept_window tolerance k p) (reverse (from_place begun (due_list p.end_list history))) (kept_breaks tolerance k p) (breaks_in_use begun number history) (windows e) (ids e);
           owed_is = λ r. let e = or_none fault _ r in owed_same p (kept_window tolerance k p) (reverse (from_place begun (due_list p.end_list history))) (kept_breaks tolerance k p) (breaks_in_use begun number history) (windows e) (ids e);
+          last_is = last_written;
+          items_on = λ e. subst (λ xs. GoesOn (numbered n stood) (numbered n xs)) (sym (goes e)) (numbered_grows n (grow e).0 stood);
         }
 
 -- ---- all events
@@ -470,3 +485,10 @@ kept_follows tolerance p before g =
       date_ranges = λ e. f.date_ranges_is e ∙ ap (λ u. written_date_ranges u p) (sym (now e));
       owed = λ e. f.owed_is e ∙ ap (λ u. owed_for u p) (sym (now e));
     }
+
+pub items_go_on : ItemsGoOn
+items_go_on tolerance p before g =
+    let t = told tolerance before in
+    let h = holds tolerance before g.1 in
+    let f = each tolerance p t.accepted t.history t.store t.start h.standing (all_start tolerance before g.1) h.store g.0 (histories_are_linked tolerance before) (marks_are_known tolerance before) in
+    record { last = f.last_is; on = f.items_on }

@@ -10,3 +10,4 @@ pub mod OwedLaws
 pub mod Unread
 pub mod Limits
 pub mod Inner
+pub mod LastWindow

@@ -5,6 +5,7 @@
 
 ghost use Rattle.channel_spec.specs.BreakLaws.{InUseIsWritten, RunsKeepTheirPods, FallbackFills, WrittenEndIsNear, WindowsFollow};
 ghost use Rattle.channel_spec.specs.KeptLaws.{KeptFollows, KeptHavePods};
+ghost use Rattle.channel_spec.specs.LastWindow.{ItemsGoOn};
 ghost use Rattle.channel_spec.specs.OwedLaws.{HeaderIsTheLast, DateRangesAreTheOrigins, WindowIsStitched, UnmarkedStandOnce, SegmentsPlayTheWindow, NothingDecidedNothingChanged, PodsAreKept, StoreStaysSmall};
 ghost use Rattle.channel_spec.specs.LiveLaws.{OnlyGrows, EachSucceeds, MarksFollow, HistoriesAreLinked, MarksAreKnown, NoFaultSucceeds, NewestFits, MarksHavePods, UsedAreInUse};
 ghost use Rattle.std.specs.Prelude.{◌≡◌};
@@ -153,4 +154,9 @@ pub fn kept_follows()
 /// The store has the pod of each mark that is kept, used.
 pub fn kept_have_pods()
     ensures { KeptHavePods }
+{}
+
+/// The items of the window that is written next go on those of the one that was written last: no item of it has changed.
+pub fn items_go_on()
+    ensures { ItemsGoOn }
 {}

@@ -12,3 +12,4 @@ pub mod Runs
 pub mod Shown
 pub mod Sizes
 pub mod Starting
+pub mod TakenOver

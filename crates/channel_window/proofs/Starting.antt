@@ -130,6 +130,9 @@ module _ (state : ChannelState) (p : Playlist) (list : List Held) (n : ℕ) (end
   pub fit_is : list_all item_fits (stitched_segments state.store first ends list) ≡ list_all fits (items_on (kept_in state) p seen n)
   fit_is = number_range_is_stitched state.store first ends list ∙ ap (list_all fits) items_are
 
+  pub whole_is : (items : List OutSegment) → items ≡ stitched_segments state.store first ends list → items ≡ map written_item (reverse (items_on (kept_in state) p seen n))
+  whole_is items items_is = items_is ∙ ap (λ (xs : List Item). map written_item (reverse xs)) items_are
+
   pub window_left : (items : List OutSegment) (start : ℕ) → items ≡ stitched_segments state.store first ends list → start ≤ length items → start ≡ start_on state.last (first_number p.segments) (kept_in state) seen
       → drop start items ≡ map written_item (window_on (kept_in state) p seen n)
   window_left items start items_is h start_is =

@@ -17,4 +17,4 @@ pub use placing::{place_of, rest_count, run_count};
 pub use showing::{Showing, shown_with};
 pub use state::ChannelState;
 pub use successor::{check_successor, first_number, is_mapped};
-pub use writing::{Window, date_ranges_left, head_of, window_of};
+pub use writing::{PlacedList, date_ranges_left, head_of, placed_of};

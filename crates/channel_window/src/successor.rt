@@ -2,13 +2,13 @@
 ghost use Rattle.std.specs.Prelude.{◌≡◌, Bool, true, false, not, ◌&&◌, option_map, is_none};
 ghost use Rattle.channel_spec.specs.declared.fault.RefreshFault.TheVariants.{Changed};
 ghost use Rattle.channel_spec.specs.Successor.{are_different, end_number, first_changed, first_discontinuity, first_number, discontinuity_out_of_range, is_mapped, is_same_window, kind_eq, last_discontinuity, answer_of, successor_fault};
-ghost use Rattle.channel_window.specs.Checked.{AreContiguous};
+ghost use Rattle.channel_window.specs.Checked.{AreContiguous, AreTaken};
 ghost use Rattle.channel_window.specs.Inner.Checked.{is_as_before};
 
 use channel_spec::RefreshFault;
 use playlist_model::{Playlist, PlaylistKind, Segment, Shared, same_segment};
+use std::ops::Range;
 
-// The media number of the first segment.
 /// The media number of the first of these segments.
 pub fn first_number(segments: &[Segment]) -> u64
     ensures { result ≡ first_number segments.now }
@@ -81,8 +81,8 @@ fn is_as_before(old: &[Segment], segment: &Segment) -> bool
     }
 }
 
-// The number of the first segment that isn't as it was.
-fn first_changed(old: &[Segment], new: &[Segment]) -> Option<u64>
+// The number of the first of these segments that isn't as it was.
+fn first_changed_of(old: &[Segment], new: &[Segment]) -> Option<u64>
     requires { AreContiguous old.now }
     ensures { option_map Changed result ≡ first_changed old.now new.now }
 {
@@ -94,6 +94,19 @@ fn first_changed(old: &[Segment], new: &[Segment]) -> Option<u64>
         rest = later;
     }
     None
+}
+
+#[tactic(auto, using(crate::proofs::TakenOver::changed_apart))]
+// The number of the first segment that isn't as it was, where those at the places `taken` are.
+fn first_changed(old: &[Segment], new: &[Segment], taken: &Range<usize>) -> Option<u64>
+    requires contiguous { AreContiguous old.now }
+    requires taken { AreTaken old.now new.now taken.now.start taken.now.end }
+    ensures { option_map Changed result ≡ first_changed old.now new.now }
+{
+    match first_changed_of(old, &new[..taken.start]) {
+        Some(number) => Some(number),
+        None => first_changed_of(old, &new[taken.end..]),
+    }
 }
 
 // Whether the one starts directly after the other, with a discontinuity number that doesn't follow.
@@ -113,9 +126,16 @@ fn is_same_window(old: &[Segment], new: &[Segment]) -> bool
     first_number(new) == first_number(old) && end_number(new) == end_number(old)
 }
 
-/// Whether a playlist may follow another: the first of the faults N1 to N9 where it may not. Takes no memory.
-pub fn check_successor(old: &Playlist, new: &Playlist) -> Result<(), RefreshFault>
-    requires { AreContiguous old.now.segments }
+/// Whether the playlist `new` may follow `old` (RFC 8216, 6.2.1 and 6.2.2): the first of the faults N1 to N9 if it may not.
+/// `taken` are the places of segments of `new` that were taken over from `old`, one after the other: they are not looked at.
+/// Takes no memory.
+pub fn check_successor(
+    old: &Playlist,
+    new: &Playlist,
+    taken: &Range<usize>,
+) -> Result<(), RefreshFault>
+    requires contiguous { AreContiguous old.now.segments }
+    requires taken { AreTaken old.now.segments new.now.segments taken.now.start taken.now.end }
     ensures { result ≡ answer_of (successor_fault old.now new.now) }
 {
     let (before, after) = (old.segments.as_slice(), new.segments.as_slice());
@@ -140,7 +160,7 @@ pub fn check_successor(old: &Playlist, new: &Playlist) -> Result<(), RefreshFaul
     if end_number(after) < end_number(before) {
         return Err(RefreshFault::Shrunk);
     }
-    if let Some(number) = first_changed(before, after) {
+    if let Some(number) = first_changed(before, after, taken) {
         return Err(RefreshFault::Changed(number));
     }
     if discontinuity_out_of_range(before, after) {

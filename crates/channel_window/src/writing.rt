@@ -1,5 +1,5 @@
 //! The window, as it is written.
-ghost use Rattle.std.specs.Prelude.{◌≡◌, ◌<◌, ◌≤◌, ◌+◌, ◌-◌, ◌^◌, ◌||◌, ◌∷◌, ℕ, List, IfOk, IfErr, OnOk, None, filter, length, map, min, nat_lt, not, bytes_eq, false, true};
+ghost use Rattle.std.specs.Prelude.{◌≡◌, ◌<◌, ◌≤◌, ◌+◌, ◌-◌, ◌^◌, ◌||◌, ◌∷◌, ℕ, List, IfOk, IfErr, OnOk, None, drop, filter, length, map, min, nat_lt, not, bytes_eq, reverse, false, true};
 ghost use Rattle.std.specs.List.{list_all, list_any};
 ghost use Rattle.stitcher.specs.Stitched.{fits};
 ghost use Rattle.pod_store.specs.Store.{Store, is_one_of, pod_for};
@@ -9,6 +9,7 @@ ghost use Rattle.stitcher.specs.StitchedSegments.{AreDecided, ends_in, item_fits
 ghost use Rattle.stitcher.specs.Written.{written_item};
 ghost use Rattle.channel_spec.specs.Kept.{items_on, numbers_on, rest_after, rest_on, start_on, stitched_on, window_on};
 ghost use Rattle.channel_spec.specs.Inner.Kept.{ends_of};
+ghost use Rattle.channel_spec.specs.LastWindow.{last_pieces};
 ghost use Rattle.channel_spec.specs.Live.{date_range_text, date_ranges_left, rest_over};
 ghost use Rattle.channel_spec.specs.Successor.{first_number};
 ghost use Rattle.channel_window.specs.Marking.{place_on, so_far};
@@ -28,12 +29,13 @@ use indexmap::IndexSet;
 use playlist_model::{DateRange, Playlist, Segment, Shared, Text};
 use pod_store::PodStore;
 use std::alloc::{AllocError, Global};
-use stitcher::{Ends, MarkedSegment, Numbers, Rest, StitchFault, StitchedList, TextRef, stitch};
+use stitcher::{Ends, MarkedSegment, Numbers, Rest, StitchFault, StitchedList, TextRef, stitch_at};
 
 // The stitched list of these segments between these ends, whose first item has these numbers.
 fn stitched<'a>(
     alloc: Global,
     list: &'a [MarkedSegment],
+    cut: usize,
     store: &PodStore,
     first: Numbers,
     ends: &Ends,
@@ -43,7 +45,7 @@ fn stitched<'a>(
     ensures room { IfOk result (λ v. length v < 2 ^ 64) }
     ensures err { IfErr result (λ e. RefusesList e (list_all item_fits (stitched_segments store.now first ends.now list.now) ≡ false)) }
 {
-    match stitch(alloc, list, store, first, ends) {
+    match stitch_at(alloc, list, cut, store, first, ends) {
         Ok(items) => {
             // (so many can be counted)
             let _count = items.count();
@@ -167,40 +169,65 @@ fn rest_after(
     rest_from(state, number, start, list)
 }
 
-/// A window of the stitched list, and the rest of a pod that it starts with.
+// How many items the last window came to; no more of it is told than fits.
+fn stood_of(state: &ChannelState, list: &[MarkedSegment]) -> usize
+    requires room { HasRoom state.now.store state.now.rest list.now }
+    requires front { IsFront state.now.shown list.now }
+    requires decided { AreDecided state.now.store list.now }
+    ensures { result ≡ min (length (last_pieces state.now.last (kept_in state.now))) (2 ^ 64 - 1) }
+{
+    match &state.last {
+        Some(last) => written_before(state, last),
+        None => 0,
+    }
+}
+
+/// The stitched list from the first item of the last window on.
 #[derive(Drop)]
-pub struct Window<'a> {
-    /// The window.
-    pub items: StitchedList<'a>,
-    /// The rest, if it starts with one.
+pub struct PlacedList<'a> {
+    /// Its items.
+    pub whole: StitchedList<'a>,
+    /// Where the window starts in it.
+    pub start: usize,
+    /// How many of its items stood in the last window.
+    pub stood: usize,
+    /// The rest of a pod that the window starts with.
     pub rest: Option<Rest>,
 }
 
-/// The window of the stitched list of these segments, the newest run of which has lasted so long. `NumberRange` where a
-/// number would pass 2^64 - 1.
-pub fn window_of<'a>(
+/// The stitched list of the segments `list`, which are shown with `playlist`, and where the window starts in it. `lasted`: how
+/// long the newest run of a break has lasted. `NumberRange` where a number would pass 2^64 - 1.
+pub fn placed_of<'a>(
     alloc: Global,
     state: &ChannelState,
     playlist: &Playlist,
     list: &'a [MarkedSegment],
-    length: Nanos,
-) -> Result<Window<'a>, RefreshFault>
+    lasted: Nanos,
+) -> Result<PlacedList<'a>, RefreshFault>
     requires decided { AreDecided state.now.store list.now }
     requires front { IsFront state.now.shown list.now }
     requires rest { IsRestDecided state.now.store state.now.rest }
-    ensures ok { IfOk result (λ w. w.items ≡ map written_item (window_on (kept_in state.now) playlist.now (so_far state.now.store list.now) length)) }
+    ensures whole { IfOk result (λ w. w.whole ≡ map written_item (reverse (items_on (kept_in state.now) playlist.now (so_far state.now.store list.now) lasted))) }
+    ensures window { IfOk result (λ w. drop w.start w.whole ≡ map written_item (window_on (kept_in state.now) playlist.now (so_far state.now.store list.now) lasted)) }
+    ensures stood { IfOk result (λ w. w.stood ≡ min (length (last_pieces state.now.last (kept_in state.now))) (2 ^ 64 - 1)) }
     ensures left { IfOk result (λ w. IsRestDecided state.now.store w.rest) }
     ensures rest { IfOk result (λ w. rest_in state.now.store w.rest ≡ rest_after (kept_in state.now) playlist.now (so_far state.now.store list.now)) }
-    ensures fit { IfOk result (λ w. list_all fits (items_on (kept_in state.now) playlist.now (so_far state.now.store list.now) length) ≡ true) }
-    ensures err { IfErr result (λ e. RefusesList e (list_all fits (items_on (kept_in state.now) playlist.now (so_far state.now.store list.now) length) ≡ false)) }
+    ensures fit { IfOk result (λ w. list_all fits (items_on (kept_in state.now) playlist.now (so_far state.now.store list.now) lasted) ≡ true) }
+    ensures err { IfErr result (λ e. RefusesList e (list_all fits (items_on (kept_in state.now) playlist.now (so_far state.now.store list.now) lasted) ≡ false)) }
 {
-    let ends = ends_of(&state.rest, playlist.end_list, length)?;
+    let ends = ends_of(&state.rest, playlist.end_list, lasted)?;
     let first = numbers_on(&state.last, state.numbers, list, &state.store, &ends)?;
-    let mut items = stitched(alloc, list, &state.store, first, &ends)?;
+    let cut = state.shown.len();
+    let whole = stitched(alloc, list, cut, &state.store, first, &ends)?;
     let start = start_of(state, playlist, list);
     let rest = rest_after(state, playlist, start, list)?;
-    items.leave_out(start);
-    Ok(Window { items, rest })
+    let stood = stood_of(state, list);
+    Ok(PlacedList {
+        whole,
+        start,
+        stood,
+        rest,
+    })
 }
 
 /// The numbers of the first of these items.
