@@ -6,3 +6,4 @@ pub mod Accepting
 pub mod Marks
 pub mod Refreshing
 pub mod Owed
+pub mod LastText

@@ -164,7 +164,7 @@ module _ (base : Parts) (tolerance : ℕ) (state : ChannelState) (text : Option 
     accepted = f.accepted
 
     abbrev after : Channel
-    after = channel_with base tolerance (accepted_state state p a) (Some a.text)
+    after = channel_with base tolerance (accepted_state state p a) (Some a.written.text)
 
     unrefused : kept_refusal tolerance kept p ≡ None
     unrefused = no_fault (succession_fault kept.last p) (fault_if (not (list_all fits (kept_items tolerance kept p))) NumberRange) f.succeeds (ap (λ b. fault_if (not b) NumberRange) accepted.fit)
@@ -201,25 +201,25 @@ module _ (base : Parts) (tolerance : ℕ) (state : ChannelState) (text : Option 
           ∙ (ap (λ o. judged o (refreshed_with (kept_window tolerance kept p) (fresh_after kept.shown p))) (sym unrefused)
           ∙ ap (says_read before) (sym h.read));
       comes =
-          ap (λ k. record { base = base; tolerance = tolerance; kept = k; text = Some a.text }) kept_is
+          ap (λ k. record { base = base; tolerance = tolerance; kept = k; text = Some a.written.text }) kept_is
           ∙ (ap (λ t. record { base = base; tolerance = tolerance; kept = kept_after tolerance kept p; text = Some t }) accepted.text
           ∙ (ap (step_judged before p) (sym unrefused) ∙ ap (step_read before) (sym h.read)));
       typed = typed p h.read h.texts;
     }
 
-    pub record Goes (new : ChannelState) (answer : Refreshed × List ℕ) : Type 0 where
-      pub stands : Stands (channel_with base tolerance new (Some answer.1))
+    pub record Goes (new : ChannelState) (done : Refreshed) : Type 0 where
+      pub stands : Stands (channel_with base tolerance new (Some a.written.text))
       pub decided : AreKept new.store new
       pub numbers : IsContiguous new.last
-      pub refreshes : Refreshes before bytes (Ok answer.0) (channel_with base tolerance new (Some answer.1))
+      pub refreshes : Refreshes before bytes (Ok done) (channel_with base tolerance new (Some a.written.text))
 
-    goes_so : Stands before → Goes (accepted_state state p a) (a.refreshed, a.text)
+    goes_so : Stands before → Goes (accepted_state state p a) a.refreshed
     goes_so s =
         let r = steps_refresh before bytes (Ok a.refreshed) after steps in
         record { stands = (refreshed bytes ∷ s.0, (r s.0 s.1).stands); decided = (stay.marks.decided, stay.rest.decided); numbers = h.numbers; refreshes = r }
 
-    pub goes : (new : ChannelState) (answer : Refreshed × List ℕ) → new ≡ accepted_state state p a → answer ≡ (a.refreshed, a.text) → Stands before → Goes new answer
-    goes new answer e k s = subst (λ (x : ChannelState). Goes x answer) (sym e) (subst (Goes (accepted_state state p a)) (sym k) (goes_so s))
+    pub goes : (new : ChannelState) (done : Refreshed) → new ≡ accepted_state state p a → done ≡ a.refreshed → Stands before → Goes new done
+    goes new done e k s = subst (λ (x : ChannelState). Goes x done) (sym e) (subst (Goes (accepted_state state p a)) (sym k) (goes_so s))
 
   -- ---- a refused refresh
 

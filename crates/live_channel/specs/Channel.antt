@@ -9,6 +9,7 @@ use Rattle.playlist_model.specs.Reading.{reading, limited, Denotes}
 use Rattle.stitcher.specs.Stitched.{Item}
 use Rattle.playlist_write.specs.declared.OutPlaylist.{OutPlaylist}
 use Rattle.playlist_write.specs.Owed.{playlist_text}
+use Rattle.playlist_write.specs.declared.resumed.WrittenText.{WrittenText}
 use Rattle.read_is_writable.specs.Read.{uris_are_text}
 use Rattle.pod_store.specs.Store.{Store, is_used}
 use Rattle.pod_store.specs.Store.{decided as after_decisions}
@@ -269,6 +270,11 @@ Stands c = (given : List Given) × Represents c given
 abbrev pub IsContiguous : Option Playlist → Type 0
 IsContiguous None = Unit {0}
 IsContiguous (Some p) = AreContiguous p.segments
+
+-- the text of what was written last
+abbrev pub text_in : Option WrittenText → Option (List ℕ)
+text_in None = None
+text_in (Some written) = Some written.text
 
 abbrev pub channel_with : Parts → ℕ → ChannelState → Option (List ℕ) → Channel
 channel_with base tolerance state text = record { base = base; tolerance = tolerance; kept = kept_in state; text = text }

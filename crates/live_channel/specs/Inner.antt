@@ -1,3 +1,4 @@
 pub mod Typed
 pub mod Accepting
 pub mod Marks
+pub mod LastText

@@ -1,3 +1,4 @@
 pub mod Channel
 pub mod ChannelLaws
 pub mod Inner
+pub mod LastText

@@ -4,13 +4,14 @@ ghost use Rattle.std.specs.Option.{option_copied};
 ghost use Rattle.playlist_model.specs.Uri.{base_of};
 ghost use Rattle.live_channel.specs.Channel.{decided, withdrawn, ChangesStore, ChangesStoreExactly, after_bytes, StandsOn, AlwaysStandsOn, Represents, Decides, Withdraws, Writes, Refreshes, Knows, Explains, explained};
 ghost use Rattle.live_channel.specs.Inner.Accepting.{IsRead, WasRead};
+ghost use Rattle.playlist_parse.specs.Kept.{AreTaken, IsSource, last_segments};
 ghost use Rattle.pod_store.specs.Store.{withdrawn as without_break};
 ghost use Rattle.pod_store.specs.Store.{is_used};
 ghost use Rattle.break_finder.specs.Entering.{id_of, why};
 ghost use Rattle.channel_spec.specs.Successor.{is_mapped};
 ghost use Rattle.channel_spec.specs.Limits.{max_tolerance};
 
-use crate::refresh::{accept, next_after, playlist_of};
+use crate::refresh::{accept, next_after, playlist_after, playlist_of};
 use crate::type_facts::know_pods;
 use break_finder::{Knowledge, Why};
 use channel_spec::{MAX_TOLERANCE, RefreshFault};
@@ -18,6 +19,8 @@ use channel_window::{ChannelState, is_mapped};
 use decision_files::read_decisions;
 use fixed_duration::Nanos;
 use playlist_model::{Items, Playlist, Shared, Text};
+use playlist_parse::{Read, Source};
+use playlist_write::resumed::WrittenText;
 use pod_store::{DecisionFault, PodStore};
 use std::alloc::{AllocError, Global};
 use std::marker::Model;
@@ -41,19 +44,25 @@ pub struct Channel {
     base: Base,
     tolerance: Nanos,
     state: ChannelState,
-    text: Option<Shared<Text>>,
+    // What was written last.
+    written: Option<WrittenText>,
+    // What the next refresh may take over of the text that was read last.
+    source: Option<Source>,
 }
 
 impl Model for Channel {
-    ghost use Rattle.live_channel.specs.Channel.{Channel, Stands, IsContiguous, channel_with};
+    ghost use Rattle.live_channel.specs.Channel.{Channel, Stands, IsContiguous, channel_with, text_in};
+    ghost use Rattle.playlist_parse.specs.Kept.{IsKept};
 
     ghost Value = { Channel };
 
-    ghost view = { λ a. channel_with a.base a.tolerance a.state a.text };
+    ghost view = { λ a. channel_with a.base a.tolerance a.state (text_in a.written) };
 
     ghost use Rattle.channel_window.specs.Showing.{AreKept};
+    ghost use Rattle.channel_window.specs.Showing.{kept_in};
+    ghost use Rattle.live_channel.specs.LastText.{IsLaidOut};
 
-    ghost invariant = { λ a. Stands (channel_with a.base a.tolerance a.state a.text) × AreKept a.state.store a.state × IsContiguous a.state.last };
+    ghost invariant = { λ a. Stands (channel_with a.base a.tolerance a.state (text_in a.written)) × AreKept a.state.store a.state × IsContiguous a.state.last × IsLaidOut (kept_in a.state) a.written × IsKept a.base a.state.last a.source };
 }
 
 /// Why a channel can't be made.
@@ -107,32 +116,38 @@ impl Channel {
                 so_far: Nanos(0),
                 rest: None,
             },
-            text: None,
+            written: None,
+            source: None,
         })
     }
 
     // Takes a playlist that was read: of whichever bytes, this is their refresh.
-    fn take(&mut self, alloc: Global, playlist: Playlist) -> Result<Refreshed, RefreshFault>
-        requires { WasRead self.old.base playlist }
-        ensures { (bytes : List ℕ) → IsRead self.old.base bytes playlist → Refreshes self.old bytes result self.new }
+    fn take(&mut self, alloc: Global, read: Read) -> Result<Refreshed, RefreshFault>
+        requires read { WasRead self.old.base read.playlist }
+        requires source { IsSource self.old.base read.playlist read.source }
+        requires taken { AreTaken (last_segments self.old.kept.last) read.playlist.segments read.taken.start read.taken.end }
+        ensures { (bytes : List ℕ) → IsRead self.old.base bytes read.playlist → Refreshes self.old bytes result self.new }
     {
-        let next = next_after(alloc, self.tolerance, &self.state, &playlist)?;
-        let (refreshed, text) = accept(&mut self.state, playlist, next)?;
-        self.text = Some(text);
+        let next = next_after(alloc, self.tolerance, &self.state, &self.written, &read)?;
+        let refreshed = accept(&mut self.state, &mut self.written, read.playlist, next)?;
+        self.source = read.source;
         Ok(refreshed)
     }
 
     /// Takes a refresh of the origin's playlist: it is accepted, and the text that is written is the one owed then, or
-    /// it is refused with its first fault, and the channel is as it was.
+    /// it is refused with its first fault, and the channel is as it was. What the text has in common with that of the last
+    /// refresh is not read again, and the lines of segments that were written last are copied.
     pub fn refresh(&mut self, alloc: Global, bytes: &[u8]) -> Result<Refreshed, RefreshFault>
         ensures { Refreshes self.old bytes.now result self.new }
     {
-        let playlist = playlist_of(alloc, bytes, &self.base)?;
-        self.take(alloc, playlist)
+        let (last, source) = (&self.state.last, &self.source);
+        let read = playlist_after(alloc, bytes, &self.base, last, source)?;
+        self.take(alloc, read)
     }
 
     /// Takes a refresh, with the answers and the faults of `refresh`, of bytes that the caller gives up: their memory is given
-    /// back once they are read, so that a large input and the text that is written of it needn't be held at once.
+    /// back once they are read, so that a large input and the text that is written of it needn't be held at once. So nothing of
+    /// the text is kept for the next refresh.
     pub fn refresh_owned(
         &mut self,
         alloc: Global,
@@ -140,9 +155,9 @@ impl Channel {
     ) -> Result<Refreshed, RefreshFault>
         ensures { Refreshes self.old bytes.items result self.new }
     {
-        let playlist = playlist_of(alloc, bytes.as_slice(), &self.base)?;
+        let read = playlist_of(alloc, bytes.as_slice(), &self.base)?;
         drop(bytes);
-        self.take(alloc, playlist)
+        self.take(alloc, read)
     }
 
     /// Takes the decisions that a file says.
@@ -173,8 +188,8 @@ impl Channel {
         // It denotes what is owed, under every base.
         ensures owed { Writes self.now }
     {
-        match &self.text {
-            Some(text) => Some(text.as_str().as_bytes()),
+        match &self.written {
+            Some(written) => Some(written.text.as_str().as_bytes()),
             None => None,
         }
     }
@@ -183,8 +198,8 @@ impl Channel {
     pub fn shared_playlist(&self) -> Result<Option<Shared<Text>>, AllocError>
         ensures { IfOk result (λ text. text ≡ self.now.text) }
     {
-        match &self.text {
-            Some(text) => Ok(Some(text.clone()?)),
+        match &self.written {
+            Some(written) => Ok(Some(written.text.clone()?)),
             None => Ok(None),
         }
     }

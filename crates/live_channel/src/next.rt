@@ -1,5 +1,5 @@
 //! What a channel comes to by a refresh that shows these segments: what it keeps then, and the text that it writes.
-ghost use Rattle.std.specs.Prelude.{◌≡◌, IfOk, IfErr, false, map};
+ghost use Rattle.std.specs.Prelude.{◌≡◌, IfOk, IfErr, false, drop, map};
 ghost use Rattle.std.specs.List.{list_all, list_any};
 ghost use Rattle.stitcher.specs.Stitched.{fits};
 ghost use Rattle.playlist_write.specs.Owed.{playlist_text};
@@ -10,19 +10,22 @@ ghost use Rattle.channel_window.specs.Marking.{so_far};
 ghost use Rattle.channel_window.specs.Showing.{kept_in};
 ghost use Rattle.channel_window.specs.Listed.{IsFront, IsRestDecided, RefusesList, states_time};
 ghost use Rattle.owed_is_denoted.specs.Owed.{out_playlist};
+ghost use Rattle.playlist_write.specs.Laid.{IsLaid};
 ghost use Rattle.live_channel.specs.Inner.Accepting.{IsNext};
+ghost use Rattle.live_channel.specs.Inner.LastText.{Stood, StoodIn, StandIn};
 
 use crate::channel::Refreshed;
 use crate::in_use::breaks_in_use;
 use break_finder::Knowledge;
 use channel_spec::RefreshFault;
 use channel_window::{
-    ChannelState, Showing, Window, count_before, date_ranges_left, first_number, from_place,
-    head_of, last_entered, window_of,
+    ChannelState, PlacedList, Showing, count_before, date_ranges_left, first_number, from_place,
+    head_of, last_entered, placed_of,
 };
 use fixed_duration::Nanos;
 use playlist_model::{Items, Playlist, Shared, Text};
-use playlist_write::{OutPlaylist, written};
+use playlist_write::OutPlaylist;
+use playlist_write::resumed::{WrittenText, front_length, laid_after, laid_out};
 use std::alloc::{AllocError, Global};
 use stitcher::{MarkedSegment, Numbers, Rest, StitchedList, TextRef};
 
@@ -46,7 +49,66 @@ pub struct NextState {
     /// What the refresh did.
     pub refreshed: Refreshed,
     /// The text that is written.
-    pub text: Shared<Text>,
+    pub written: WrittenText,
+}
+
+/// The lines of the last text that stand again.
+#[derive(Drop)]
+pub struct Again<'a> {
+    /// The last text.
+    pub last: &'a WrittenText,
+    /// How many bytes the lines in front of them take.
+    pub length: usize,
+    /// Of how many segments they are.
+    pub count: usize,
+}
+
+// Of these segments the first ones stood in the last text, so many. Which lines of it stand again, where the window starts at
+// this place in them.
+fn standing<'a>(
+    alloc: Global,
+    written: &'a Option<WrittenText>,
+    whole: &StitchedList<'_>,
+    start: usize,
+    stood: usize,
+) -> Result<Option<Again<'a>>, AllocError>
+    requires { Stood stood whole.now written.now }
+    ensures { IfOk result (StandIn (drop start whole.now)) }
+{
+    let Some(last) = written else {
+        return Ok(None);
+    };
+    if stood <= start {
+        return Ok(None);
+    }
+    // Where most of it is gone, the text is made anew.
+    if stood - start < start {
+        return Ok(None);
+    }
+    let Some(length) = front_length(alloc, whole, start)? else {
+        return Ok(None);
+    };
+    Ok(Some(Again {
+        last,
+        length,
+        count: stood - start,
+    }))
+}
+
+// The text of a playlist, of which these lines stand in the last text.
+fn text_of(
+    alloc: Global,
+    out: &OutPlaylist<'_>,
+    again: &Option<Again<'_>>,
+) -> Result<WrittenText, AllocError>
+    requires { StandIn out.now.segments again.now }
+    ensures text { IfOk result (λ w. w.text ≡ playlist_text out.now) }
+    ensures laid { IfOk result (IsLaid out.now.segments) }
+{
+    match again {
+        Some(again) => laid_after(alloc, out, again.last, again.length, again.count),
+        None => laid_out(alloc, out),
+    }
 }
 
 // The text of a playlist with these date ranges and items in place of its own.
@@ -55,8 +117,11 @@ fn text_with<'a>(
     playlist: &Playlist,
     date_ranges: Vec<TextRef<'a>>,
     items: StitchedList<'a>,
-) -> Result<Shared<Text>, AllocError>
-    ensures { IfOk result (λ text. text ≡ playlist_text (out_playlist playlist.now date_ranges.entry.items items.entry)) }
+    again: &Option<Again<'_>>,
+) -> Result<WrittenText, AllocError>
+    requires { StandIn items again.now }
+    ensures text { IfOk result (λ w. w.text ≡ playlist_text (out_playlist playlist.now date_ranges.entry.items items.entry)) }
+    ensures laid { IfOk result (IsLaid items.entry) }
 {
     let out = OutPlaylist {
         version: playlist.version.max(6),
@@ -67,7 +132,7 @@ fn text_with<'a>(
         date_ranges: Items::from_vec(date_ranges),
         segments: items,
     };
-    Shared::new(alloc, written(alloc, &out)?)
+    text_of(alloc, &out, again)
 }
 
 // The text of a playlist with these items in place of its segments, without the date ranges of the breaks in use.
@@ -76,20 +141,25 @@ fn text_without(
     playlist: &Playlist,
     in_use: &[Shared<Text>],
     items: StitchedList<'_>,
-) -> Result<Shared<Text>, AllocError>
-    ensures { IfOk result (λ text. text ≡ playlist_text (out_playlist playlist.now (map date_range_text (date_ranges_left (list_any states_time items.entry) in_use.now playlist.now.date_ranges)) items.entry)) }
+    again: &Option<Again<'_>>,
+) -> Result<WrittenText, AllocError>
+    requires { StandIn items again.now }
+    ensures text { IfOk result (λ w. w.text ≡ playlist_text (out_playlist playlist.now (map date_range_text (date_ranges_left (list_any states_time items.entry) in_use.now playlist.now.date_ranges)) items.entry)) }
+    ensures laid { IfOk result (IsLaid items.entry) }
 {
     let date_ranges = date_ranges_left(alloc, &items, in_use, playlist.date_ranges.as_slice())?;
-    text_with(alloc, playlist, date_ranges, items)
+    text_with(alloc, playlist, date_ranges, items, again)
 }
 
 /// What a channel comes to by a refresh that shows this. `NumberRange` where a number would pass 2^64 - 1.
 pub fn next_of(
     alloc: Global,
     state: &ChannelState,
+    written: &Option<WrittenText>,
     playlist: &Playlist,
     showing: Showing,
 ) -> Result<NextState, RefreshFault>
+    requires stood { StoodIn (kept_in state.now) (items_on (kept_in state.now) playlist.now (so_far state.now.store showing.list.items) showing.so_far) written.now }
     requires decided { AreDecided state.now.store showing.list.items }
     requires front { IsFront state.now.shown showing.list.items }
     requires rest { IsRestDecided state.now.store state.now.rest }
@@ -98,7 +168,17 @@ pub fn next_of(
 {
     let number = first_number(playlist.segments.as_slice());
     let list = showing.list.as_slice();
-    let Window { items, rest } = window_of(alloc, state, playlist, list, showing.so_far)?;
+    let PlacedList {
+        whole,
+        start,
+        stood,
+        rest,
+    } = placed_of(alloc, state, playlist, list, showing.so_far)?;
+    // (so many can be counted)
+    let _count = whole.count();
+    let again = standing(alloc, written, &whole, start, stood)?;
+    let mut items = whole;
+    items.leave_out(start);
     let entered = last_entered(list, &state.entered)?;
     let in_use = breaks_in_use(alloc, number, list, &entered, &rest)?;
     let numbers = head_of(&items);
@@ -107,7 +187,7 @@ pub fn next_of(
         segments: items.count(),
         fresh: showing.fresh,
     };
-    let text = text_without(alloc, playlist, in_use.as_slice(), items)?;
+    let written = text_without(alloc, playlist, in_use.as_slice(), items, &again)?;
     let gone = count_before(number, list);
     Ok(NextState {
         knowledge: showing.knowledge,
@@ -118,6 +198,6 @@ pub fn next_of(
         so_far: showing.so_far,
         rest,
         refreshed,
-        text,
+        written,
     })
 }

@@ -1,16 +1,18 @@
 //! A refresh in its phases: the playlist is read, it may follow the last one, it is shown, its text is written, and what the
 //! channel comes to is kept.
-ghost use Rattle.std.specs.Prelude.{◌≡◌, ℕ, IfOk, IfErr, OnOk, false};
+ghost use Rattle.std.specs.Prelude.{◌≡◌, ℕ, Some, IfOk, IfErr, OnOk, OnErr, false};
 ghost use Rattle.std.specs.List.{list_all};
 ghost use Rattle.stitcher.specs.Stitched.{fits};
 ghost use Rattle.channel_spec.specs.Kept.{kept_items, kept_refusal};
 ghost use Rattle.channel_spec.specs.Live.{succession_fault};
 ghost use Rattle.channel_spec.specs.Successor.{answer_of};
 ghost use Rattle.channel_window.specs.Checked.{AreContiguous};
+ghost use Rattle.playlist_parse.specs.Kept.{AreTaken, IsKept, IsSource, last_segments};
 ghost use Rattle.channel_window.specs.Showing.{AreKept, kept_in};
 ghost use Rattle.live_channel.specs.Channel.{IsContiguous};
 ghost use Rattle.live_channel.specs.Inner.Accepting.{IsAccepted, IsRead, Follows, Refused, RefusesNext, accepted_state};
 ghost use Rattle.channel_window.specs.Listed.{RefusesList};
+ghost use Rattle.live_channel.specs.Inner.LastText.{StoodIn, StoodBefore};
 ghost use Rattle.channel_window.specs.declared.state.ChannelState.{ChannelState as LiveState};
 
 use crate::channel::Refreshed;
@@ -19,18 +21,20 @@ use crate::type_facts::utf8_of_uris;
 use channel_spec::RefreshFault;
 use channel_window::{ChannelState, check_successor, shown_with};
 use fixed_duration::Nanos;
-use playlist_model::{Items, Playlist, Shared, Text};
-use playlist_parse::read;
+use playlist_model::{Items, Playlist};
+use playlist_parse::{Read, Source, read, read_after};
+use playlist_write::resumed::WrittenText;
 use std::alloc::Global;
 use uri_resolver::Base;
 
-// Whether a playlist may follow the last one.
-fn may_follow(last: &Option<Playlist>, playlist: &Playlist) -> Result<(), RefreshFault>
-    requires { IsContiguous last.now }
-    ensures { result ≡ answer_of (succession_fault last.now playlist.now) }
+// Whether the playlist that was read may follow the last one.
+fn may_follow(last: &Option<Playlist>, read: &Read) -> Result<(), RefreshFault>
+    requires contiguous { IsContiguous last.now }
+    requires taken { AreTaken (last_segments last.now) read.now.playlist.segments read.now.taken.start read.now.taken.end }
+    ensures { result ≡ answer_of (succession_fault last.now read.now.playlist) }
 {
     match last {
-        Some(last) => check_successor(last, playlist),
+        Some(last) => check_successor(last, &read.playlist, &read.taken),
         None => Ok(()),
     }
 }
@@ -42,57 +46,92 @@ fn next_kept(
     alloc: Global,
     tolerance: Nanos,
     state: &ChannelState,
+    written: &Option<WrittenText>,
     playlist: &Playlist,
 ) -> Result<NextState, RefreshFault>
+    requires stood { StoodIn (kept_in state.now) (kept_items tolerance (kept_in state.now) playlist.now) written.now }
     requires contiguous { AreContiguous playlist.now.segments }
     requires decided { AreKept state.now.store state.now }
     ensures ok { IfOk result (λ a. IsAccepted tolerance (kept_in state.now) playlist.now a) }
     ensures err { IfErr result (λ e. RefusesList e (list_all fits (kept_items tolerance (kept_in state.now) playlist.now) ≡ false)) }
 {
     let showing = shown_with(alloc, tolerance, state, playlist)?;
-    next_of(alloc, state, playlist, showing)
+    next_of(alloc, state, written, playlist, showing)
 }
 
-/// What a channel comes to by a playlist, where it is accepted.
+/// What a channel comes to by the playlist that was read, where it is accepted.
 pub fn next_after(
     alloc: Global,
     tolerance: Nanos,
     state: &ChannelState,
-    playlist: &Playlist,
+    written: &Option<WrittenText>,
+    read: &Read,
 ) -> Result<NextState, RefreshFault>
-    requires contiguous { AreContiguous playlist.now.segments }
+    requires stood { StoodBefore tolerance (kept_in state.now) read.now.playlist written.now }
+    requires contiguous { AreContiguous read.now.playlist.segments }
     requires decided { AreKept state.now.store state.now }
     requires last { IsContiguous state.now.last }
-    ensures ok { IfOk result (λ a. Follows tolerance (kept_in state.now) playlist.now a) }
-    ensures err { IfErr result (λ e. RefusesNext e (kept_refusal tolerance (kept_in state.now) playlist.now)) }
+    requires taken { AreTaken (last_segments state.now.last) read.now.playlist.segments read.now.taken.start read.now.taken.end }
+    ensures ok { IfOk result (λ a. Follows tolerance (kept_in state.now) read.now.playlist a) }
+    ensures err { IfErr result (λ e. RefusesNext e (kept_refusal tolerance (kept_in state.now) read.now.playlist)) }
 {
-    may_follow(&state.last, playlist)?;
-    next_kept(alloc, tolerance, state, playlist)
+    may_follow(&state.last, read)?;
+    next_kept(alloc, tolerance, state, written, &read.playlist)
 }
 
 #[tactic(auto, using(crate::proofs::Refreshing::read_rises))]
-/// The playlist that bytes are read as.
-pub fn playlist_of(alloc: Global, bytes: &[u8], base: &Base) -> Result<Playlist, RefreshFault>
-    ensures ok { IfOk result (IsRead base.now bytes.now) }
+/// The playlist that `bytes` are read as, with what was kept of the text of the last one.
+pub fn playlist_after(
+    alloc: Global,
+    bytes: &[u8],
+    base: &Base,
+    last: &Option<Playlist>,
+    source: &Option<Source>,
+) -> Result<Read, RefreshFault>
+    requires { IsKept base.now last.now source.now }
+    ensures ok { IfOk result (λ read. IsRead base.now bytes.now read.playlist) }
+    ensures source { IfOk result (λ read. IsSource base.now read.playlist read.source) }
+    ensures taken { IfOk result (λ read. AreTaken (last_segments last.now) read.playlist.segments read.taken.start read.taken.end) }
+    ensures err { IfErr result (λ e. (tolerance : ℕ) (state : LiveState) → Refused base.now tolerance state bytes.now e) }
+{
+    let read = read_after(alloc, bytes, base, last, source)?;
+    utf8_of_uris(read.playlist.segments.as_slice());
+    Ok(read)
+}
+
+#[tactic(auto, using(crate::proofs::Refreshing::read_rises))]
+/// The playlist that `bytes` are read as, of whose text nothing is kept.
+pub fn playlist_of(alloc: Global, bytes: &[u8], base: &Base) -> Result<Read, RefreshFault>
+    ensures ok { IfOk result (λ read. IsRead base.now bytes.now read.playlist) }
+    ensures source { IfOk result (λ read. IsSource base.now read.playlist read.source) }
+    ensures taken { IfOk result (λ read. (read.taken.start ≡ 0) × (read.taken.end ≡ 0)) }
     ensures err { IfErr result (λ e. (tolerance : ℕ) (state : LiveState) → Refused base.now tolerance state bytes.now e) }
 {
     let playlist = read(alloc, bytes, base)?;
     utf8_of_uris(playlist.segments.as_slice());
-    Ok(playlist)
+    Ok(Read {
+        playlist,
+        taken: 0..0,
+        source: None,
+    })
 }
 
-/// Keeps what an accepted refresh comes to, its text apart. The breaks that were entered with the fallback keep copies of
-/// it, which alone takes memory: where it is refused, the state is as it was.
+/// Keeps what an accepted refresh comes to. The breaks that were entered with the fallback keep copies of it, which alone
+/// takes memory: where it is refused, all is as it was.
 pub fn accept(
     state: &mut ChannelState,
+    written: &mut Option<WrittenText>,
     playlist: Playlist,
     next: NextState,
-) -> Result<(Refreshed, Shared<Text>), RefreshFault>
+) -> Result<Refreshed, RefreshFault>
     ensures state { OnOk result (state.new ≡ accepted_state state.old playlist next) }
-    ensures answer { IfOk result (λ done. done ≡ (next.refreshed, next.text)) }
+    ensures answer { IfOk result (λ done. done ≡ next.refreshed) }
+    ensures written { OnOk result (written.new ≡ Some next.written) }
     ensures err { IfErr result (λ e. (e ≡ RefreshFault.OutOfMemory) × (state.new ≡ state.old)) }
+    ensures stays { OnErr result (written.new ≡ written.old) }
 {
     state.store.keep_in_use(next.in_use.as_slice())?;
+    *written = Some(next.written);
     state.knowledge = next.knowledge;
     state.last = Some(playlist);
     state.shown = Items::from_vec(next.shown);
@@ -100,5 +139,5 @@ pub fn accept(
     state.numbers = next.numbers;
     state.so_far = next.so_far;
     state.rest = next.rest;
-    Ok((next.refreshed, next.text))
+    Ok(next.refreshed)
 }

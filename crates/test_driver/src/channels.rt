@@ -2,7 +2,7 @@
 use crate::escapes::bytes_of;
 use fixed_duration::Nanos;
 use http_edge::{refresh_fault_text, why_word};
-use live_channel::{Channel, ChannelFault};
+use live_channel::{Channel, ChannelFault, RefreshFault, Refreshed};
 use std::alloc::Global;
 use std::io;
 use std::io::Print;
@@ -82,19 +82,34 @@ fn print_withdrawal(rt: &impl Print, channel: &mut Channel, id: &str) -> io::Res
     }
 }
 
-fn print_refresh(
-    rt: &impl Print,
-    alloc: Global,
-    channel: &mut Channel,
-    body: &str,
-) -> io::Result<()> {
-    match channel.refresh(alloc, bytes_of(alloc, body)?.as_slice()) {
+fn print_refreshed(rt: &impl Print, outcome: Result<Refreshed, RefreshFault>) -> io::Result<()> {
+    match outcome {
         Ok(done) => println!(rt;
             "ok {} {} {}",
             done.media_sequence, done.segments, done.fresh
         ),
         Err(fault) => println!(rt; "{}", refresh_fault_text(fault)),
     }
+}
+
+fn print_refresh(
+    rt: &impl Print,
+    alloc: Global,
+    channel: &mut Channel,
+    body: &str,
+) -> io::Result<()> {
+    let outcome = channel.refresh(alloc, bytes_of(alloc, body)?.as_slice());
+    print_refreshed(rt, outcome)
+}
+
+fn print_refresh_owned(
+    rt: &impl Print,
+    alloc: Global,
+    channel: &mut Channel,
+    body: &str,
+) -> io::Result<()> {
+    let outcome = channel.refresh_owned(alloc, bytes_of(alloc, body)?);
+    print_refreshed(rt, outcome)
 }
 
 fn print_playlist(rt: &impl Print, channel: &Channel) -> io::Result<()> {
@@ -126,6 +141,7 @@ fn print_on_channel(
         "decide" => print_decision(rt, alloc, channel, rest),
         "withdraw" => print_withdrawal(rt, channel, rest),
         "refresh" => print_refresh(rt, alloc, channel, rest),
+        "refresh_owned" => print_refresh_owned(rt, alloc, channel, rest),
         "playlist" => print_playlist(rt, channel),
         "known" => print_known(rt, channel),
         _ => println!(rt; "{}", why_word(channel.explain(rest))),

@@ -11,6 +11,7 @@ use Rattle.stitcher.specs.Written.{written_item}
 use Rattle.break_finder.specs.Breaks.{Break}
 use Rattle.break_finder.specs.Known.{carry}
 use Rattle.playlist_write.specs.Owed.{playlist_text}
+use Rattle.playlist_write.specs.Laid.{IsLaid}
 use Rattle.owed_is_denoted.specs.Owed.{out_playlist}
 use Rattle.channel_spec.specs.declared.fault.RefreshFault.{RefreshFault}
 use Rattle.channel_spec.specs.declared.fault.RefreshFault.TheVariants.{OutOfMemory}
@@ -51,7 +52,8 @@ pub record IsNext (kept : Kept) (p : Playlist) (known : List Break) (list : List
   pub rest : rest_in kept.store next.rest ≡ rest_after kept p list
   pub rest_decided : IsRestDecided kept.store next.rest
   pub refreshed : next.refreshed ≡ refreshed_with (window_on kept p list so_long) fresh
-  pub text : next.text ≡ text_with_window p (breaks_after kept p list) (window_on kept p list so_long)
+  pub text : next.written.text ≡ text_with_window p (breaks_after kept p list) (window_on kept p list so_long)
+  pub laid : IsLaid (map written_item (window_on kept p list so_long)) next.written
 
 -- what it comes to by an accepted refresh
 abbrev pub IsAccepted : ℕ → Kept → Playlist → NextState → Type 0

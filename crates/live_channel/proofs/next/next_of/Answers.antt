@@ -1,4 +1,4 @@
-use Rattle.std.proofs.Common.{rules, refl, ◌≡◌, ◌∙◌, List, ap, drop, map, subst, sym}
+use Rattle.std.proofs.Common.{rules, refl, ◌≡◌, ◌∙◌, ◌<◌, ◌^◌, List, ap, drop, length, map, reverse, subst, sym}
 use Rattle.playlist_model.specs.LookBack.{or_earlier}
 use Rattle.stitcher.specs.StitchedSegments.{AreDecided}
 use Rattle.stitcher.specs.Stitched.{Numbers}
@@ -16,6 +16,11 @@ use Rattle.live_channel.specs.Inner.Accepting.{breaks_after, IsNext}
 use Rattle.live_channel.specs.Inner.Marks.{breaks_held}
 use Rattle.live_channel.proofs.Accepting.{text_seen, numbers_seen, refreshed_seen, later_decided}
 use Rattle.live_channel.proofs.Marks.{breaks_seen}
+use Rattle.playlist_write.specs.Laid.{IsLaid}
+use Rattle.live_channel.specs.Inner.LastText.{Stood, StandIn}
+use Rattle.live_channel.proofs.LastText.{counted}
+use Rattle.channel_spec.specs.LastWindow.{last_pieces}
+use Rattle.channel_spec.specs.Kept.{items_on}
 use Rattle.live_channel.proofs.next.next_of.Goals as goal
 
 pub returns-clause-ok : goal.returns-clause-ok
@@ -27,13 +32,13 @@ returns-clause-ok c =
     let same : held ≡ c.args.showing.list.items = c.as_slice-list.ensures.value in
     let all_decided : AreDecided s.store held = subst (AreDecided s.store) (sym same) c.requires.decided in
     let seen = so_far s.store held in
-    let items = c.in_ok-items.field-0.items in
-    let rest = c.in_ok-items.field-0.rest in
-    let window : items ≡ map written_item (window_on (kept_in s) p seen n) = c.in_ok-items.ensures.ok in
+    let items = c.leave_out.new.self in
+    let rest = c.in_ok-whole.field-0.rest in
+    let window : items ≡ map written_item (window_on (kept_in s) p seen n) = c.leave_out.ensures ∙ c.in_ok-whole.ensures.window in
     let entered_is : c.in_ok-entered.entered ≡ or_earlier (last_entered seen) s.entered = search rules in
     let breaks_are : c.in_ok-in_use.in_use.items ≡ breaks_held (first_number p.segments) held c.in_ok-entered.entered rest = search rules in
     let breaks : c.in_ok-in_use.in_use.items ≡ breaks_after (kept_in s) p seen =
-    breaks_are ∙ breaks_seen s (kept_in s) p held c.in_ok-entered.entered (or_earlier (last_entered seen) s.entered) rest all_decided entered_is c.in_ok-items.ensures.rest c.in_ok-items.ensures.left in
+    breaks_are ∙ breaks_seen s (kept_in s) p held c.in_ok-entered.entered (or_earlier (last_entered seen) s.entered) rest all_decided entered_is c.in_ok-whole.ensures.rest c.in_ok-whole.ensures.left in
     let number = first_number p.segments in
     let dropped_is : so_far s.store (drop c.count_before-gone.result held) ≡ shown_from number seen = search rules in
     let tail : c.in_ok-from_place.field-0.items ≡ drop c.count_before-gone.result held = c.in_ok-from_place.ensures ∙ ap (drop c.count_before-gone.result) (sym same) in
@@ -51,11 +56,11 @@ returns-clause-ok c =
       so_far = n;
       rest = rest;
       refreshed = done;
-      text = c.in_ok-text.text;
+      written = c.in_ok-written.written;
     } in
     subst (λ (xs : List Held). IsNext (kept_in s) p c.args.showing.knowledge (so_far s.store xs) n c.args.showing.fresh next) same
     record {
-      fit = c.in_ok-items.ensures.fit;
+      fit = c.in_ok-whole.ensures.fit;
       breaks = refl;
       shown = ap (so_far s.store) tail ∙ dropped_is;
       decided = subst (AreDecided s.store) (sym tail) (later_decided s.store c.count_before-gone.result held all_decided);
@@ -63,8 +68,27 @@ returns-clause-ok c =
       in_use = breaks;
       numbers = numbers_seen s p held n items c.head_of-numbers.result window head_is;
       lasted = refl;
-      rest = c.in_ok-items.ensures.rest;
-      rest_decided = c.in_ok-items.ensures.left;
+      rest = c.in_ok-whole.ensures.rest;
+      rest_decided = c.in_ok-whole.ensures.left;
       refreshed = refreshed_seen s p held n items numbers c.count.result c.args.showing.fresh done window numbers_are (search rules) refl;
-      text = text_seen s p held n items c.in_ok-in_use.in_use.items c.in_ok-text.text window breaks (search rules);
+      text = text_seen s p held n items c.in_ok-in_use.in_use.items c.in_ok-written.written.text window breaks (search rules);
+      laid = subst (λ xs. IsLaid xs c.in_ok-written.written) window c.in_ok-written.ensures.laid;
     }
+
+pub standing-requires : goal.standing-requires
+standing-requires c =
+    let s = c.args.state.now in
+    let p = c.args.playlist.now in
+    let n = c.args.showing.so_far in
+    let held = c.as_slice-list.result.now in
+    let same : held ≡ c.args.showing.list.items = c.as_slice-list.ensures.value in
+    let placed = c.in_ok-whole.field-0 in
+    let whole_is : placed.whole ≡ map written_item (reverse (items_on (kept_in s) p (so_far s.store c.args.showing.list.items) n)) =
+    c.in_ok-whole.ensures.whole ∙ ap (λ (xs : List Held). map written_item (reverse (items_on (kept_in s) p (so_far s.store xs) n))) same in
+    let count = length (last_pieces s.last (kept_in s)) in
+    let stood : Stood count placed.whole c.args.written.now = subst (λ xs. Stood count xs c.args.written.now) (sym whole_is) c.requires.stood in
+    let room : length placed.whole < 2 ^ 64 = search rules in
+    counted count placed.stood placed.whole c.args.written.now room c.in_ok-whole.ensures.stood stood
+
+pub text_without-requires : goal.text_without-requires
+text_without-requires c = subst (λ xs. StandIn xs c.in_ok-again.again) (sym c.leave_out.ensures) c.in_ok-again.ensures

@@ -2,7 +2,7 @@ use Rattle.std.specs.Option.{option_copied}
 use Rattle.std.proofs.Common.{refl, subst, sym, ◌∙◌}
 use Rattle.std.specs.Prelude.{◌≢◌}
 use Rattle.vod_run.specs.declared.fault.VodFault.TheVariants.{Read, TooManyReads, Write}
-use Rattle.vod_run.specs.Vod.{IsInOrder}
+use Rattle.vod_run.specs.Vod.{IsInOrder, IsOfVod}
 use Rattle.vod_run.proofs.WholeRun.{judged_before, is_one, unread, passes, writes, given_all, writes_front, handed_on, in_order, of_input, no_write, number_range_of, fair_on, fair_sink_on, write_is_no_read, write_is_no_playlist, fair_source, unused_sink, on_end, at_end}
 use Rattle.vod_run.proofs.run.vod.Goals as goal
 
@@ -50,6 +50,10 @@ returns-in_err-hand_text-clause-write g c is =
 pub returns-in_err-hand_text-clause-nothing : goal.returns-in_err-hand_text-clause-nothing
 returns-in_err-hand_text-clause-nothing g c =
     handed_on c.from_residual-in_err-hand_text.result c.in_err-hand_text.field-0.0 _ c.from_residual-in_err-hand_text.ensures.1 (λ other. absurd (other c.in_err-hand_text.ensures.kind))
+
+pub returns-in_err-hand_text-clause-kind : goal.returns-in_err-hand_text-clause-kind
+returns-in_err-hand_text-clause-kind g c =
+    handed_on c.from_residual-in_err-hand_text.result c.in_err-hand_text.field-0.0 _ c.from_residual-in_err-hand_text.ensures.1 (subst IsOfVod (sym c.in_err-hand_text.ensures.kind) tt)
 
 pub returns-in_err-hand_text-clause-order : goal.returns-in_err-hand_text-clause-order
 returns-in_err-hand_text-clause-order g c =

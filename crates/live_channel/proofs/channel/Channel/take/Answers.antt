@@ -1,57 +1,88 @@
-use Rattle.std.proofs.Common.{◌≡◌, ℕ, List, Ok, rules, subst, sym}
+use Rattle.std.proofs.Common.{◌≡◌, Ok, rules, subst, sym}
 use Rattle.std.specs.Prelude.{IfErr, Some}
 use Rattle.channel_spec.specs.declared.fault.RefreshFault.TheVariants.{OutOfMemory}
 use Rattle.channel_spec.specs.Kept.{kept_refusal}
 use Rattle.channel_window.specs.Showing.{AreKept, kept_in}
 use Rattle.channel_window.specs.declared.state.ChannelState.{ChannelState}
-use Rattle.live_channel.specs.Channel.{Channel, Stands, IsContiguous, channel_with, Refreshes}
+use Rattle.playlist_parse.specs.Kept.{AreTaken, IsKept, IsSource, last_segments}
+use Rattle.live_channel.specs.Channel.{Channel, Stands, IsContiguous, channel_with, text_in, Refreshes}
 use Rattle.live_channel.specs.Inner.Accepting.{IsRead, RefusesNext}
-use Rattle.live_channel.specs.declared.channel.Refreshed.{Refreshed}
 use Rattle.live_channel.proofs.Refreshing.{goes, stays_next, stays_full}
+use Rattle.live_channel.specs.LastText.{IsLaidOut}
+use Rattle.live_channel.proofs.LastText.{stood_before, laid_next}
 use Rattle.live_channel.proofs.channel.Channel.take.Goals as goal
 
 pub next_after-requires-clause-contiguous : goal.next_after-requires-clause-contiguous
-next_after-requires-clause-contiguous c = c.requires.is_read.numbers
+next_after-requires-clause-contiguous c = c.requires.read.is_read.numbers
+
+pub next_after-requires-clause-taken : goal.next_after-requires-clause-taken
+next_after-requires-clause-taken c =
+    let read = c.args.read in
+    subst (λ (x : Channel). AreTaken (last_segments x.kept.last) read.playlist.segments read.taken.start read.taken.end) (sym c.self.view_is) c.requires.taken
+
+pub next_after-requires-clause-stood : goal.next_after-requires-clause-stood
+next_after-requires-clause-stood c =
+    let i = c.self.inside in
+    let p = c.args.read.playlist in
+    let bytes = c.requires.read.bytes in
+    let s = c.self.invariant.0 in
+    let here : IsRead i.base bytes p = subst (λ (x : Channel). IsRead x.base bytes p) (sym c.self.view_is) c.requires.read.is_read in
+    stood_before i.base i.tolerance s.0 bytes p (kept_in i.state) i.written s.1.kept s.1.typed here.read c.self.invariant.3
 
 pub returns-in_err-next : goal.returns-in_err-next
 returns-in_err-next c bytes read =
     let i = c.self.inside in
-    let p = c.args.playlist in
+    let p = c.args.read.playlist in
     let here : IsRead i.base bytes p = subst (λ (x : Channel). IsRead x.base bytes p) (sym c.self.view_is) read in
     let refused : IfErr c.from_residual.result (λ e. RefusesNext e (kept_refusal i.tolerance (kept_in i.state) p)) = search rules in
-    subst (λ (x : Channel). Refreshes x bytes c.from_residual.result x) c.self.view_is (stays_next i.base i.tolerance i.state i.text bytes p c.from_residual.result c.from_residual.ensures.0 here refused)
+    subst (λ (x : Channel). Refreshes x bytes c.from_residual.result x) c.self.view_is (stays_next i.base i.tolerance i.state (text_in i.written) bytes p c.from_residual.result c.from_residual.ensures.0 here refused)
 
 pub invariant_of-self : goal.invariant_of-self
 invariant_of-self c =
     let i = c.self.inside in
-    let same : c.accept.new.state ≡ i.state = c.in_err-refreshed.ensures.err.1 in
-    subst (λ (s : ChannelState). Stands (channel_with i.base i.tolerance s i.text) × AreKept s.store s × IsContiguous s.last) (sym same) c.self.invariant
+    let state : c.accept.new.state ≡ i.state = c.in_err-refreshed.ensures.err.1 in
+    let written = c.in_err-refreshed.ensures.stays in
+    subst (λ w. Stands (channel_with i.base i.tolerance c.accept.new.state (text_in w)) × AreKept c.accept.new.state.store c.accept.new.state × IsContiguous c.accept.new.state.last × IsLaidOut (kept_in c.accept.new.state) w × IsKept i.base c.accept.new.state.last i.source) (sym written)
+    (subst (λ (s : ChannelState). Stands (channel_with i.base i.tolerance s (text_in i.written)) × AreKept s.store s × IsContiguous s.last × IsLaidOut (kept_in s) i.written × IsKept i.base s.last i.source) (sym state)
+    (c.self.invariant.0, c.self.invariant.1, c.self.invariant.2, c.self.invariant.3, c.self.invariant.4))
 
 pub returns-in_err-refreshed : goal.returns-in_err-refreshed
 returns-in_err-refreshed c bytes read =
     let i = c.self.inside in
     let result = c.from_residual-in_err-refreshed.result in
-    let same : c.accept.new.state ≡ i.state = c.in_err-refreshed.ensures.err.1 in
+    let state : c.accept.new.state ≡ i.state = c.in_err-refreshed.ensures.err.1 in
+    let written = c.in_err-refreshed.ensures.stays in
     let full : IfErr result (λ e. e ≡ OutOfMemory) = search rules in
-    let before = channel_with i.base i.tolerance i.state i.text in
-    let stay = subst (λ (x : Channel). Refreshes x bytes result before) c.self.view_is (stays_full i.base i.tolerance i.state i.text bytes result c.from_residual-in_err-refreshed.ensures.0 full) in
-    subst (λ (s : ChannelState). Refreshes c.args.self.now bytes result (channel_with i.base i.tolerance s i.text)) (sym same) stay
+    let before = channel_with i.base i.tolerance i.state (text_in i.written) in
+    let stay = subst (λ (x : Channel). Refreshes x bytes result before) c.self.view_is (stays_full i.base i.tolerance i.state (text_in i.written) bytes result c.from_residual-in_err-refreshed.ensures.0 full) in
+    subst (λ w. Refreshes c.args.self.now bytes result (channel_with i.base i.tolerance c.accept.new.state (text_in w))) (sym written)
+    (subst (λ (s : ChannelState). Refreshes c.args.self.now bytes result (channel_with i.base i.tolerance s (text_in i.written))) (sym state) stay)
 
 pub invariant_of-self-2 : goal.invariant_of-self-2
 invariant_of-self-2 c =
     let i = c.self.inside in
-    let p = c.args.playlist in
-    let bytes = c.requires.bytes in
-    let here : IsRead i.base bytes p = subst (λ (x : Channel). IsRead x.base bytes p) (sym c.self.view_is) c.requires.is_read in
-    let answer : Refreshed × List ℕ = (c.in_ok-refreshed.refreshed, c.in_ok-refreshed.text) in
-    let g = goes i.base i.tolerance i.state i.text bytes p c.in_ok-next.next here c.in_ok-next.ensures.ok c.accept.new.state answer c.in_ok-refreshed.ensures.state c.in_ok-refreshed.ensures.answer c.self.invariant.0 in
-    (g.stands, g.decided, g.numbers)
+    let p = c.args.read.playlist in
+    let bytes = c.requires.read.bytes in
+    let next = c.in_ok-next.next in
+    let new = c.accept.new.state in
+    let here : IsRead i.base bytes p = subst (λ (x : Channel). IsRead x.base bytes p) (sym c.self.view_is) c.requires.read.is_read in
+    let source : IsSource i.base p c.args.read.source = subst (λ (x : Channel). IsSource x.base p c.args.read.source) (sym c.self.view_is) c.requires.source in
+    let g = goes i.base i.tolerance i.state (text_in i.written) bytes p next here c.in_ok-next.ensures.ok new c.in_ok-refreshed.refreshed c.in_ok-refreshed.ensures.state c.in_ok-refreshed.ensures.answer c.self.invariant.0 in
+    let s = c.self.invariant.0 in
+    let r = (g.refreshes s.0 s.1).stands in
+    let f = c.in_ok-next.ensures.ok in
+    let laid = laid_next i.base i.tolerance s.0 bytes p (kept_in i.state) (kept_in new) next.written s.1.kept r.kept r.typed here.read f.succeeds f.accepted.fit f.accepted.laid in
+    let kept = subst (λ (x : ChannelState). IsKept i.base x.last c.args.read.source) (sym c.in_ok-refreshed.ensures.state) source in
+    subst (λ w. Stands (channel_with i.base i.tolerance new (text_in w)) × AreKept new.store new × IsContiguous new.last × IsLaidOut (kept_in new) w × IsKept i.base new.last c.args.read.source) (sym c.in_ok-refreshed.ensures.written)
+    (g.stands, g.decided, g.numbers, laid, kept)
 
 pub returns : goal.returns
 returns c bytes read =
     let i = c.self.inside in
-    let p = c.args.playlist in
+    let p = c.args.read.playlist in
+    let next = c.in_ok-next.next in
+    let new = c.accept.new.state in
     let here : IsRead i.base bytes p = subst (λ (x : Channel). IsRead x.base bytes p) (sym c.self.view_is) read in
-    let answer : Refreshed × List ℕ = (c.in_ok-refreshed.refreshed, c.in_ok-refreshed.text) in
-    let g = goes i.base i.tolerance i.state i.text bytes p c.in_ok-next.next here c.in_ok-next.ensures.ok c.accept.new.state answer c.in_ok-refreshed.ensures.state c.in_ok-refreshed.ensures.answer c.self.invariant.0 in
-    subst (λ (x : Channel). Refreshes x bytes (Ok c.in_ok-refreshed.refreshed) (channel_with i.base i.tolerance c.accept.new.state (Some c.in_ok-refreshed.text))) c.self.view_is g.refreshes
+    let g = goes i.base i.tolerance i.state (text_in i.written) bytes p next here c.in_ok-next.ensures.ok new c.in_ok-refreshed.refreshed c.in_ok-refreshed.ensures.state c.in_ok-refreshed.ensures.answer c.self.invariant.0 in
+    subst (λ w. Refreshes c.args.self.now bytes (Ok c.in_ok-refreshed.refreshed) (channel_with i.base i.tolerance new (text_in w))) (sym c.in_ok-refreshed.ensures.written)
+    (subst (λ (x : Channel). Refreshes x bytes (Ok c.in_ok-refreshed.refreshed) (channel_with i.base i.tolerance new (Some next.written.text))) c.self.view_is g.refreshes)

@@ -1,0 +1,117 @@
+-- The last text, from refresh to refresh.
+use Rattle.std.proofs.Common.{◌≡◌, ℕ, ◌+◌, ◌-◌, ◌<◌, ◌≤◌, ◌^◌, min, true, not, cond, List, [], ◌∷◌, ◌++◌, map, reverse, length, take, drop, refl, ap, sym, ◌∙◌, subst, arith}
+use Rattle.std.specs.Prelude.{Option, Some, None, Ok, Err, Result, is_none}
+use Rattle.std.specs.List.{AllByRecursion, list_all}
+use Rattle.std.proofs.lemmas.List.{map-append, reverse-append, take_at, take_all, length-map, length-reverse}
+use Rattle.std.proofs.Math.Decide.{dec_le}
+use Rattle.url.specs.Parts.{Parts}
+use Rattle.playlist_model.specs.declared.Playlist.{Playlist}
+use Rattle.playlist_model.specs.LookBack.{or_earlier}
+use Rattle.playlist_model.specs.Reading.{reading, limited}
+use Rattle.stitcher.specs.Stitched.{Piece, Item, Numbers, numbered, fits}
+use Rattle.stitcher.specs.Written.{written_item}
+use Rattle.stitcher.specs.declared.OutSegment.{OutSegment}
+use Rattle.playlist_write.specs.declared.resumed.WrittenText.{WrittenText}
+use Rattle.playlist_write.specs.Laid.{IsLaid, IsFrontLength, StandsAgain}
+use Rattle.read_is_writable.proofs.Whole.{can_be_written}
+use Rattle.owed_is_denoted.proofs.Given.{is_read}
+use Rattle.pod_store.specs.declared.fault.DecisionFault.{DecisionFault}
+use Rattle.pod_store.specs.Store.{Store}
+use Rattle.pod_store.specs.Outcome.{Outcome}
+use Rattle.channel_spec.specs.declared.fault.RefreshFault.TheVariants.{NumberRange}
+use Rattle.channel_spec.specs.Successor.{fault_if}
+use Rattle.channel_spec.specs.LiveLaws.{GoesOn}
+use Rattle.channel_spec.specs.Live.{Told, told, refusal, last_playlist, succession_fault, after_refresh, window_after}
+use Rattle.channel_spec.specs.Live as live
+use Rattle.channel_spec.specs.Kept.{Kept, kept_of, kept_items, kept_window, kept_refusal, window_by}
+use Rattle.channel_spec.specs.LastWindow.{last_pieces, last_items}
+use Rattle.channel_spec.proofs.KeptWhole.{kept_follows, items_go_on}
+use Rattle.live_channel.specs.Channel.{Channel, Given, refreshed, readable, events_of, told_by, IsAsTyped, with_store, ChangesStore, ChangesStoreExactly}
+use Rattle.live_channel.specs.LastText.{IsLaidOut}
+use Rattle.live_channel.specs.Inner.LastText.{Stood, StoodBefore}
+use Rattle.live_channel.proofs.Steps.{all_given}
+
+-- ---- which lines stand again
+
+pub stand_again : (segments : List OutSegment) (w : WrittenText) (start stood len : ℕ) → start < stood → IsLaid (take stood segments) w → IsFrontLength segments start len → StandsAgain (drop start segments) w len (stood - start)
+stand_again segments w start stood len h laid front =
+    let e : stood ≡ start + (stood - start) = omega (arith, h) in
+    record { before = segments; gone = start; some = omega (arith, h); laid = subst (λ n. IsLaid (take n segments) w) e laid; on = refl; front = front }
+
+-- a count that is told as far as it fits
+pub counted : (n k : ℕ) (segments : List OutSegment) (written : Option WrittenText) → length segments < 2 ^ 64 → k ≡ min n (2 ^ 64 - 1) → Stood n segments written → Stood k segments written
+counted n k segments None h e s = tt
+counted n k segments (Some w) h e s = subst (λ xs. IsLaid xs w) (same (dec_le n (2 ^ 64 - 1))) s
+  where
+    same : Dec (n ≤ 2 ^ 64 - 1) → take n segments ≡ take k segments
+    same (yes l) = let i : n ≡ k = omega (arith, l, e) in ap (λ m. take m segments) i
+    same (no l) = take_all n segments (omega (arith, h, l)) ∙ sym (take_all k segments (omega (arith, h, e, l)))
+
+-- ---- the last window is the front of what is stitched next
+
+length_numbered : (first : Numbers) (pieces : List Piece) → length (numbered first pieces) ≡ length pieces
+length_numbered first [] = refl
+length_numbered first (p ∷ before) = let e = length_numbered first before in omega (arith, e)
+
+stood_by : (k : Kept) (items : List Item) (w : WrittenText) → GoesOn (last_items k) items → IsLaid (map written_item (reverse (last_items k))) w → IsLaid (take (length (last_pieces k.last k)) (map written_item (reverse items))) w
+stood_by k items w (more, is) h =
+    let last = map written_item (reverse (last_items k)) in
+    let long : length last ≡ length (last_pieces k.last k) = length-map (reverse (last_items k)) written_item ∙ (length-reverse (last_items k) ∙ length_numbered k.numbers (last_pieces k.last k)) in
+    let turned : map written_item (reverse items) ≡ last ++ map written_item (reverse more) =
+    ap (λ xs. map written_item (reverse xs)) is ∙ (ap (map written_item) (reverse-append more (last_items k)) ∙ map-append written_item (reverse (last_items k)) (reverse more)) in
+    subst (λ xs. IsLaid xs w) (sym (ap (take (length (last_pieces k.last k))) turned ∙ take_at last (map written_item (reverse more)) (length (last_pieces k.last k)) long)) h
+
+pub stood_before : (base : Parts) (tolerance : ℕ) (given : List Given) (bytes : List ℕ) (p : Playlist) (k : Kept) (written : Option WrittenText) → k ≡ kept_of (told_by base tolerance given) → AllByRecursion (IsAsTyped base) given
+    → reading limited base bytes ≡ Ok p → IsLaidOut k written → StoodBefore tolerance k p written
+stood_before base tolerance given bytes p k None e typed read h = λ f. tt
+stood_before base tolerance given bytes p k (Some w) e typed read h =
+    let there = kept_of (told_by base tolerance given) in
+    let law = items_go_on tolerance p (events_of base given) (is_read p (can_be_written limited base bytes p read), all_given base given typed) in
+    subst (λ x. StoodBefore tolerance x p (Some w)) (sym e)
+    (λ f. stood_by there (kept_items tolerance there p) w (law.on f) (subst (λ x. IsLaidOut x (Some w)) e h))
+
+-- ---- what is written is the last window then
+
+window_written : (base : Parts) (tolerance : ℕ) (given : List Given) (bytes : List ℕ) (p : Playlist) → AllByRecursion (IsAsTyped base) (refreshed bytes ∷ given) → reading limited base bytes ≡ Ok p
+    → kept_refusal tolerance (kept_of (told_by base tolerance given)) p ≡ None
+    → reverse (last_items (kept_of (told_by base tolerance (refreshed bytes ∷ given)))) ≡ kept_window tolerance (kept_of (told_by base tolerance given)) p
+window_written base tolerance given bytes p typed read unrefused =
+    let t = told_by base tolerance given in
+    let sound = is_read p (can_be_written limited base bytes p read) in
+    let f = kept_follows tolerance p (events_of base given) (sound, all_given base given typed.1) in
+    let none : refusal tolerance t p ≡ None = sym f.refused ∙ unrefused in
+    let now : told tolerance (live.refreshed p ∷ events_of base given) ≡ after_refresh tolerance t p = ap (λ o. cond (is_none o) (after_refresh tolerance t p) t) none in
+    let new : told_by base tolerance (refreshed bytes ∷ given) ≡ after_refresh tolerance t p = ap (λ r. told tolerance (readable r ++ events_of base given)) read ∙ now in
+    let law = items_go_on tolerance p (events_of base (refreshed bytes ∷ given)) (sound, all_given base (refreshed bytes ∷ given) typed) in
+    law.last
+    ∙ (ap (λ (u : Told). window_by (last_playlist u.accepted) u.start u.history) new
+    ∙ (ap (λ u. window_after u p) (sym now) ∙ sym (f.window none)))
+
+pub laid_next : (base : Parts) (tolerance : ℕ) (given : List Given) (bytes : List ℕ) (p : Playlist) (k k' : Kept) (w : WrittenText) → k ≡ kept_of (told_by base tolerance given) → k' ≡ kept_of (told_by base tolerance (refreshed bytes ∷ given))
+    → AllByRecursion (IsAsTyped base) (refreshed bytes ∷ given) → reading limited base bytes ≡ Ok p → succession_fault k.last p ≡ None → list_all fits (kept_items tolerance k p) ≡ true
+    → IsLaid (map written_item (kept_window tolerance k p)) w → IsLaidOut k' (Some w)
+laid_next base tolerance given bytes p k k' w e e' typed read follows fit laid =
+    let unrefused : kept_refusal tolerance k p ≡ None = ap (λ o. or_earlier o (fault_if (not (list_all fits (kept_items tolerance k p))) NumberRange)) follows ∙ ap (λ b. fault_if (not b) NumberRange) fit in
+    let is = window_written base tolerance given bytes p typed read (ap (λ x. kept_refusal tolerance x p) (sym e) ∙ unrefused) in
+    subst (λ xs. IsLaid (map written_item xs) w) (ap (λ x. kept_window tolerance x p) e ∙ (sym is ∙ ap (λ x. reverse (last_items x)) (sym e'))) laid
+
+-- ---- decisions leave it
+
+pub laid_still : (old new : Kept) (written : Option WrittenText) → last_items new ≡ last_items old → IsLaidOut old written → IsLaidOut new written
+laid_still old new None e h = tt
+laid_still old new (Some w) e h = subst (λ xs. IsLaid (map written_item (reverse xs)) w) (sym e) h
+
+pieces_still : (o : Option Playlist) (k : Kept) (store : Store) → last_pieces o (record k { store = store }) ≡ last_pieces o k
+pieces_still None k store = refl
+pieces_still (Some last) k store = refl
+
+items_still : (c : Channel) (store : Store) → last_items (with_store c store).kept ≡ last_items c.kept
+items_still c store = ap (numbered c.kept.numbers) (pieces_still c.kept.last c.kept store)
+
+pub still : (old new : Channel) (result : Result (Unit {0}) DecisionFault) (outcome : Outcome Store) → ChangesStore old new result outcome → last_items new.kept ≡ last_items old.kept
+still old new (Ok u) outcome h = ap (λ (c : Channel). last_items c.kept) h.1 ∙ items_still old new.kept.store
+still old new (Err e) outcome h = ap (λ (c : Channel). last_items c.kept) h.0
+
+pub still_exactly : (old new : Channel) (result : Result (Unit {0}) DecisionFault) (outcome : Outcome Store) → ChangesStoreExactly old new result outcome → last_items new.kept ≡ last_items old.kept
+still_exactly old new (Ok u) outcome h = ap (λ (c : Channel). last_items c.kept) h.1 ∙ items_still old new.kept.store
+still_exactly old new (Err e) outcome h = ap (λ (c : Channel). last_items c.kept) h.0
