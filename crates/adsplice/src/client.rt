@@ -1,51 +1,35 @@
-//! A client's socket, and its turn.
+//! A client's socket, and its turn. Whatever is read from it or written to it is `connections`' alone; here it is only asked
+//! when it is ready, and its end is told.
 #![tactic(auto, using(connections::proofs::Leading::stays, connections::proofs::Leading::by_one, connections::proofs::Leading::and_then))]
 
+ghost use Rattle.std.specs.Prelude.{◌<◌, length};
 ghost use Rattle.connections.specs.Runs.{HasRun};
 
-use connections::{Connections, Moved, Phase, hear, say};
+use connections::{Connections, NonBlocking, Phase, Seat, Turn, drain, is_read_out, listen, speak};
 use http_edge::EdgeFault;
 use mio::net::TcpStream;
 use mio::{Interest, Registry, Token};
-use std::io::{ErrorKind, Read};
 use std::net::Shutdown;
 
-// How often a client is read, and how often it is written to, in its turn at the most.
-const READS: u32 = 4;
+/// What is heard from a client, and what it is told by.
+pub type Socket = NonBlocking<TcpStream>;
 
-const WRITES: u32 = 4;
-
-// How often what a client still sends is passed over in its turn at the most.
-const DRAINS: u32 = 32;
-
-/// A client's socket.
+/// A client's socket, at its seat.
 #[derive(Drop)]
 pub struct Client {
-    stream: TcpStream,
+    socket: Socket,
+    seat: Seat<Socket>,
     // Whether the system tells when it is ready.
     is_watched: bool,
     // Whether its reply is gone, so that only its end is awaited.
     is_ending: bool,
 }
 
-/// What a client's turn came to.
-#[derive(Clone, Copy)]
-pub enum Turn {
-    /// It has to be waited for.
-    Waits,
-    /// It was read or written to as often as it may be, and may be ready still.
-    Goes,
-    /// There is no room for its next bytes.
-    Full,
-    /// It has its reply, or has ended after it.
-    Done,
-    Failed(EdgeFault),
-}
-
 impl Client {
-    pub fn new(stream: TcpStream) -> Client {
+    pub fn new(stream: TcpStream, seat: Seat<Socket>) -> Client {
         Client {
-            stream,
+            socket: NonBlocking::new(stream),
+            seat,
             is_watched: false,
             is_ending: false,
         }
@@ -57,120 +41,62 @@ impl Client {
 
     /// Gives the client its turn: it is heard until its request is whole, then it is told its reply, and then its end is
     /// awaited.
-    pub fn take_turn(
-        &mut self,
-        connections: &mut Connections,
-        place: usize,
-        block: &mut [u8],
-    ) -> Turn
+    pub fn take_turn(&mut self, connections: &mut Connections, block: &mut [u8]) -> Turn
+        requires { 0 < length block.old }
         ensures { HasRun connections.old connections.new }
     {
         if self.is_ending {
-            return drain(&self.stream);
+            return drain(&mut self.socket);
         }
-        if place >= connections.len() || block.is_empty() {
-            return Turn::Failed(EdgeFault::Read);
-        }
-        if connections.is_asking(place) {
-            match listen(&self.stream, connections, place, block) {
+        if connections.is_asking(self.seat.place()) {
+            match listen(&mut self.socket, connections, &self.seat, block) {
                 Turn::Done => {}
                 other => return other,
             }
         }
-        speak(&self.stream, connections, place)
+        speak(&mut self.socket, connections, &self.seat)
+    }
+
+    /// The client is given up, or its reply is gone: nothing of it stands at its place any more.
+    pub fn leave(&self, connections: &mut Connections)
+        ensures { HasRun connections.old connections.new }
+    {
+        connections.went(&self.seat);
     }
 
     /// Ends what is sent to a client whose reply is gone, or that is given up. Done where nothing of what it sent is unread.
     pub fn end(&mut self, was_granted: bool) -> Turn {
-        if was_granted && is_read_out(&self.stream) {
+        if was_granted && is_read_out(&mut self.socket) {
             return Turn::Done;
         }
-        let _ = self.stream.shutdown(Shutdown::Write);
+        let _ = self.socket.inner().shutdown(Shutdown::Write);
         self.is_ending = true;
-        drain(&self.stream)
+        drain(&mut self.socket)
+    }
+
+    /// Closes the socket. Its seat is another one's then.
+    pub fn close(self) -> Seat<Socket> {
+        let Client { seat, .. } = self;
+        seat
     }
 
     /// Has the system tell when the client is ready. Whether it can.
-    pub fn watch(&mut self, registry: &Registry, place: usize) -> bool {
+    pub fn watch(&mut self, registry: &Registry) -> bool {
         let both = Interest::READABLE | Interest::WRITABLE;
+        let token = Token(self.seat.place());
+        let stream = self.socket.inner();
         let done = if self.is_watched {
-            registry.reregister(&mut self.stream, Token(place), both)
+            registry.reregister(stream, token, both)
         } else {
-            registry.register(&mut self.stream, Token(place), both)
+            registry.register(stream, token, both)
         };
         self.is_watched = true;
         done.is_ok()
     }
 
     /// The same, where the system doesn't tell already.
-    pub fn keep_watched(&mut self, registry: &Registry, place: usize) -> bool {
-        self.is_watched || self.watch(registry, place)
-    }
-}
-
-// Hears a client until its request is whole.
-fn listen(stream: &TcpStream, connections: &mut Connections, place: usize, block: &mut [u8]) -> Turn
-    ensures { HasRun connections.old connections.new }
-{
-    let mut reader = stream;
-    for _ in 0..READS {
-        if place >= connections.len() || block.is_empty() {
-            return Turn::Failed(EdgeFault::Read);
-        }
-        match hear(&mut reader, connections, place, block) {
-            Moved::Waits => return Turn::Waits,
-            Moved::Full => return Turn::Full,
-            Moved::Failed(fault) => return Turn::Failed(fault),
-            _ => {}
-        }
-        if !connections.is_asking(place) {
-            return Turn::Done;
-        }
-    }
-    Turn::Goes
-}
-
-// Tells a client its reply.
-fn speak(stream: &TcpStream, connections: &mut Connections, place: usize) -> Turn
-    ensures { HasRun connections.old connections.new }
-{
-    let mut writer = stream;
-    for _ in 0..WRITES {
-        if place >= connections.len() {
-            return Turn::Failed(EdgeFault::Write);
-        }
-        match say(&mut writer, connections, place) {
-            Moved::Waits => return Turn::Waits,
-            Moved::Nothing => return Turn::Done,
-            Moved::Failed(fault) => return Turn::Failed(fault),
-            _ => {}
-        }
-    }
-    Turn::Goes
-}
-
-// Reads what a client still sends: closing before it has come would reset the connection, and the reply with it.
-fn drain(stream: &TcpStream) -> Turn {
-    let mut block = [0u8; 8192];
-    let mut reader = stream;
-    for _ in 0..DRAINS {
-        match reader.read(&mut block) {
-            Ok(0) => return Turn::Done,
-            Ok(_) => {}
-            Err(e) if e.kind() == ErrorKind::WouldBlock => return Turn::Waits,
-            Err(_) => return Turn::Done,
-        }
-    }
-    Turn::Goes
-}
-
-// Whether all that a client has sent was read.
-fn is_read_out(stream: &TcpStream) -> bool {
-    let mut byte = [0u8; 1];
-    let mut reader = stream;
-    match reader.read(&mut byte) {
-        Ok(count) => count == 0,
-        Err(e) => e.kind() == ErrorKind::WouldBlock,
+    pub fn keep_watched(&mut self, registry: &Registry) -> bool {
+        self.is_watched || self.watch(registry)
     }
 }
 

@@ -2,11 +2,13 @@
 //! system tells; what they say and are answered, who is given up and when is `connections`' alone.
 #![tactic(auto, using(connections::proofs::Leading::stays, connections::proofs::Leading::by_one, connections::proofs::Leading::and_then))]
 
+ghost use Rattle.std.specs.Prelude.{◌<◌, length, vec_len, IfOk};
 ghost use Rattle.connections.specs.Runs.{HasRun};
 
+use crate::client::Socket;
 use crate::faults::Faults;
 use crate::server::{LISTENER, Memory, Server};
-use connections::Connections;
+use connections::{Connections, Opened as Table, Seat};
 use mio::net::TcpListener;
 use mio::{Events, Interest, Poll};
 use std::alloc::{AllocError, Global};
@@ -63,15 +65,20 @@ fn open(rt: &HostRuntime, port: u16) -> io::Result<Opened> {
 #[derive(Drop)]
 struct Room {
     connections: Connections,
+    seats: Vec<Seat<Socket>>,
     faults: Faults,
     memory: Memory,
     events: Events,
     block: Vec<u8>,
 }
 
-fn room_for_all(rt: &HostRuntime, alloc: Global) -> Result<Room, AllocError> {
+fn room_for_all(rt: &HostRuntime, alloc: Global) -> Result<Room, AllocError>
+    ensures { IfOk result (λ room. 0 < vec_len room.block) }
+{
+    let Table { connections, seats } = Connections::over_new_edge(alloc)?;
     Ok(Room {
-        connections: Connections::over_new_edge(alloc)?,
+        connections,
+        seats,
         faults: Faults::new(rt, alloc)?,
         memory: Memory::new(alloc)?,
         events: Events::with_capacity(alloc, EVENTS)?,
@@ -87,6 +94,7 @@ fn serve_all(
     events: &mut Events,
     block: &mut [u8],
 ) -> bool
+    requires { 0 < length block.old }
     ensures { HasRun connections.old connections.new }
 {
     for _ in 0..u64::MAX {
@@ -109,6 +117,7 @@ pub fn live(rt: &HostRuntime, port: u16, count: u32) -> ExitCode {
     };
     let Room {
         mut connections,
+        seats,
         faults,
         memory,
         mut events,
@@ -122,7 +131,7 @@ pub fn live(rt: &HostRuntime, port: u16, count: u32) -> ExitCode {
         listener,
         now,
     } = opened;
-    let mut server = Server::new(memory, faults, poll, listener, count, now);
+    let mut server = Server::new(memory, seats, faults, poll, listener, count, now);
     notice(rt, "serving", port, count);
     if !serve_all(
         rt,

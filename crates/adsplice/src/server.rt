@@ -1,12 +1,14 @@
 //! The sockets of all clients: who is let in, whose turn it is, and whose time is up.
 #![tactic(auto, using(connections::proofs::Leading::stays, connections::proofs::Leading::by_one, connections::proofs::Leading::and_then))]
 
+ghost use Rattle.std.specs.Prelude.{◌<◌, length};
 ghost use Rattle.connections.specs.Runs.{HasRun};
 
-use crate::client::{Client, Turn, fault_at, was_granted};
+use crate::client::{Client, Socket, fault_at, was_granted};
 use crate::faults::Faults;
 use connections::{
-    Admission, Arrivals, Connections, PLACES, Phase, ending_deadline, has_come, serving_deadline,
+    Admission, Arrivals, Connections, PLACES, Phase, Seat, Turn, ending_deadline, has_come,
+    serving_deadline,
 };
 use http_edge::EdgeFault;
 use mio::net::{TcpListener, TcpStream};
@@ -50,7 +52,7 @@ pub struct Server {
     poll: Poll,
     listener: TcpListener,
     clients: Vec<Option<Client>>,
-    vacant: Vec<usize>,
+    vacant: Vec<Seat<Socket>>,
     // Those that ask or are answered, and those whose reply is gone.
     served: Arrivals,
     ending: Arrivals,
@@ -64,7 +66,6 @@ pub struct Server {
 #[derive(Drop)]
 pub struct Memory {
     clients: Vec<Option<Client>>,
-    vacant: Vec<usize>,
     served: Arrivals,
     ending: Arrivals,
 }
@@ -73,7 +74,6 @@ impl Memory {
     pub fn new(alloc: Global) -> Result<Memory, AllocError> {
         Ok(Memory {
             clients: nobody(alloc)?,
-            vacant: all_places(alloc)?,
             served: Arrivals::new(alloc, PLACES)?,
             ending: Arrivals::new(alloc, PLACES)?,
         })
@@ -86,15 +86,6 @@ fn nobody(alloc: Global) -> Result<Vec<Option<Client>>, AllocError> {
         clients.push(None)?;
     }
     Ok(clients)
-}
-
-// The last is taken first.
-fn all_places(alloc: Global) -> Result<Vec<usize>, AllocError> {
-    let mut places = Vec::with_capacity(alloc, PLACES)?;
-    for place in 0..PLACES {
-        places.push(PLACES - 1 - place)?;
-    }
-    Ok(places)
 }
 
 fn tick_after(now: Instant) -> Instant {
@@ -111,20 +102,11 @@ fn is_no_file(error: &io::Error) -> bool {
     }
 }
 
-// Who stands at a place goes.
-fn leave(connections: &mut Connections, place: usize)
-    ensures { HasRun connections.old connections.new }
-{
-    if place >= connections.len() {
-        return;
-    }
-    connections.went(place);
-}
-
 impl Server {
-    /// A server that has nobody yet, over what was opened at this instant.
+    /// A server that has nobody yet, over what was opened at this instant, with the seats of its table.
     pub fn new(
         memory: Memory,
+        seats: Vec<Seat<Socket>>,
         faults: Faults,
         poll: Poll,
         listener: TcpListener,
@@ -136,7 +118,7 @@ impl Server {
             poll,
             listener,
             clients: memory.clients,
-            vacant: memory.vacant,
+            vacant: seats,
             served: memory.served,
             ending: memory.ending,
             admission: Admission::new(count),
@@ -180,16 +162,29 @@ impl Server {
         Ok(())
     }
 
-    // Closes a connection, and has its place for another.
+    // Who stands at a place goes.
+    fn leave(&self, connections: &mut Connections, place: usize)
+        ensures { HasRun connections.old connections.new }
+    {
+        if let Some(Some(client)) = self.clients.get(place) {
+            client.leave(connections);
+        }
+    }
+
+    // Closes a connection, and has its seat for another.
     fn close(&mut self, connections: &mut Connections, place: usize)
         ensures { HasRun connections.old connections.new }
     {
-        leave(connections, place);
+        self.leave(connections, place);
         self.served.went(place);
         self.ending.went(place);
+        self.give_back(place);
+    }
+
+    fn give_back(&mut self, place: usize) {
         if let Some(client) = self.clients.get_mut(place) {
-            if client.take().is_some() {
-                let _ = self.vacant.push(place);
+            if let Some(client) = client.take() {
+                let _ = self.vacant.push(client.close());
             }
         }
     }
@@ -203,9 +198,9 @@ impl Server {
         };
         let registry = self.poll.registry();
         let watched = if again {
-            client.watch(registry, place)
+            client.watch(registry)
         } else {
-            client.keep_watched(registry, place)
+            client.keep_watched(registry)
         };
         if watched {
             return;
@@ -217,7 +212,7 @@ impl Server {
     fn finish(&mut self, connections: &mut Connections, place: usize, was_granted: bool)
         ensures { HasRun connections.old connections.new }
     {
-        leave(connections, place);
+        self.leave(connections, place);
         self.served.went(place);
         let Some(Some(client)) = self.clients.get_mut(place) else {
             return;
@@ -300,6 +295,7 @@ impl Server {
         place: usize,
         block: &mut [u8],
     )
+        requires { 0 < length block.old }
         ensures { HasRun connections.old connections.new }
     {
         for _ in 0..PLACES {
@@ -307,7 +303,7 @@ impl Server {
                 return;
             };
             let was_ending = client.is_ending();
-            let turn = client.take_turn(connections, place, block);
+            let turn = client.take_turn(connections, block);
             if !matches!(turn, Turn::Full) {
                 self.settle(rt, connections, place, turn, was_ending);
                 return;
@@ -323,6 +319,7 @@ impl Server {
         place: usize,
         block: &mut [u8],
     )
+        requires { 0 < length block.old }
         ensures { HasRun connections.old connections.new }
     {
         if place == PLACES {
@@ -340,6 +337,7 @@ impl Server {
         events: &Events,
         block: &mut [u8],
     )
+        requires { 0 < length block.old }
         ensures { HasRun connections.old connections.new }
     {
         for event in events.iter() {
@@ -365,8 +363,12 @@ impl Server {
         }
     }
 
-    // A vacant place, for which a connection is given up where there is none.
-    fn place_for_one(&mut self, rt: &HostRuntime, connections: &mut Connections) -> Option<usize>
+    // A vacant seat, for which a connection is given up where there is none.
+    fn seat_for_one(
+        &mut self,
+        rt: &HostRuntime,
+        connections: &mut Connections,
+    ) -> Option<Seat<Socket>>
         ensures { HasRun connections.old connections.new }
     {
         if self.vacant.is_empty() {
@@ -384,13 +386,14 @@ impl Server {
     ) -> Option<usize>
         ensures { HasRun connections.old connections.new }
     {
-        let place = self.place_for_one(rt, connections)?;
-        if place >= connections.len() || connections.phase(place) != Phase::Vacant {
+        let seat = self.seat_for_one(rt, connections)?;
+        let place = seat.place();
+        if connections.phase(place) != Phase::Vacant {
             return None;
         }
-        let seat = self.clients.get_mut(place)?;
-        *seat = Some(Client::new(stream));
-        connections.came(place);
+        let client = self.clients.get_mut(place)?;
+        connections.came(&seat);
+        *client = Some(Client::new(stream, seat));
         if self.served.came(place, serving_deadline(self.now)).is_err() {
             self.faults.tell(rt, EdgeFault::OutOfMemory.text());
             self.close(connections, place);
@@ -436,6 +439,7 @@ impl Server {
         stream: TcpStream,
         block: &mut [u8],
     )
+        requires { 0 < length block.old }
         ensures { HasRun connections.old connections.new }
     {
         if self.admission.is_open() {
@@ -449,6 +453,7 @@ impl Server {
 
     // Lets in those who wait, up to so many.
     fn let_in(&mut self, rt: &HostRuntime, connections: &mut Connections, block: &mut [u8])
+        requires { 0 < length block.old }
         ensures { HasRun connections.old connections.new }
     {
         for _ in 0..LET_IN {
@@ -514,6 +519,7 @@ impl Server {
         events: &Events,
         block: &mut [u8],
     )
+        requires { 0 < length block.old }
         ensures { HasRun connections.old connections.new }
     {
         self.serve_events(rt, connections, events, block);

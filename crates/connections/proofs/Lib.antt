@@ -1,3 +1,5 @@
 pub mod Held
 pub mod Served
 pub mod Leading
+pub mod Seated
+pub mod Turning

@@ -206,7 +206,7 @@ to_asking : (first middle last : State) (k : ℕ) (piece : List ℕ) (before : L
     → IsAsking k before bytes → (after : Conversation) → Goes (Asking bytes pieces) piece middle.edge last.edge after → Puts middle last k (Some after)
     → IsServedRun first (gave k piece ∷ before) last
 to_asking first middle last k piece before bytes pieces run stands (Asking more count) goes puts =
-    unserved first middle last k piece before (Some (Asking more count)) run puts goes.3 (record {
+    unserved first middle last k piece before (Some (Asking more count)) run puts goes.4 (record {
       all = goes.0 ∙ ap (λ l. l ++ piece) stands.all ∙ sym (said_here k piece before);
       unfinished = subst IsUnfinished (sym goes.0) goes.1;
       untaken = stands.untaken;

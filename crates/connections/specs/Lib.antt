@@ -1,6 +1,10 @@
 pub mod Limits
+pub mod Devices
+pub mod Seats
 pub mod Conversing
 pub mod Table
 pub mod Runs
 pub mod Wires
+pub mod Turns
 pub mod Arrivals
+pub mod Inner

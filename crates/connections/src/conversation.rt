@@ -1,10 +1,11 @@
 //! One connection: what its client said so far, and then what is left of the reply.
 ghost use Rattle.std.specs.Prelude.{◌≡◌, OnErr, IfOk, IfErr, IsErrOf};
 ghost use Rattle.http_edge.specs.declared.serving.EdgeFault.TheVariants.{TooManyReads};
-ghost use Rattle.connections.specs.Conversing.{Goes, HasTooMany, IsFaultOfGiving};
+ghost use Rattle.connections.specs.Conversing.{Goes, HasTooMany};
+ghost use Rattle.connections.specs.Inner.Giving.{IsFaultOfGiving};
 
-use http_edge::{Edge, EdgeFault};
-use http_messages::{Arrived, Arriving, Asked, Leaving, MAX_READS, refusal_reply, sends_body};
+use http_edge::{Edge, EdgeFault, reply_to};
+use http_messages::{Arrived, Arriving, Leaving, MAX_READS};
 use std::alloc::Global;
 
 /// Where a connection stands.
@@ -17,8 +18,9 @@ pub enum Conversation {
 }
 
 /// Takes the client's next bytes. Once they are a whole request, or can't become one, it is applied, or refused, as a
-/// whole, and what is left is the reply.
-pub fn give(
+/// whole, and what is left is the reply: the same that `serve` gives these bytes. The piece with which `serve` would tell
+/// `TooManyReads` is the one with which this does.
+pub(crate) fn give(
     conversation: Conversation,
     alloc: Global,
     edge: &mut Edge,
@@ -40,16 +42,11 @@ pub fn give(
             }
             Ok(Conversation::Asking(arriving, pieces + 1))
         }
-        Arrived::Whole(Asked::Request(request)) => {
-            let with_body = sends_body(&request.method);
-            let reply = edge.answer(&request);
-            let status = reply.status.as_u16();
-            Ok(Conversation::Answering(Leaving::new(reply, with_body), status))
-        }
-        Arrived::Whole(Asked::Refused(refusal)) => {
-            let reply = refusal_reply(alloc, refusal)?;
-            let status = reply.status.as_u16();
-            Ok(Conversation::Answering(Leaving::new(reply, true), status))
+        Arrived::Whole(asked) => {
+            let answer = reply_to(alloc, edge, asked)?;
+            let status = answer.reply.status.as_u16();
+            let leaving = Leaving::new(answer.reply, answer.with_body);
+            Ok(Conversation::Answering(leaving, status))
         }
     }
 }

@@ -1,4 +1,4 @@
-//! Many connections side by side, with no socket: each one's bytes are collected by themselves, and a request is applied
+//! Many connections side by side, over any devices: each one's bytes are collected by themselves, and a request is applied
 //! as a whole once it is there.
 #![tactic(auto)]
 
@@ -6,13 +6,19 @@ mod admission;
 mod arrivals;
 mod conversation;
 mod deadlines;
+mod devices;
 pub mod laws;
+mod seats;
 mod table;
+mod turns;
 mod wire;
 
 pub use admission::Admission;
 pub use arrivals::{Arrival, Arrivals, has_come};
-pub use conversation::{Conversation, give};
+pub use conversation::Conversation;
 pub use deadlines::{ending_deadline, serving_deadline};
-pub use table::{Connections, MAX_HELD, PLACES, Phase};
+pub use devices::{Incoming, NonBlocking, Outgoing, Passage};
+pub use seats::Seat;
+pub use table::{Connections, MAX_HELD, Opened, PLACES, Phase};
+pub use turns::{Turn, drain, is_read_out, listen, speak};
 pub use wire::{Moved, hear, say};

@@ -1,13 +1,17 @@
 //! The connections by their places.
-ghost use Rattle.std.specs.Prelude.{◌≡◌, ◌<◌, ◌≤◌, ◌+◌, ◌++◌, [], None, Some, true, length, replicate, is_none, IfOk, IfErr, OnOk, OnErr};
+ghost use Rattle.std.specs.Prelude.{◌≡◌, ◌<◌, ◌≤◌, ◌+◌, ◌++◌, [], None, Some, length, replicate, IfOk, IfErr, OnOk, OnErr, IsErrOf};
 ghost use Rattle.http_edge.specs.Edges.{RepresentsRequests};
-ghost use Rattle.connections.specs.Conversing.{IsFaultOfGiving};
+ghost use Rattle.http_edge.specs.declared.serving.EdgeFault.TheVariants.{TooManyReads};
+ghost use Rattle.connections.specs.Conversing.{HasTooManyAt};
+ghost use Rattle.connections.specs.Inner.Giving.{IsFaultOfGiving};
 ghost use Rattle.connections.specs.Limits.{most_held, place_count};
 ghost use Rattle.connections.specs.Arrivals.{is_asking};
 ghost use Rattle.connections.specs.Table.{at, held_of, held_in, left_of, taken_of, phase_of, Puts, Happens};
 ghost use Rattle.connections.specs.Table.{came, gave, took, went};
+ghost use Rattle.connections.specs.Seats.{places_below};
 
 use crate::conversation::{Conversation, give};
+use crate::seats::{Seat, all_seats};
 use http_edge::{Edge, EdgeFault};
 use http_messages::Arriving;
 use std::alloc::{AllocError, Global};
@@ -29,15 +33,22 @@ pub struct Connections {
 }
 
 impl Model for Connections {
-    ghost use Rattle.std.specs.Prelude.{◌≡◌, ◌≤◌};
+    ghost use Rattle.std.specs.Prelude.{◌≡◌, ◌≤◌, length};
     ghost use Rattle.connections.specs.Table.{State, held_in};
-    ghost use Rattle.connections.specs.Limits.{most_held};
+    ghost use Rattle.connections.specs.Limits.{most_held, place_count};
 
     ghost Value = { State };
 
     ghost view = { λ c. record { edge = c.edge; places = c.places.items } };
 
-    ghost invariant = { λ c. (c.held ≡ held_in c.places.items) × (c.held ≤ most_held) };
+    ghost invariant = { λ c. (c.held ≡ held_in c.places.items) × (c.held ≤ most_held) × (length c.places.items ≡ place_count) };
+}
+
+/// A table, and all its seats, of which the last is that of the first place.
+#[derive(Drop)]
+pub struct Opened<T> {
+    pub connections: Connections,
+    pub seats: Vec<Seat<T>>,
 }
 
 /// What stands at a place.
@@ -70,8 +81,8 @@ fn vacant(alloc: Global) -> Result<Vec<Option<Conversation>>, AllocError>
 }
 
 impl Connections {
-    /// The edge, with no connection yet. Fails only where an allocation fails.
-    pub fn new(alloc: Global, edge: Edge) -> Result<Connections, AllocError>
+    // The edge, with no connection yet. Fails only where an allocation fails.
+    fn new(alloc: Global, edge: Edge) -> Result<Connections, AllocError>
         ensures edge { IfOk result (λ new. new.edge ≡ edge) }
         ensures vacant { IfOk result (λ new. new.places ≡ replicate place_count None) }
     {
@@ -83,21 +94,25 @@ impl Connections {
         })
     }
 
-    /// A new edge, which stands for no request, with no connection yet: all that come are served over this one. Fails only
-    /// where an allocation fails.
-    pub fn over_new_edge(alloc: Global) -> Result<Connections, AllocError>
-        ensures edge { IfOk result (λ new. RepresentsRequests new.edge []) }
-        ensures vacant { IfOk result (λ new. new.places ≡ replicate place_count None) }
+    /// A new edge, which stands for no request, with no connection yet: all that come are served over this one. A client's
+    /// device is a `T`, since no other seat is made. Fails only where an allocation fails.
+    pub fn over_new_edge<T>(alloc: Global) -> Result<Opened<T>, AllocError>
+        ensures edge { IfOk result (λ new. RepresentsRequests new.connections.edge []) }
+        ensures vacant { IfOk result (λ new. new.connections.places ≡ replicate place_count None) }
+        ensures seats { IfOk result (λ new. new.seats.items ≡ places_below place_count) }
     {
         let edge = Edge::new(alloc)?;
-        Connections::new(alloc, edge)
+        Ok(Opened {
+            connections: Connections::new(alloc, edge)?,
+            seats: all_seats(alloc)?,
+        })
     }
 
-    /// How many places there are.
-    pub fn len(&self) -> usize
-        ensures { result ≡ length self.now.places }
+    // There is each place of which there is a seat.
+    fn has_all(&self)
+        ensures { length self.now.places ≡ place_count }
     {
-        self.places.len()
+        let _ = &self.places;
     }
 
     /// The bytes of requests that aren't whole.
@@ -164,23 +179,25 @@ impl Connections {
     }
 
     /// A client came, to a place where nobody is.
-    pub fn came(&mut self, place: usize)
-        requires within { place < length self.old.places }
-        requires vacant { at self.old place ≡ None }
-        ensures { Happens self.old (came place) self.new }
+    pub fn came<T>(&mut self, seat: &Seat<T>)
+        requires { at self.old seat.now ≡ None }
+        ensures { Happens self.old (came seat.now) self.new }
     {
+        self.has_all();
         let conversation = Conversation::Asking(Arriving::new(self.alloc), 0);
-        self.put_back(place, conversation);
+        self.put_back(seat.place(), conversation);
     }
 
     /// A client gave its next bytes. After a fault the connection is gone, and the edge is as it was.
-    pub fn give(&mut self, place: usize, piece: &[u8]) -> Result<(), EdgeFault>
-        requires within { place < length self.old.places }
-        requires room { held_in self.old.places + length piece.now ≤ most_held }
-        ensures ok { OnOk result (Happens self.old (gave place piece.now) self.new) }
-        ensures err { OnErr result (Happens self.old (went place) self.new) }
+    pub(crate) fn give<T>(&mut self, seat: &Seat<T>, piece: &[u8]) -> Result<(), EdgeFault>
+        requires { held_in self.old.places + length piece.now ≤ most_held }
+        ensures ok { OnOk result (Happens self.old (gave seat.now piece.now) self.new) }
+        ensures err { OnErr result (Happens self.old (went seat.now) self.new) }
         ensures kind { IfErr result IsFaultOfGiving }
+        ensures many { IsErrOf result EdgeFault.TooManyReads → HasTooManyAt (at self.old seat.now) piece.now }
     {
+        self.has_all();
+        let place = seat.place();
         let Some(conversation) = self.take_out(place) else {
             return Ok(());
         };
@@ -190,21 +207,22 @@ impl Connections {
     }
 
     /// What is left of the reply to a client, in two parts.
-    pub fn parts(&self, place: usize) -> (&[u8], &[u8])
-        ensures { result.0.now ++ result.1.now ≡ left_of (at self.now place) }
+    pub(crate) fn parts<T>(&self, seat: &Seat<T>) -> (&[u8], &[u8])
+        ensures { result.0.now ++ result.1.now ≡ left_of (at self.now seat.now) }
     {
-        match self.places.get(place) {
+        match self.places.get(seat.place()) {
             Some(Some(Conversation::Answering(leaving, _))) => leaving.parts(),
             _ => (&[], &[]),
         }
     }
 
     /// A client took so many bytes of its reply.
-    pub fn took(&mut self, place: usize, count: usize)
-        requires within { place < length self.old.places }
-        requires left { count ≤ length (left_of (at self.old place)) }
-        ensures { Happens self.old (took place count) self.new }
+    pub(crate) fn took<T>(&mut self, seat: &Seat<T>, count: usize)
+        requires { count ≤ length (left_of (at self.old seat.now)) }
+        ensures { Happens self.old (took seat.now count) self.new }
     {
+        self.has_all();
+        let place = seat.place();
         let Some(conversation) = self.take_out(place) else {
             return;
         };
@@ -213,11 +231,11 @@ impl Connections {
     }
 
     /// A client went, or is given up.
-    pub fn went(&mut self, place: usize)
-        requires { place < length self.old.places }
-        ensures { Happens self.old (went place) self.new }
+    pub fn went<T>(&mut self, seat: &Seat<T>)
+        ensures { Happens self.old (went seat.now) self.new }
     {
-        let _ = self.take_out(place);
+        self.has_all();
+        let _ = self.take_out(seat.place());
     }
 }
 

@@ -1,14 +1,18 @@
-//! What goes through a client's socket: over any reader and any writer that answer `WouldBlock` where they would wait.
-ghost use Rattle.std.specs.Prelude.{◌≡◌, ◌<◌, ◌≤◌, ◌+◌, ◌++◌, [], length, take, true};
+//! What goes through a client's socket: over any device whose calls don't wait.
+ghost use Rattle.std.specs.Prelude.{◌≡◌, ◌<◌, ◌+◌, ◌++◌, [], length, take, true};
+ghost use Rattle.http_edge.specs.declared.serving.EdgeFault.TheVariants.{Read, Write, Ended};
 ghost use Rattle.connections.specs.Limits.{most_held};
 ghost use Rattle.connections.specs.Table.{Happens, at, left_of, held_in, went};
 ghost use Rattle.connections.specs.Runs.{HasRun};
-ghost use Rattle.connections.specs.Wires.{HasHeard, HasSaid, IsFailed};
+ghost use Rattle.connections.specs.declared.devices.Passage.TheVariants.{WouldWait};
+ghost use Rattle.connections.specs.Devices.{device_stand};
+ghost use Rattle.connections.specs.Wires.{HasHeard, HasSaid, MovedNothing, GoesHeard, GoesTold, IfFailed, IsFailed};
 
+use crate::devices::{Incoming, Outgoing, Passage};
+use crate::seats::Seat;
 use crate::table::{Connections, MAX_HELD};
 use arrayvec::ArrayVec;
 use http_edge::EdgeFault;
-use std::io::{ErrorKind, Read, Write};
 
 // A reply of at most so many bytes is handed out in one write.
 const BLOCK: usize = 8192;
@@ -32,45 +36,47 @@ pub enum Moved {
 }
 
 // The fault of a client that goes.
-fn gone(connections: &mut Connections, place: usize, fault: EdgeFault) -> Moved
-    requires { place < length connections.old.places }
-    ensures went { Happens connections.old (went place) connections.new }
+fn gone<T>(connections: &mut Connections, seat: &Seat<T>, fault: EdgeFault) -> Moved
+    ensures went { Happens connections.old (went seat.now) connections.new }
     ensures fault { result ≡ Moved.Failed fault }
 {
-    connections.went(place);
+    connections.went(seat);
     Moved::Failed(fault)
 }
 
 #[tactic(auto, using(crate::proofs::Leading::stays))]
-/// Reads once from a client: what it gave is what it said at its own place.
-pub fn hear<R: Read>(
-    reader: &mut R,
+/// Reads once from a client: what it gave is what it said at its own place, and nothing else is. No other byte is read.
+/// Where it would wait, all is as it was. A client goes only where its device failed (`Read`) or gave nothing (`Ended`),
+/// or where `serve` would tell the same fault of the same pieces (`TooManyReads`), or an allocation failed.
+pub fn hear<T: Incoming>(
+    device: &mut T,
     connections: &mut Connections,
-    place: usize,
+    seat: &Seat<T>,
     block: &mut [u8],
 ) -> Moved
-    requires within { place < length connections.old.places }
-    requires room { 0 < length block.old }
-    ensures some { result ≡ Moved.Some → HasHeard (R.remaining reader.old) (R.remaining reader.new) place connections.old connections.new }
-    ensures waits { result ≡ Moved.Waits → connections.new ≡ connections.old }
-    ensures failed { IsFailed result → Happens connections.old (went place) connections.new }
+    requires { 0 < length block.old }
+    ensures some { result ≡ Moved.Some → HasHeard (device_stand T.remaining T.reads device.old) (device_stand T.remaining T.reads device.new) seat.now connections.old connections.new }
+    ensures waits { result ≡ Moved.Waits → MovedNothing WouldWait (device_stand T.remaining T.reads device.old) (device_stand T.remaining T.reads device.new) }
+    ensures stays { result ≡ Moved.Waits → connections.new ≡ connections.old }
     ensures full { result ≡ Moved.Full → (most_held < held_in connections.old.places + length block.old) × (connections.new ≡ connections.old) }
-    ensures unread { result ≡ Moved.Full → reader.new ≡ reader.old }
+    ensures unread { result ≡ Moved.Full → device.new ≡ device.old }
     ensures moves { result ≡ Moved.Nothing → ⊥ }
+    ensures fault { IfFailed result (λ fault. GoesHeard fault (device_stand T.remaining T.reads device.old) (device_stand T.remaining T.reads device.new) (at connections.old seat.now)) }
+    ensures failed { IsFailed result → Happens connections.old (went seat.now) connections.new }
     ensures run { HasRun connections.old connections.new }
 {
     if block.len() > MAX_HELD - connections.held() {
         return Moved::Full;
     }
-    let count = match reader.read(block) {
-        Ok(count) => count,
-        Err(e) if e.kind() == ErrorKind::WouldBlock => return Moved::Waits,
-        Err(_) => return gone(connections, place, EdgeFault::Read),
+    let count = match device.read(block) {
+        Passage::Bytes(count) => count,
+        Passage::WouldWait => return Moved::Waits,
+        Passage::HasFailed => return gone(connections, seat, EdgeFault::Read),
     };
     if count == 0 {
-        return gone(connections, place, EdgeFault::Ended);
+        return gone(connections, seat, EdgeFault::Ended);
     }
-    match connections.give(place, &block[..count]) {
+    match connections.give(seat, &block[..count]) {
         Ok(()) => Moved::Some,
         Err(fault) => Moved::Failed(fault),
     }
@@ -111,29 +117,33 @@ fn front<'a>(block: &'a mut ArrayVec<u8, BLOCK>, head: &'a [u8], body: &'a [u8])
 }
 
 #[tactic(auto, using(crate::proofs::Leading::stays))]
-/// Writes once to a client, of what is left of the reply at its own place.
-pub fn say<W: Write>(writer: &mut W, connections: &mut Connections, place: usize) -> Moved
-    requires within { place < length connections.old.places }
-    ensures some { result ≡ Moved.Some → HasSaid (W.contents writer.old) (W.contents writer.new) place connections.old connections.new }
-    ensures waits { result ≡ Moved.Waits → connections.new ≡ connections.old }
-    ensures nothing { result ≡ Moved.Nothing → (left_of (at connections.old place) ≡ []) × (connections.new ≡ connections.old) }
-    ensures failed { IsFailed result → Happens connections.old (went place) connections.new }
+/// Writes once to a client, of what is left of the reply at its own place, and nothing else. Where it would wait, or nothing
+/// is left, all is as it was. A client goes only where the write failed or took nothing (`Write`).
+pub fn say<T: Outgoing>(device: &mut T, connections: &mut Connections, seat: &Seat<T>) -> Moved
+    ensures some { result ≡ Moved.Some → HasSaid (device_stand T.contents T.writes device.old) (device_stand T.contents T.writes device.new) seat.now connections.old connections.new }
+    ensures waits { result ≡ Moved.Waits → MovedNothing WouldWait (device_stand T.contents T.writes device.old) (device_stand T.contents T.writes device.new) }
+    ensures stays { result ≡ Moved.Waits → connections.new ≡ connections.old }
+    ensures nothing { result ≡ Moved.Nothing → (left_of (at connections.old seat.now) ≡ []) × (connections.new ≡ connections.old) }
+    ensures unwritten { result ≡ Moved.Nothing → device.new ≡ device.old }
+    ensures fault { IfFailed result (λ fault. GoesTold fault (device_stand T.contents T.writes device.old) (device_stand T.contents T.writes device.new)) }
+    ensures failed { IsFailed result → Happens connections.old (went seat.now) connections.new }
     ensures room { result ≡ Moved.Full → ⊥ }
     ensures run { HasRun connections.old connections.new }
 {
     let mut block = ArrayVec::<u8, BLOCK>::new();
-    let (head, body) = connections.parts(place);
+    let (head, body) = connections.parts(seat);
     let bytes = front(&mut block, head, body);
     if bytes.is_empty() {
         return Moved::Nothing;
     }
-    match writer.write(bytes) {
-        Ok(0) => gone(connections, place, EdgeFault::Write),
-        Ok(count) => {
-            connections.took(place, count);
-            Moved::Some
-        }
-        Err(e) if e.kind() == ErrorKind::WouldBlock => Moved::Waits,
-        Err(_) => gone(connections, place, EdgeFault::Write),
+    let count = match device.write(bytes) {
+        Passage::Bytes(count) => count,
+        Passage::WouldWait => return Moved::Waits,
+        Passage::HasFailed => return gone(connections, seat, EdgeFault::Write),
+    };
+    if count == 0 {
+        return gone(connections, seat, EdgeFault::Write);
     }
+    connections.took(seat, count);
+    Moved::Some
 }

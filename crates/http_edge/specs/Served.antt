@@ -1,5 +1,5 @@
 -- What a connection came to.
-use Rattle.std.specs.Prelude.{◌≡◌, ℕ, ◌⊎◌, true, List, Option}
+use Rattle.std.specs.Prelude.{◌≡◌, ℕ, ◌⊎◌, Bool, true, List, Option}
 use Rattle.std.specs.Io.KnownBytes.{Consumes, Appends}
 use Rattle.byte_streams.specs.Handed.{TookFront}
 use Rattle.http_messages.specs.declared.message.Request.{Request}
@@ -21,6 +21,11 @@ edge_fault receiving.Read = Read
 edge_fault receiving.TooManyReads = TooManyReads
 edge_fault receiving.Ended = Ended
 edge_fault receiving.OutOfMemory = OutOfMemory
+
+-- a request is answered as owed, with no body for HEAD; a refusal is told, and leaves the edge
+abbrev pub IsReplyTo : Asked → List NamedChannel → List NamedChannel → Reply → Bool → Type 0
+IsReplyTo (asked.Request request) old new reply with_body = AnswersRequest old request reply new × (with_body ≡ sends_body request.method)
+IsReplyTo (asked.Refused refusal) old new reply with_body = (new ≡ old) × (reply ≡ refusal_reply refusal) × (with_body ≡ true)
 
 -- the bytes begin with a whole request, and this is the text of its reply
 pub record IsAnswered (bytes : List ℕ) (old new : List NamedChannel) (text : List ℕ) (status : ℕ) : Type 0 where

@@ -1,6 +1,7 @@
 //! Many live channels over HTTP: requests on a table of channels, on connections that are served in turn.
 #![tactic(auto)]
 
+mod answering;
 mod channels;
 mod edge;
 mod events;
@@ -8,6 +9,7 @@ pub mod laws;
 mod replies;
 mod serving;
 
+pub use answering::{Answer, reply_to};
 pub use channel_api::{FaultText, refresh_fault_text, why_word};
 pub use channels::MAX_CHANNELS;
 pub use edge::Edge;

@@ -12,9 +12,10 @@ ghost use Rattle.byte_streams.specs.Fair.{IsFairToSource, IsFairToSink, GaveAtEa
 ghost use Rattle.http_edge.specs.FaultTexts.{edge_fault_text};
 ghost use Rattle.http_edge.specs.Served.{HasServed, HasServedFront, HasRepliedWhole, HasRepliedFront, edge_fault};
 
+use crate::answering::reply_to;
 use crate::edge::Edge;
 use byte_streams::{Sink, Source};
-use http_messages::{Asked, ReceiveFault, Reply, receive, refusal_reply, send, sends_body};
+use http_messages::{ReceiveFault, Reply, receive, send};
 use std::alloc::{AllocError, Global};
 use std::error::Error;
 use std::fmt;
@@ -140,15 +141,7 @@ pub fn serve<S: Source, K: Sink>(
     ensures to_end { IsErrOf result EdgeFault.Ended → GaveAtEachButLast (source_stand S.remaining S.called S.failed source.old) (source_stand S.remaining S.called S.failed source.new) }
     ensures sink { IsFairToSink EdgeFault.Write result (sink_stand K.contents K.failed sink.old) (sink_stand K.contents K.failed sink.new) }
 {
-    match receive(alloc, source)? {
-        Asked::Request(request) => {
-            let with_body = sends_body(&request.method);
-            let reply = edge.answer(&request);
-            put(&reply, with_body, sink)
-        }
-        Asked::Refused(refusal) => {
-            let reply = refusal_reply(alloc, refusal)?;
-            put(&reply, true, sink)
-        }
-    }
+    let asked = receive(alloc, source)?;
+    let answer = reply_to(alloc, edge, asked)?;
+    put(&answer.reply, answer.with_body, sink)
 }

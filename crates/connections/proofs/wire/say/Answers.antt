@@ -2,11 +2,11 @@ use Rattle.connections.specs.Table.{took, went}
 use Rattle.connections.proofs.Leading.{by_one}
 use Rattle.connections.proofs.wire.say.Goals as goal
 
-pub returns-in-Ok-eq0-clause-run : goal.returns-in-Ok-eq0-clause-run
-returns-in-Ok-eq0-clause-run g c = by_one _ _ (went c.args.place) c.gone.ensures.went
+pub returns-in-HasFailed-clause-run : goal.returns-in-HasFailed-clause-run
+returns-in-HasFailed-clause-run g c = by_one _ _ (went c.args.seat.now) c.gone.ensures.went
 
-pub returns-in-Ok-clause-run : goal.returns-in-Ok-clause-run
-returns-in-Ok-clause-run g c = by_one _ _ (took c.args.place _) c.took.ensures
+pub returns-then-count-eq0-clause-run : goal.returns-then-count-eq0-clause-run
+returns-then-count-eq0-clause-run g c = by_one _ _ (went c.args.seat.now) c.gone-then-count-eq0.ensures.went
 
-pub returns-in-Err-2-clause-run : goal.returns-in-Err-2-clause-run
-returns-in-Err-2-clause-run g c = by_one _ _ (went c.args.place) c.gone-in-Err-2.ensures.went
+pub returns-clause-run : goal.returns-clause-run
+returns-clause-run g c = by_one _ _ (took c.args.seat.now _) c.took.ensures

@@ -4,7 +4,7 @@ use Rattle.adsplice.proofs.server.Server.seat.Goals as goal
 
 pub returns-then-is_err : goal.returns-then-is_err
 returns-then-is_err c =
-    and_then _ _ _ c.place_for_one.ensures (and_then _ _ _ (by_one _ _ (came c.in_ok-place.place) c.came.ensures) c.close.ensures)
+    and_then _ _ _ c.seat_for_one.ensures (and_then _ _ _ (by_one _ _ (came c.in_ok-seat.seat) c.came.ensures) c.close.ensures)
 
 pub returns-else-is_err : goal.returns-else-is_err
-returns-else-is_err c = and_then _ _ _ c.place_for_one.ensures (by_one _ _ (came c.in_ok-place.place) c.came.ensures)
+returns-else-is_err c = and_then _ _ _ c.seat_for_one.ensures (by_one _ _ (came c.in_ok-seat.seat) c.came.ensures)

@@ -1,6 +1,0 @@
-use Rattle.connections.specs.Table.{went}
-use Rattle.connections.proofs.Leading.{by_one}
-use Rattle.adsplice.proofs.server.leave.Goals as goal
-
-pub returns : goal.returns
-returns c = by_one _ _ (went c.args.place) c.went.ensures

@@ -1,0 +1,50 @@
+-- Clients' devices, no call of which waits: what one call comes to, and how a device stands.
+use Rattle.std.specs.Prelude.{◌≡◌, ℕ, ◌≤◌, List, take, Option, Some, None}
+use Rattle.std.specs.Io.KnownBytes.{Keeps, Consumes, Appends, IsAtEnd}
+use Rattle.byte_streams.specs.Devices.{next_count}
+use Rattle.connections.specs.declared.devices.Passage.{Passage}
+use Rattle.connections.specs.declared.devices.Passage.TheVariants.{Bytes, WouldWait, HasFailed}
+
+-- ---- what a call comes to
+
+-- at most so many bytes went through
+abbrev pub PassesAtMost : Passage → ℕ → Type 0
+PassesAtMost (Bytes n) most = n ≤ most
+PassesAtMost WouldWait most = Unit {0}
+PassesAtMost HasFailed most = Unit {0}
+
+-- a read gave so many of the bytes that are left, none only at the end; where it would wait or failed, all are left
+abbrev pub ReadPasses : Option (List ℕ) → Option (List ℕ) → Passage → List ℕ → Type 0
+ReadPasses old new (Bytes n) buf = Consumes old new (take n buf) × (n ≡ 0 → IsAtEnd new)
+ReadPasses old new WouldWait buf = Keeps old new
+ReadPasses old new HasFailed buf = Keeps old new
+
+-- a write took so many of these bytes; where it would wait or failed, none
+abbrev pub WritePasses : Option (List ℕ) → Option (List ℕ) → Passage → List ℕ → Type 0
+WritePasses old new (Bytes n) buf = Appends old new (take n buf)
+WritePasses old new WouldWait buf = Keeps old new
+WritePasses old new HasFailed buf = Keeps old new
+
+-- ---- how a device stands
+
+-- how often it was called, and what the last call came to
+pub record Calls : Type 0 where
+  pub count : ℕ
+  pub last : Option Passage
+
+-- before the first call
+abbrev pub no_calls : Calls
+no_calls = record { count = 0; last = None }
+
+-- one call more, which came to this. The count stays at 2^64 - 1
+abbrev pub one_call : Passage → Calls → Calls
+one_call passage calls = record { count = next_count calls.count; last = Some passage }
+
+-- the bytes that it will still give, or that it has taken, where they are known; and its calls
+pub record DeviceStand : Type 0 where
+  pub bytes : Option (List ℕ)
+  pub calls : Calls
+
+-- the same of a device, by what it says of itself
+abbrev pub device_stand : {A : Type 0} → (A → Option (List ℕ)) → (A → Calls) → A → DeviceStand
+device_stand bytes calls device = record { bytes = bytes device; calls = calls device }

@@ -1,0 +1,88 @@
+-- What went through a client's device in its turn.
+use Rattle.std.specs.Prelude.{◌≡◌, ℕ, ◌==◌, Bool, true, false, ◌++◌, List, [], ◌∷◌, map, take, drop, Option, Some, None, ◌⊎◌}
+use Rattle.std.specs.Io.KnownBytes.{Consumes, Appends}
+use Rattle.http_edge.specs.declared.serving.EdgeFault.{EdgeFault}
+use Rattle.connections.specs.declared.devices.Passage.{Passage}
+use Rattle.connections.specs.declared.devices.Passage.TheVariants.{Bytes, WouldWait, HasFailed}
+use Rattle.connections.specs.declared.turns.Turn.{Turn}
+use Rattle.connections.specs.declared.turns.Turn.TheVariants.{Waits, Goes, Full, Done, Failed}
+use Rattle.connections.specs.Devices.{DeviceStand}
+use Rattle.connections.specs.Table.{State, at, left_of, gave, took, went, Happens}
+use Rattle.connections.specs.Runs.{IsRun}
+use Rattle.connections.specs.Arrivals.{is_asking}
+use Rattle.connections.specs.Wires.{GoesHeard, GoesTold}
+
+-- where the client stays, this is so
+abbrev pub Stays : Turn → Type 0 → Type 0
+Stays (Failed fault) P = Unit {0}
+Stays Waits P = P
+Stays Goes P = P
+Stays Full P = P
+Stays Done P = P
+
+-- where it goes, this is so of its fault
+abbrev pub IfGone : Turn → (EdgeFault → Type 0) → Type 0
+IfGone (Failed fault) P = P fault
+IfGone Waits P = Unit {0}
+IfGone Goes P = Unit {0}
+IfGone Full P = Unit {0}
+IfGone Done P = Unit {0}
+
+-- ---- hearing
+
+-- pieces one after the other, of which the newest stands first
+abbrev pub joined : List (List ℕ) → List ℕ
+joined [] = []
+joined (piece ∷ before) = joined before ++ piece
+
+-- the client at this place said these pieces, the newest first, and each while its request wasn't whole
+abbrev pub SaidWhileAsking : ℕ → State → List (List ℕ) → State → Type 0
+SaidWhileAsking place old [] new = new ≡ old
+SaidWhileAsking place old (piece ∷ before) new =
+    (middle : State) × SaidWhileAsking place old before middle × (is_asking (at middle place) ≡ true) × Happens middle (gave place piece) new
+
+-- the reader gave some pieces, and they are what the client at this place said, in the same order. Nothing was read past the
+-- one that made the request whole
+pub record HasListened (reader_old reader_new : DeviceStand) (place : ℕ) (old new : State) : Type 0 where
+  pub pieces : List (List ℕ)
+  pub given : Consumes reader_old.bytes reader_new.bytes (joined pieces)
+  pub run : SaidWhileAsking place old pieces new
+
+-- so it was until the last call, after which the client went for this fault
+pub record HasListenedUntil (fault : EdgeFault) (reader_old reader_new : DeviceStand) (place : ℕ) (old new : State) : Type 0 where
+  pub reader : DeviceStand
+  pub state : State
+  pub listened : HasListened reader_old reader place old state
+  pub last : GoesHeard fault reader reader_new (at state place)
+  pub happens : Happens state (went place) new
+
+-- ---- speaking
+
+-- the writer took some bytes, which are the first of what was left of the reply at this place, and are left no more
+pub record HasSpoken (writer_old writer_new : DeviceStand) (place : ℕ) (old new : State) : Type 0 where
+  pub count : ℕ
+  pub taken : Appends writer_old.bytes writer_new.bytes (take count (left_of (at old place)))
+  pub left : left_of (at new place) ≡ drop count (left_of (at old place))
+  pub counts : List ℕ
+  pub run : IsRun old (map (took place) counts) new
+
+-- so it was until the last call, after which the client went for this fault
+pub record HasSpokenUntil (fault : EdgeFault) (writer_old writer_new : DeviceStand) (place : ℕ) (old new : State) : Type 0 where
+  pub writer : DeviceStand
+  pub state : State
+  pub spoken : HasSpoken writer_old writer place old state
+  pub last : GoesTold fault writer writer_new
+  pub happens : Happens state (went place) new
+
+-- ---- draining
+
+-- the last call told the end, or failed
+abbrev pub HasNoMore : Option Passage → Type 0
+HasNoMore last = (last ≡ Some (Bytes 0)) ⊎ (last ≡ Some HasFailed)
+
+-- nothing is unread: it told the end, or would wait
+abbrev pub is_read_out : Option Passage → Bool
+is_read_out None = false
+is_read_out (Some (Bytes n)) = n == 0
+is_read_out (Some WouldWait) = true
+is_read_out (Some HasFailed) = false

@@ -1,0 +1,132 @@
+//! What comes from a client and what goes to it, where no call waits.
+ghost use Rattle.std.specs.Prelude.{◌≡◌, ◌<◌, ℕ, List, None, Some, Option, length};
+ghost use Rattle.std.specs.IoError.{error_kind};
+ghost use Rattle.connections.specs.Devices.{Calls, no_calls, one_call, PassesAtMost, ReadPasses, WritePasses};
+ghost use Rattle.connections.specs.Inner.Passages.{would_wait, passage_of};
+
+use std::io;
+use std::io::{ErrorKind, Read, Write};
+use std::marker::Model;
+
+/// What one read, or one write, came to.
+#[derive(Clone, Copy, Debug, PartialEq, Eq)]
+pub enum Passage {
+    /// So many bytes went through. None: a client has ended, or takes nothing more.
+    Bytes(usize),
+    /// It would wait, and moved nothing.
+    WouldWait,
+    /// It failed, and moved nothing.
+    HasFailed,
+}
+
+/// What comes from a client. Its count of calls stays at 2^64 - 1.
+pub trait Incoming {
+    /// The bytes that it will still give, where they are known.
+    ghost remaining: { Self → Option (List ℕ) } = { λ _. None };
+
+    /// How often it was read, and what the last read came to.
+    ghost reads: { Self → Calls };
+
+    /// Gives a front of the bytes that are left: none only at the end.
+    fn read(&mut self, buf: &mut [u8]) -> Passage
+        requires { 0 < length buf.old }
+        ensures bound { PassesAtMost result (length buf.new) }
+        ensures bytes { ReadPasses (remaining self.old) (remaining self.new) result buf.new }
+        ensures calls { reads self.new ≡ one_call result (reads self.old) };
+}
+
+/// What goes to a client. Its count of calls stays at 2^64 - 1.
+pub trait Outgoing {
+    /// The bytes that it has taken, where they are known.
+    ghost contents: { Self → Option (List ℕ) } = { λ _. None };
+
+    /// How often it was written to, and what the last write came to.
+    ghost writes: { Self → Calls };
+
+    /// Takes a front of these bytes, of which there is at least one.
+    fn write(&mut self, buf: &[u8]) -> Passage
+        requires { 0 < length buf.now }
+        ensures bound { PassesAtMost result (length buf.now) }
+        ensures bytes { WritePasses (contents self.old) (contents self.new) result buf.now }
+        ensures calls { writes self.new ≡ one_call result (writes self.old) };
+}
+
+/// A reader or a writer of std that answers `WouldBlock` where it would wait, with its calls.
+#[derive(Drop)]
+pub struct NonBlocking<T> {
+    inner: T,
+    count: u64,
+    last: Option<Passage>,
+}
+
+impl<T> Model for NonBlocking<T> {
+    ghost use Rattle.connections.specs.Devices.{Calls};
+
+    ghost Value = { T × Calls };
+
+    ghost view = { λ d. (d.inner, record { count = d.count; last = d.last }) };
+}
+
+fn would_wait(error: &io::Error) -> bool
+    ensures { result ≡ would_wait (error_kind error.now) }
+{
+    match error.kind() {
+        ErrorKind::WouldBlock => true,
+        _ => false,
+    }
+}
+
+// What a call came to.
+fn passage_of(answer: io::Result<usize>) -> Passage
+    ensures { result ≡ passage_of answer }
+{
+    match answer {
+        Ok(count) => Passage::Bytes(count),
+        Err(error) if would_wait(&error) => Passage::WouldWait,
+        Err(_) => Passage::HasFailed,
+    }
+}
+
+impl<T> NonBlocking<T> {
+    /// A device that wasn't called yet.
+    pub fn new(inner: T) -> NonBlocking<T>
+        ensures { result ≡ (inner, no_calls) }
+    {
+        NonBlocking {
+            inner,
+            count: 0,
+            last: None,
+        }
+    }
+
+    /// The reader or writer itself: what is done to it this way is not counted.
+    pub fn inner(&mut self) -> &mut T {
+        &mut self.inner
+    }
+}
+
+impl<R: Read> Incoming for NonBlocking<R> {
+    ghost remaining = { λ d. R.remaining d.0 };
+
+    ghost reads = { λ d. d.1 };
+
+    fn read(&mut self, buf: &mut [u8]) -> Passage {
+        let passage = passage_of(self.inner.read(buf));
+        self.count = self.count.saturating_add(1);
+        self.last = Some(passage);
+        passage
+    }
+}
+
+impl<W: Write> Outgoing for NonBlocking<W> {
+    ghost contents = { λ d. W.contents d.0 };
+
+    ghost writes = { λ d. d.1 };
+
+    fn write(&mut self, buf: &[u8]) -> Passage {
+        let passage = passage_of(self.inner.write(buf));
+        self.count = self.count.saturating_add(1);
+        self.last = Some(passage);
+        passage
+    }
+}

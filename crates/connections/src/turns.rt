@@ -1,0 +1,124 @@
+//! A client's turn: how often it is heard and told of its reply before the others are.
+ghost use Rattle.std.specs.Prelude.{◌≡◌, ◌<◌, ◌+◌, [], Some, length, true, false};
+ghost use Rattle.connections.specs.declared.devices.Passage.TheVariants.{WouldWait};
+ghost use Rattle.connections.specs.Devices.{device_stand};
+ghost use Rattle.connections.specs.Table.{at, left_of, held_in};
+ghost use Rattle.connections.specs.Limits.{most_held};
+ghost use Rattle.connections.specs.Arrivals.{is_asking};
+ghost use Rattle.connections.specs.Runs.{HasRun};
+ghost use Rattle.connections.specs.Turns.{HasListened, HasListenedUntil, HasSpoken, HasSpokenUntil, IfGone, Stays, HasNoMore, is_read_out};
+
+use crate::devices::{Incoming, Outgoing, Passage};
+use crate::seats::Seat;
+use crate::table::Connections;
+use crate::wire::{Moved, hear, say};
+use http_edge::EdgeFault;
+
+// How often a client is read, and how often it is written to, in its turn at the most.
+const READS: u32 = 4;
+
+const WRITES: u32 = 4;
+
+// How often what a client still sends is passed over in its turn at the most.
+const DRAINS: u32 = 32;
+
+/// What a client's turn came to.
+#[derive(Clone, Copy, Debug, PartialEq, Eq)]
+pub enum Turn {
+    /// It has to be waited for.
+    Waits,
+    /// It was read or written to as often as it may be, and may be ready still.
+    Goes,
+    /// There is no room for its next bytes.
+    Full,
+    /// Its request is whole, or it has its reply, or it has ended after it.
+    Done,
+    /// The connection is gone.
+    Failed(EdgeFault),
+}
+
+/// Hears a client until its request is whole (`Done`): all that its device gave is what it said, in order, and nothing is
+/// read past it.
+pub fn listen<T: Incoming>(
+    device: &mut T,
+    connections: &mut Connections,
+    seat: &Seat<T>,
+    block: &mut [u8],
+) -> Turn
+    requires room { 0 < length block.old }
+    requires asking { is_asking (at connections.old seat.now) ≡ true }
+    ensures stays { Stays result (HasListened (device_stand T.remaining T.reads device.old) (device_stand T.remaining T.reads device.new) seat.now connections.old connections.new) }
+    ensures gone { IfGone result (λ fault. HasListenedUntil fault (device_stand T.remaining T.reads device.old) (device_stand T.remaining T.reads device.new) seat.now connections.old connections.new) }
+    ensures done { result ≡ Turn.Done → is_asking (at connections.new seat.now) ≡ false }
+    ensures goes { result ≡ Turn.Goes → is_asking (at connections.new seat.now) ≡ true }
+    ensures full { result ≡ Turn.Full → most_held < held_in connections.new.places + length block.old }
+    ensures waits { result ≡ Turn.Waits → (T.reads device.new).last ≡ Some WouldWait }
+    ensures run { HasRun connections.old connections.new }
+{
+    for _ in 0..READS {
+        match hear(device, connections, seat, block) {
+            Moved::Some => {}
+            Moved::Waits => return Turn::Waits,
+            Moved::Full => return Turn::Full,
+            Moved::Failed(fault) => return Turn::Failed(fault),
+            Moved::Nothing => return Turn::Goes,
+        }
+        if !connections.is_asking(seat.place()) {
+            return Turn::Done;
+        }
+    }
+    Turn::Goes
+}
+
+/// Tells a client its reply, until nothing of it is left (`Done`): all that its device took is what was left, in order.
+pub fn speak<T: Outgoing>(device: &mut T, connections: &mut Connections, seat: &Seat<T>) -> Turn
+    ensures stays { Stays result (HasSpoken (device_stand T.contents T.writes device.old) (device_stand T.contents T.writes device.new) seat.now connections.old connections.new) }
+    ensures gone { IfGone result (λ fault. HasSpokenUntil fault (device_stand T.contents T.writes device.old) (device_stand T.contents T.writes device.new) seat.now connections.old connections.new) }
+    ensures done { result ≡ Turn.Done → left_of (at connections.new seat.now) ≡ [] }
+    ensures waits { result ≡ Turn.Waits → (T.writes device.new).last ≡ Some WouldWait }
+    ensures room { result ≡ Turn.Full → ⊥ }
+    ensures run { HasRun connections.old connections.new }
+{
+    for _ in 0..WRITES {
+        match say(device, connections, seat) {
+            Moved::Some => {}
+            Moved::Waits => return Turn::Waits,
+            Moved::Nothing => return Turn::Done,
+            Moved::Failed(fault) => return Turn::Failed(fault),
+            Moved::Full => return Turn::Goes,
+        }
+    }
+    Turn::Goes
+}
+
+/// Reads what a client still sends after its reply, and passes it over, until it ends or fails (`Done`): closing before it
+/// has come would reset the connection, and the reply with it.
+pub fn drain<T: Incoming>(device: &mut T) -> Turn
+    ensures waits { result ≡ Turn.Waits → (T.reads device.new).last ≡ Some WouldWait }
+    ensures done { result ≡ Turn.Done → HasNoMore (T.reads device.new).last }
+    ensures room { result ≡ Turn.Full → ⊥ }
+    ensures stays { IfGone result (λ fault. ⊥) }
+{
+    let mut block = [0u8; 8192];
+    for _ in 0..DRAINS {
+        match device.read(&mut block) {
+            Passage::Bytes(0) => return Turn::Done,
+            Passage::Bytes(_) => {}
+            Passage::WouldWait => return Turn::Waits,
+            Passage::HasFailed => return Turn::Done,
+        }
+    }
+    Turn::Goes
+}
+
+/// Reads once, and tells whether a client has sent nothing that is unread: it has ended, or would have to be waited for.
+pub fn is_read_out<T: Incoming>(device: &mut T) -> bool
+    ensures { result ≡ is_read_out (T.reads device.new).last }
+{
+    let mut byte = [0u8; 1];
+    match device.read(&mut byte) {
+        Passage::Bytes(count) => count == 0,
+        Passage::WouldWait => true,
+        Passage::HasFailed => false,
+    }
+}
