@@ -135,6 +135,10 @@ def refreshes():
     yield case("a refresh that ends", SHOWN, origin(0, 3, ended=True), reply(DONE), later(0))
     rich = [*OTHER, make(), decide(rich_pod())]
     yield case("a refresh of keys, sections and ranges", rich, show(rich_origin()), reply(DONE), [show(rich_origin()), *later(0)])
+    more = "#EXTINF:10,title\n#EXT-X-BYTERANGE:5@40\nall.mp4\n"
+    went_on, turned = rich_origin() + more, rich_origin().replace("title\n#EXT-X-BYTERANGE:5@20", "other\n#EXT-X-BYTERANGE:5@20") + more
+    yield case("a refresh that goes on with keys, sections and ranges", [*rich, show(rich_origin())], show(went_on), reply(DONE), [show(went_on), *later(0)])
+    yield case("a refresh that is read whole, after a changed line", [*rich, show(rich_origin())], show(turned), reply(DONE), [show(turned), *later(0)])
     yield case("a refresh that opens a run", [*OPENED[:-1], origin(0, 0)], origin(0, 1), reply(DONE), later(0))
     yield case("a refresh within an open run", OPENED, origin(0, 2), reply(DONE), later(0))
     yield case("a refresh that leaves the rest of a pod", LEFT[:-1], LEFT[-1], reply(DONE), later(4))
