@@ -202,7 +202,7 @@ def get(url):
         return 0, ""
 
 
-def until(check, seconds=20, what="it"):
+def until(check, seconds=90, what="it"):
     """Waits until `check()` holds, and answers what it answered; raises where it doesn't within that time."""
     end = time.monotonic() + seconds
     while time.monotonic() < end:

@@ -1,9 +1,0 @@
-use Rattle.std.proofs.Common.{◌≡◌, length}
-use Rattle.channel_spec.specs.Successor.{first_changed}
-use Rattle.channel_window.proofs.successor.first_changed.Given as goal
-
-abbrev pub invariant-loop-segment : goal.invariant-loop-segment
-invariant-loop-segment l = first_changed l.old l.new ≡ first_changed l.old l.rest
-
-abbrev pub decreases-loop-segment : goal.decreases-loop-segment
-decreases-loop-segment l = length l.rest
