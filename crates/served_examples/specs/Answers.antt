@@ -119,8 +119,10 @@ why = get (codes "/channels/a/why")
 abbrev pub ReasonsAreAnswered : Type 0
 ReasonsAreAnswered = Gives answer (
     (why ∷ make ∷ [], Some (bare 200))
-    ∷ (why ∷ refresh (codes "#EXT-X-DATERANGE:ID=\"c\"" ∷ codes "#EXT-X-DATERANGE:ID=\"b\",START-DATE=\"2024-05-01T12:00:00Z\"" ∷ codes "#EXTINF:10," ∷ codes "a:s" ∷ []) ∷ make ∷ [],
-       Some (plain 200 (codes "c" ++ (9 ∷ codes "NoStart" ++ (10 ∷ codes "b" ++ (9 ∷ codes "NotSignalled" ++ 10 ∷ []))))))
+    ∷ (
+      why ∷ refresh (codes "#EXT-X-DATERANGE:ID=\"c\"" ∷ codes "#EXT-X-DATERANGE:ID=\"b\",START-DATE=\"2024-05-01T12:00:00Z\"" ∷ codes "#EXTINF:10," ∷ codes "a:s" ∷ []) ∷ make ∷ [],
+      Some (plain 200 (codes "c" ++ (9 ∷ codes "NoStart" ++ (10 ∷ codes "b" ++ (9 ∷ codes "NotSignalled" ++ 10 ∷ []))))),
+    )
     ∷ (why ∷ [], Some not_found)
     ∷ (put (codes "/channels/a/why") [] ∷ make ∷ [], Some (not_allowed allow.Get)) ∷ [])
 

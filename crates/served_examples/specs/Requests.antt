@@ -72,10 +72,14 @@ RepliesAreWritten = Gives (text_sent true) (
     (bare 204, lines (codes "HTTP/1.1 204 No Content" ∷ codes "Connection: close" ∷ [] ∷ []))
     ∷ (bare 201, lines (codes "HTTP/1.1 201 Created" ∷ codes "Content-Length: 0" ∷ codes "Connection: close" ∷ [] ∷ []))
     ∷ (bare 503, lines (codes "HTTP/1.1 503 Service Unavailable" ∷ codes "Content-Length: 0" ∷ codes "Connection: close" ∷ [] ∷ []))
-    ∷ (record { status = 200; allow = None; content = Some (record { media = Playlist; text = codes "hi" }) },
-       lines (codes "HTTP/1.1 200 OK" ∷ codes "Content-Type: application/vnd.apple.mpegurl" ∷ codes "Content-Length: 2" ∷ codes "Connection: close" ∷ [] ∷ []) ++ codes "hi")
-    ∷ (record (plain 405 (codes "no")) { allow = Some allow.PutDelete },
-       lines (codes "HTTP/1.1 405 Method Not Allowed" ∷ codes "Content-Type: text/plain; charset=utf-8" ∷ codes "Allow: PUT, DELETE" ∷ codes "Content-Length: 2" ∷ codes "Connection: close" ∷ [] ∷ []) ++ codes "no")
+    ∷ (
+      record { status = 200; allow = None; content = Some (record { media = Playlist; text = codes "hi" }) },
+      lines (codes "HTTP/1.1 200 OK" ∷ codes "Content-Type: application/vnd.apple.mpegurl" ∷ codes "Content-Length: 2" ∷ codes "Connection: close" ∷ [] ∷ []) ++ codes "hi",
+    )
+    ∷ (
+      record (plain 405 (codes "no")) { allow = Some allow.PutDelete },
+      lines (codes "HTTP/1.1 405 Method Not Allowed" ∷ codes "Content-Type: text/plain; charset=utf-8" ∷ codes "Allow: PUT, DELETE" ∷ codes "Content-Length: 2" ∷ codes "Connection: close" ∷ [] ∷ []) ++ codes "no",
+    )
     ∷ (record (bare 405) { allow = Some allow.Put }, lines (codes "HTTP/1.1 405 Method Not Allowed" ∷ codes "Allow: PUT" ∷ codes "Content-Length: 0" ∷ codes "Connection: close" ∷ [] ∷ []))
     ∷ (record (bare 405) { allow = Some allow.Get }, lines (codes "HTTP/1.1 405 Method Not Allowed" ∷ codes "Allow: GET" ∷ codes "Content-Length: 0" ∷ codes "Connection: close" ∷ [] ∷ []))
     ∷ (refusal_reply BadRequest, lines (codes "HTTP/1.1 400 Bad Request" ∷ codes "Content-Type: text/plain; charset=utf-8" ∷ codes "Content-Length: 12" ∷ codes "Connection: close" ∷ [] ∷ []) ++ codes "bad request\n")

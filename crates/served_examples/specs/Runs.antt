@@ -1,16 +1,19 @@
 -- A run over one playlist, and what a channel was given.
-use Rattle.std.specs.Prelude.{ℕ, ◌-◌, ◌^◌, List, [], ◌∷◌, codes, Option, Some, None, option_map, Result, Ok, Err}
+use Rattle.std.specs.Prelude.{ℕ, ◌-◌, ◌^◌, Bool, true, false, List, [], ◌∷◌, codes, Option, Some, None, option_map, Result, Ok, Err}
 use Rattle.url.specs.Parts.{Parts}
 use Rattle.byte_streams.specs.Devices.{next_count}
 use Rattle.pod_store.specs.declared.Decisions.TheVariants.{Breaks, Withdraw}
 use Rattle.pod_store.specs.declared.fault.DecisionKind.TheVariants as fault
-use Rattle.pod_store.specs.Outcome.{fault_at, nowhere}
 use Rattle.playlist_model.specs.Uri.{base_of}
 use Rattle.channel_spec.specs.Live as live
 use Rattle.live_channel.specs.Channel.{Given, decided, withdrawn, refreshed, events_of}
+use Rattle.playlist_model.specs.declared.Segment.{Segment}
+use Rattle.playlist_model.specs.declared.Key.{Key}
+use Rattle.read_is_writable.specs.Read.{uris_are_text}
 use Rattle.vod_run.specs.Events as vod
 use Rattle.vod_run.specs.Given.{given_by}
 use Rattle.vod_run.specs.Runs.{most_reads}
+use Rattle.worked_examples.specs.Pods.{fault_at, nowhere}
 use Rattle.worked_examples.specs.Tables.{Gives}
 
 -- docs/OPERATING.md: 65,536 reads at most; a counter stays at 2^64 - 1
@@ -37,3 +40,19 @@ BytesAreTold = Gives told (
     ([], Some [])
     ∷ (withdrawn (codes "b") ∷ decided (codes "{\"breaks\":[]}") ∷ [], Some (live.decided (Withdraw (codes "b")) ∷ live.decided (Breaks []) ∷ []))
     ∷ (decided (codes "{") ∷ refreshed [] ∷ [], Some []) ∷ [])
+
+abbrev pub key : List ℕ → Key
+key resource = record { format = codes "f"; method = codes "A"; uri = resource; iv = None; other_attributes = [] }
+
+abbrev pub segment : Segment
+segment = record { media_sequence = 0; discontinuity_sequence = 0; discontinuities = 0; uri = codes "a:s"; byte_range = None; keys = []; init_section = None; duration = 1; title = []; program_date_time = None }
+
+-- RFC 8216, 4.1: a playlist is UTF-8, and so is each URI in it; 255 is no byte of such a text
+abbrev pub UrisAreText : Type 0
+UrisAreText = Gives uris_are_text (
+    (segment, true)
+    ∷ (record segment { uri = 255 ∷ [] }, false)
+    ∷ (record segment { keys = key (codes "a:k") ∷ [] }, true)
+    ∷ (record segment { keys = key (codes "a:k") ∷ key (255 ∷ []) ∷ [] }, false)
+    ∷ (record segment { init_section = Some (record { uri = 255 ∷ []; byte_range = None; keys = [] }) }, false)
+    ∷ (record segment { init_section = Some (record { uri = codes "a:i"; byte_range = None; keys = key (255 ∷ []) ∷ [] }) }, false) ∷ [])

@@ -6,7 +6,7 @@
 ghost use Rattle.served_examples.specs.Requests.{RoutesAreFound, BodiesAreFramed, MessagesAreLimited, RepliesAreWritten, HeadsAreSent, HeadRepliesAreWritten};
 ghost use Rattle.served_examples.specs.Answers.{ChannelsAreMade, RefreshesAreAnswered, PlaylistsAreRead, DecisionsAreAnswered, ReasonsAreAnswered, TablesAreLimited, ChannelsAreApart};
 ghost use Rattle.served_examples.specs.Clients.{ClientsAreLimited, PlacesAreGiven, RepliesAreGivenUpLast, RoomIsGiven, BytesAreHeld, RepliesAreLeft, BytesAreTaken, VisitsAreCounted, WordsAreSaid, TakenIsCounted, PiecesAreJoined};
-ghost use Rattle.served_examples.specs.Runs.{ReadsAreLimited, FilesAreTold, FilesAreGiven, BytesAreTold};
+ghost use Rattle.served_examples.specs.Runs.{ReadsAreLimited, FilesAreTold, FilesAreGiven, BytesAreTold, UrisAreText};
 
 /// What a request names, the length of its body, and how a reply is written.
 pub fn requests_have_their_values()
@@ -50,4 +50,5 @@ pub fn runs_have_their_values()
     ensures files_are_told { FilesAreTold }
     ensures files_are_given { FilesAreGiven }
     ensures bytes_are_told { BytesAreTold }
+    ensures uris_are_text { UrisAreText }
 {}

@@ -10,7 +10,7 @@ use Rattle.break_finder.specs.declared.signal.Signal.TheVariants.{Nothing, Leave
 use Rattle.break_finder.specs.declared.why.Why.{Why}
 use Rattle.break_finder.specs.declared.why.Why.TheVariants.{Filled, NotKnown, NoStart, NotSignalled, NotDecided, DoesNotFit, Waiting}
 use Rattle.break_finder.specs.Signals.{signal_of, ticks_nanos}
-use Rattle.break_finder.specs.Breaks.{Break, End, at, closed, nothing_said, and_tag, end_of, is_before_end, is_not_past, is_near, is_signalled}
+use Rattle.break_finder.specs.Breaks.{Break, End, at, closed, and_tag, end_of, is_before_end, is_not_past, is_near, is_signalled}
 use Rattle.break_finder.specs.Known.{Accepted, known}
 use Rattle.break_finder.specs.Entering.{EntryLimits, entered, is_inside, why}
 use Rattle.worked_examples.specs.Tables.{Gives}
@@ -31,18 +31,21 @@ SignalsAreRead = Gives signal_of (
 abbrev pub TicksAreCounted : Type 0
 TicksAreCounted = Gives ticks_nanos ((0, 0) ∷ (1, 11111) ∷ (90000, 1000000000) ∷ (2700000, 30000000000) ∷ (8589934591, 95443717677777) ∷ [])
 
+abbrev pub nothing_said : Described
+nothing_said = record { start = None; end = None; duration = None; planned_duration = None; scte35_out = None; scte35_in = None }
+
 abbrev pub said_first : Described
 said_first = record { start = Some (pos 1); end = Some (pos 2); duration = Some 3; planned_duration = Some 4; scte35_out = Some (Leaves None); scte35_in = Some (Returns None) }
 
 abbrev pub later_tag : DateRange
-later_tag = record { id = codes "b"; start = Some (pos 11); end = Some (pos 12); duration = Some 13; planned_duration = Some 14; scte35_out = Some (codes "0xF"); scte35_in = Some (codes "0xF"); attributes = [] }
+later_tag = record { id = codes "b"; start = Some (pos 11); end = Some (pos 12); duration = Some 13; planned_duration = Some 14; scte35_out = Some (codes "0xF"); scte35_in = Some (codes "0xFC301B00000000000000FFF00A05000000017F5F00010000000000000000"); attributes = [] }
 
 -- RFC 8216, 4.3.2.7: tags of one ID are of one date range, whose attributes say the same; the first value of each one stands
 abbrev pub FirstValuesStand : Type 0
 FirstValuesStand = Gives (λ said. and_tag said later_tag) (
     (said_first, said_first)
-    ∷ (nothing_said, record { start = Some (pos 11); end = Some (pos 12); duration = Some 13; planned_duration = Some 14; scte35_out = Some Nothing; scte35_in = Some Nothing })
-    ∷ (record nothing_said { duration = Some 3 }, record { start = Some (pos 11); end = Some (pos 12); duration = Some 3; planned_duration = Some 14; scte35_out = Some Nothing; scte35_in = Some Nothing }) ∷ [])
+    ∷ (nothing_said, record { start = Some (pos 11); end = Some (pos 12); duration = Some 13; planned_duration = Some 14; scte35_out = Some Nothing; scte35_in = Some (Returns None) })
+    ∷ (record nothing_said { duration = Some 3 }, record { start = Some (pos 11); end = Some (pos 12); duration = Some 3; planned_duration = Some 14; scte35_out = Some Nothing; scte35_in = Some (Returns None) }) ∷ [])
 
 abbrev pub ends : Described → Option End
 ends said = end_of said 50

@@ -1,5 +1,5 @@
 -- Which playlist may follow which, and what a channel owes after decisions and refreshes.
-use Rattle.std.specs.Prelude.{ℕ, zero, suc, ◌+◌, ◌*◌, ◌==◌, Bool, true, false, List, [], ◌∷◌, ◌++◌, map, codes, ℤ, pos, Option, Some, None, option_map, if◌then◌else◌}
+use Rattle.std.specs.Prelude.{ℕ, zero, suc, length, ◌+◌, ◌*◌, ◌==◌, Bool, true, false, List, [], ◌∷◌, ◌++◌, map, codes, ℤ, pos, Option, Some, None, option_map, if◌then◌else◌}
 use Rattle.playlist_model.specs.declared.Segment.{Segment}
 use Rattle.playlist_model.specs.declared.Playlist.{Playlist}
 use Rattle.playlist_model.specs.declared.PlaylistKind.TheVariants.{Event, Vod}
@@ -13,6 +13,8 @@ use Rattle.channel_spec.specs.Limits.{default_tolerance, max_tolerance}
 use Rattle.channel_spec.specs.Live as live
 use Rattle.channel_spec.specs.Live.{decided, refreshed, told, last_playlist, refusal, owed_for}
 use Rattle.channel_spec.specs.Successor.{successor_fault}
+use Rattle.channel_spec.specs.Kept.{Kept, kept_of}
+use Rattle.stitcher.specs.Paced.{Rest}
 use Rattle.worked_examples.specs.Playlists.{identity, under_key_1}
 use Rattle.worked_examples.specs.Tables.{Gives}
 
@@ -196,9 +198,30 @@ abbrev pub PodsAreKept : Type 0
 PodsAreKept = Gives stored (
     (decide_b ∷ [], (codes "b", false) ∷ [])
     ∷ (window (b ∷ []) 0 2 ∷ decide_b ∷ [], (codes "b", true) ∷ [])
+    ∷ (decided (Withdraw (codes "b")) ∷ window (b ∷ []) 0 2 ∷ decide_b ∷ [], (codes "b", true) ∷ [])
     ∷ (window (lasting 10 b ∷ []) 3 2 ∷ window (lasting 10 b ∷ []) 0 3 ∷ decide_b ∷ [], (codes "b", true) ∷ [])
     ∷ (window (lasting 10 b ∷ lasting 10 (tag (codes "c") 20) ∷ []) 2 2 ∷ window (lasting 10 b ∷ lasting 10 (tag (codes "c") 20) ∷ []) 0 2 ∷ decide (codes "c") (2000 ∷ []) ∷ decide_b ∷ [], (codes "b", true) ∷ (codes "c", true) ∷ [])
     ∷ (window (lasting 10 b ∷ lasting 10 (tag (codes "c") 20) ∷ []) 3 2 ∷ window (lasting 10 b ∷ lasting 10 (tag (codes "c") 20) ∷ []) 2 2 ∷ window (lasting 10 b ∷ lasting 10 (tag (codes "c") 20) ∷ []) 0 2 ∷ decide (codes "c") (2000 ∷ []) ∷ decide_b ∷ [], (codes "c", true) ∷ []) ∷ [])
+
+abbrev pub place_of : Rest → ℕ
+place_of rest = rest.place
+
+abbrev pub kept_briefly : Kept → Option (List ℕ) × List ℕ × ℕ × Option ℕ × ℕ
+kept_briefly kept = (kept.entered, kept.numbers.media_sequence ∷ kept.numbers.discontinuity_sequence ∷ kept.numbers.discontinuities ∷ [], kept.so_far, option_map place_of kept.rest, length kept.shown)
+
+-- the last break entered, the numbers of the window's first item, how long the newest run has lasted, the place in the pod that the
+-- window starts with, and how many segments are shown
+abbrev pub kept : List live.Event → Option (List ℕ) × List ℕ × ℕ × Option ℕ × ℕ
+kept events = kept_briefly (kept_of (told 100000000 events))
+
+-- docs/ARCHITECTURE.md, "What a channel keeps": of a run's length at most a nanosecond more than its pod counts
+abbrev pub StatesAreKept : Type 0
+StatesAreKept = Gives kept (
+    ([], (None, 0 ∷ 0 ∷ 0 ∷ [], 0, None, 0))
+    ∷ (window (b ∷ []) 0 2 ∷ decide_b ∷ [], (Some (codes "b"), 0 ∷ 5 ∷ 0 ∷ [], 10000000000, None, 2))
+    ∷ (window (b ∷ []) 1 2 ∷ window (b ∷ []) 0 2 ∷ decide_b ∷ [], (Some (codes "b"), 1 ∷ 6 ∷ 1 ∷ [], 20000000000, None, 2))
+    ∷ (window (b ∷ []) 0 4 ∷ decide (codes "b") (1000 ∷ []) ∷ [], (Some (codes "b"), 0 ∷ 5 ∷ 0 ∷ [], 10000000001, None, 4))
+    ∷ (window (lasting 10 b ∷ []) 2 2 ∷ window (lasting 10 b ∷ []) 0 2 ∷ decide_b ∷ [], (Some (codes "b"), 2 ∷ 6 ∷ 0 ∷ [], 0, Some 1, 2)) ∷ [])
 
 abbrev pub refused : List live.Event × Playlist → Option RefreshFault
 refused it = refusal 100000000 (told 100000000 it.0) it.1

@@ -9,12 +9,32 @@ use Rattle.pod_store.specs.declared.fault.DecisionFault.{DecisionFault}
 use Rattle.pod_store.specs.declared.fault.DecisionKind.{DecisionKind}
 use Rattle.pod_store.specs.declared.fault.DecisionKind.TheVariants as fault
 use Rattle.pod_store.specs.FaultTexts.{fault_text}
-use Rattle.pod_store.specs.Outcome.{Outcome, ◌>>=◌, fault_at, nowhere, in_break, in_ad, in_segment}
+use Rattle.pod_store.specs.declared.fault.Place.{Place}
+use Rattle.pod_store.specs.Outcome.{Outcome, ◌>>=◌}
 use Rattle.pod_store.specs.Pods.{PodSegment, Ad, Pod, Decision, is_id, is_uri, is_method, is_format, pod_fits, total}
 use Rattle.pod_store.specs.Rules.{ads_keep}
 use Rattle.pod_store.specs.Store.{Entry, Store, nothing_decided, decided, pod_for, fits, kept_in_use}
 use Rattle.decision_files.specs.Decided.{decisions_of, json_of, segments_said}
 use Rattle.worked_examples.specs.Tables.{Gives}
+
+-- ---- where a fault is
+
+abbrev pub nowhere : Place
+nowhere = record { pod = None; ad = None; segment = None }
+
+abbrev pub in_break : ℕ → Place
+in_break pod = record { pod = Some pod; ad = None; segment = None }
+
+abbrev pub in_ad : ℕ → ℕ → Place
+in_ad pod ad = record { pod = Some pod; ad = Some ad; segment = None }
+
+abbrev pub in_segment : ℕ → ℕ → ℕ → Place
+in_segment pod ad segment = record { pod = Some pod; ad = Some ad; segment = Some segment }
+
+abbrev pub fault_at : Place → DecisionKind → DecisionFault
+fault_at place kind = record { kind = kind; place = place }
+
+-- ---- pods
 
 -- docs/DECISION_FILES.md: an ID has 1 to 255 bytes, and neither a quote nor a control character
 abbrev pub IdsAreChecked : Type 0

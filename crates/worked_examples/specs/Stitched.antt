@@ -8,6 +8,7 @@ use Rattle.pod_store.specs.Pods.{Ad, Pod}
 use Rattle.pod_store.specs.Marks.{Mark, Marked}
 use Rattle.stitcher.specs.Stitched.{Piece, Item, pod_pieces, fits}
 use Rattle.stitcher.specs.Paced.{Rest, due, due_list, rest_pieces}
+use Rattle.stitcher.specs.StitchedSegments.{mark_in}
 use Rattle.stitcher.specs.Written.{written_item}
 use Rattle.stitcher.specs.KeyTags.{transition}
 use Rattle.stitcher.specs.declared.OutSegment.{OutSegment}
@@ -154,6 +155,13 @@ ItemsAreWritten = Gives written_item ((
       record { piece = of_second_ad; numbers = record { media_sequence = 8; discontinuity_sequence = 6; discontinuities = 1 } },
       record { segment = record of_second_ad.segment { media_sequence = 8; discontinuity_sequence = 6; discontinuities = 1 }; media_sequence = 8; discontinuity_sequence = 6; discontinuities = 1; program_date_time = None },
     ) ∷ [])
+
+-- the mark of a break is the break with the pod that it has in the store
+abbrev pub MarksAreFound : Type 0
+MarksAreFound = Gives (mark_in (record pods.ab { fallback = Some (pods.short 9) })) (
+    (None, None)
+    ∷ (Some (codes "a"), Some (record { id = codes "a"; pod = pods.short 1 }))
+    ∷ (Some (codes "z"), Some (record { id = codes "z"; pod = pods.short 9 })) ∷ [])
 
 -- ---- key tags
 

@@ -9,9 +9,9 @@ ghost use Rattle.worked_examples.specs.Playlists.{WholePlaylistIsRead, TagsArePl
 ghost use Rattle.worked_examples.specs.Splices.{SplicesAreRead};
 ghost use Rattle.worked_examples.specs.Breaks.{SignalsAreRead, TicksAreCounted, FirstValuesStand, BreaksEnd, BreaksAreSignalled, StartsAreNear, EndsAreNear, ClosedBreaksCanBeEntered, BreaksAreKnown, BreaksAreEntered, BreaksGoOn, ReasonsAreTold};
 ghost use Rattle.worked_examples.specs.Pods.{IdsAreChecked, UrisAreChecked, MethodsAreChecked, FormatsAreChecked, PodsAreSummed, PodsFit, MappedPodsFit, RulesAreKept, DecisionsAreTaken, StoreIsLimited, PodsAreFound, OwnPodsFit, UsedPodsStay, FilesAreRead, BreaksAreChecked, AdsAreChecked, SegmentsAreCounted, FaultsOfFilesAreTold};
-ghost use Rattle.worked_examples.specs.Stitched.{PodsStandInOrder, RestsAreLeft, RunsAreReplaced, PodsKeepPace, NumbersFit, ItemsAreWritten, KeysChange};
+ghost use Rattle.worked_examples.specs.Stitched.{PodsStandInOrder, RestsAreLeft, RunsAreReplaced, PodsKeepPace, NumbersFit, ItemsAreWritten, MarksAreFound, KeysChange};
 ghost use Rattle.worked_examples.specs.Written.{LinesAreSpelled, PlaylistsAreWritten};
-ghost use Rattle.worked_examples.specs.Channels.{PlaylistsFollow, TypesStay, SegmentsStay, DiscontinuitiesFollow, EndedStays, TolerancesAreStated, BreaksAreFilled, WindowsGoOn, HeadersAreOwed, PodsAreKept, LastNumbersAreRefused};
+ghost use Rattle.worked_examples.specs.Channels.{PlaylistsFollow, TypesStay, SegmentsStay, DiscontinuitiesFollow, EndedStays, TolerancesAreStated, BreaksAreFilled, WindowsGoOn, HeadersAreOwed, PodsAreKept, StatesAreKept, LastNumbersAreRefused};
 
 /// Durations, attribute lists, numbers and times.
 pub fn texts_have_their_values()
@@ -110,6 +110,7 @@ pub fn stitched_have_their_values()
     ensures pods_keep_pace { PodsKeepPace }
     ensures numbers_fit { NumbersFit }
     ensures items_are_written { ItemsAreWritten }
+    ensures marks_are_found { MarksAreFound }
     ensures keys_change { KeysChange }
 {}
 
@@ -131,5 +132,6 @@ pub fn channels_have_their_values()
     ensures windows_go_on { WindowsGoOn }
     ensures headers_are_owed { HeadersAreOwed }
     ensures pods_are_kept { PodsAreKept }
+    ensures states_are_kept { StatesAreKept }
     ensures last_numbers_are_refused { LastNumbersAreRefused }
 {}

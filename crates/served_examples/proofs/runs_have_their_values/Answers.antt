@@ -17,3 +17,7 @@ returns-clause-files_are_given c = refl
 pub returns-clause-bytes_are_told : goal.returns-clause-bytes_are_told
 unfolding on_literals
 returns-clause-bytes_are_told c = refl
+
+pub returns-clause-uris_are_text : goal.returns-clause-uris_are_text
+unfolding on_literals
+returns-clause-uris_are_text c = refl

@@ -42,6 +42,10 @@ pub returns-clause-pods_are_kept : goal.returns-clause-pods_are_kept
 unfolding on_literals
 returns-clause-pods_are_kept c = refl
 
+pub returns-clause-states_are_kept : goal.returns-clause-states_are_kept
+unfolding on_literals
+returns-clause-states_are_kept c = refl
+
 pub returns-clause-last_numbers_are_refused : goal.returns-clause-last_numbers_are_refused
 unfolding on_literals
 returns-clause-last_numbers_are_refused c = refl

@@ -26,6 +26,10 @@ pub returns-clause-items_are_written : goal.returns-clause-items_are_written
 unfolding on_literals
 returns-clause-items_are_written c = refl
 
+pub returns-clause-marks_are_found : goal.returns-clause-marks_are_found
+unfolding on_literals
+returns-clause-marks_are_found c = refl
+
 pub returns-clause-keys_change : goal.returns-clause-keys_change
 unfolding on_literals
 returns-clause-keys_change c = refl
