@@ -11,7 +11,7 @@ use Rattle.channel_spec.specs.declared.fault.RefreshFault.{RefreshFault}
 use Rattle.channel_spec.specs.declared.fault.RefreshFault.TheVariants.{VersionChanged, TargetChanged, TypeChanged, MapsChanged, Back, Gap, Shrunk, Changed, Ended, NumberRange}
 use Rattle.channel_spec.specs.Limits.{default_tolerance, max_tolerance}
 use Rattle.channel_spec.specs.Live as live
-use Rattle.channel_spec.specs.Live.{decided, refreshed, told, last_playlist, refusal, owed_for}
+use Rattle.channel_spec.specs.Live.{decided, refreshed, told, refusal}
 use Rattle.channel_spec.specs.Successor.{successor_fault}
 use Rattle.channel_spec.specs.Kept.{Kept, kept_of}
 use Rattle.stitcher.specs.Paced.{Rest}
@@ -133,7 +133,7 @@ abbrev pub window : List DateRange → ℕ → ℕ → live.Event
 window date_ranges n count = refreshed (plays date_ranges (segments n count))
 
 abbrev pub owed : List live.Event → Option Playlist
-owed events = option_map (owed_for (told 100000000 events)) (last_playlist (told 100000000 events).accepted)
+owed events = live.owed (told 100000000 events)
 
 -- a segment in short: URI, media number, discontinuity number, steps
 abbrev pub brief : Segment → List ℕ
