@@ -11,29 +11,36 @@ use Rattle.http_messages.specs.Requests.{Field, framing_of}
 use Rattle.http_messages.specs.Replies.{bare, plain, refusal_reply, sends_body, text_sent}
 use Rattle.channel_api.specs.declared.routes.Resource.{Resource}
 use Rattle.channel_api.specs.declared.routes.Resource.TheVariants.{Channel, Origin, Decisions, Live, Why}
-use Rattle.channel_api.specs.Routes.{path_of, route_of}
+use Rattle.channel_api.specs.Routes.{is_channel_name, path_of, route_of}
 use Rattle.worked_examples.specs.Tables.{Gives}
 
--- docs/OPERATING.md: the routes; a name is 1 to 32 of a to z, 0 to 9 and `-`; a query is passed over
+-- docs/OPERATING.md: a name is 1 to 32 of a to z, 0 to 9 and `-`
+abbrev pub NamesAreChecked : Type 0
+NamesAreChecked = Gives is_channel_name (
+    (codes "news-1", true)
+    ∷ (replicate 32 97, true)
+    ∷ (replicate 33 97, false)
+    ∷ ([], false)
+    ∷ (codes "News", false)
+    ∷ (codes "n_1", false)
+    ∷ (codes "n/1", false) ∷ [])
+
+-- RFC 3986, 3.4: a query begins at the first question mark, and is passed over
+abbrev pub QueriesArePassedOver : Type 0
+QueriesArePassedOver = Gives path_of ((codes "/a?b?c", codes "/a") ∷ (codes "/a", codes "/a") ∷ (codes "?", []) ∷ [])
+
+-- docs/OPERATING.md: the routes
 abbrev pub RoutesAreFound : Type 0
-RoutesAreFound = Gives (λ target. route_of (path_of target)) (
-    (codes "/channels/news", Some (codes "news", Channel))
-    ∷ (codes "/channels/n-1/origin", Some (codes "n-1", Origin))
-    ∷ (codes "/channels/news/decisions", Some (codes "news", Decisions))
-    ∷ (codes "/channels/news/live.m3u8", Some (codes "news", Live))
-    ∷ (codes "/channels/news/live.m3u8?a=b?c", Some (codes "news", Live))
-    ∷ (codes "/channels/news/why", Some (codes "news", Why))
-    ∷ (codes "/channels/" ++ replicate 32 97, Some (replicate 32 97, Channel))
-    ∷ (codes "/channels/" ++ replicate 33 97, None)
-    ∷ (codes "/channels/News", None)
-    ∷ (codes "/channels/n_1", None)
-    ∷ (codes "/channels/", None)
-    ∷ (codes "/channels//origin", None)
-    ∷ (codes "/channels/news/", None)
-    ∷ (codes "/channels/news/live", None)
-    ∷ (codes "/channels/news/live.m3u8/a", None)
-    ∷ (codes "http://h/channels/news", None)
-    ∷ (codes "/", None) ∷ [])
+RoutesAreFound = Gives route_of (
+    (codes "/channels/a", Some (codes "a", Channel))
+    ∷ (codes "/channels/a/origin", Some (codes "a", Origin))
+    ∷ (codes "/channels/a/decisions", Some (codes "a", Decisions))
+    ∷ (codes "/channels/a/live.m3u8", Some (codes "a", Live))
+    ∷ (codes "/channels/a/why", Some (codes "a", Why)) ∷ [])
+
+abbrev pub OtherPathsAreNone : Type 0
+OtherPathsAreNone = Gives route_of (
+    (codes "/channels/A", None) ∷ (codes "/channels/", None) ∷ (codes "/channels/a/", None) ∷ (codes "/channels/a/live", None) ∷ (codes "/a", None) ∷ (codes "/", None) ∷ [])
 
 abbrev pub framing : List ℕ × List Field → Framing
 framing it = framing_of it.0 it.1

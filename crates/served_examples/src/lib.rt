@@ -3,14 +3,17 @@
 //! stands above it; no code is named. Each function's contract is its tables; calling it does nothing.
 #![tactic(auto)]
 
-ghost use Rattle.served_examples.specs.Requests.{RoutesAreFound, BodiesAreFramed, MessagesAreLimited, RepliesAreWritten, HeadsAreSent, HeadRepliesAreWritten};
+ghost use Rattle.served_examples.specs.Requests.{NamesAreChecked, QueriesArePassedOver, RoutesAreFound, OtherPathsAreNone, BodiesAreFramed, MessagesAreLimited, RepliesAreWritten, HeadsAreSent, HeadRepliesAreWritten};
 ghost use Rattle.served_examples.specs.Answers.{ChannelsAreMade, RefreshesAreAnswered, PlaylistsAreRead, DecisionsAreAnswered, ReasonsAreAnswered, TablesAreLimited, ChannelsAreApart};
 ghost use Rattle.served_examples.specs.Clients.{ClientsAreLimited, PlacesAreGiven, RepliesAreGivenUpLast, RoomIsGiven, BytesAreHeld, RepliesAreLeft, BytesAreTaken, VisitsAreCounted, WordsAreSaid, TakenIsCounted, PiecesAreJoined};
 ghost use Rattle.served_examples.specs.Runs.{ReadsAreLimited, FilesAreTold, FilesAreGiven, BytesAreTold, UrisAreText};
 
 /// What a request names, the length of its body, and how a reply is written.
 pub fn requests_have_their_values()
+    ensures names_are_checked { NamesAreChecked }
+    ensures queries_are_passed_over { QueriesArePassedOver }
     ensures routes_are_found { RoutesAreFound }
+    ensures other_paths_are_none { OtherPathsAreNone }
     ensures bodies_are_framed { BodiesAreFramed }
     ensures messages_are_limited { MessagesAreLimited }
     ensures replies_are_written { RepliesAreWritten }
