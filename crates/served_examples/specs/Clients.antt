@@ -1,8 +1,7 @@
 -- Many clients at once: who is given up for whom, what was said and taken, and the limits.
-use Rattle.std.specs.Prelude.{ℕ, List, [], ◌∷◌, codes, Option, Some, None}
+use Rattle.std.specs.Prelude.{ℕ, List, [], ◌∷◌, codes, Some, None}
 use Rattle.std.specs.declared.time.Instant.{Instant}
 use Rattle.connections.specs.declared.arrivals.Arrival.{Arrival}
-use Rattle.connections.specs.declared.conversation.Conversation.{Conversation}
 use Rattle.connections.specs.declared.conversation.Conversation.TheVariants.{Asking, Answering}
 use Rattle.connections.specs.Arrivals.{gives_place, gives_room}
 use Rattle.connections.specs.Limits.{most_held, place_count, serving_nanos, ending_nanos}
