@@ -8,11 +8,10 @@ ghost use Rattle.break_finder.specs.Kept.{break_at};
 ghost use Rattle.break_finder.specs.Entering.{EntryLimits, entered};
 ghost use Rattle.break_finder.specs.Entrances.{entrances_in, taken, Tells};
 
-use crate::described::Described;
 use crate::entrance::{Entrance, entrance_of, first_entered};
+use crate::kept::Breaks;
 use crate::spans::{TimeSpan, place_of, span_at, spans_of};
 use fixed_duration::Nanos;
-use indexmap::IndexMap;
 use playlist_model::Instant;
 use pod_store::PodStore;
 use std::alloc::{AllocError, Global};
@@ -65,7 +64,7 @@ fn listed<'a>(
     target: u64,
     mapped: bool,
     store: &PodStore,
-    breaks: &'a IndexMap<String, Described>,
+    breaks: &'a Breaks,
 ) -> Result<Vec<Entrance<'a>>, AllocError>
     ensures { IfOk result (λ v. v.items ≡ entrances_in target mapped store.now (map break_at breaks.now.entries)) }
 {
@@ -85,7 +84,7 @@ pub fn entrances_of<'a>(
     target: u64,
     mapped: bool,
     store: &PodStore,
-    breaks: &'a IndexMap<String, Described>,
+    breaks: &'a Breaks,
     segments: usize,
 ) -> Result<Entrances<'a>, AllocError>
     ensures { IfOk result (λ found. found ≡ record { tolerance = tolerance; found = entrances_in target mapped store.now (map break_at breaks.now.entries) }) }

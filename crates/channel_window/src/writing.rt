@@ -2,9 +2,8 @@
 ghost use Rattle.std.specs.Prelude.{◌≡◌, ◌<◌, ◌≤◌, ◌+◌, ◌-◌, ◌^◌, ◌||◌, ◌∷◌, ℕ, List, IfOk, IfErr, OnOk, None, drop, filter, length, map, min, nat_lt, not, bytes_eq, reverse, false, true};
 ghost use Rattle.std.specs.List.{list_all, list_any};
 ghost use Rattle.stitcher.specs.Stitched.{fits};
-ghost use Rattle.pod_store.specs.Store.{Store, is_one_of, pod_for};
+ghost use Rattle.pod_store.specs.Store.{Store, pod_for};
 ghost use Rattle.playlist_model.specs.declared.DateRange.{DateRange};
-ghost use Rattle.break_finder.specs.Inner.Kept.{has_text};
 ghost use Rattle.stitcher.specs.StitchedSegments.{AreDecided, ends_in, item_fits, rest_in, stitched_segments};
 ghost use Rattle.stitcher.specs.Written.{written_item};
 ghost use Rattle.channel_spec.specs.Kept.{items_on, numbers_on, rest_after, rest_on, start_on, stitched_on, window_on};
@@ -25,10 +24,10 @@ use crate::state::ChannelState;
 use crate::successor::first_number;
 use channel_spec::RefreshFault;
 use fixed_duration::Nanos;
-use indexmap::IndexSet;
 use playlist_model::{DateRange, Playlist, Segment, Shared, Text};
-use pod_store::PodStore;
+use pod_store::{IdSet, PodStore};
 use std::alloc::{AllocError, Global};
+use std::hash::RandomState;
 use stitcher::{Ends, MarkedSegment, Numbers, Rest, StitchFault, StitchedList, TextRef, stitch_at};
 
 // The stitched list of these segments between these ends, whose first item has these numbers.
@@ -334,45 +333,18 @@ fn numbers_on(
     }
 }
 
-// Adds an ID to a set.
-fn add_id<'a>(set: &mut IndexSet<&'a str>, id: &'a Text) -> Result<(), AllocError>
-    ensures { OnOk result ((other : List ℕ) → has_text set.new.keys other ≡ (has_text set.old.keys other || bytes_eq other id.now)) }
-{
-    set.insert(id.as_str())?;
-    Ok(())
-}
-
-// These IDs as a set.
-fn set_of<'a>(alloc: Global, ids: &'a [Shared<Text>]) -> Result<IndexSet<&'a str>, AllocError>
-    ensures { IfOk result (λ set. (id : List ℕ) → has_text set.keys id ≡ is_one_of ids.now id) }
-{
-    let mut set: IndexSet<&str> = IndexSet::new(alloc);
-    let mut rest = ids;
-    while let Some((id, later)) = rest.split_first() {
-        add_id(&mut set, id)?;
-        rest = later;
-    }
-    Ok(set)
-}
-
-fn has_id(set: &IndexSet<&str>, id: &Text) -> bool
-    ensures { result ≡ has_text set.now.keys id.now }
-{
-    set.contains(id.as_str())
-}
-
 // The texts of the date ranges of other breaks, where they stand.
 fn texts_left<'a>(
     alloc: Global,
-    set: &IndexSet<&str>,
+    set: &IdSet<'_>,
     date_ranges: &'a [DateRange],
 ) -> Result<Vec<TextRef<'a>>, AllocError>
-    ensures { IfOk result (λ v. v.items ≡ texts_left set.now.keys date_ranges.now) }
+    ensures { IfOk result (λ v. v.items ≡ texts_left set.now date_ranges.now) }
 {
     let mut texts = Vec::new(alloc);
     let mut rest = date_ranges;
     while let Some((date_range, later)) = rest.split_first() {
-        if !has_id(set, &date_range.id) {
+        if !set.contains(date_range.id.as_str()) {
             texts.push(TextRef::new(&date_range.attributes))?;
         }
         rest = later;
@@ -380,10 +352,11 @@ fn texts_left<'a>(
     Ok(texts)
 }
 
-#[tactic(auto, using(crate::proofs::Ranges::left_alike))]
-/// The texts of the date ranges that are written: none of these breaks, and none at all where no item states a time.
+/// The texts of those of `date_ranges` that are written: none of the breaks `ids`, and none at all if none of `items` states a
+/// time. `hashing`: the keys for a table of the IDs.
 pub fn date_ranges_left<'a>(
     alloc: Global,
+    hashing: RandomState,
     items: &StitchedList<'_>,
     ids: &[Shared<Text>],
     date_ranges: &'a [DateRange],
@@ -393,6 +366,6 @@ pub fn date_ranges_left<'a>(
     if !is_any_timed(items) {
         return Ok(Vec::new(alloc));
     }
-    let set = set_of(alloc, ids)?;
+    let set = IdSet::of(alloc, hashing, ids)?;
     texts_left(alloc, &set, date_ranges)
 }

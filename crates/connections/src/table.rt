@@ -15,6 +15,7 @@ use crate::seats::{Seat, all_seats};
 use http_edge::{Edge, EdgeFault};
 use http_messages::Arriving;
 use std::alloc::{AllocError, Global};
+use std::hash::RandomState;
 use std::marker::Model;
 
 /// The most bytes of requests that aren't whole, over all connections.
@@ -95,13 +96,13 @@ impl Connections {
     }
 
     /// A new edge, which stands for no request, with no connection yet: all that come are served over this one. A client's
-    /// device is a `T`, since no other seat is made. Fails only where an allocation fails.
-    pub fn over_new_edge<T>(alloc: Global) -> Result<Opened<T>, AllocError>
+    /// device is a `T`, since no other seat is made. `hashing`: the keys for each channel's tables of IDs. Fails only where an allocation fails.
+    pub fn over_new_edge<T>(alloc: Global, hashing: RandomState) -> Result<Opened<T>, AllocError>
         ensures edge { IfOk result (λ new. RepresentsRequests new.connections.edge []) }
         ensures vacant { IfOk result (λ new. new.connections.places ≡ replicate place_count None) }
         ensures seats { IfOk result (λ new. new.seats.items ≡ places_below place_count) }
     {
-        let edge = Edge::new(alloc)?;
+        let edge = Edge::new(alloc, hashing)?;
         Ok(Opened {
             connections: Connections::new(alloc, edge)?,
             seats: all_seats(alloc)?,

@@ -17,6 +17,7 @@ use http_messages::{Allow, Reply, Request};
 use indexmap::IndexMap;
 use live_channel::Channel;
 use std::alloc::{AllocError, Global};
+use std::hash::RandomState;
 use std::marker::Model;
 
 /// The most channels.
@@ -26,6 +27,8 @@ pub const MAX_CHANNELS: usize = 64;
 #[derive(Drop)]
 pub struct Channels {
     alloc: Global,
+    // The keys for each channel's tables of IDs.
+    hashing: RandomState,
     by_name: IndexMap<String, Channel>,
 }
 
@@ -45,12 +48,13 @@ fn is_method(request: &Request, name: &str) -> bool
 }
 
 impl Channels {
-    /// No channels.
-    pub fn new(alloc: Global) -> Channels
+    /// No channels. `hashing`: the keys for each channel's tables of IDs.
+    pub fn new(alloc: Global, hashing: RandomState) -> Channels
         ensures { result ≡ [] }
     {
         Channels {
             alloc,
+            hashing,
             by_name: IndexMap::new(alloc),
         }
     }
@@ -129,7 +133,7 @@ impl Channels {
             Ok(wanted) => wanted,
             Err(fault) => return body_fault_reply(alloc, fault),
         };
-        match Channel::new(alloc, wanted.base.as_str(), wanted.tolerance) {
+        match Channel::new(alloc, self.hashing, wanted.base.as_str(), wanted.tolerance) {
             Ok(channel) => self.add(name, channel),
             Err(fault) => channel_fault_reply(alloc, fault),
         }

@@ -8,6 +8,7 @@ use channel_api::{Routes, not_found};
 use http::StatusCode;
 use http_messages::{Reply, Request};
 use std::alloc::{AllocError, Global};
+use std::hash::RandomState;
 use std::marker::Model;
 
 /// Channels over HTTP. By its type an edge stands for some list of requests.
@@ -30,8 +31,9 @@ impl Model for Edge {
 }
 
 impl Edge {
-    /// An edge without channels: it stands for no request. Fails only where an allocation fails.
-    pub fn new(alloc: Global) -> Result<Edge, AllocError>
+    /// An edge without channels: it stands for no request. `hashing`: the keys for each channel's tables of IDs. Fails only where
+    /// an allocation fails.
+    pub fn new(alloc: Global, hashing: RandomState) -> Result<Edge, AllocError>
         ensures { IfOk result (λ edge. RepresentsRequests edge []) }
     {
         let Ok(routes) = Routes::new(alloc) else {
@@ -40,7 +42,7 @@ impl Edge {
         Ok(Edge {
             alloc,
             routes,
-            channels: Channels::new(alloc),
+            channels: Channels::new(alloc, hashing),
         })
     }
 

@@ -23,6 +23,7 @@ use playlist_parse::{Read, Source};
 use playlist_write::resumed::WrittenText;
 use pod_store::{DecisionFault, PodStore};
 use std::alloc::{AllocError, Global};
+use std::hash::RandomState;
 use std::marker::Model;
 use stitcher::{MarkedSegment, Numbers};
 use uri_resolver::{Base, BaseFault};
@@ -85,8 +86,13 @@ fn why_after(knowledge: &Knowledge, store: &PodStore, last: &Playlist, id: &str)
 }
 
 impl Channel {
-    /// A channel that was given nothing.
-    pub fn new(alloc: Global, base: &str, tolerance: Nanos) -> Result<Channel, ChannelFault>
+    /// A channel that was given nothing. `hashing`: the keys for its tables of IDs, which strangers choose.
+    pub fn new(
+        alloc: Global,
+        hashing: RandomState,
+        base: &str,
+        tolerance: Nanos,
+    ) -> Result<Channel, ChannelFault>
         ensures ok { IfOk result (λ c. (base_of base.now ≡ Some c.base) × (c.tolerance ≡ tolerance) × (tolerance ≤ max_tolerance) × Represents c []) }
         ensures base { IsErrOf result ChannelFault.BadBase → base_of base.now ≡ None }
         ensures tolerance { IsErrOf result ChannelFault.BadTolerance → IsSome (base_of base.now) × (max_tolerance < tolerance) }
@@ -103,8 +109,8 @@ impl Channel {
             base,
             tolerance,
             state: ChannelState {
-                store: PodStore::new(alloc),
-                knowledge: Knowledge::new(alloc),
+                store: PodStore::new(alloc, hashing),
+                knowledge: Knowledge::new(alloc, hashing),
                 last: None,
                 shown: Items::from_vec(Vec::new(alloc)),
                 entered: None,
@@ -166,7 +172,7 @@ impl Channel {
         ensures answer { Decides self.old bytes.now result }
         ensures stands { StandsOn self.old (decided bytes.now) result self.new }
     {
-        let decisions = read_decisions(alloc, bytes)?;
+        let decisions = read_decisions(alloc, self.state.store.hashing(), bytes)?;
         know_pods(&decisions);
         self.state.store.decide(decisions)
     }

@@ -115,10 +115,19 @@ fn read_lines<'a>(
     requires plain { is_plain ≡ true → list_all is_free (map line_text lines) ≡ true }
     ensures { Answers result (and_whole (said_from (said_by limited base.now) (nothing ∷ []) (map line_text lines.entry))) }
 {
-    let mut reading = reading_of(alloc, base, lines);
-    match read_all(&mut reading, is_plain) {
-        Ok(()) => playlist_of(reading),
-        Err(fault) => Err(fault),
+    // (in variables of its own: a value behind a reference keeps none of its fields in registers)
+    let mut progress = Progress::new(alloc, base);
+    let mut lines = lines;
+    let mut number: u64 = 2;
+    while let Some(line) = lines.next() {
+        match progress.line(line.text, is_plain) {
+            Ok(()) => number += 1,
+            Err(kind) => return Err(fault_at(kind, number)),
+        }
+    }
+    match progress.playlist() {
+        Ok(playlist) => Ok(playlist),
+        Err(kind) => Err(fault_at(kind, 0)),
     }
 }
 

@@ -6,6 +6,7 @@ ghost use Rattle.stitcher.specs.StitchedSegments.{AreDecided};
 use playlist_model::{Items, Key, Members, OtherAttributes, Segment, Shared};
 use pod_store::PodStore;
 use std::alloc::{AllocError, Global};
+use std::hash::RandomState;
 use stitcher::{Ends, MarkedSegment, Numbers, StitchedList, stitch};
 use timeline::OptionalInstant;
 
@@ -43,10 +44,11 @@ pub(crate) fn unmarked(
 
 /// The stitched list of segments with no mark, whose first item has the media sequence number 7 and the discontinuity
 /// sequence number 3, after a discontinuity.
-pub(crate) fn listed(
+pub(crate) fn listed<'a>(
     alloc: Global,
-    marked: &[MarkedSegment],
-) -> Result<StitchedList<'_>, AllocError>
+    hashing: RandomState,
+    marked: &'a [MarkedSegment],
+) -> Result<StitchedList<'a>, AllocError>
     requires { AreDecided nothing_decided marked.now }
 {
     let first = Numbers {
@@ -58,7 +60,7 @@ pub(crate) fn listed(
         rest: None,
         so_far: None,
     };
-    match stitch(alloc, marked, &PodStore::new(alloc), first, &ends) {
+    match stitch(alloc, marked, &PodStore::new(alloc, hashing), first, &ends) {
         Ok(list) => Ok(list),
         Err(_) => Err(AllocError),
     }

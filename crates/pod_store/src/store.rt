@@ -1,20 +1,21 @@
 //! The store of decided breaks.
-ghost use Rattle.std.specs.Prelude.{◌≡◌, ℕ, ◌+◌, ◌==◌, ◌≤◌, ◌<◌, ◌^◌, map, filter, fold, length, option_map, is_some, true, false, OnOk, OnErr, IfOk, IfErr};
+ghost use Rattle.std.specs.Prelude.{◌≡◌, ℕ, List, ◌+◌, ◌==◌, ◌≤◌, ◌<◌, ◌^◌, map, filter, fold, length, option_map, is_some, true, false, OnOk, OnErr, IfOk, IfErr};
 ghost use Rattle.std.specs.List.{list_all, list_any};
 ghost use Rattle.std.specs.Option.{option_copied};
 ghost use Rattle.pod_store.specs.Pods.{section_fits, segment_fits, ad_fits, pod_fits};
-ghost use Rattle.pod_store.specs.Store.{nothing_decided, with_entries, names_used, put, without, entry_for, has_own, own_pod, pod_for, fits, is_empty, is_used, is_named, is_named_if_any, with_all, withdrawn, decided, held_in_use, with_used, with_copy, with_copies, adopted, kept_in_use, count_with, is_new_decision, Changes, ChangesExactly};
+ghost use Rattle.pod_store.specs.Store.{nothing_decided, with_entries, names_used, put, without, entry_for, has_own, own_pod, pod_for, is_one_of, fits, is_empty, is_used, is_named, is_named_if_any, with_all, withdrawn, decided, held_in_use, with_used, with_copy, with_copies, adopted, kept_in_use, count_with, is_new_decision, Changes, ChangesExactly};
 ghost use Rattle.pod_store.specs.Inner.Store.{GrowsBy};
 ghost use Rattle.pod_store.specs.Outcome.{no_memory};
 
 use crate::fault::{DecisionFault, DecisionKind, Place};
 use crate::kept::{
-    SharedDecision, StoredPod, copy, count_named, keep_in_use, kept_for, mark, put_all, remove,
+    Pods, SharedDecision, copy, count_named, keep_in_use, kept_for, mark, put_all, remove,
 };
-use crate::{Ad, Decision, Decisions, Pod, PodSegment};
+use crate::{Ad, Decision, Decisions, IdSet, Pod, PodSegment};
 use indexmap::IndexMap;
 use playlist_model::{InitSection, Shared, Text};
 use std::alloc::{AllocError, Global};
+use std::hash::RandomState;
 use std::marker::Model;
 
 /// How many breaks get their pods by decisions at most.
@@ -24,7 +25,7 @@ const MAX_PODS: usize = 256;
 /// has none of its own. A break that is entered with the fallback keeps a copy of it, whatever becomes of the fallback.
 #[derive(Drop)]
 pub struct PodStore {
-    kept: IndexMap<String, StoredPod>,
+    kept: Pods,
     fallback: Option<Shared<Pod>>,
     alloc: Global,
 }
@@ -87,15 +88,20 @@ fn shared(alloc: Global, decisions: Vec<Decision>) -> Result<Vec<SharedDecision>
 }
 
 impl PodStore {
-    /// No break is decided, and there is no fallback.
-    pub fn new(alloc: Global) -> PodStore
+    /// No break is decided, and there is no fallback. `hashing`: the keys of its table's hash.
+    pub fn new(alloc: Global, hashing: RandomState) -> PodStore
         ensures { result ≡ nothing_decided }
     {
         PodStore {
-            kept: IndexMap::new(alloc),
+            kept: IndexMap::with_hasher(alloc, hashing),
             fallback: None,
             alloc,
         }
+    }
+
+    /// The keys of its table's hash, for other tables of IDs.
+    pub fn hashing(&self) -> RandomState {
+        *self.kept.hasher()
     }
 
     /// Whether no break has a pod, and there is no fallback.
@@ -343,12 +349,14 @@ impl PodStore {
         }
     }
 
-    #[tactic(auto, using(crate::proofs::InUse::seen_in_use))]
-    // Drops the pods of the used breaks that are none of these, and marks those of the others that are these as used.
-    fn drop_others(&mut self, ids: &[Shared<Text>])
+    #[tactic(auto, using(crate::proofs::InUse::seen_alike))]
+    // Drops the pods of the used breaks that are none of these, and marks those of the others that are these as used. The set
+    // has the same IDs.
+    fn drop_others(&mut self, ids: &[Shared<Text>], set: &IdSet<'_>)
+        requires { (id : List ℕ) → is_one_of set.now id ≡ is_one_of ids.now id }
         ensures { self.new ≡ with_entries self.old (held_in_use ids.now self.old.entries) }
     {
-        keep_in_use(&mut self.kept, ids);
+        keep_in_use(&mut self.kept, set);
     }
 
     #[tactic(auto, using(crate::proofs::Copies::fallback_stands))]
@@ -359,8 +367,9 @@ impl PodStore {
         ensures ok { OnOk result (self.new ≡ kept_in_use ids.now self.old) }
         ensures err { OnErr result (self.new ≡ self.old) }
     {
+        let set = IdSet::of(self.alloc, *self.kept.hasher(), ids)?;
         self.copy_fallback(ids)?;
-        self.drop_others(ids);
+        self.drop_others(ids, &set);
         Ok(())
     }
 }

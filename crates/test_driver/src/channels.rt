@@ -4,6 +4,7 @@ use fixed_duration::Nanos;
 use http_edge::{refresh_fault_text, why_word};
 use live_channel::{Channel, ChannelFault, RefreshFault, Refreshed};
 use std::alloc::Global;
+use std::hash::RandomState;
 use std::io;
 use std::io::Print;
 
@@ -31,10 +32,10 @@ impl Channels {
     }
 }
 
-fn new_channel(alloc: Global, words: &str) -> Result<Channel, ChannelFault> {
+fn new_channel(alloc: Global, hashing: RandomState, words: &str) -> Result<Channel, ChannelFault> {
     let (tolerance, base) = words.split_once(' ').unwrap_or(("0", words));
     let tolerance = Nanos(tolerance.parse().unwrap_or(0));
-    Channel::new(alloc, base, tolerance)
+    Channel::new(alloc, hashing, base, tolerance)
 }
 
 // The line of a channel that can't be made.
@@ -50,10 +51,11 @@ fn channel_fault(fault: ChannelFault) -> &'static str {
 pub(crate) fn print_made(
     rt: &impl Print,
     alloc: Global,
+    hashing: RandomState,
     channels: &mut Channels,
     words: &str,
 ) -> io::Result<()> {
-    match new_channel(alloc, words) {
+    match new_channel(alloc, hashing, words) {
         Ok(channel) => {
             channels.back = 0;
             channels.made.push(channel)?;
