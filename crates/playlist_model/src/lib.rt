@@ -12,7 +12,6 @@ use fixed_duration::Nanos;
 use std::alloc::{AllocError, AllocFailed, Global};
 use std::marker::Model;
 
-mod base;
 mod fault;
 mod in_force;
 mod items;
@@ -22,8 +21,8 @@ mod member;
 mod other_attributes;
 mod same;
 mod short_text;
+mod uri;
 
-pub use base::{has_quote, has_scheme, same_resource};
 pub use date_times::{Instant, TimeFault, read_instant, write_instant};
 pub use fault::FaultText;
 pub use in_force::{KeyRef, Keys, KeysIter, is_iv_needed};
@@ -33,6 +32,7 @@ pub use member::{Member, Members};
 pub use other_attributes::OtherAttributes;
 pub use same::{is_same_key, is_same_section, same_segment};
 pub use short_text::ShortText;
+pub use uri::{has_quote, has_scheme, same_resource};
 
 /// Why a text is no playlist that can be read.
 #[derive(Clone, Copy, PartialEq, Eq, Debug)]
