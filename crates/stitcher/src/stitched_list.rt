@@ -8,7 +8,7 @@ ghost use Rattle.stitcher.specs.Stretches.{ad_item, here_items, kept_item, left_
 
 use crate::OutSegment;
 use crate::marked::{MarkedSegment, Numbers};
-use crate::played::SegmentRef;
+use crate::segment_ref::SegmentRef;
 use playlist_model::{Items, Segment};
 use std::alloc::AllocError;
 use std::marker::Model;
