@@ -2,7 +2,7 @@
 ghost use Rattle.std.specs.Prelude.{◌≡◌, ◌++◌, OnOk, string_bytes};
 ghost use Rattle.playlist_model.specs.Said as Said;
 ghost use Rattle.playlist_write.specs.Spelling.{type_text};
-ghost use Rattle.playlist_write.specs.Owed.{line_of, ended_date_range_line, said_text, numbers_owed, header_owed, type_owed, independent_owed, ended_owed, first_media_sequence, first_discontinuity, date_ranges_text};
+ghost use Rattle.playlist_write.specs.Owed.{line_of, ended_date_range_line, said_text, numbers_owed, header_owed, type_owed, independent_owed, ended_owed, first_media_sequence, stated_discontinuity_sequence, date_ranges_text};
 ghost use Rattle.fixed_duration.specs.Appended.{Appends};
 
 use crate::OutPlaylist;
@@ -20,8 +20,8 @@ fn first_media_sequence(segments: &StitchedList<'_>) -> u64
     }
 }
 
-fn first_discontinuity(segments: &StitchedList<'_>) -> u64
-    ensures { result ≡ first_discontinuity segments.now }
+fn stated_discontinuity_sequence(segments: &StitchedList<'_>) -> u64
+    ensures { result ≡ stated_discontinuity_sequence segments.now }
 {
     match segments.items().next() {
         Some(first) => first
@@ -90,7 +90,7 @@ fn push_numbers(out: &mut String, playlist: &OutPlaylist<'_>) -> Result<(), Allo
     push_version(out, playlist.version)?;
     push_target(out, playlist.target_duration)?;
     push_sequence(out, first_media_sequence(segments))?;
-    push_discontinuity_sequence(out, first_discontinuity(segments))
+    push_discontinuity_sequence(out, stated_discontinuity_sequence(segments))
 }
 
 #[tactic(auto, unfolding(crate::specs::Owed::line_of))]
