@@ -2,7 +2,7 @@
 
 ghost use Rattle.std.specs.Prelude.{◌≡◌, ◌+◌, ◌^◌, ◌<◌, ◌≤◌, length, IfOk};
 ghost use Rattle.scte35_codec.specs.Layout.{number};
-ghost use Rattle.scte35_codec.specs.Reading.{Gives, media_sequence_at, bytes_at, number_in, bit};
+ghost use Rattle.scte35_codec.specs.Reading.{Gives, number_at, bytes_at, number_in, bit};
 
 use crate::fault::SpliceFault;
 
@@ -40,7 +40,7 @@ pub fn bit(number: u64, place: u32) -> bool
 /// The number in the first `count` bytes, and the bytes after it.
 pub fn take_number(bytes: &[u8], count: usize) -> Result<(u64, &[u8]), SpliceFault>
     requires { count ≤ 8 }
-    ensures value { Gives (λ x. (x.0, x.1.now)) result (media_sequence_at count bytes.now) }
+    ensures value { Gives (λ x. (x.0, x.1.now)) result (number_at count bytes.now) }
     ensures below { IfOk result (λ x. x.0 < 256 ^ count) }
 {
     let (front, rest) = take_bytes(bytes, count)?;

@@ -8,7 +8,7 @@
 mod bits;
 mod crc;
 mod fault;
-mod fitting;
+mod limits;
 mod hexadecimal;
 mod info;
 pub mod laws;

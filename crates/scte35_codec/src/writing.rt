@@ -13,7 +13,7 @@ ghost use Rattle.scte35_codec.specs.declared.fault.SpliceFault.TheVariants.{OutO
 
 use crate::crc::crc_of;
 use crate::fault::SpliceFault;
-use crate::fitting::{command_len, has_section, section_length};
+use crate::limits::{command_len, has_section, section_length};
 use crate::info::{
     BreakDuration, InsertBody, SPLICE_INSERT, SpliceCommand, SpliceInfo, SpliceInsert,
     SpliceTarget, SpliceTime,
