@@ -78,7 +78,7 @@ impl<T> Model for Counted<T> {
 }
 
 impl<T> Counted<T> {
-    /// A device of which no call was counted yet.
+    /// The device `inner`, of which no call was counted yet.
     pub fn new(inner: T) -> Counted<T>
         ensures { result ≡ (inner, no_failures, 0) }
     {
