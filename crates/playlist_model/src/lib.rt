@@ -284,7 +284,7 @@ fn are_printable(bytes: &[u8]) -> bool
 }
 
 #[tactic(auto, using(crate::proofs::Printable::printable_has_no_control))]
-/// Whether a text holds a control character: U+0000 to U+001F or U+007F to U+009F.
+/// Whether `text` holds a control character (RFC 8216, section 4.1): U+0000 to U+001F or U+007F to U+009F.
 pub fn has_control(text: &str) -> bool
     ensures { result ≡ has_control text.now }
 {
@@ -295,7 +295,7 @@ pub fn has_control(text: &str) -> bool
     text.chars().any(char::is_control)
 }
 
-/// The text of these bytes.
+/// The text that `bytes` are. `NotUtf8` if they aren't UTF-8 (RFC 8216, section 4.1). Takes no memory.
 pub fn text_of(bytes: &[u8]) -> Result<&str, FaultKind>
     ensures { MatchResult result (λ text. IsTrue (is_utf8 bytes.now) × (text.now ≡ bytes.now)) (λ e. (is_utf8 bytes.now ≡ false) × (e ≡ FaultKind.NotUtf8)) }
 {

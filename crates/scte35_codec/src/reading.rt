@@ -292,11 +292,19 @@ fn section(alloc: Global, bytes: &[u8]) -> Result<SpliceInfo, SpliceFault>
     contents(alloc, bytes)
 }
 
-/// Reads a splice_info_section of ANSI/SCTE 35, all of the bytes.
+/// The splice_info_section (SCTE 35, section 9.6) that all of `bytes` are.
 ///
-/// The answer is the value whose layout the bytes have, where there is one, else the first fault in the
-/// order of [`SpliceFault`]. The CRC is not verified, and reserved bits are ignored. A fault that
-/// comes before `CommandLength` is told whatever memory there is.
+/// The answer is the value whose layout `bytes` have, if there is one, else the first fault in the order of
+/// [`SpliceFault`]. The CRC is not verified, and reserved bits are ignored. A fault that comes before `CommandLength`
+/// is answered whatever memory there is.
+///
+/// ```text
+/// let info = read(alloc, &bytes)?;
+/// match info.command {
+///     SpliceCommand::Insert(insert) => ..,    a splice_insert, taken apart
+///     SpliceCommand::Other { .. } => ..,      its type, and its bytes as they are
+/// }
+/// ```
 pub fn read(alloc: Global, bytes: &[u8]) -> Result<SpliceInfo, SpliceFault>
     // What is read is laid out so, field by field.
     ensures found { IfOk result (λ info. IsSection (section_of info) bytes.now) }
