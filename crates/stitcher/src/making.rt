@@ -133,7 +133,8 @@ fn unmarked_front(segments: &[MarkedSegment]) -> usize
     count
 }
 
-/// Whether both are marked, with one break: a segment of this mark goes on the run of one of that mark.
+/// Whether a segment of the mark `mark` goes on the run of the one before it, whose mark is `previous`: both have a
+/// mark, of one break.
 pub fn is_same_run(mark: &Option<Shared<Text>>, previous: &Option<Shared<Text>>) -> bool
     ensures { result ≡ is_same_run mark.now previous.now }
 {
@@ -510,10 +511,18 @@ impl<'a> Stitching<'a> {
     }
 }
 
-/// The stitched list of these segments between these ends, in the order of a playlist, whose first item has these numbers:
-/// the rest of a pod first, and each run of one mark replaced by the pod that the break has in the store, of which as much is
-/// shown as is due where the run is the last one and open. `NumberRange` exactly where a number would pass 2^64 - 1, a failed
-/// allocation apart.
+/// The items of the `marked` segments, in the order of a playlist, the first item with the numbers `first`. A rest of
+/// a pod, as `ends` names it, comes first. Each run of one mark is replaced by the pod that its break has in `store`,
+/// or by its due prefix if `ends` says that the last run is open.
+///
+/// `NumberRange` exactly if a number would pass 2^64 - 1 (RFC 8216, sections 4.3.3.2 and 4.3.3.3); `OutOfMemory` only
+/// if an allocation fails.
+///
+/// ```text
+/// the segments, with their marks:     s0    s1 of b1    s2 of b1    s3
+/// the pod of b1 in the store:         one ad, of a0 and a1
+/// the items, numbered from `first`:   s0    a0    a1    s3
+/// ```
 pub fn stitch<'a>(
     alloc: Global,
     marked: &'a [MarkedSegment],
@@ -528,7 +537,9 @@ pub fn stitch<'a>(
     stitch_at(alloc, marked, 0, store, first, ends)
 }
 
-/// The same, in which a stretch ends where so many segments are put: its items from there on are found at once.
+/// The items of the `marked` segments as `stitch` gives them, of `store`, `first` and `ends`, with the same faults. A
+/// stretch of items ends before the segment at the place `cut` of `marked`, from 0, so that the items from there on
+/// are found at once.
 pub fn stitch_at<'a>(
     alloc: Global,
     marked: &'a [MarkedSegment],
