@@ -103,7 +103,8 @@ fn push_independent(out: &mut String, independent: bool) -> Result<(), AllocErro
     Ok(())
 }
 
-/// Appends the lines that stand before the date ranges.
+/// Appends to `out` the lines of `playlist` before its date ranges (RFC 8216, section 4.3.3). Fails only if an
+/// allocation fails.
 pub fn push_header(out: &mut String, playlist: &OutPlaylist<'_>) -> Result<(), AllocError>
     ensures { Appends result out.old out.new (said_text (header_owed playlist.now)) }
 {
@@ -113,14 +114,15 @@ pub fn push_header(out: &mut String, playlist: &OutPlaylist<'_>) -> Result<(), A
 }
 
 #[tactic(auto, unfolding(crate::specs::Owed::ended_date_range_line))]
-/// Appends a date range as it stands.
+/// Appends to `out` the line of a date range, whose attributes are `text`, word for word (RFC 8216, section 4.3.2.7).
+/// Fails only if an allocation fails.
 pub fn push_date_range(out: &mut String, text: &str) -> Result<(), AllocError>
     ensures { Appends result out.old out.new (ended_date_range_line text.now) }
 {
     push_line_of(out, "#EXT-X-DATERANGE:", text)
 }
 
-/// Appends the date ranges as they stand.
+/// Appends to `out` the lines of `date_ranges`, word for word. Fails only if an allocation fails.
 pub fn push_date_ranges(out: &mut String, date_ranges: &[TextRef<'_>]) -> Result<(), AllocError>
     ensures { Appends result out.old out.new (date_ranges_text date_ranges.now) }
 {
@@ -131,7 +133,7 @@ pub fn push_date_ranges(out: &mut String, date_ranges: &[TextRef<'_>]) -> Result
 }
 
 #[tactic(auto, unfolding(crate::specs::Owed::line_of))]
-/// Appends the line that says that no segment will follow, if so.
+/// Appends EXT-X-ENDLIST to `out` if `ended` (RFC 8216, section 4.3.3.4). Fails only if an allocation fails.
 pub fn push_end(out: &mut String, ended: bool) -> Result<(), AllocError>
     ensures { Appends result out.old out.new (said_text (ended_owed ended)) }
 {
