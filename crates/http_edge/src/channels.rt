@@ -55,7 +55,8 @@ impl Channels {
         }
     }
 
-    /// What a request on what a channel has is answered, and does. Where an allocation fails all channels are as they were.
+    /// What a `request` on the `resource` of the channel `name` does, and the reply to it. Fails only if an
+    /// allocation fails; all channels are then as they were.
     pub fn on_resource(
         &mut self,
         name: &str,

@@ -151,7 +151,9 @@ fn text_without(
     text_with(alloc, playlist, date_ranges, items, again)
 }
 
-/// What a channel comes to by a refresh that shows this. `NumberRange` where a number would pass 2^64 - 1.
+/// What the channel of `state` comes to by the refresh `playlist` that shows `showing`. `written` is the text that it
+/// wrote last, of which lines are copied. `NumberRange` if a number would pass 2^64 - 1 (RFC 8216, sections 4.3.3.2
+/// and 4.3.3.3); `OutOfMemory` only if an allocation fails.
 pub fn next_of(
     alloc: Global,
     state: &ChannelState,
