@@ -88,7 +88,7 @@ fn passage_of(answer: io::Result<usize>) -> Passage
 }
 
 impl<T> NonBlocking<T> {
-    /// A device that wasn't called yet.
+    /// The device `inner`, of which no call was counted yet.
     pub fn new(inner: T) -> NonBlocking<T>
         ensures { result ≡ (inner, no_calls) }
     {

@@ -123,7 +123,8 @@ impl Connections {
         self.held
     }
 
-    /// What stands at a place.
+    /// What is at `place`, from 0: nobody, a client that asks, or one that is answered. Nobody is past the last
+    /// place.
     pub fn phase(&self, place: usize) -> Phase
         ensures { result ≡ phase_of (at self.now place) }
     {
@@ -134,14 +135,14 @@ impl Connections {
         }
     }
 
-    /// Whether somebody stands there whose request isn't whole.
+    /// Whether a client is at `place`, from 0, whose request isn't whole.
     pub fn is_asking(&self, place: usize) -> bool
         ensures { result ≡ is_asking (at self.now place) }
     {
         self.phase(place) == Phase::Asking
     }
 
-    /// The bytes of the request of who stands there, where it isn't whole.
+    /// How many bytes are held of the request of the client at `place`, from 0, that isn't whole; 0 if there is none.
     pub fn held_at(&self, place: usize) -> usize
         ensures { result ≡ held_of (at self.now place) }
     {
@@ -178,7 +179,7 @@ impl Connections {
         self.places[place] = it;
     }
 
-    /// A client came, to a place where nobody is.
+    /// A client comes to the place of `seat`, where nobody is.
     pub fn came<T>(&mut self, seat: &Seat<T>)
         requires { at self.old seat.now ≡ None }
         ensures { Happens self.old (came seat.now) self.new }
@@ -188,7 +189,8 @@ impl Connections {
         self.put_back(seat.place(), conversation);
     }
 
-    /// A client gave its next bytes. After a fault the connection is gone, and the edge is as it was.
+    /// The client at `seat` gives `piece`, its next bytes. After a fault the connection is removed, and the edge is
+    /// as it was; the faults are `TooManyReads` and `OutOfMemory`.
     pub(crate) fn give<T>(&mut self, seat: &Seat<T>, piece: &[u8]) -> Result<(), EdgeFault>
         requires { held_in self.old.places + length piece.now ≤ most_held }
         ensures ok { OnOk result (Happens self.old (gave seat.now piece.now) self.new) }
@@ -206,7 +208,7 @@ impl Connections {
         Ok(())
     }
 
-    /// What is left of the reply to a client, in two parts.
+    /// What is left of the reply to the client at `seat`, in two parts; both are empty if it isn't answered.
     pub(crate) fn parts<T>(&self, seat: &Seat<T>) -> (&[u8], &[u8])
         ensures { result.0.now ++ result.1.now ≡ left_of (at self.now seat.now) }
     {
@@ -216,7 +218,7 @@ impl Connections {
         }
     }
 
-    /// A client took so many bytes of its reply.
+    /// The client at `seat` took `count` bytes more of its reply.
     pub(crate) fn took<T>(&mut self, seat: &Seat<T>, count: usize)
         requires { count ≤ length (left_of (at self.old seat.now)) }
         ensures { Happens self.old (took seat.now count) self.new }
@@ -230,7 +232,7 @@ impl Connections {
         self.put_back(place, after);
     }
 
-    /// A client went, or is given up.
+    /// The client at `seat` goes, or is given up. Nothing is at its place then.
     pub fn went<T>(&mut self, seat: &Seat<T>)
         ensures { Happens self.old (went seat.now) self.new }
     {

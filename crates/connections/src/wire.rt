@@ -45,9 +45,11 @@ fn gone<T>(connections: &mut Connections, seat: &Seat<T>, fault: EdgeFault) -> M
 }
 
 #[tactic(auto, using(crate::proofs::Leading::stays))]
-/// Reads once from a client: what it gave is what it said at its own place, and nothing else is. No other byte is read.
-/// Where it would wait, all is as it was. A client goes only where its device failed (`Read`) or gave nothing (`Ended`),
-/// or where `serve` would tell the same fault of the same pieces (`TooManyReads`), or an allocation failed.
+/// Reads once from `device` into `block`: what it gave is what the client said at the place of `seat` in
+/// `connections`, and nothing else is. No other byte is read. If it would wait (`Waits`), or `block` is longer than
+/// the room that is left (`Full`), all is as it was. A client goes (`Failed`) only if its device failed (`Read`) or
+/// gave nothing (`Ended`), or if `serve` would answer the same fault of the same pieces (`TooManyReads`), or if an
+/// allocation failed.
 pub fn hear<T: Incoming>(
     device: &mut T,
     connections: &mut Connections,
@@ -117,8 +119,9 @@ fn front<'a>(block: &'a mut ArrayVec<u8, BLOCK>, head: &'a [u8], body: &'a [u8])
 }
 
 #[tactic(auto, using(crate::proofs::Leading::stays))]
-/// Writes once to a client, of what is left of the reply at its own place, and nothing else. Where it would wait, or nothing
-/// is left, all is as it was. A client goes only where the write failed or took nothing (`Write`).
+/// Writes once to `device`, of what `connections` have left of the reply at the place of `seat`, and nothing else. If
+/// it would wait (`Waits`), or nothing is left (`Nothing`), all is as it was. A client goes (`Failed`) only if the
+/// write failed or took nothing (`Write`).
 pub fn say<T: Outgoing>(device: &mut T, connections: &mut Connections, seat: &Seat<T>) -> Moved
     ensures some { result ≡ Moved.Some → HasSaid (device_stand T.contents T.writes device.old) (device_stand T.contents T.writes device.new) seat.now connections.old connections.new }
     ensures waits { result ≡ Moved.Waits → MovedNothing WouldWait (device_stand T.contents T.writes device.old) (device_stand T.contents T.writes device.new) }
