@@ -37,8 +37,8 @@ fn print_breaks(rt: &impl Print, breaks: &[Decision]) -> io::Result<()> {
     Ok(())
 }
 
-/// Prints what a decision file says: its breaks, a line each, the one that is withdrawn, the fallback, that there is none,
-/// or the first fault.
+/// Prints what the decision file `body` says: its breaks, a line each, the one that is withdrawn, the fallback, that
+/// there is none, or the first fault.
 pub(crate) fn print_decisions(rt: &impl Print, alloc: Global, body: &str) -> io::Result<()> {
     match read_decisions(alloc, bytes_of(alloc, body)?.as_slice()) {
         Ok(Decisions::Breaks(breaks)) => print_breaks(rt, breaks.as_slice()),
