@@ -53,10 +53,14 @@ fn segments_fit(segments: &[PodSegment], target: u64) -> bool
         .all(|s: &PodSegment| segment_fits(s, target))
 }
 
-fn section_fits(map: &Option<InitSection>, mapped: bool) -> bool
-    ensures { result ≡ section_fits mapped map.now }
+fn section_fits(init_section: &Option<InitSection>, mapped: bool) -> bool
+    ensures { result ≡ section_fits mapped init_section.now }
 {
-    if mapped { map.is_some() } else { map.is_none() }
+    if mapped {
+        init_section.is_some()
+    } else {
+        init_section.is_none()
+    }
 }
 
 fn ad_fits(ad: &Ad, target: u64, mapped: bool) -> bool
