@@ -169,7 +169,7 @@ fn find_named<'s, 'a>(attrs: &'s [Attr<'a>], name: &str) -> Option<&'s Attr<'a>>
     attrs.iter().find(|attr| name == attr.name)
 }
 
-// Whether an attribute has this name.
+// Whether one of `attrs` is called `name`: no name may come twice (RFC 8216, section 4.2).
 fn has_named(attrs: &[Attr<'_>], name: &str) -> bool
     ensures { result ≡ list_any (λ attr. is_named name.now (attr_pair attr)) attrs.now }
 {

@@ -46,7 +46,7 @@ pub(crate) fn split_value(text: &str) -> Result<ValueText<'_>, AttrFault>
     }
 }
 
-// The value whose opening quote stands before this text.
+// The value whose opening quote comes before `text`: all up to the next quote (RFC 8216, section 4.2).
 fn split_quoted(text: &str) -> Result<ValueText<'_>, AttrFault>
     ensures { MatchResult result
         (λ v. IsValued (34 ∷ text.now) v.quoted v.value.now v.after.now)
@@ -63,7 +63,7 @@ fn split_quoted(text: &str) -> Result<ValueText<'_>, AttrFault>
     }
 }
 
-// The unquoted value at the front of a text.
+// The unquoted value at the front of `text`: something, without a comma, a quote or a space (RFC 8216, section 4.2).
 fn split_plain(text: &str) -> Result<ValueText<'_>, AttrFault>
     requires { begins_quoted text.now ≡ false }
     ensures { MatchResult result

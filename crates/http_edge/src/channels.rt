@@ -136,7 +136,8 @@ impl Channels {
         }
     }
 
-    // Takes in a channel that was given nothing, where there is none of this name and there is room.
+    // Takes in `channel`, which was given nothing, under `name`, if none has it and there is room: 503 for a 65th
+    // (RFC 9110, section 15.6.4).
     fn add(&mut self, name: &str, channel: Channel) -> Result<Reply, AllocError>
         requires { IsChannelOf channel [] }
         ensures { (table : Table) → Stands self.old table → TakenTurn (added table name.now channel.base channel.tolerance) table result self.new }

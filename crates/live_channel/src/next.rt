@@ -111,7 +111,8 @@ fn text_of(
     }
 }
 
-// The text of a playlist with these date ranges and items in place of its own.
+// The text of `playlist` with these date ranges and items in place of its own, and of the version 6 or more (RFC
+// 8216, section 7).
 fn text_with<'a>(
     alloc: Global,
     playlist: &Playlist,

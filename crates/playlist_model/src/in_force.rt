@@ -19,7 +19,8 @@ impl Key {
     }
 }
 
-// The IV of a key: the media sequence number, where the key is of the format `identity` and states none.
+// The IV of `key` (RFC 8216, section 5.2): the Media Sequence Number, if the key is of the format `identity` and
+// states none.
 fn effective_iv(key: &Key, media_sequence: u64) -> Option<u128>
     ensures { result ≡ (effective_key media_sequence key.now).iv }
 {

@@ -20,6 +20,8 @@ fn first_media_sequence(segments: &StitchedList<'_>) -> u64
     }
 }
 
+// What EXT-X-DISCONTINUITY-SEQUENCE states: the number before the discontinuities of the first segment (RFC 8216,
+// section 4.3.3.3).
 fn stated_discontinuity_sequence(segments: &StitchedList<'_>) -> u64
     ensures { result ≡ stated_discontinuity_sequence segments.now }
 {
@@ -93,6 +95,7 @@ fn push_numbers(out: &mut String, playlist: &OutPlaylist<'_>) -> Result<(), Allo
     push_discontinuity_sequence(out, stated_discontinuity_sequence(segments))
 }
 
+// Appends EXT-X-INDEPENDENT-SEGMENTS, if the origin states it (RFC 8216, section 4.3.5.1).
 #[tactic(auto, unfolding(crate::specs::Owed::line_of))]
 fn push_independent(out: &mut String, independent: bool) -> Result<(), AllocError>
     ensures { Appends result out.old out.new (said_text (independent_owed independent)) }

@@ -189,7 +189,8 @@ fn all_before(alloc: Global, playlist: &OutPlaylist<'_>) -> Result<String, Alloc
     Ok(text)
 }
 
-/// The whole text of `playlist` (RFC 8216, section 4), made anew. Fails only if an allocation fails.
+/// The whole text of `playlist` (RFC 8216, section 4), made anew, with each tag as section 4.3 has it. Fails only if
+/// an allocation fails.
 pub fn laid_out(alloc: Global, playlist: &OutPlaylist<'_>) -> Result<WrittenText, AllocError>
     ensures text { IfOk result (λ w. w.text ≡ playlist_text playlist.now) }
     ensures laid { IfOk result (IsLaid playlist.now.segments) }

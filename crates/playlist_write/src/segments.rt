@@ -71,6 +71,8 @@ fn keys_then<'a>(keys: &'a Keys, changed: Option<&'a InitSection>) -> &'a Keys
     }
 }
 
+// Appends the EXT-X-MAP of the initialisation section that changed, if one did, under its keys (RFC 8216, section
+// 4.3.2.5).
 fn push_changed_section(
     out: &mut String,
     keys: &Keys,

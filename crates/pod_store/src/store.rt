@@ -39,6 +39,8 @@ impl Model for PodStore {
     ghost view = { λ a. record { entries = map entry_of a.kept.entries; fallback = a.fallback } };
 }
 
+// Whether the duration of `segment`, rounded to whole seconds, is at most the target duration (RFC 8216, section
+// 4.3.3.1).
 fn segment_fits(segment: &PodSegment, target: u64) -> bool
     ensures { result ≡ segment_fits target segment.now }
 {

@@ -76,7 +76,8 @@ fn numbers_of(media: u64, discontinuity: u64, steps: u64) -> Numbers
     }
 }
 
-// The numbers of an item so many steps after one with these.
+// The numbers of an item after one with `numbers`, with `steps` discontinuities between (RFC 8216, sections 4.3.3.2
+// and 4.3.3.3).
 fn next_numbers(numbers: Numbers, steps: u64) -> Result<Numbers, StitchFault>
     ensures ok { IfOk result (λ n. (n ≡ next_numbers numbers steps) × (numbers_fit n ≡ true)) }
     ensures err { IfErr result (λ e. (e ≡ StitchFault.NumberRange) × (numbers_fit (next_numbers numbers steps) ≡ false)) }
@@ -229,7 +230,8 @@ impl<'a> Stitching<'a> {
         }
     }
 
-    // The steps to a kept segment of this discontinuity number; of the first none are counted.
+    // How many discontinuities come before a kept segment of this discontinuity number (RFC 8216, section 4.3.2.3);
+    // of the first segment none are counted.
     fn steps_to(&self, discontinuity: u64) -> u64
         ensures { result ≡ steps_from self.now.last discontinuity }
     {
@@ -345,7 +347,8 @@ impl<'a> Stitching<'a> {
         Ok(left)
     }
 
-    // Puts a segment of an ad at the end.
+    // Puts `segment`, one of `ad`, at the end, after a discontinuity if it is the `first` of its ad (RFC 8216,
+    // section 4.3.2.3).
     fn put(
         &mut self,
         alloc: Global,

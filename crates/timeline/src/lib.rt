@@ -52,8 +52,8 @@ fn reckoned_here(segment: &Segment, after: Option<i128>) -> Option<i128>
     }
 }
 
-// Where a segment begins: at its stated time, else where the one before it ended, else back from the
-// first time that is stated later.
+// When a segment begins (RFC 8216, section 4.3.2.6): at its stated time, else when the one before it ended, else
+// back from the first time that is stated later.
 fn begins_at(ended: Option<i128>, segment: &Segment, reckoned: Option<i128>) -> OptionalInstant
     ensures { result ≡ bounded (or_earlier segment.now.program_date_time (or_earlier ended reckoned)) }
 {
