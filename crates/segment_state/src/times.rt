@@ -7,8 +7,8 @@ use crate::ReaderState;
 use playlist_model::FaultKind;
 
 impl<'a> ReaderState<'a> {
-    /// The instant at which the next segment begins (4.3.2.6). Of several, the last stands. `BadTime`
-    /// where the text says none. Takes no memory.
+    /// Takes `rest`, the value of EXT-X-PROGRAM-DATE-TIME: the instant at which the next segment begins (RFC 8216,
+    /// section 4.3.2.6). Of several, the last counts. `BadTime` if it states none. Takes no memory.
     pub fn time_tag(&mut self, rest: &str) -> Result<(), FaultKind>
         ensures { TakesExactly (λ base before. said_by_tag limited base before said.time_tag rest.now) self.old self.new result }
     {
