@@ -163,8 +163,13 @@ fn json_of(alloc: Global, bytes: &[u8]) -> Result<Value, DecisionFault>
     }
 }
 
-/// What the bytes of a decision file say. The faults in this order: `NotJson`; for the whole `Shape`; and
-/// then those of each break in turn.
+/// What `bytes`, a decision file, say. The faults, in this order: `NotJson`; `Shape` for the whole; then those of
+/// each break in turn, with its place; `OutOfMemory` only if an allocation fails.
+///
+/// ```text
+/// read_decisions(alloc, b"{\"withdraw\": \"b1\"}")    Ok(Decisions::Withdraw(id)), and `id` is "b1"
+/// read_decisions(alloc, b"[")                       Err: J1 NotJson
+/// ```
 pub fn read_decisions(alloc: Global, bytes: &[u8]) -> Result<Decisions, DecisionFault>
     ensures { Gives (λ d. d) result (decisions_of bytes.now) }
 {
