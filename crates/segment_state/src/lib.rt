@@ -34,7 +34,6 @@ mod keys;
 mod references;
 mod stops;
 mod tags;
-mod times;
 
 /// A part of a resource, which a segment is.
 #[derive(Drop)]
@@ -184,6 +183,18 @@ impl<'a> ReaderState<'a> {
         ensures { TakesExactly (λ base before. said_by_tag limited base before said.byte_range_tag rest.now) self.old self.new result }
     {
         self.byte_range = Some(byte_range_of(rest)?);
+        Ok(())
+    }
+
+    /// Takes `rest`, the value of EXT-X-PROGRAM-DATE-TIME: the instant at which the next segment begins (RFC 8216,
+    /// section 4.3.2.6). Of several, the last counts. `BadTime` if it states none. Takes no memory.
+    pub fn time_tag(&mut self, rest: &str) -> Result<(), FaultKind>
+        ensures { TakesExactly (λ base before. said_by_tag limited base before said.time_tag rest.now) self.old self.new result }
+    {
+        let Ok(instant) = self.times.read(rest) else {
+            return Err(FaultKind::BadTime);
+        };
+        self.program_date_time = Some(instant);
         Ok(())
     }
 
