@@ -99,8 +99,8 @@ impl Knowledge {
         is_inside_said(instant, tolerance, pod, self.said(id))
     }
 
-    /// Why the break `id` is filled or not: `filled` says that a segment shown now has its mark. Else it is judged by
-    /// the pods of `store`, the target duration `target`, in seconds, and whether the origin's segments are `mapped`
+    /// Why the break `id` is filled or not: `Filled` if it is in use, which `filled` says. Else it is judged by the
+    /// pods of `store`, the target duration `target`, in seconds, and whether the origin's segments are `mapped`
     /// (have initialisation sections). Takes no memory.
     pub fn why(&self, id: &str, target: u64, mapped: bool, store: &PodStore, filled: bool) -> Why
         ensures { result ≡ why self.now id.now target mapped store.now filled }
