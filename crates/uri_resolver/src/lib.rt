@@ -116,8 +116,8 @@ impl Base {
     ///
     /// ```text
     /// let base = Base::new(alloc, "http://a.example/x/i.m3u8")?;
-    /// base.resolve("s0.ts")            Ok("http://a.example/x/s0.ts")
-    /// base.resolve("/s0.ts")           Ok("http://a.example/s0.ts")
+    /// base.resolve("s0.ts")                     Ok("http://a.example/x/s0.ts")
+    /// base.resolve("/s0.ts")                    Ok("http://a.example/s0.ts")
     /// base.resolve("http://b.example/s0.ts")    Ok("http://b.example/s0.ts")
     /// ```
     pub fn new(alloc: Global, text: &str) -> Result<Base, BaseFault>
