@@ -62,7 +62,7 @@ impl Client {
     pub fn leave(&self, connections: &mut Connections)
         ensures { HasRun connections.old connections.new }
     {
-        connections.went(&self.seat);
+        connections.remove(&self.seat);
     }
 
     /// Ends what is sent to a client whose reply is gone, or that is given up. `Done` if it `was_granted` what it

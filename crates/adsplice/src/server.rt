@@ -178,8 +178,8 @@ impl Server {
         ensures { HasRun connections.old connections.new }
     {
         self.leave(connections, place);
-        self.served.went(place);
-        self.ending.went(place);
+        self.served.remove(place);
+        self.ending.remove(place);
         self.give_back(place);
     }
 
@@ -215,12 +215,12 @@ impl Server {
         ensures { HasRun connections.old connections.new }
     {
         self.leave(connections, place);
-        self.served.went(place);
+        self.served.remove(place);
         let Some(Some(client)) = self.clients.get_mut(place) else {
             return;
         };
         let turn = client.end(was_granted);
-        let is_late = self.ending.came(place, ending_deadline(self.now)).is_err();
+        let is_late = self.ending.push(place, ending_deadline(self.now)).is_err();
         match turn {
             Turn::Waits if !is_late => self.watch(connections, place, false),
             Turn::Goes if !is_late => self.watch(connections, place, true),
@@ -394,9 +394,9 @@ impl Server {
             return None;
         }
         let client = self.clients.get_mut(place)?;
-        connections.came(&seat);
+        connections.insert(&seat);
         *client = Some(Client::new(stream, seat));
-        if self.served.came(place, serving_deadline(self.now)).is_err() {
+        if self.served.push(place, serving_deadline(self.now)).is_err() {
             self.faults.tell(rt, EdgeFault::OutOfMemory.text());
             self.close(connections, place);
         }

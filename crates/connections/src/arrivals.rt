@@ -107,7 +107,7 @@ impl Arrivals {
 
     /// Adds, after the others, the connection at `place`, whose time is up at `until`. Fails only if an allocation
     /// fails; the arrivals are then as they were.
-    pub fn came(&mut self, place: usize, until: Instant) -> Result<(), AllocError>
+    pub fn push(&mut self, place: usize, until: Instant) -> Result<(), AllocError>
         ensures ok { OnOk result (self.new ≡ self.old ++ record { place = place; until = until } ∷ []) }
         ensures err { OnErr result (self.new ≡ self.old) }
     {
@@ -116,7 +116,7 @@ impl Arrivals {
     }
 
     /// Takes out the connection at `place`, if there is one.
-    pub fn went(&mut self, place: usize)
+    pub fn remove(&mut self, place: usize)
         ensures { self.new ≡ filter (is_elsewhere place) self.old }
     {
         remove(&mut self.arrivals, place);

@@ -7,7 +7,7 @@ ghost use Rattle.connections.specs.Inner.Giving.{IsFaultOfGiving};
 ghost use Rattle.connections.specs.Limits.{most_held, place_count};
 ghost use Rattle.connections.specs.Arrivals.{is_asking};
 ghost use Rattle.connections.specs.Table.{at, held_of, held_in, left_of, taken_of, phase_of, Puts, Happens};
-ghost use Rattle.connections.specs.Table.{came, gave, took, went};
+ghost use Rattle.connections.specs.Table.{arrival, request_bytes, reply_bytes, departure};
 ghost use Rattle.connections.specs.Seats.{places_below};
 
 use crate::conversation::{Conversation, give};
@@ -180,9 +180,9 @@ impl Connections {
     }
 
     /// A client comes to the place of `seat`, where nobody is.
-    pub fn came<T>(&mut self, seat: &Seat<T>)
+    pub fn insert<T>(&mut self, seat: &Seat<T>)
         requires { at self.old seat.now ≡ None }
-        ensures { Happens self.old (came seat.now) self.new }
+        ensures { Happens self.old (arrival seat.now) self.new }
     {
         self.has_all();
         let conversation = Conversation::Asking(Arriving::new(self.alloc), 0);
@@ -193,8 +193,8 @@ impl Connections {
     /// as it was; the faults are `TooManyReads` and `OutOfMemory`.
     pub(crate) fn give<T>(&mut self, seat: &Seat<T>, piece: &[u8]) -> Result<(), EdgeFault>
         requires { held_in self.old.places + length piece.now ≤ most_held }
-        ensures ok { OnOk result (Happens self.old (gave seat.now piece.now) self.new) }
-        ensures err { OnErr result (Happens self.old (went seat.now) self.new) }
+        ensures ok { OnOk result (Happens self.old (request_bytes seat.now piece.now) self.new) }
+        ensures err { OnErr result (Happens self.old (departure seat.now) self.new) }
         ensures kind { IfErr result IsFaultOfGiving }
         ensures many { IsErrOf result EdgeFault.TooManyReads → HasTooManyAt (at self.old seat.now) piece.now }
     {
@@ -219,9 +219,9 @@ impl Connections {
     }
 
     /// The client at `seat` took `count` bytes more of its reply.
-    pub(crate) fn took<T>(&mut self, seat: &Seat<T>, count: usize)
+    pub(crate) fn advance<T>(&mut self, seat: &Seat<T>, count: usize)
         requires { count ≤ length (left_of (at self.old seat.now)) }
-        ensures { Happens self.old (took seat.now count) self.new }
+        ensures { Happens self.old (reply_bytes seat.now count) self.new }
     {
         self.has_all();
         let place = seat.place();
@@ -233,8 +233,8 @@ impl Connections {
     }
 
     /// The client at `seat` goes, or is given up. Nothing is at its place then.
-    pub fn went<T>(&mut self, seat: &Seat<T>)
-        ensures { Happens self.old (went seat.now) self.new }
+    pub fn remove<T>(&mut self, seat: &Seat<T>)
+        ensures { Happens self.old (departure seat.now) self.new }
     {
         self.has_all();
         let _ = self.take_out(seat.place());
@@ -248,7 +248,7 @@ fn taken(conversation: Conversation, count: usize) -> Conversation
 {
     match conversation {
         Conversation::Answering(mut leaving, status) => {
-            leaving.took(count);
+            leaving.advance(count);
             Conversation::Answering(leaving, status)
         }
         asking => asking,

@@ -2,7 +2,7 @@
 ghost use Rattle.std.specs.Prelude.{◌≡◌, ◌<◌, ◌+◌, ◌++◌, [], length, take, true};
 ghost use Rattle.http_edge.specs.declared.serving.EdgeFault.TheVariants.{Read, Write, Ended};
 ghost use Rattle.connections.specs.Limits.{most_held};
-ghost use Rattle.connections.specs.Table.{Happens, at, left_of, held_in, went};
+ghost use Rattle.connections.specs.Table.{Happens, at, left_of, held_in, departure};
 ghost use Rattle.connections.specs.Runs.{HasRun};
 ghost use Rattle.connections.specs.declared.devices.Passage.TheVariants.{WouldWait};
 ghost use Rattle.connections.specs.Devices.{device_stand};
@@ -37,10 +37,10 @@ pub enum Moved {
 
 // The fault of a client that goes.
 fn gone<T>(connections: &mut Connections, seat: &Seat<T>, fault: EdgeFault) -> Moved
-    ensures went { Happens connections.old (went seat.now) connections.new }
+    ensures removed { Happens connections.old (departure seat.now) connections.new }
     ensures fault { result ≡ Moved.Failed fault }
 {
-    connections.went(seat);
+    connections.remove(seat);
     Moved::Failed(fault)
 }
 
@@ -64,7 +64,7 @@ pub fn hear<T: Incoming>(
     ensures unread { result ≡ Moved.Full → device.new ≡ device.old }
     ensures moves { result ≡ Moved.Nothing → ⊥ }
     ensures fault { IfFailed result (λ fault. GoesHeard fault (device_stand T.remaining T.reads device.old) (device_stand T.remaining T.reads device.new) (at connections.old seat.now)) }
-    ensures failed { IsFailed result → Happens connections.old (went seat.now) connections.new }
+    ensures failed { IsFailed result → Happens connections.old (departure seat.now) connections.new }
     ensures run { HasRun connections.old connections.new }
 {
     if block.len() > MAX_HELD - connections.held() {
@@ -129,7 +129,7 @@ pub fn say<T: Outgoing>(device: &mut T, connections: &mut Connections, seat: &Se
     ensures nothing { result ≡ Moved.Nothing → (left_of (at connections.old seat.now) ≡ []) × (connections.new ≡ connections.old) }
     ensures unwritten { result ≡ Moved.Nothing → device.new ≡ device.old }
     ensures fault { IfFailed result (λ fault. GoesTold fault (device_stand T.contents T.writes device.old) (device_stand T.contents T.writes device.new)) }
-    ensures failed { IsFailed result → Happens connections.old (went seat.now) connections.new }
+    ensures failed { IsFailed result → Happens connections.old (departure seat.now) connections.new }
     ensures room { result ≡ Moved.Full → ⊥ }
     ensures run { HasRun connections.old connections.new }
 {
@@ -147,6 +147,6 @@ pub fn say<T: Outgoing>(device: &mut T, connections: &mut Connections, seat: &Se
     if count == 0 {
         return gone(connections, seat, EdgeFault::Write);
     }
-    connections.took(seat, count);
+    connections.advance(seat, count);
     Moved::Some
 }

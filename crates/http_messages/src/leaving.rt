@@ -60,7 +60,7 @@ impl Leaving {
     }
 
     /// The client took `count` bytes more.
-    pub fn took(&mut self, count: usize)
+    pub fn advance(&mut self, count: usize)
         requires { count ≤ length self.old }
         ensures { self.new ≡ drop count self.old }
     {
