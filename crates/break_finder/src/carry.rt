@@ -90,7 +90,8 @@ fn add_tag(alloc: Global, breaks: &mut Breaks, tag: &DateRange) -> Result<(), Al
     Ok(())
 }
 
-/// The breaks with what these tags say.
+/// Adds to `breaks` what each of `date_ranges` says (RFC 8216, section 4.3.2.7), in their order. Fails only if an
+/// allocation fails.
 pub fn add_tags(
     alloc: Global,
     breaks: &mut Breaks,
@@ -106,7 +107,8 @@ pub fn add_tags(
     Ok(())
 }
 
-/// Copies of the breaks that stand in these tags, or are carried.
+/// Copies of those `breaks` that have a tag among `date_ranges`, or whose ID is `carried`. Fails only if an
+/// allocation fails.
 pub fn standing(
     alloc: Global,
     breaks: &Breaks,

@@ -77,7 +77,10 @@ fn listed<'a>(
     Ok(list)
 }
 
-/// Those of known breaks, for so many segments.
+/// The entrances of those `breaks` that can be entered by `tolerance`: each is signalled, has a pod in `store`, and
+/// the pod fits the target duration `target`, in seconds, and segments that are `mapped` (have initialisation
+/// sections) or aren't. They are made for about `segments` segments, which changes what they take and nothing else.
+/// Fails only if an allocation fails.
 pub fn entrances_of<'a>(
     alloc: Global,
     tolerance: Nanos,
@@ -126,8 +129,8 @@ impl<'a> Entrances<'a> {
     }
 
     #[tactic(auto, using(crate::proofs::Quiet::none_entered))]
-    /// Whether it is seen at once that a segment at this instant enters none of them, whichever was entered last: so it is
-    /// of most segments between two breaks. Takes no memory.
+    /// Whether it is seen at once that a segment which begins at `instant` enters none of them, whichever was entered
+    /// last: so it is of most segments between two breaks. Takes no memory.
     #[inline(always)]
     pub fn is_quiet(&self, instant: Option<Instant>) -> bool
         ensures { result ≡ true → (m : EntryLimits) → (store : Store) → (breaks : List Break)
@@ -140,9 +143,9 @@ impl<'a> Entrances<'a> {
         }
     }
 
-    /// The ID of the first known break, in the order of the IDs, that a segment at this instant enters: the instant
-    /// differs from its start by at most the tolerance and is so much before its end, and it isn't the last one
-    /// entered. Takes no memory.
+    /// The ID of the first known break, in the order of the IDs, that a segment which begins at `instant` enters. The
+    /// instant differs from the break's start by at most the tolerance, and is more than the tolerance before its
+    /// end; and the break isn't `last`, the one that was entered last. Takes no memory.
     pub fn entered(&mut self, instant: Option<Instant>, last: Option<&str>) -> Option<&'a str>
         ensures entered { (target : ℕ) → (mapped : Bool) → (store : Store) → (breaks : List Break)
             → self.old.found ≡ entrances_in target mapped store breaks

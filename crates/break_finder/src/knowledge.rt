@@ -119,7 +119,9 @@ impl Knowledge {
         stay_of(self.said(id), tolerance, pod)
     }
 
-    /// Why a break is filled or not.
+    /// Why the break `id` is filled or not: `Filled` if it is in use, which `filled` says. Else it is judged by the
+    /// pods of `store`, the target duration `target`, in seconds, and whether the origin's segments are `mapped`
+    /// (have initialisation sections). Takes no memory.
     pub fn why(&self, id: &str, target: u64, mapped: bool, store: &PodStore, filled: bool) -> Why
         ensures { result ≡ why self.now id.now target mapped store.now filled }
     {
@@ -132,7 +134,7 @@ impl Knowledge {
         }
     }
 
-    /// The ID of the known break at a place, from 0.
+    /// The ID of the known break at `place`, from 0, in the order in which they became known. `None` past the last.
     pub fn ids(&self, place: usize) -> Option<&str>
         ensures { option_map (λ id. id.now) result ≡ option_map id_of (slice_get self.now place) }
     {
@@ -142,9 +144,10 @@ impl Knowledge {
         }
     }
 
-    /// The breaks that can be entered, in the order of the IDs, by this tolerance: each is signalled and decided, and its
-    /// pod fits. They are made for about so many segments, which changes what they take and nothing else. Fails only
-    /// where an allocation fails.
+    /// The breaks that can be entered, in the order of the IDs, by `tolerance`: each is signalled and has a pod in
+    /// `store`, which fits the target duration `target`, in seconds, and segments that are `mapped` (have
+    /// initialisation sections) or aren't. They are made for about `segments` segments, which changes what they take
+    /// and nothing else. Fails only if an allocation fails.
     pub fn entrances(
         &self,
         alloc: Global,
@@ -167,9 +170,16 @@ impl Knowledge {
         )
     }
 
-    /// What is known after a refresh, where this is known before it, and the newest segment of the refresh before
-    /// is marked with this break. A break that stands in neither is forgotten; of each attribute the first value
-    /// stays; the breaks that come new stand last, by their first tags. Fails only where an allocation fails.
+    /// What is known after the refresh by `playlist`, if this is known before it, and the newest segment of the
+    /// refresh before has the mark `newest`. A break that is in neither is forgotten; of each attribute the first
+    /// value is kept (RFC 8216, section 4.3.2.7); new breaks come last, by their first tags. Fails only if an
+    /// allocation fails.
+    ///
+    /// ```text
+    /// known before, with the mark b2 on the newest segment:    b1, b2
+    /// the date ranges of the playlist:                         b1, b3
+    /// known after:                                             b1, b2, b3
+    /// ```
     pub fn carry(
         &self,
         alloc: Global,

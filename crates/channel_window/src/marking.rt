@@ -28,7 +28,7 @@ pub struct Limits {
     pub mapped: bool,
 }
 
-/// The text, where there is one.
+/// The characters of `text`, if there is one.
 pub fn text_in(text: &Option<Shared<Text>>) -> Option<&str>
     ensures { option_copied result ≡ text.now }
 {
@@ -38,7 +38,7 @@ pub fn text_in(text: &Option<Shared<Text>>) -> Option<&str>
     }
 }
 
-/// Another owner of a text, where there is one.
+/// Another owner of `text`, if there is one. Fails only if it has too many.
 pub fn copied_text(text: &Option<Shared<Text>>) -> Result<Option<Shared<Text>>, AllocError>
     ensures { IfOk result (λ t. t ≡ text.now) }
 {
@@ -415,8 +415,9 @@ impl<'a> Marker<'a> {
     }
 }
 
-/// These segments, which begin at these instants, with their marks: after a segment of this mark, and after this
-/// last break entered.
+/// The `segments`, which begin at the `instants`, with their marks. A segment enters a break that `knowledge` and
+/// `store` let it enter by `limits`, or stays in the break of the segment before it, or has no mark. `newest` is the
+/// mark of the segment before the first one, and `last` the last break entered. Fails only if an allocation fails.
 pub fn mark_on(
     alloc: Global,
     limits: &Limits,

@@ -95,7 +95,8 @@ fn written_before(state: &ChannelState, last: &Playlist) -> usize
         .saturating_add(run)
 }
 
-// Where the window starts in the stitched list of the segments that are shown, after the rest.
+// Where the window starts in the stitched list of the segments that are shown, after the rest (RFC 8216, section
+// 6.2.2).
 fn start_of(state: &ChannelState, playlist: &Playlist, list: &[MarkedSegment]) -> usize
     requires room { HasRoom state.now.store state.now.rest list.now }
     requires front { IsFront state.now.shown list.now }
@@ -194,8 +195,10 @@ pub struct PlacedList<'a> {
     pub rest: Option<Rest>,
 }
 
-/// The stitched list of the segments `list`, which are shown with `playlist`, and where the window starts in it. `lasted`: how
-/// long the newest run of a break has lasted. `NumberRange` where a number would pass 2^64 - 1.
+/// The stitched list of the segments `list`, which the channel of `state` shows with `playlist`, and the place in it
+/// where the window starts (RFC 8216, section 6.2.2). The newest run of a break has lasted for `lasted`.
+/// `NumberRange` if a number would pass 2^64 - 1 (RFC 8216, sections 4.3.3.2 and 4.3.3.3); `OutOfMemory` only if an
+/// allocation fails.
 pub fn placed_of<'a>(
     alloc: Global,
     state: &ChannelState,
@@ -229,7 +232,7 @@ pub fn placed_of<'a>(
     })
 }
 
-/// The numbers of the first of these items.
+/// The numbers of the first of `items`; all are 0 if there is none.
 pub fn head_of(items: &StitchedList<'_>) -> Numbers
     ensures { result ≡ head_of items.now }
 {
@@ -352,8 +355,8 @@ fn texts_left<'a>(
     Ok(texts)
 }
 
-/// The texts of those of `date_ranges` that are written: none of the breaks `ids`, and none at all if none of `items` states a
-/// time. `hashing`: the keys for a table of the IDs.
+/// The texts of those `date_ranges` that are written (RFC 8216, section 4.3.2.7): all but those of the breaks `ids`,
+/// and none if no item of `items` states a time. Fails only if an allocation fails. `hashing`: the keys for a table of the IDs.
 pub fn date_ranges_left<'a>(
     alloc: Global,
     hashing: RandomState,

@@ -165,8 +165,14 @@ fn json_of(alloc: Global, bytes: &[u8]) -> Result<Value, DecisionFault>
     }
 }
 
-/// What the bytes of a decision file say. The faults in this order: `NotJson`; for the whole `Shape`; and
-/// then those of each break in turn. `hashing`: the keys for a table of the file's IDs.
+/// What `bytes`, a decision file, say. The faults, in this order: `NotJson`; `Shape` for the whole; then those of
+/// each break in turn, with its place; `OutOfMemory` only if an allocation fails. `hashing`: the keys for a table of
+/// the file's IDs.
+///
+/// ```text
+/// read_decisions(alloc, hashing, b"{\"withdraw\": \"b1\"}")    Ok(Decisions::Withdraw(id)), and `id` is "b1"
+/// read_decisions(alloc, hashing, b"[")                       Err: J1 NotJson
+/// ```
 pub fn read_decisions(
     alloc: Global,
     hashing: RandomState,

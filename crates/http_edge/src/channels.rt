@@ -59,7 +59,8 @@ impl Channels {
         }
     }
 
-    /// What a request on what a channel has is answered, and does. Where an allocation fails all channels are as they were.
+    /// What a `request` on the `resource` of the channel `name` does, and the reply to it. Fails only if an
+    /// allocation fails; all channels are then as they were.
     pub fn on_resource(
         &mut self,
         name: &str,
@@ -139,7 +140,8 @@ impl Channels {
         }
     }
 
-    // Takes in a channel that was given nothing, where there is none of this name and there is room.
+    // Takes in `channel`, which was given nothing, under `name`, if none has it and there is room: 503 for a 65th
+    // (RFC 9110, section 15.6.4).
     fn add(&mut self, name: &str, channel: Channel) -> Result<Reply, AllocError>
         requires { IsChannelOf channel [] }
         ensures { (table : Table) → Stands self.old table → TakenTurn (added table name.now channel.base channel.tolerance) table result self.new }

@@ -46,8 +46,15 @@ impl Edge {
         })
     }
 
-    /// Applies a request as a whole, and answers it. Whatever requests the edge stood for, the reply is the one owed after
-    /// them, and the edge stands for this request too; for a failed allocation the reply is 503, and the request is left out.
+    /// Applies `request` as a whole, and gives its reply. Whatever requests the edge stands for, the reply is the one
+    /// owed after them, and the edge stands for `request` too. After a failed allocation the reply is 503, and
+    /// `request` is left out.
+    ///
+    /// ```text
+    /// let mut edge = Edge::new(alloc)?;
+    /// edge.answer(&request)    PUT /channels/one, with a base:    201
+    /// edge.answer(&request)    GET /channels/two/live.m3u8:       404
+    /// ```
     pub fn answer(&mut self, request: &Request) -> Reply
         ensures { AnswersRequest self.old request.now result self.new }
     {

@@ -90,8 +90,9 @@ fn push_rest(marks: &mut Vec<Shared<Text>>, rest: &Option<Rest>) -> Result<(), A
     }
 }
 
-/// The breaks in use: those that mark the segments of `list` from `number` on, one for each run and in their order, then the
-/// last one entered, and then the one of the rest `rest`.
+/// The breaks in use: those that mark the segments of `list` from the media sequence number `number` on, one for each
+/// run and in their order; then the last one entered, `entered`; then the one of `rest`, the rest of a pod that
+/// the window starts with. Fails only if an allocation fails.
 pub fn breaks_in_use(
     alloc: Global,
     number: u64,

@@ -112,7 +112,8 @@ fn text_of(
     }
 }
 
-// The text of a playlist with these date ranges and items in place of its own.
+// The text of `playlist` with these date ranges and items in place of its own, and of the version 6 or more (RFC
+// 8216, section 7).
 fn text_with<'a>(
     alloc: Global,
     playlist: &Playlist,
@@ -159,7 +160,9 @@ fn text_without(
     text_with(alloc, playlist, date_ranges, items, again)
 }
 
-/// What a channel comes to by a refresh that shows this. `NumberRange` where a number would pass 2^64 - 1.
+/// What the channel of `state` comes to by the refresh `playlist` that shows `showing`. `written` is the text that it
+/// wrote last, of which lines are copied. `NumberRange` if a number would pass 2^64 - 1 (RFC 8216, sections 4.3.3.2
+/// and 4.3.3.3); `OutOfMemory` only if an allocation fails.
 pub fn next_of(
     alloc: Global,
     state: &ChannelState,

@@ -10,7 +10,7 @@ use std::hash::RandomState;
 use stitcher::{Ends, MarkedSegment, Numbers, StitchedList, stitch};
 use timeline::OptionalInstant;
 
-/// A key of method AES-128, of this format, resource and IV, with no other attribute.
+/// A key of the method AES-128, with `format`, the resource `uri` and `iv`, and no other attribute.
 pub fn key(alloc: Global, format: &str, uri: &str, iv: Option<u128>) -> Result<Key, AllocError>
     ensures { IfOk result (λ key. key ≡ record { format = format.now; method = codes "AES-128"; uri = uri.now; iv = iv; other_attributes = [] }) }
 {
@@ -23,7 +23,7 @@ pub fn key(alloc: Global, format: &str, uri: &str, iv: Option<u128>) -> Result<K
     })
 }
 
-/// These segments, with a time and no mark.
+/// The `segments` with a time and no mark.
 pub(crate) fn unmarked(
     alloc: Global,
     segments: &Shared<Items<Segment>>,
@@ -42,8 +42,8 @@ pub(crate) fn unmarked(
     Ok(done)
 }
 
-/// The stitched list of segments with no mark, whose first item has the media sequence number 7 and the discontinuity
-/// sequence number 3, after a discontinuity.
+/// The stitched list of the segments `marked`, which have no mark. Its first item has the media sequence number 7 and
+/// the discontinuity sequence number 3, after a discontinuity.
 pub(crate) fn listed<'a>(
     alloc: Global,
     hashing: RandomState,

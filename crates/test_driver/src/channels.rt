@@ -21,7 +21,8 @@ impl Channels {
         Channels { made, back: 0 }
     }
 
-    /// Events go to the channel that was made so many before the last one.
+    /// Sends events to the channel that was made `back` channels before the last one; a `back` that is no number is
+    /// 0.
     pub(crate) fn go_back(&mut self, back: &str) {
         self.back = back.parse().unwrap_or(0);
     }
@@ -47,7 +48,7 @@ fn channel_fault(fault: ChannelFault) -> &'static str {
     }
 }
 
-/// Makes a channel, to which events then go.
+/// Makes a channel as `words` say, to which events then go, and adds it to `channels`. Prints `ok` or the fault.
 pub(crate) fn print_made(
     rt: &impl Print,
     alloc: Global,
@@ -150,8 +151,8 @@ fn print_on_channel(
     }
 }
 
-/// Gives an event to the channel to which events go: a decision, a withdrawal, a refresh, or a question, which is by `why`
-/// where the word is no other.
+/// Gives the event `word`, with `rest` after it, to that one of `channels` to which events go: a decision, a
+/// withdrawal, a refresh, or a question. A `word` that is no other asks `why`. Prints the answer.
 pub(crate) fn print_event(
     rt: &impl Print,
     alloc: Global,

@@ -38,8 +38,8 @@ fn print_breaks(rt: &impl Print, breaks: &[Decision]) -> io::Result<()> {
     Ok(())
 }
 
-/// Prints what a decision file says: its breaks, a line each, the one that is withdrawn, the fallback, that there is none,
-/// or the first fault.
+/// Prints what the decision file `body` says: its breaks, a line each, the one that is withdrawn, the fallback, that
+/// there is none, or the first fault.
 pub(crate) fn print_decisions(
     rt: &impl Print,
     alloc: Global,

@@ -33,8 +33,8 @@ fn print_fault<F: Sink>(fault: VodFault, faults: &mut F)
     let _ = hand_out(line.as_str().as_bytes(), faults);
 }
 
-/// Runs `vod`, writes the fault's line where there is one, and answers the exit status: 0, or 1
-/// after a fault. The process ends then, so that the memory of the channel is left to its end.
+/// Runs `vod` with `base`, `decisions`, `input` and `output`, and gives the exit status: 0, or 1 after a fault, whose
+/// line it writes to `faults`. The process ends then, so that the memory of the channel is left to its end.
 pub fn command_vod<S: Source, K: Sink, F: Sink>(
     alloc: Global,
     hashing: RandomState,

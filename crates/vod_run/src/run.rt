@@ -112,10 +112,18 @@ fn refresh_from<S: Source>(
 }
 
 #[tactic(auto, using(crate::proofs::Known::known_bytes))]
-/// Reads a playlist from an input and writes it with its breaks filled: each run of segments that a break of the decision
-/// file marks is replaced by the pod that the file gives it. Without a decision file no break is filled. The faults stand
-/// in this order: the base, the decision file, reading, the playlist, `NumberRange`, writing. The channel that wrote it is
-/// answered, so that a program that ends then need not give its memory back. `hashing`: the keys for its tables of IDs.
+/// Reads a playlist from `source` and writes it to `sink` with its breaks filled: each run of segments that a break
+/// of the decision file `decisions` marks is replaced by the pod that the file gives it. Without a decision file no
+/// break is filled. References are resolved against the URL `base`.
+///
+/// The faults come in this order: the base, the decision file, reading, the playlist, `NumberRange`, writing. After
+/// `Write` the `sink` has taken a front of the text, and after any other fault nothing. The channel that wrote the
+/// text is the answer, so that a program that ends then needn't give its memory back. `hashing`: the keys for its tables
+/// of IDs.
+///
+/// ```text
+/// vod(alloc, hashing, &mut source, &mut sink, "http://origin.example/ch/index.m3u8", Some(decisions))
+/// ```
 pub fn vod<S: Source, K: Sink>(
     alloc: Global,
     hashing: RandomState,

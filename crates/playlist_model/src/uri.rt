@@ -16,8 +16,8 @@ fn scheme_len(bytes: &[u8]) -> usize
     bytes.iter().take_while(|b| is_scheme_byte(**b)).count()
 }
 
-/// Whether a reference begins with a scheme and so stands for itself, whatever the base: a letter, then
-/// letters, digits, `+`, `-` and `.`, up to a colon (RFC 3986, section 3.1).
+/// Whether `text` begins with a scheme, and so is a whole URI, whatever the base: a letter, then letters, digits,
+/// `+`, `-` and `.`, up to a colon (RFC 3986, section 3.1).
 pub fn has_scheme(text: &str) -> bool
     ensures { result ≡ has_scheme text.now }
 {
@@ -29,14 +29,14 @@ pub fn has_scheme(text: &str) -> bool
     bytes[0].is_ascii_alphabetic() && bytes[len] == b':'
 }
 
-/// Whether a text holds a quote, and so can't stand between quotes (RFC 8216, section 4.2).
+/// Whether `text` holds a quote, and so can't be between quotes (RFC 8216, section 4.2).
 pub fn has_quote(text: &str) -> bool
     ensures { result ≡ list_any (λ b. b == 34) text.now }
 {
     text.as_bytes().iter().any(|b| *b == b'"')
 }
 
-/// Whether two resolved URIs name one resource: their texts are equal.
+/// Whether the resolved URIs `one` and `other` name one resource: their texts are equal.
 pub fn same_resource(one: &str, other: &str) -> bool
     ensures { IsTrue result ↔ (one.now ≡ other.now) }
 {

@@ -19,7 +19,7 @@ impl<'a> Model for TextRef<'a> {
 }
 
 impl<'a> TextRef<'a> {
-    /// This text.
+    /// What is written as `text`.
     pub fn new(text: &'a Text) -> TextRef<'a>
         ensures { result ≡ text.now }
     {

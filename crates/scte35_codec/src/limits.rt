@@ -132,7 +132,7 @@ fn body_len(body: &Option<InsertBody>) -> usize
     }
 }
 
-/// How many bytes the command takes.
+/// How many bytes `command` takes.
 #[tactic(auto, using(crate::proofs::Sections::width_of_bytes), unfolding(crate::specs::Section::splice_insert))]
 pub fn command_len(command: &SpliceCommand) -> usize
     requires { IsTrue (command_fits (command_of command.now)) }
@@ -144,7 +144,7 @@ pub fn command_len(command: &SpliceCommand) -> usize
     }
 }
 
-/// How many bytes follow section_length, or the greatest number where they are more.
+/// How many bytes of the section of `info` follow section_length, or 2^64 - 1 if they are more.
 pub fn section_length(info: &SpliceInfo) -> usize
     requires { IsTrue (command_fits (command_of info.now.command)) }
     ensures { result ≡ min (section_length (section_of info.now)) (2 ^ 64 - 1) }
@@ -155,7 +155,8 @@ pub fn section_length(info: &SpliceInfo) -> usize
         .saturating_add(info.stuffing.len())
 }
 
-/// Whether a value has a section that may be written.
+/// Whether `info` has a section that may be written (SCTE 35, section 9.6): each number fits its field, and
+/// section_length is at most 4093.
 #[tactic(auto, unfolding(crate::specs::Writing::has_section))]
 pub fn has_section(info: &SpliceInfo) -> bool
     ensures { result ≡ has_section (section_of info.now) }

@@ -2,7 +2,7 @@ use Rattle.std.proofs.Common.{◌≡◌, ◌*◌, ◌≤◌, take}
 use Rattle.std.specs.List.{flat_map}
 use Rattle.scte35_codec.specs.Layout.{width}
 use Rattle.scte35_codec.specs.Section.{component}
-use Rattle.scte35_codec.proofs.fitting.components_len.Given as goal
+use Rattle.scte35_codec.proofs.limits.components_len.Given as goal
 
 abbrev pub invariant-loop-component : goal.invariant-loop-component
 invariant-loop-component l =

@@ -45,7 +45,8 @@ impl<'a> Model for TestSource<'a> {
 }
 
 impl<'a> TestSource<'a> {
-    /// A source that has given nothing yet.
+    /// A source of `bytes` that has given none yet. A read gives at most `most` of them, and none across the place
+    /// `cut`. The read with the number `fail`, from 1 on, alone fails; with `fail` 0 none does.
     pub fn new(bytes: &'a [u8], most: usize, cut: usize, fail: u64) -> TestSource<'a>
         requires { 0 < most }
         ensures { result ≡ record { bytes = bytes.now; place = 0; most = most; cut = cut; fail = fail; failures = no_failures; calls = 0 } }
@@ -151,7 +152,8 @@ impl Model for TestSink {
 }
 
 impl TestSink {
-    /// An empty sink. Fails only where an allocation fails.
+    /// An empty sink with room for `room` bytes. A write takes at most `most` bytes, and the write with the number
+    /// `fail`, from 1 on, alone fails; with `fail` 0 none does. Fails only if an allocation fails.
     pub fn new(alloc: Global, room: usize, most: usize, fail: u64) -> Result<TestSink, AllocError>
         requires { 0 < most }
         ensures { IfOk result (λ sink. sink ≡ record { taken = []; room = room; most = most; fail = fail; failures = no_failures; calls = 0 }) }

@@ -19,7 +19,7 @@ impl<'a> Model for SegmentRef<'a> {
 }
 
 impl<'a> SegmentRef<'a> {
-    /// The item that plays a segment.
+    /// What an item has that plays `segment`.
     pub fn new(segment: &'a Segment) -> SegmentRef<'a>
         ensures { result ≡ segment.now }
     {

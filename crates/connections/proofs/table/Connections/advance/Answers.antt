@@ -1,7 +1,7 @@
 use Rattle.std.proofs.Common.{◌≡◌, ◌+◌, subst, arith}
 use Rattle.connections.specs.Table.{held_of, held_in}
 use Rattle.connections.proofs.Held.{held_taken}
-use Rattle.connections.proofs.table.Connections.took.Goals as goal
+use Rattle.connections.proofs.table.Connections.advance.Goals as goal
 
 pub put_back-requires-clause-room : goal.put_back-requires-clause-room
 put_back-requires-clause-room g c =

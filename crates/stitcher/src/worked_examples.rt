@@ -1,10 +1,10 @@
 //! Worked values of the stitched list. A history has its newest segment first; a window is in order.
 
 ghost use Rattle.std.specs.Prelude.{◌≡◌, ◌∷◌, [], codes, true, false};
-ghost use Rattle.stitcher.specs.Inner.StitchedRows.{break, fitting, marked, plain, shown_from, stepped, two, unmarked};
+ghost use Rattle.stitcher.specs.Inner.WorkedExamples.{break, fitting, marked, plain, shown_from, stepped, two, unmarked};
 
 /// One run of one segment: in the middle, in front and at the end.
-fn run_rows()
+fn run_examples()
     ensures middle { shown_from 0 (unmarked (plain 2) ∷ marked two (plain 1) ∷ unmarked (plain 0) ∷ [])
         ≡ (0 ∷ 0 ∷ 0 ∷ 0 ∷ []) ∷ (1000 ∷ 1 ∷ 1 ∷ 1 ∷ []) ∷ (1001 ∷ 2 ∷ 1 ∷ 0 ∷ []) ∷ (2 ∷ 3 ∷ 2 ∷ 1 ∷ []) ∷ [] }
     ensures front { shown_from 7 (unmarked (plain 9) ∷ unmarked (plain 8) ∷ marked two (plain 7) ∷ [])
@@ -16,7 +16,7 @@ fn run_rows()
 {}
 
 /// A run of three segments goes through the window.
-fn window_rows()
+fn window_examples()
     ensures before { shown_from 0 (unmarked (plain 4) ∷ marked two (plain 3) ∷ marked two (plain 2) ∷ marked two (plain 1) ∷ unmarked (plain 0) ∷ [])
         ≡ (0 ∷ 0 ∷ 0 ∷ 0 ∷ []) ∷ (1000 ∷ 1 ∷ 1 ∷ 1 ∷ []) ∷ (1001 ∷ 2 ∷ 1 ∷ 0 ∷ []) ∷ (4 ∷ 3 ∷ 2 ∷ 1 ∷ []) ∷ [] }
     ensures first { shown_from 1 (unmarked (plain 4) ∷ marked two (plain 3) ∷ marked two (plain 2) ∷ marked two (plain 1) ∷ unmarked (plain 0) ∷ [])
@@ -28,7 +28,7 @@ fn window_rows()
 {}
 
 /// Two breaks with nothing between them, and a pod of two ads.
-fn ad_rows()
+fn ad_examples()
     ensures breaks { shown_from 0 (marked (break (codes "b2") ((3000 ∷ []) ∷ [])) (plain 2) ∷ marked (break (codes "b1") ((2000 ∷ []) ∷ [])) (plain 1) ∷ unmarked (plain 0) ∷ [])
         ≡ (0 ∷ 0 ∷ 0 ∷ 0 ∷ []) ∷ (2000 ∷ 1 ∷ 1 ∷ 1 ∷ []) ∷ (3000 ∷ 2 ∷ 2 ∷ 1 ∷ []) ∷ [] }
     ensures ads { shown_from 0 (unmarked (plain 2) ∷ marked (break (codes "b1") ((1000 ∷ 1001 ∷ []) ∷ (2000 ∷ []) ∷ [])) (plain 1) ∷ unmarked (plain 0) ∷ [])
@@ -36,7 +36,7 @@ fn ad_rows()
 {}
 
 /// The origin's own discontinuities: those beside and within a run are the pod's.
-fn discontinuity_rows()
+fn discontinuity_examples()
     ensures kept { shown_from 0 (unmarked (stepped 2 7 0) ∷ unmarked (stepped 1 7 2) ∷ unmarked (stepped 0 5 2) ∷ [])
         ≡ (0 ∷ 0 ∷ 5 ∷ 2 ∷ []) ∷ (1 ∷ 1 ∷ 7 ∷ 2 ∷ []) ∷ (2 ∷ 2 ∷ 7 ∷ 0 ∷ []) ∷ [] }
     ensures around { shown_from 0 (unmarked (stepped 3 9 0) ∷ unmarked (stepped 2 9 3) ∷ marked two (stepped 1 6 1) ∷ unmarked (stepped 0 5 2) ∷ [])
@@ -46,7 +46,7 @@ fn discontinuity_rows()
 {}
 
 /// The last numbers that a playlist can state.
-fn byte_range_rows()
+fn last_number_examples()
     ensures media { fitting (marked two (plain 18446744073709551615) ∷ unmarked (plain 18446744073709551614) ∷ []) ≡ false ∷ true ∷ true ∷ [] }
     ensures discontinuity { fitting (unmarked (stepped 1 18446744073709551614 0) ∷ marked two (stepped 0 18446744073709551614 0) ∷ []) ≡ false ∷ true ∷ true ∷ [] }
 {}

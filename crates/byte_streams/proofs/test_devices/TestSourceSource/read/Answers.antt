@@ -2,7 +2,7 @@ use Rattle.std.proofs.Common.{ℕ, ◌≡◌, ◌+◌, ◌-◌, ◌≤◌, List,
 use Rattle.std.proofs.lemmas.List.{length-take-le, drop-drop, take_all, drop_all}
 use Rattle.std.proofs.Math.Seq.{take-append_seam}
 use Rattle.byte_streams.specs.TestDevices.{SourceState}
-use Rattle.byte_streams.proofs.pieces.TestSourceSource.read.Goals as goal
+use Rattle.byte_streams.proofs.test_devices.TestSourceSource.read.Goals as goal
 
 -- the next n bytes, and what stands after them
 piece : (n p : ℕ) (xs given rest : List ℕ) → p + n ≤ length xs → given ≡ take n (drop p xs) → drop p xs ≡ take n (given ++ rest) ++ drop (p + n) xs

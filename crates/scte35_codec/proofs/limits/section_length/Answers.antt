@@ -2,7 +2,7 @@ use Rattle.std.proofs.Common.{arith}
 use Rattle.scte35_codec.specs.Section.{section_of}
 use Rattle.scte35_codec.specs.Writing.{command_length}
 use Rattle.scte35_codec.proofs.Lengths.{section_length_is}
-use Rattle.scte35_codec.proofs.fitting.section_length.Goals as goal
+use Rattle.scte35_codec.proofs.limits.section_length.Goals as goal
 
 pub returns : goal.returns
 returns c =

@@ -1,6 +1,6 @@
 use Rattle.std.proofs.Common.{None, arith}
 use Rattle.scte35_codec.proofs.Lengths.{components_width}
-use Rattle.scte35_codec.proofs.fitting.components_len.Goals as goal
+use Rattle.scte35_codec.proofs.limits.components_len.Goals as goal
 
 pub loop-component-preserved : goal.loop-component-preserved
 loop-component-preserved c =
