@@ -51,7 +51,7 @@ impl Edge {
     /// `request` is left out.
     ///
     /// ```text
-    /// let mut edge = Edge::new(alloc)?;
+    /// let mut edge = Edge::new(alloc, hashing)?;
     /// edge.answer(&request)    PUT /channels/one, with a base:    201
     /// edge.answer(&request)    GET /channels/two/live.m3u8:       404
     /// ```

@@ -150,7 +150,7 @@ impl Channel {
     /// last refresh is not read again, and the lines of segments that were written last are copied.
     ///
     /// ```text
-    /// let mut channel = Channel::new(alloc, "http://origin.example/ch/index.m3u8", Nanos(100_000_000))?;
+    /// let mut channel = Channel::new(alloc, hashing, "http://origin.example/ch/index.m3u8", Nanos(100_000_000))?;
     /// channel.decide(alloc, decisions)?;
     /// channel.refresh(alloc, playlist)?;
     /// channel.playlist()    Some: the text of the stitched playlist
