@@ -53,6 +53,14 @@ def prove_one(library: Any, jobs: int) -> bool:
         return library.build_rlib(["--jobs", str(jobs)], anew=False) == 0
 
 
+def some_ended(running: dict[Future[bool], Any]) -> set[Future[bool]]:
+    """Those proofs that have ended, after a second at most. Where the script is stopped it ends, and the kit's guard ends the proofs."""
+    try:
+        return wait(running, 1, FIRST_COMPLETED).done
+    except KeyboardInterrupt:
+        os._exit(130)
+
+
 def prove(libraries: list[Any], tell: Callable[[int], None]) -> list[str]:
     """Proves libraries that have all those below them, first those for which the longest chain waits. `tell` is given once a
     second how many are proved. The names of those that aren't in the end: each failed, or stands above one that did."""
@@ -68,7 +76,7 @@ def prove(libraries: list[Any], tell: Callable[[int], None]) -> list[str]:
                 running[pool.submit(prove_one, it, jobs)] = it
             if not running:
                 return [it.name for it in libraries if it.name not in proved]
-            for ended in wait(running, 1, FIRST_COMPLETED).done:
+            for ended in some_ended(running):
                 it = running.pop(ended)
                 proved |= {it.name} if ended.result() else set()
             tell(len(proved))

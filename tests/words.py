@@ -48,3 +48,11 @@ def toolchain(status: int = 2) -> str:
     if found is None:
         end(NO_KIT, status)
     return found
+
+
+def write_files(folder: str, texts: dict[str, str]) -> None:
+    """Writes files below a folder, by their paths."""
+    for path, text in texts.items():
+        os.makedirs(os.path.dirname(f"{folder}/{path}"), exist_ok=True)
+        with open(f"{folder}/{path}", "w", encoding="utf-8") as it:
+            it.write(text)
