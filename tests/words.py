@@ -3,6 +3,7 @@ from __future__ import annotations
 
 import os
 import shutil
+import signal
 import sys
 from typing import NoReturn
 
@@ -19,6 +20,7 @@ def end(why: str, status: int = 2) -> NoReturn:
 def help_at(words: list[str], said: str | None) -> None:
     """Prints what the script says of itself, and ends it, where that is asked."""
     if set(words) & {"--help", "-h"}:
+        signal.signal(signal.SIGPIPE, signal.SIG_DFL)  # (as where only the first lines are read)
         print((said or "").strip())
         sys.exit(0)
 
@@ -40,6 +42,23 @@ def programs_in(words: list[str], count: int, said: str | None) -> list[str]:
     if len(words) < count:
         end(f"it takes {count} word{'s' if count > 1 else ''}: --help says which")
     return [program_at(word) for word in words[:count]]
+
+
+def files_at(words: list[str]) -> list[str]:
+    """The files that the words name."""
+    for word in words:
+        if not os.path.isfile(word):
+            end(f"there is no file {word}")
+    return words
+
+
+def number_at(words: list[str], place: int, usual: int) -> int:
+    """The whole number, from 1, at a place of the words, or the usual one where the words end before it."""
+    if len(words) <= place:
+        return usual
+    if not words[place].isdecimal() or not int(words[place]):
+        end(f"{words[place]} isn't a whole number from 1")
+    return int(words[place])
 
 
 def toolchain(status: int = 2) -> str:
