@@ -1,4 +1,4 @@
-"""Which public functions don't name their parameters in their docstrings. tests/rules calls `print_faults`."""
+"""Which public functions don't name their parameters in their docstrings. tests/rules calls `lacking`."""
 import glob
 import os
 import re

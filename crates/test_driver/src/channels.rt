@@ -49,6 +49,7 @@ fn channel_fault(fault: ChannelFault) -> &'static str {
 }
 
 /// Makes a channel as `words` say, to which events then go, and adds it to `channels`. Prints `ok` or the fault.
+/// `hashing`: the keys for tables of IDs.
 pub(crate) fn print_made(
     rt: &impl Print,
     alloc: Global,

@@ -40,6 +40,7 @@ fn print_breaks(rt: &impl Print, breaks: &[Decision]) -> io::Result<()> {
 
 /// Prints what the decision file `body` says: its breaks, a line each, the one that is withdrawn, the fallback, that
 /// there is none, or the first fault.
+/// `hashing`: the keys for a table of IDs.
 pub(crate) fn print_decisions(
     rt: &impl Print,
     alloc: Global,
