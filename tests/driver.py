@@ -22,6 +22,7 @@ from connections import CONNECTIONS  # noqa: E402
 from events import Case  # noqa: E402
 from long_run import long_run  # noqa: E402
 from vector_cases import vector_cases  # noqa: E402
+from words import programs_in  # noqa: E402
 
 SECONDS = 120
 MARK, MARKED = "mark", re.compile(rb"^no event\n", re.MULTILINE)  # no event: its answer ends the one before it
@@ -85,12 +86,10 @@ def tried(program, case):
     return right, told
 
 
-def run(kind, cases, words, usage):
-    """Gives cases to the program that the words name, prints what differs and how many events passed; the exit status."""
-    if len(words) != 1:
-        sys.exit(usage)
-    program = os.path.abspath(words[0])
-    passed = failed = 0
+def run(kind, make_cases, words, usage):
+    """Gives the cases that are made to the program that the words name, prints what differs and how many events passed; the exit status."""
+    program, = programs_in(words, 1, usage)
+    cases, passed, failed = make_cases(), 0, 0
     with ThreadPoolExecutor(os.cpu_count()) as workers:
         for case, (right, told) in zip(cases, workers.map(lambda case: tried(program, case), cases)):
             passed += right

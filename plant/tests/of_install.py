@@ -23,7 +23,7 @@ def test_program_and_plant_in_a_folder(room):
     assert install("--plant", to) == (0, "\n".join(names) + "\n", "")
     with open(room.program, "rb") as it, open(f"{to}/adsplice.build", encoding="ascii") as build:
         said = dict(line.rstrip("\n").split(" ", 1) for line in build)
-        assert said["sha256"] == hashlib.sha256(it.read()).hexdigest() and set(said) == {"commit", "date", "sha256"}, said
+        assert said["sha256"] == hashlib.sha256(it.read()).hexdigest() and set(said) == {"version", "commit", "date", "sha256"}, said
     assert {"nginx.conf", "monitor", "adsplice_plant"} <= set(os.listdir(to)) and "alerts.yml" in os.listdir(f"{to}/monitor")
     file = room.write("d.json", decided(("b1", 1)))
     done = subprocess.run([PYTHON, f"{to}/adsplice-pod", "--check", file], capture_output=True, text=True, check=False)

@@ -32,7 +32,7 @@ def stop(_: int, __: FrameType | None) -> None:
 
 def run_until_stopped(main: Callable[[list[str]], int]) -> int:
     """The exit status of a script with the words of the command line; 130 where it was stopped, or nobody reads its output."""
-    for one in (signal.SIGTERM, signal.SIGHUP):
+    for one in (signal.SIGINT, signal.SIGTERM, signal.SIGHUP):  # (a shell has what it starts by & ignore the first)
         signal.signal(one, stop)
     try:
         status = main(sys.argv[1:])
