@@ -34,7 +34,7 @@ def segment_lines(keys: Keys, section: Section | None, item: Item) -> list[str]:
     return lines + media_lines(segment)
 
 
-def first_discontinuity(window: list[Item]) -> int:
+def stated_discontinuity_sequence(window: list[Item]) -> int:
     """4.3.3.3: EXT-X-DISCONTINUITY-SEQUENCE is the first item's number before its own discontinuities."""
     return window[0].discontinuity - window[0].steps
 
@@ -51,7 +51,7 @@ def header_lines(playlist: Playlist, window: list[Item]) -> list[str]:
     """4.3.1, 4.3.3, 4.3.5: the tags of the whole playlist."""
     kind = [f"#EXT-X-PLAYLIST-TYPE:{playlist.kind}"] if playlist.kind else []
     return ["#EXTM3U", f"#EXT-X-VERSION:{max(playlist.version, LEAST_VERSION)}", f"#EXT-X-TARGETDURATION:{playlist.target}",
-            f"#EXT-X-MEDIA-SEQUENCE:{window[0].media}", f"#EXT-X-DISCONTINUITY-SEQUENCE:{first_discontinuity(window)}", *kind,
+            f"#EXT-X-MEDIA-SEQUENCE:{window[0].media}", f"#EXT-X-DISCONTINUITY-SEQUENCE:{stated_discontinuity_sequence(window)}", *kind,
             *(["#EXT-X-INDEPENDENT-SEGMENTS"] if playlist.independent else [])]
 
 

@@ -26,6 +26,7 @@ pub struct Client {
 }
 
 impl Client {
+    /// The client whose socket is `stream`, at `seat`.
     pub fn new(stream: TcpStream, seat: Seat<Socket>) -> Client {
         Client {
             socket: NonBlocking::new(stream),
@@ -39,8 +40,8 @@ impl Client {
         self.is_ending
     }
 
-    /// Gives the client its turn: it is heard until its request is whole, then it is told its reply, and then its end is
-    /// awaited.
+    /// Gives the client its turn: it is heard until its request is whole, then its reply is written, and then its end
+    /// is awaited. `connections` have what it said and what is left of its reply; `block` is room for a read.
     pub fn take_turn(&mut self, connections: &mut Connections, block: &mut [u8]) -> Turn
         requires { 0 < length block.old }
         ensures { HasRun connections.old connections.new }
@@ -57,14 +58,15 @@ impl Client {
         speak(&mut self.socket, connections, &self.seat)
     }
 
-    /// The client is given up, or its reply is gone: nothing of it stands at its place any more.
+    /// The client is given up, or its reply is gone: nothing is at its place in `connections` any more.
     pub fn leave(&self, connections: &mut Connections)
         ensures { HasRun connections.old connections.new }
     {
-        connections.went(&self.seat);
+        connections.remove(&self.seat);
     }
 
-    /// Ends what is sent to a client whose reply is gone, or that is given up. Done where nothing of what it sent is unread.
+    /// Ends what is sent to a client whose reply is gone, or that is given up. `Done` if it `was_granted` what it
+    /// asked and nothing of what it sent is unread; else it is read on.
     pub fn end(&mut self, was_granted: bool) -> Turn {
         if was_granted && is_read_out(&mut self.socket) {
             return Turn::Done;
@@ -80,7 +82,7 @@ impl Client {
         seat
     }
 
-    /// Has the system tell when the client is ready. Whether it can.
+    /// Has the system say, by `registry`, when the client is ready. False if it can't.
     pub fn watch(&mut self, registry: &Registry) -> bool {
         let both = Interest::READABLE | Interest::WRITABLE;
         let token = Token(self.seat.place());
@@ -94,13 +96,14 @@ impl Client {
         done.is_ok()
     }
 
-    /// The same, where the system doesn't tell already.
+    /// Has the system say, by `registry`, when the client is ready, if it doesn't already. False if it can't.
     pub fn keep_watched(&mut self, registry: &Registry) -> bool {
         self.is_watched || self.watch(registry)
     }
 }
 
-/// Whether who stands at a place was granted what it asked.
+/// Whether the client at `place` of `connections`, from 0, was granted what it asked: the status of its reply is
+/// below 300.
 pub fn was_granted(connections: &Connections, place: usize) -> bool {
     match connections.phase(place) {
         Phase::Answering(status) => status < 300,
@@ -108,7 +111,8 @@ pub fn was_granted(connections: &Connections, place: usize) -> bool {
     }
 }
 
-/// The fault of who stands at a place and is given up.
+/// The fault of the client at `place` of `connections`, from 0, that is given up: `Read` if it asks, `Write` if it is
+/// answered; `None` if nobody is there.
 pub fn fault_at(connections: &Connections, place: usize) -> Option<EdgeFault> {
     match connections.phase(place) {
         Phase::Asking => Some(EdgeFault::Read),

@@ -23,7 +23,8 @@ fn fault_of(error: &io::Error) -> DecisionsFault
     }
 }
 
-/// The bytes of the decision file, where the words name one, by what reading it gave.
+/// The bytes of the decision file, if the program's words name one: `file` is what reading it gave. Any fault but
+/// `OutOfMemory` is `CannotRead`.
 pub fn decided(file: Option<io::Result<Vec<u8>>>) -> Result<Option<Vec<u8>>, DecisionsFault>
     ensures { result ≡ decided file }
 {

@@ -67,7 +67,7 @@ impl Faults {
         self.events.is_empty()
     }
 
-    /// Tells a fault, where that doesn't wait.
+    /// Writes the line of the fault `text` to standard error, unless that would wait.
     pub fn tell(&mut self, rt: &HostRuntime, text: &str) {
         if self.waits() {
             return;

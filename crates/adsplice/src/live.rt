@@ -12,6 +12,7 @@ use connections::{Connections, Opened as Table, Seat};
 use mio::net::TcpListener;
 use mio::{Events, Interest, Poll};
 use std::alloc::{AllocError, Global};
+use std::hash::RandomState;
 use std::io;
 use std::io::{IsTerminal, Write};
 use std::net::{Ipv4Addr, SocketAddr, SocketAddrV4};
@@ -72,10 +73,10 @@ struct Room {
     block: Vec<u8>,
 }
 
-fn room_for_all(rt: &HostRuntime, alloc: Global) -> Result<Room, AllocError>
+fn room_for_all(rt: &HostRuntime, alloc: Global, hashing: RandomState) -> Result<Room, AllocError>
     ensures { IfOk result (λ room. 0 < vec_len room.block) }
 {
-    let Table { connections, seats } = Connections::over_new_edge(alloc)?;
+    let Table { connections, seats } = Connections::over_new_edge(alloc, hashing)?;
     Ok(Room {
         connections,
         seats,
@@ -110,9 +111,10 @@ fn serve_all(
     true
 }
 
-/// Serves so many connections on a port of the loopback address. The memory is taken first, so that a client finds it there.
-pub fn live(rt: &HostRuntime, port: u16, count: u32) -> ExitCode {
-    let Ok(room) = room_for_all(rt, rt.alloc()) else {
+/// Serves `count` connections on the port `port` of the loopback address, from 1, and gives the exit status. Tables of
+/// names use the keys `hashing`. The memory is taken first, so that a client finds it there.
+pub fn live(rt: &HostRuntime, hashing: RandomState, port: u16, count: u32) -> ExitCode {
+    let Ok(room) = room_for_all(rt, rt.alloc(), hashing) else {
         return fails(rt, "E5 OutOfMemory\n");
     };
     let Room {

@@ -11,6 +11,7 @@ use crate::decisions::{DecisionsFault, decided};
 use crate::live::live;
 use byte_streams::Counted;
 use command_line::{Command, read_command};
+use std::hash::RandomState;
 use std::io::{ErrorKind, Write};
 use std::process::ExitCode;
 use std::{env, fs};
@@ -33,22 +34,35 @@ fn cannot_read_decisions(rt: &HostRuntime) -> ExitCode {
     ExitCode::from(1)
 }
 
+fn cannot_read_random(rt: &HostRuntime) -> ExitCode {
+    let _ = rt
+        .stderr()
+        .write_all(b"cannot read random bytes of the system\n");
+    ExitCode::from(1)
+}
+
 // One playlist from standard input to standard output; the decision file, where there is one, is read first.
-fn vod(rt: &HostRuntime, base: &str, decisions: Option<&str>) -> ExitCode {
+fn vod(rt: &HostRuntime, hashing: RandomState, base: &str, decisions: Option<&str>) -> ExitCode {
     match decided(decisions.map(|path| fs::read(rt, path))) {
-        Ok(None) => vod_with(rt, base, None),
-        Ok(Some(file)) => vod_with(rt, base, Some(file.as_slice())),
+        Ok(None) => vod_with(rt, hashing, base, None),
+        Ok(Some(file)) => vod_with(rt, hashing, base, Some(file.as_slice())),
         Err(DecisionsFault::OutOfMemory) => out_of_memory(rt),
         Err(DecisionsFault::CannotRead) => cannot_read_decisions(rt),
     }
 }
 
-fn vod_with(rt: &HostRuntime, base: &str, decisions: Option<&[u8]>) -> ExitCode {
+fn vod_with(
+    rt: &HostRuntime,
+    hashing: RandomState,
+    base: &str,
+    decisions: Option<&[u8]>,
+) -> ExitCode {
     let mut input = Counted::new(rt.stdin());
     let mut output = Counted::new(rt.stdout());
     let mut faults = Counted::new(rt.stderr());
     ExitCode::from(command_vod(
         rt.alloc(),
+        hashing,
         base,
         decisions,
         &mut input,
@@ -66,9 +80,15 @@ fn main(rt: HostRuntime) -> ExitCode {
     let Ok(words) = words.skip(1).collect::<Vec<String>>(rt.alloc()) else {
         return out_of_memory(&rt);
     };
-    match read_command(words.as_slice()) {
-        Some(Command::Vod { base, decisions }) => vod(&rt, base, decisions),
-        Some(Command::Live { port, count }) => live(&rt, port, count),
-        None => usage(&rt),
+    let Some(command) = read_command(words.as_slice()) else {
+        return usage(&rt);
+    };
+    // (the keys of all tables of IDs, which strangers choose)
+    let Ok(hashing) = RandomState::new(&rt) else {
+        return cannot_read_random(&rt);
+    };
+    match command {
+        Command::Vod { base, decisions } => vod(&rt, hashing, base, decisions),
+        Command::Live { port, count } => live(&rt, hashing, port, count),
     }
 }

@@ -71,6 +71,7 @@ pub struct Memory {
 }
 
 impl Memory {
+    /// The memory of a server that has nobody yet. Fails only if an allocation fails.
     pub fn new(alloc: Global) -> Result<Memory, AllocError> {
         Ok(Memory {
             clients: nobody(alloc)?,
@@ -103,7 +104,8 @@ fn is_no_file(error: &io::Error) -> bool {
 }
 
 impl Server {
-    /// A server that has nobody yet, over what was opened at this instant, with the seats of its table.
+    /// A server that has nobody yet and lets in `count` connections. It has `memory`, the `seats` of its table,
+    /// `faults` for standard error, `poll` and `listener` as they were opened, and begins at the instant `now`.
     pub fn new(
         memory: Memory,
         seats: Vec<Seat<Socket>>,
@@ -138,7 +140,7 @@ impl Server {
         self.admission.is_over(self.present())
     }
 
-    /// Tells a text on standard error, where that doesn't wait.
+    /// Writes the line of the fault `text` to standard error, unless that would wait.
     pub fn tell(&mut self, rt: &HostRuntime, text: &str) {
         self.faults.tell(rt, text);
     }
@@ -152,7 +154,7 @@ impl Server {
         }
     }
 
-    /// Waits until somebody is ready, or a tick has passed.
+    /// Waits until somebody is ready, whom `events` name then, or a tick has passed.
     pub fn wait(&mut self, rt: &HostRuntime, events: &mut Events) -> io::Result<()> {
         let patience = self.patience();
         self.poll.poll(events, patience)?;
@@ -176,8 +178,8 @@ impl Server {
         ensures { HasRun connections.old connections.new }
     {
         self.leave(connections, place);
-        self.served.went(place);
-        self.ending.went(place);
+        self.served.remove(place);
+        self.ending.remove(place);
         self.give_back(place);
     }
 
@@ -213,12 +215,12 @@ impl Server {
         ensures { HasRun connections.old connections.new }
     {
         self.leave(connections, place);
-        self.served.went(place);
+        self.served.remove(place);
         let Some(Some(client)) = self.clients.get_mut(place) else {
             return;
         };
         let turn = client.end(was_granted);
-        let is_late = self.ending.came(place, ending_deadline(self.now)).is_err();
+        let is_late = self.ending.push(place, ending_deadline(self.now)).is_err();
         match turn {
             Turn::Waits if !is_late => self.watch(connections, place, false),
             Turn::Goes if !is_late => self.watch(connections, place, true),
@@ -392,9 +394,9 @@ impl Server {
             return None;
         }
         let client = self.clients.get_mut(place)?;
-        connections.came(&seat);
+        connections.insert(&seat);
         *client = Some(Client::new(stream, seat));
-        if self.served.came(place, serving_deadline(self.now)).is_err() {
+        if self.served.push(place, serving_deadline(self.now)).is_err() {
             self.faults.tell(rt, EdgeFault::OutOfMemory.text());
             self.close(connections, place);
         }
@@ -510,8 +512,8 @@ impl Server {
         self.give_up_late(rt, connections);
     }
 
-    /// A round: those have their turn of whom something was told, then those are let in who wait, and then it is looked whose
-    /// time is up.
+    /// A round over `connections`: the clients that `events` name have their turn, then those that wait are let in,
+    /// and then those are ended whose time is up. `block` is room for a read.
     pub fn round(
         &mut self,
         rt: &HostRuntime,

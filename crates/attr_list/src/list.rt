@@ -40,10 +40,18 @@ impl<'a> Model for AttrList<'a> {
 }
 
 impl<'a> AttrList<'a> {
-    /// Reads a text as an attribute list of at most [`MAX_ATTRIBUTES`] attributes.
+    /// Reads `text` as an attribute list (RFC 8216, section 4.2) of at most [`MAX_ATTRIBUTES`] attributes. Their
+    /// names and values are slices of `text`.
     ///
-    /// The first faulty attribute decides the fault, and in it the order TooMany, BadName, NoEquals,
-    /// Twice, OpenQuote, BadValue. The first attribute is judged before any memory is taken.
+    /// The first faulty attribute decides the fault, and in it the order TooMany, BadName, NoEquals, Twice,
+    /// OpenQuote, BadValue. The first attribute is judged before any memory is taken; later ones may be answered by
+    /// `OutOfMemory`.
+    ///
+    /// ```text
+    /// let list = AttrList::read(alloc, "ID=\"b1\",DURATION=30")?;
+    /// list.get("DURATION")    Some: its value is "30", and it isn't quoted
+    /// list.get("Duration")    None
+    /// ```
     pub fn read(alloc: Global, text: &'a str) -> Result<AttrList<'a>, AttrFault>
         // What is read is in the grammar.
         ensures list { IfOk result (λ list. IsAttributeList text.now (map attr_pair list)) }
@@ -68,7 +76,7 @@ impl<'a> AttrList<'a> {
         Ok(AttrList { attrs })
     }
 
-    /// The attribute of this name, if there is one. Names are compared with their case.
+    /// The attribute called `name`, if there is one. Upper and lower case differ.
     pub fn get(&self, name: &str) -> Option<&Attr<'a>>
         ensures pair { option_map attr_pair (option_copied result)
             ≡ attribute (map attr_pair self.now) name.now }
@@ -161,7 +169,7 @@ fn find_named<'s, 'a>(attrs: &'s [Attr<'a>], name: &str) -> Option<&'s Attr<'a>>
     attrs.iter().find(|attr| name == attr.name)
 }
 
-// Whether an attribute has this name.
+// Whether one of `attrs` is called `name`: no name may come twice (RFC 8216, section 4.2).
 fn has_named(attrs: &[Attr<'_>], name: &str) -> bool
     ensures { result ≡ list_any (λ attr. is_named name.now (attr_pair attr)) attrs.now }
 {

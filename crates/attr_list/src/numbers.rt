@@ -11,7 +11,8 @@ const MAX_DECIMAL_DIGITS: usize = 20;
 
 const MAX_HEX_DIGITS: usize = 32;
 
-/// Reads a decimal integer: 1 to 20 digits, below 2^64. Anything else is `BadNumber`. Takes no memory.
+/// The number that `text` states as a decimal integer (RFC 8216, section 4.2): 1 to 20 digits, below 2^64.
+/// `BadNumber` for anything else. Takes no memory.
 pub fn read_decimal(text: &str) -> Result<u64, AttrFault>
     ensures { result ≡ ok_or (decimal_of text.now) AttrFault.BadNumber }
 {
@@ -39,8 +40,8 @@ fn with_digit(number: u64, digit: u8) -> Option<u64>
     number.checked_mul(10)?.checked_add(u64::from(digit - b'0'))
 }
 
-/// Reads a hexadecimal sequence: `0x` or `0X` and 1 to 32 digits of either case. Anything else is
-/// `BadNumber`. Takes no memory.
+/// The number that `text` states as a hexadecimal sequence (RFC 8216, section 4.2): `0x` or `0X` and 1 to 32 digits
+/// of either case. `BadNumber` for anything else. Takes no memory.
 pub fn read_hex_u128(text: &str) -> Result<u128, AttrFault>
     ensures { result ≡ ok_or (hex_of text.now) AttrFault.BadNumber }
 {

@@ -15,7 +15,8 @@ pub(crate) struct ValueText<'a> {
     pub after: &'a str,
 }
 
-/// The name at the front of a text, and the text after its `=`.
+/// The name at the front of `text`, and what comes after its `=`. `BadName` if no name of A to Z, 0 to 9 and `-` is
+/// there, or another character ends it; `NoEquals` if a comma or the end does.
 pub(crate) fn split_name(text: &str) -> Result<(&str, &str), AttrFault>
     ensures { MatchResult result
         (λ parts. IsNamed text.now parts.0.now parts.1.now)
@@ -32,7 +33,8 @@ pub(crate) fn split_name(text: &str) -> Result<(&str, &str), AttrFault>
     }
 }
 
-/// The value at the front of a text, which runs to a comma or the end.
+/// The value at the front of `text`, which ends at a comma or with `text`, and what comes after it. `OpenQuote` if a
+/// quoted value has no second quote; `BadValue` if the value may not be so (RFC 8216, section 4.2).
 pub(crate) fn split_value(text: &str) -> Result<ValueText<'_>, AttrFault>
     ensures { MatchResult result
         (λ v. IsValued text.now v.quoted v.value.now v.after.now)
@@ -44,7 +46,7 @@ pub(crate) fn split_value(text: &str) -> Result<ValueText<'_>, AttrFault>
     }
 }
 
-// The value whose opening quote stands before this text.
+// The value whose opening quote comes before `text`: all up to the next quote (RFC 8216, section 4.2).
 fn split_quoted(text: &str) -> Result<ValueText<'_>, AttrFault>
     ensures { MatchResult result
         (λ v. IsValued (34 ∷ text.now) v.quoted v.value.now v.after.now)
@@ -61,7 +63,7 @@ fn split_quoted(text: &str) -> Result<ValueText<'_>, AttrFault>
     }
 }
 
-// The unquoted value at the front of a text.
+// The unquoted value at the front of `text`: something, without a comma, a quote or a space (RFC 8216, section 4.2).
 fn split_plain(text: &str) -> Result<ValueText<'_>, AttrFault>
     requires { begins_quoted text.now ≡ false }
     ensures { MatchResult result

@@ -7,3 +7,4 @@ pub mod TagIds
 pub mod FirstEntered
 pub mod SpanLaws
 pub mod Quiet
+mod Staying

@@ -7,3 +7,4 @@ pub mod Laws
 pub mod Kept
 pub mod Ends
 pub mod Inner
+pub mod Stays

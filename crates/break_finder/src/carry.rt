@@ -3,16 +3,19 @@ ghost use Rattle.std.specs.Prelude.{◌≡◌, ◌||◌, ℕ, List, map, filter,
 ghost use Rattle.std.specs.List.{list_any};
 ghost use Rattle.std.specs.Option.{option_copied};
 ghost use Rattle.indexmap.specs.IndexMap.{IsUnique};
+ghost use Rattle.pod_store.specs.Store.{is_one_of};
 ghost use Rattle.break_finder.specs.Kept.{break_at};
-ghost use Rattle.break_finder.specs.Inner.Kept.{kept_for, said_or_nothing, has_text, stands_with, is_kept_with};
+ghost use Rattle.break_finder.specs.Inner.Kept.{kept_for, said_or_nothing, stands_with, is_kept_with};
 ghost use Rattle.break_finder.specs.Known.{is_tag_of, is_this};
 ghost use Rattle.break_finder.specs.Inner.Known.{break_stands, with_tag};
 
 use crate::described::{Described, and_tag, nothing_said};
-use crate::kept::kept_for;
-use indexmap::{IndexMap, IndexSet};
+use crate::kept::{Breaks, kept_for};
+use indexmap::IndexMap;
 use playlist_model::DateRange;
+use pod_store::IdSet;
 use std::alloc::{AllocError, Global};
+use std::hash::RandomState;
 
 fn is_this(id: &str, other: Option<&str>) -> bool
     ensures { result ≡ is_this id.now (option_copied other.entry) }
@@ -24,18 +27,22 @@ fn is_this(id: &str, other: Option<&str>) -> bool
 }
 
 // Notes the ID of a tag.
-fn add_id<'a>(ids: &mut IndexSet<&'a str>, tag: &'a DateRange) -> Result<(), AllocError>
-    ensures { OnOk result ((id : List ℕ) → has_text ids.new.keys id ≡ (has_text ids.old.keys id || is_tag_of id tag.now)) }
+fn add_id<'a>(ids: &mut IdSet<'a>, tag: &'a DateRange) -> Result<(), AllocError>
+    ensures { OnOk result ((id : List ℕ) → is_one_of ids.new id ≡ (is_one_of ids.old id || is_tag_of id tag.now)) }
 {
-    ids.insert(tag.id.as_str())?;
+    ids.add(tag.id.as_str())?;
     Ok(())
 }
 
 // The IDs of these tags.
-fn ids_of<'a>(alloc: Global, date_ranges: &'a [DateRange]) -> Result<IndexSet<&'a str>, AllocError>
-    ensures { IfOk result (λ ids. (id : List ℕ) → has_text ids.keys id ≡ list_any (is_tag_of id) date_ranges.now) }
+fn ids_of<'a>(
+    alloc: Global,
+    hashing: RandomState,
+    date_ranges: &'a [DateRange],
+) -> Result<IdSet<'a>, AllocError>
+    ensures { IfOk result (λ ids. (id : List ℕ) → is_one_of ids id ≡ list_any (is_tag_of id) date_ranges.now) }
 {
-    let mut ids: IndexSet<&str> = IndexSet::new(alloc);
+    let mut ids = IdSet::new(alloc, hashing);
     let mut rest = date_ranges;
     while let Some((tag, later)) = rest.split_first() {
         add_id(&mut ids, tag)?;
@@ -44,36 +51,26 @@ fn ids_of<'a>(alloc: Global, date_ranges: &'a [DateRange]) -> Result<IndexSet<&'
     Ok(ids)
 }
 
-fn has_id(ids: &IndexSet<&str>, id: &str) -> bool
-    ensures { result ≡ has_text ids.now.keys id.now }
+fn stands_with(ids: &IdSet<'_>, carried: Option<&str>, id: &str) -> bool
+    ensures { result ≡ stands_with ids.now (option_copied carried.entry) id.now }
 {
-    ids.contains(id)
-}
-
-fn stands_with(ids: &IndexSet<&str>, carried: Option<&str>, id: &str) -> bool
-    ensures { result ≡ stands_with ids.now.keys (option_copied carried.entry) id.now }
-{
-    has_id(ids, id) || is_this(id, carried)
+    ids.contains(id) || is_this(id, carried)
 }
 
 // Forgets the breaks that are none of these IDs and are not carried.
-fn keep_standing(
-    kept: &mut IndexMap<String, Described>,
-    ids: &IndexSet<&str>,
-    carried: Option<&str>,
-)
-    ensures standing { kept.new.entries ≡ filter (is_kept_with ids.now.keys (option_copied carried.entry)) kept.old.entries }
+fn keep_standing(kept: &mut Breaks, ids: &IdSet<'_>, carried: Option<&str>)
+    ensures standing { kept.new.entries ≡ filter (is_kept_with ids.now (option_copied carried.entry)) kept.old.entries }
     ensures unique { IsUnique string_eq kept.new }
 {
     kept.retain(
         |id: &String, said: &mut Described| -> bool
-            ensures { (result ≡ stands_with ids.entry.now.keys (option_copied carried.entry) (string_bytes id.now)) × (said.new ≡ said.old) }
+            ensures { (result ≡ stands_with ids.entry.now (option_copied carried.entry) (string_bytes id.now)) × (said.new ≡ said.old) }
         { stands_with(ids, carried, id.as_str()) },
     );
 }
 
 // What is said of a break so far.
-fn said_so_far(breaks: &IndexMap<String, Described>, id: &str) -> Described
+fn said_so_far(breaks: &Breaks, id: &str) -> Described
     ensures { result ≡ said_or_nothing (kept_for id.now breaks.now.entries) }
 {
     match kept_for(breaks, id) {
@@ -83,11 +80,7 @@ fn said_so_far(breaks: &IndexMap<String, Described>, id: &str) -> Described
 }
 
 // A tag of a break that is known says more of it; another break is known from now on.
-fn add_tag(
-    alloc: Global,
-    breaks: &mut IndexMap<String, Described>,
-    tag: &DateRange,
-) -> Result<(), AllocError>
+fn add_tag(alloc: Global, breaks: &mut Breaks, tag: &DateRange) -> Result<(), AllocError>
     ensures { OnOk result (map break_at breaks.new.entries ≡ with_tag (map break_at breaks.old.entries) tag.now) }
 {
     let id = tag.id.as_str();
@@ -97,10 +90,11 @@ fn add_tag(
     Ok(())
 }
 
-/// The breaks with what these tags say.
+/// Adds to `breaks` what each of `date_ranges` says (RFC 8216, section 4.3.2.7), in their order. Fails only if an
+/// allocation fails.
 pub fn add_tags(
     alloc: Global,
-    breaks: &mut IndexMap<String, Described>,
+    breaks: &mut Breaks,
     date_ranges: &[DateRange],
 ) -> Result<(), AllocError>
     ensures { OnOk result (map break_at breaks.new.entries ≡ fold with_tag (map break_at breaks.old.entries) date_ranges.now) }
@@ -113,21 +107,22 @@ pub fn add_tags(
     Ok(())
 }
 
-/// Copies of the breaks that stand in these tags, or are carried.
+/// Copies of those `breaks` that have a tag among `date_ranges`, or whose ID is `carried`. Fails only if an
+/// allocation fails.
 pub fn standing(
     alloc: Global,
-    breaks: &IndexMap<String, Described>,
+    breaks: &Breaks,
     date_ranges: &[DateRange],
     carried: Option<&str>,
-) -> Result<IndexMap<String, Described>, AllocError>
+) -> Result<Breaks, AllocError>
     ensures standing { IfOk result (λ kept. map break_at kept.entries ≡ filter (break_stands date_ranges.now (option_copied carried.entry)) (map break_at breaks.now.entries)) }
     ensures unique { IfOk result (IsUnique string_eq) }
 {
     // Before the first refresh nothing is known, and the IDs of what comes needn't be listed.
     if breaks.is_empty() {
-        return Ok(IndexMap::new(alloc));
+        return Ok(IndexMap::with_hasher(alloc, *breaks.hasher()));
     }
-    let ids = ids_of(alloc, date_ranges)?;
+    let ids = ids_of(alloc, *breaks.hasher(), date_ranges)?;
     let mut kept = breaks.clone()?;
     keep_standing(&mut kept, &ids, carried);
     Ok(kept)

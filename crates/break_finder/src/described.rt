@@ -57,7 +57,8 @@ fn or_signal(
     }
 }
 
-/// What is said with one tag more.
+/// What is `said` of a break with `tag` added. Of tags of one ID the first value of an attribute counts (RFC 8216,
+/// section 4.3.2.7). Fails only if an allocation fails.
 pub fn and_tag(alloc: Global, said: Described, tag: &DateRange) -> Result<Described, AllocError>
     ensures { IfOk result (λ more. more ≡ and_tag said tag.now) }
 {
@@ -71,7 +72,7 @@ pub fn and_tag(alloc: Global, said: Described, tag: &DateRange) -> Result<Descri
     })
 }
 
-/// Whether a signal leaves the network.
+/// Whether `signal` leaves the network (SCTE 35, section 9.7.3).
 pub fn is_leaving(signal: Option<Signal>) -> bool
     ensures { result ≡ is_leaving signal }
 {
@@ -81,7 +82,7 @@ pub fn is_leaving(signal: Option<Signal>) -> bool
     }
 }
 
-/// Whether a signal returns to the network.
+/// Whether `signal` returns to the network (SCTE 35, section 9.7.3).
 pub fn is_returning(signal: Option<Signal>) -> bool
     ensures { result ≡ is_returning signal }
 {

@@ -18,6 +18,7 @@ pub enum End {
     Closed,
 }
 
+// How many nanoseconds so many ticks of 90 kHz last (SCTE 35, section 9.8.2).
 fn ticks_nanos(ticks: u64) -> u128
     ensures value { result ≡ ticks_nanos ticks }
     ensures bound { result < 2 ^ 96 }
@@ -83,7 +84,9 @@ fn closed_end(back: Option<Signal>) -> Option<End>
     }
 }
 
-/// Where a break ends whose pod lasts this long: the first end that is known.
+/// Where the break ends of which this is `said` and whose pod lasts for `total`: the first end that is known of
+/// END-DATE, DURATION, SCTE35-IN, PLANNED-DURATION, the break_duration of SCTE35-OUT, and `total` (RFC 8216, section
+/// 4.3.2.7).
 pub fn end_of(said: &Described, total: Nanos) -> Option<End>
     ensures { option_map end_view result ≡ end_of said.now total }
 {
@@ -95,7 +98,8 @@ pub fn end_of(said: &Described, total: Nanos) -> Option<End>
         .or(end_after(said.start, Some(total)))
 }
 
-/// Whether a segment at this instant is before the end of a break.
+/// Whether a segment that begins at `instant` is more than `tolerance` before `end`; false if the break is closed or
+/// has no end.
 pub fn is_before_end(instant: Instant, tolerance: Nanos, end: Option<End>) -> bool
     ensures { result ≡ is_before_end instant tolerance (option_map end_view end) }
 {
@@ -106,7 +110,8 @@ pub fn is_before_end(instant: Instant, tolerance: Nanos, end: Option<End>) -> bo
     }
 }
 
-/// Whether a break can still be entered at this instant.
+/// Whether a break of the end `end` can still be entered at `instant`: it is more than `tolerance` before `end`, or
+/// no instant is known of the end.
 pub fn is_not_past(instant: Instant, tolerance: Nanos, end: Option<End>) -> bool
     ensures { result ≡ is_not_past instant tolerance (option_map end_view end) }
 {
@@ -117,7 +122,7 @@ pub fn is_not_past(instant: Instant, tolerance: Nanos, end: Option<End>) -> bool
     }
 }
 
-/// Whether an instant and a start differ by at most the tolerance.
+/// Whether `instant` and `start` differ by at most `tolerance`; false if there is no `start`.
 pub fn is_near(instant: Instant, tolerance: Nanos, start: Option<Instant>) -> bool
     ensures { result ≡ is_near instant tolerance start }
 {

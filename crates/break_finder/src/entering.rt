@@ -8,11 +8,10 @@ ghost use Rattle.break_finder.specs.Kept.{break_at};
 ghost use Rattle.break_finder.specs.Entering.{EntryLimits, entered};
 ghost use Rattle.break_finder.specs.Entrances.{entrances_in, taken, Tells};
 
-use crate::described::Described;
 use crate::entrance::{Entrance, entrance_of, first_entered};
+use crate::kept::Breaks;
 use crate::spans::{TimeSpan, place_of, span_at, spans_of};
 use fixed_duration::Nanos;
-use indexmap::IndexMap;
 use playlist_model::Instant;
 use pod_store::PodStore;
 use std::alloc::{AllocError, Global};
@@ -65,7 +64,7 @@ fn listed<'a>(
     target: u64,
     mapped: bool,
     store: &PodStore,
-    breaks: &'a IndexMap<String, Described>,
+    breaks: &'a Breaks,
 ) -> Result<Vec<Entrance<'a>>, AllocError>
     ensures { IfOk result (λ v. v.items ≡ entrances_in target mapped store.now (map break_at breaks.now.entries)) }
 {
@@ -78,14 +77,17 @@ fn listed<'a>(
     Ok(list)
 }
 
-/// Those of known breaks, for so many segments.
+/// The entrances of those `breaks` that can be entered by `tolerance`: each is signalled, has a pod in `store`, and
+/// the pod fits the target duration `target`, in seconds, and segments that are `mapped` (have initialisation
+/// sections) or aren't. They are made for about `segments` segments, which changes what they take and nothing else.
+/// Fails only if an allocation fails.
 pub fn entrances_of<'a>(
     alloc: Global,
     tolerance: Nanos,
     target: u64,
     mapped: bool,
     store: &PodStore,
-    breaks: &'a IndexMap<String, Described>,
+    breaks: &'a Breaks,
     segments: usize,
 ) -> Result<Entrances<'a>, AllocError>
     ensures { IfOk result (λ found. found ≡ record { tolerance = tolerance; found = entrances_in target mapped store.now (map break_at breaks.now.entries) }) }
@@ -127,8 +129,8 @@ impl<'a> Entrances<'a> {
     }
 
     #[tactic(auto, using(crate::proofs::Quiet::none_entered))]
-    /// Whether it is seen at once that a segment at this instant enters none of them, whichever was entered last: so it is
-    /// of most segments between two breaks. Takes no memory.
+    /// Whether it is seen at once that a segment which begins at `instant` enters none of them, whichever was entered
+    /// last: so it is of most segments between two breaks. Takes no memory.
     #[inline(always)]
     pub fn is_quiet(&self, instant: Option<Instant>) -> bool
         ensures { result ≡ true → (m : EntryLimits) → (store : Store) → (breaks : List Break)
@@ -141,9 +143,9 @@ impl<'a> Entrances<'a> {
         }
     }
 
-    /// The ID of the first known break, in the order of the IDs, that a segment at this instant enters: the instant
-    /// differs from its start by at most the tolerance and is so much before its end, and it isn't the last one
-    /// entered. Takes no memory.
+    /// The ID of the first known break, in the order of the IDs, that a segment which begins at `instant` enters. The
+    /// instant differs from the break's start by at most the tolerance, and is more than the tolerance before its
+    /// end; and the break isn't `last`, the one that was entered last. Takes no memory.
     pub fn entered(&mut self, instant: Option<Instant>, last: Option<&str>) -> Option<&'a str>
         ensures entered { (target : ℕ) → (mapped : Bool) → (store : Store) → (breaks : List Break)
             → self.old.found ≡ entrances_in target mapped store breaks

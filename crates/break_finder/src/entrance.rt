@@ -33,7 +33,7 @@ impl<'a> Model for Entrance<'a> {
     ghost view = { λ a. record { id = a.id.now; start = a.start; end = option_map end_view a.end } };
 }
 
-/// Whether this ID is the last one's.
+/// Whether `id` is the ID `last`.
 pub fn is_last(last: Option<&str>, id: &str) -> bool
     ensures { result ≡ is_this id.now (option_copied last.entry) }
 {
@@ -56,7 +56,9 @@ fn is_entered(
         && !is_last(last, entrance.id)
 }
 
-/// How a break can be entered.
+/// How the break `id`, of which this is `said`, can be entered. `None` if it has no start, isn't signalled, has no
+/// pod in `store`, or its pod doesn't fit the target duration `target`, in seconds, and segments that are `mapped`
+/// (have initialisation sections) or aren't.
 pub fn entrance_of<'a>(
     target: u64,
     mapped: bool,
@@ -78,7 +80,8 @@ pub fn entrance_of<'a>(
     Some(Entrance { id, start, end })
 }
 
-/// The ID of the first of these that is entered.
+/// The ID of the first break of `list` that a segment which begins at `instant` enters, by `tolerance`, if the break
+/// `last` was entered last.
 pub fn first_entered<'a>(
     list: &[Entrance<'a>],
     tolerance: Nanos,

@@ -1,5 +1,5 @@
 //! What is known of breaks.
-ghost use Rattle.std.specs.Prelude.{List, [], ◌∷◌, ◌≡◌, ◌<◌, ◌^◌, option_map, slice_get, IfOk};
+ghost use Rattle.std.specs.Prelude.{List, ℤ, Option, [], ◌∷◌, ◌≡◌, ◌<◌, ◌^◌, option_map, slice_get, IfOk};
 ghost use Rattle.std.specs.Option.{option_copied};
 ghost use Rattle.pod_store.specs.Store.{pod_for, fits};
 ghost use Rattle.break_finder.specs.Breaks.{said_of};
@@ -7,35 +7,56 @@ ghost use Rattle.break_finder.specs.Known.{Accepted, carry, known};
 ghost use Rattle.break_finder.specs.Laws.{CarriesKnown};
 ghost use Rattle.break_finder.specs.Entrances.{entrances_in};
 ghost use Rattle.break_finder.specs.Entering.{is_inside, is_inside_said, id_of, why, why_said};
+ghost use Rattle.break_finder.specs.Stays.{stays_at};
 ghost use Rattle.break_finder.specs.Signals.{is_leaving};
 
 use crate::carry::{add_tags, standing};
 use crate::described::{Described, is_leaving};
-use crate::end::{end_of, is_before_end};
+use crate::end::{End, end_of, is_before_end};
 use crate::entering::{Entrances, entrances_of};
-use crate::kept::kept_for;
+use crate::kept::{Breaks, kept_for};
 use crate::why::Why;
 use fixed_duration::Nanos;
 use indexmap::IndexMap;
 use playlist_model::{Instant, Playlist};
 use pod_store::{Pod, PodStore};
 use std::alloc::{AllocError, Global};
+use std::hash::RandomState;
 use std::marker::Model;
 
-fn is_inside_said(
-    instant: Option<Instant>,
+/// Until when segments stay in a break that one of them has entered.
+#[derive(Clone, Copy)]
+pub struct Stay {
     tolerance: Nanos,
-    pod: &Pod,
-    said: Option<Described>,
-) -> bool
-    ensures { result ≡ is_inside_said instant tolerance pod.now said }
+    end: Option<End>,
+}
+
+impl Stay {
+    /// Whether a segment that begins at `instant` stays in the break: by the tolerance it is before the break's end. No segment
+    /// without an instant does.
+    pub fn holds(&self, instant: Option<Instant>) -> bool
+        ensures { result ≡ stays_at self.now instant }
+    {
+        match instant {
+            Some(instant) => is_before_end(instant, self.tolerance, self.end),
+            None => false,
+        }
+    }
+}
+
+// Until when segments are inside a break, of which this is said if it is known.
+fn stay_of(said: Option<Described>, tolerance: Nanos, pod: &Pod) -> Stay
+    ensures { (instant : Option ℤ) → stays_at result instant ≡ is_inside_said instant tolerance pod.now said }
 {
-    let Some(instant) = instant else {
-        return false;
-    };
     match said {
-        Some(said) => is_before_end(instant, tolerance, end_of(&said, pod.total())),
-        None => false,
+        Some(said) => Stay {
+            tolerance,
+            end: end_of(&said, pod.total()),
+        },
+        None => Stay {
+            tolerance,
+            end: None,
+        },
     }
 }
 
@@ -60,7 +81,7 @@ fn why_said(said: &Described, id: &str, target: u64, mapped: bool, store: &PodSt
 /// The known breaks, in the order in which they became known.
 #[derive(Drop)]
 pub struct Knowledge {
-    breaks: IndexMap<String, Described>,
+    breaks: Breaks,
 }
 
 impl Model for Knowledge {
@@ -74,13 +95,13 @@ impl Model for Knowledge {
 }
 
 impl Knowledge {
-    /// Nothing is known: no refresh was accepted.
-    pub fn new(alloc: Global) -> Knowledge
+    /// Nothing is known: no refresh was accepted. `hashing`: the keys of its table's hash.
+    pub fn new(alloc: Global, hashing: RandomState) -> Knowledge
         ensures empty { result ≡ [] }
         ensures known { result ≡ known [] }
     {
         Knowledge {
-            breaks: IndexMap::new(alloc),
+            breaks: IndexMap::with_hasher(alloc, hashing),
         }
     }
 
@@ -90,15 +111,17 @@ impl Knowledge {
         kept_for(&self.breaks, id)
     }
 
-    /// Whether a segment at this instant is inside a break, which has this pod: false where the break isn't
-    /// known, is closed, or has no end.
-    pub fn inside(&self, id: &str, instant: Option<Instant>, tolerance: Nanos, pod: &Pod) -> bool
-        ensures { result ≡ is_inside self.now id.now instant tolerance pod.now }
+    /// Until when segments are inside the break `id`, which has the pod `pod`, by `tolerance`: none is if the break isn't known,
+    /// is closed, or has no end. The break is looked up here alone, so that a run asks for it once.
+    pub fn stay(&self, id: &str, tolerance: Nanos, pod: &Pod) -> Stay
+        ensures { (instant : Option ℤ) → stays_at result instant ≡ is_inside self.now id.now instant tolerance pod.now }
     {
-        is_inside_said(instant, tolerance, pod, self.said(id))
+        stay_of(self.said(id), tolerance, pod)
     }
 
-    /// Why a break is filled or not.
+    /// Why the break `id` is filled or not: `Filled` if it is in use, which `filled` says. Else it is judged by the
+    /// pods of `store`, the target duration `target`, in seconds, and whether the origin's segments are `mapped`
+    /// (have initialisation sections). Takes no memory.
     pub fn why(&self, id: &str, target: u64, mapped: bool, store: &PodStore, filled: bool) -> Why
         ensures { result ≡ why self.now id.now target mapped store.now filled }
     {
@@ -111,7 +134,7 @@ impl Knowledge {
         }
     }
 
-    /// The ID of the known break at a place, from 0.
+    /// The ID of the known break at `place`, from 0, in the order in which they became known. `None` past the last.
     pub fn ids(&self, place: usize) -> Option<&str>
         ensures { option_map (λ id. id.now) result ≡ option_map id_of (slice_get self.now place) }
     {
@@ -121,9 +144,10 @@ impl Knowledge {
         }
     }
 
-    /// The breaks that can be entered, in the order of the IDs, by this tolerance: each is signalled and decided, and its
-    /// pod fits. They are made for about so many segments, which changes what they take and nothing else. Fails only
-    /// where an allocation fails.
+    /// The breaks that can be entered, in the order of the IDs, by `tolerance`: each is signalled and has a pod in
+    /// `store`, which fits the target duration `target`, in seconds, and segments that are `mapped` (have
+    /// initialisation sections) or aren't. They are made for about `segments` segments, which changes what they take
+    /// and nothing else. Fails only if an allocation fails.
     pub fn entrances(
         &self,
         alloc: Global,
@@ -146,9 +170,16 @@ impl Knowledge {
         )
     }
 
-    /// What is known after a refresh, where this is known before it, and the newest segment of the refresh before
-    /// is marked with this break. A break that stands in neither is forgotten; of each attribute the first value
-    /// stays; the breaks that come new stand last, by their first tags. Fails only where an allocation fails.
+    /// What is known after the refresh by `playlist`, if this is known before it, and the newest segment of the
+    /// refresh before has the mark `newest`. A break that is in neither is forgotten; of each attribute the first
+    /// value is kept (RFC 8216, section 4.3.2.7); new breaks come last, by their first tags. Fails only if an
+    /// allocation fails.
+    ///
+    /// ```text
+    /// known before, with the mark b2 on the newest segment:    b1, b2
+    /// the date ranges of the playlist:                         b1, b3
+    /// known after:                                             b1, b2, b3
+    /// ```
     pub fn carry(
         &self,
         alloc: Global,

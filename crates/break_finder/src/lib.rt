@@ -16,5 +16,5 @@ mod why;
 mod worked_examples;
 
 pub use entering::Entrances;
-pub use knowledge::Knowledge;
+pub use knowledge::{Knowledge, Stay};
 pub use why::Why;

@@ -79,7 +79,7 @@ impl<'a> TimeSpan<'a> {
         self.first.is_none()
     }
 
-    /// The ID of the break that is entered in it after this last one.
+    /// The ID of the break that a segment in this span enters, if the break `last` was entered last.
     pub fn entered(&self, last: Option<&str>) -> Option<&'a str>
         ensures { option_copied result ≡ but self.now.first self.now.second (option_copied last.entry) }
     {
@@ -227,7 +227,7 @@ fn spans_of_one<'a>(
     Ok(spans)
 }
 
-/// The spans of these breaks.
+/// The spans of time in which the breaks of `list` are entered, by `tolerance`. Fails only if an allocation fails.
 pub fn spans_of<'a>(
     alloc: Global,
     tolerance: Nanos,
@@ -247,7 +247,7 @@ pub fn spans_of<'a>(
     joined(alloc, ours.as_slice(), theirs.as_slice())
 }
 
-/// The place of the span that an instant is in, which often is this one.
+/// The place, from 0, of that one of `spans` in which `instant` is, which often is `place`.
 pub fn place_of(spans: &[TimeSpan<'_>], place: usize, instant: Instant) -> usize {
     let instant = i128::from(instant.0);
     match spans.get(place) {
@@ -256,7 +256,7 @@ pub fn place_of(spans: &[TimeSpan<'_>], place: usize, instant: Instant) -> usize
     }
 }
 
-/// The span at this place, where the instant is in it.
+/// That one of `spans` at `place`, from 0, if `instant` is in it.
 pub fn span_at<'s, 'a>(
     spans: &'s [TimeSpan<'a>],
     place: usize,

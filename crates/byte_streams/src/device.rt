@@ -22,7 +22,8 @@ pub trait Source {
     /// How many reads there were.
     ghost called: { Self → ℕ };
 
-    /// Gives a front of the bytes that are left: none only at the end.
+    /// Puts a front of the bytes that are left into `buf`, which has room for [`READ_ROOM`], and says how many: none
+    /// only at the end.
     fn read(&mut self, buf: &mut [u8]) -> io::Result<usize>
         requires { READ_ROOM ≤ length buf.old }
         ensures bound { ReadsAtMost result buf.new }
@@ -47,7 +48,7 @@ pub trait Sink {
     /// How many of its writes failed or took nothing, and whether the last one did.
     ghost failed: { Self → Failures };
 
-    /// Takes a front of these bytes, of which there is at least one.
+    /// Takes a front of `buf`, which has at least one byte, and says how many.
     fn write(&mut self, buf: &[u8]) -> io::Result<usize>
         requires { 0 < length buf.now }
         ensures bound { WritesAtMost result buf.now }
@@ -78,7 +79,7 @@ impl<T> Model for Counted<T> {
 }
 
 impl<T> Counted<T> {
-    /// A device of which no call was counted yet.
+    /// The device `inner`, of which no call was counted yet.
     pub fn new(inner: T) -> Counted<T>
         ensures { result ≡ (inner, no_failures, 0) }
     {

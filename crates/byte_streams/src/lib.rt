@@ -3,8 +3,8 @@
 
 mod device;
 mod output;
-mod pieces;
+mod test_devices;
 
 pub use device::{Counted, READ_ROOM, Sink, Source};
 pub use output::{SinkFailed, hand_out};
-pub use pieces::{TestSink, TestSource};
+pub use test_devices::{TestSink, TestSource};

@@ -10,8 +10,14 @@ use crate::device::Sink;
 #[derive(Clone, Copy, PartialEq, Eq, Debug)]
 pub struct SinkFailed;
 
-/// Hands out all bytes, by as many writes as it takes, or a front of them where the sink fails: the
-/// write that failed is the last.
+/// Hands all of `bytes` to `sink`, by as many writes as it takes. `SinkFailed` if a write fails or takes nothing:
+/// that write is the last, and `sink` has taken a front of `bytes`. Takes no memory.
+///
+/// ```text
+/// let mut sink = TestSink::new(alloc, 8, 3, 0)?;
+/// hand_out(b"abcdefg", &mut sink)    Ok(()), by three writes
+/// sink.bytes()                       b"abcdefg"
+/// ```
 pub fn hand_out<S: Sink>(bytes: &[u8], sink: &mut S) -> Result<(), SinkFailed>
     ensures ok { OnOk result (Appends (S.contents sink.old) (S.contents sink.new) bytes.now) }
     ensures err { OnErr result (TookFront (S.contents sink.old) (S.contents sink.new) bytes.now) }

@@ -30,7 +30,8 @@ fn changed(number: u64) -> FaultText
     text
 }
 
-/// The code and the name of a fault, and where it stands.
+/// The code and the name of `fault`, and its place: `P9 BadValue line 7`, or `N8 Changed 12` with the segment's Media
+/// Sequence Number.
 pub fn refresh_fault_text(fault: RefreshFault) -> FaultText
     ensures { result.bytes ≡ refresh_fault_text fault }
 {
@@ -50,7 +51,7 @@ pub fn refresh_fault_text(fault: RefreshFault) -> FaultText
     }
 }
 
-/// Why a break is filled or not, in a word.
+/// The word for `why` a break is filled or not, as `Filled`.
 pub fn why_word(why: Why) -> &'static str
     ensures { result.now ≡ why_word why }
 {

@@ -17,8 +17,8 @@ pub enum Naming {
     Full,
 }
 
-/// Puts a value under a name that none has, after the others, where there are fewer than the most. Fails only where it
-/// would be put there and an allocation fails; the others are as they were then.
+/// Puts `value` under `name` after the others of `values`. `Taken` if another value has that name; `Full` if there
+/// are `most` already. Fails only if it would be put there and an allocation fails; `values` are then as they were.
 pub fn put_named<V: Drop>(
     alloc: Global,
     values: &mut IndexMap<String, V>,
@@ -41,7 +41,7 @@ pub fn put_named<V: Drop>(
     }
 }
 
-/// Removes the value under a name, and tells whether there was one.
+/// Removes the value under `name` from `values`, and says whether there was one.
 pub fn remove_named<V: Drop>(values: &mut IndexMap<String, V>, name: &str) -> bool
     ensures there { result ≡ is_some (lookup (is_at name.now) values.old.entries) }
     ensures entries { values.new.entries ≡ remove_entry (is_at name.now) values.old.entries }

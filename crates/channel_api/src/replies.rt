@@ -14,7 +14,8 @@ use playlist_model::{Shared, Text};
 use pod_store::{DecisionFault, DecisionKind};
 use std::alloc::{AllocError, Global};
 
-/// A text with a line feed.
+/// The reply of `status` whose body is `text`, of at most 94 bytes, and a line feed. Fails only if an allocation
+/// fails.
 pub fn line(alloc: Global, status: StatusCode, text: &str) -> Result<Reply, AllocError>
     requires { length text.now ≤ 94 }
     ensures { IfOk result (λ reply. reply ≡ line status text.now) }
@@ -32,7 +33,8 @@ pub fn not_found(alloc: Global) -> Result<Reply, AllocError>
     line(alloc, StatusCode::NOT_FOUND, "not found")
 }
 
-/// The resource has other methods.
+/// The reply 405 with the methods that the resource has in the field Allow, which `allow` names (RFC 9110, section
+/// 15.5.6). Fails only if an allocation fails.
 pub fn not_allowed(alloc: Global, allow: Allow) -> Result<Reply, AllocError>
     ensures { IfOk result (λ reply. reply ≡ not_allowed allow) }
 {
@@ -41,7 +43,8 @@ pub fn not_allowed(alloc: Global, allow: Allow) -> Result<Reply, AllocError>
     Ok(reply)
 }
 
-/// The body is none of a channel.
+/// The reply 422 that names `fault`, for which a body is none of a channel. Fails if `fault` is `OutOfMemory`, or an
+/// allocation fails.
 pub fn body_fault_reply(alloc: Global, fault: BodyFault) -> Result<Reply, AllocError>
     ensures reply { IfOk result (λ reply. reply ≡ body_fault_reply fault) }
     ensures memory { fault ≡ BodyFault.OutOfMemory → IsErr result }
@@ -63,7 +66,8 @@ fn refresh_status(fault: RefreshFault) -> StatusCode
     }
 }
 
-/// A refused refresh.
+/// The reply that names `fault`, for which a refresh is refused: 422 if the playlist can't be read, 409 if it may not
+/// follow the last one. Fails only if an allocation fails.
 pub fn refused_refresh(alloc: Global, fault: RefreshFault) -> Result<Reply, AllocError>
     ensures { IfOk result (λ reply. reply ≡ refused_refresh fault) }
 {
@@ -83,14 +87,16 @@ fn decision_status(kind: DecisionKind) -> StatusCode
     }
 }
 
-/// Refused decisions.
+/// The reply that names `fault`, for which decisions are refused: 422 if they can't be read, 409 if the channel can't
+/// take them. Fails only if an allocation fails.
 pub fn refused_decisions(alloc: Global, fault: DecisionFault) -> Result<Reply, AllocError>
     ensures { IfOk result (λ reply. reply ≡ decisions_reply (Err fault)) }
 {
     line(alloc, decision_status(fault.kind), fault.text().as_str())
 }
 
-/// Appends the line of a break.
+/// Appends to `lines` the line of the break `id`: the ID, a tab and the word for `why`. Fails only if an allocation
+/// fails.
 pub fn push_line(lines: &mut String, id: &str, why: Why) -> Result<(), AllocError>
     ensures { OnOk result (string_bytes lines.new ≡ string_bytes lines.old ++ (id.now ++ 9 ∷ why_word why ++ 10 ∷ [])) }
 {
@@ -100,7 +106,8 @@ pub fn push_line(lines: &mut String, id: &str, why: Why) -> Result<(), AllocErro
     lines.push_str("\n")
 }
 
-/// A text, or no content where that is empty, which takes no memory.
+/// The reply 200 with the body `text`, or without a body if that is empty, which takes no memory. Fails only if an
+/// allocation fails.
 pub fn text_reply(alloc: Global, text: String) -> Result<Reply, AllocError>
     ensures reply { IfOk result (λ reply. reply ≡ text_reply (string_bytes text)) }
     ensures memory { IsErr result → string_bytes text ≢ [] }

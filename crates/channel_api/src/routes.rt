@@ -76,7 +76,7 @@ fn are_name_bytes(bytes: &[u8]) -> bool
     bytes.iter().all(|byte| is_name_byte(*byte))
 }
 
-/// Whether a text can be the name of a channel.
+/// Whether `name` can be the name of a channel: 1 to 32 bytes, each of a to z, 0 to 9 or `-`.
 pub fn is_channel_name(name: &str) -> bool
     ensures { result ≡ is_channel_name name.now }
 {
@@ -120,7 +120,14 @@ impl Routes {
         }
     }
 
-    /// The channel's name and what of it a target names, its query aside.
+    /// The name of the channel that `target` is of, and what of the channel; the query is left out. `None` if no
+    /// route has the path or the name can be none of a channel, which is answered 404 (RFC 9110, section 15.5.5).
+    /// Takes no memory.
+    ///
+    /// ```text
+    /// routes.find("/channels/one/live.m3u8?x=1")    Some(("one", Resource::Live))
+    /// routes.find("/other")                         None
+    /// ```
     pub fn find<'t>(&self, target: &'t str) -> Option<(&'t str, Resource)>
         ensures { option_map pair result ≡ route_of (path_of target.now) }
     {

@@ -1,3 +1,4 @@
 pub mod Checked
 pub mod Listed
 pub mod Placing
+pub mod Staying

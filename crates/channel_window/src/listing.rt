@@ -21,7 +21,8 @@ use std::alloc::{AllocError, Global};
 use stitcher::{MarkedSegment, SharedMark, is_same_run};
 
 #[tactic(auto, using(crate::proofs::Listed::newest_seen, crate::proofs::Listed::newest_decided, crate::proofs::Listed::none_seen))]
-/// The mark of the newest of these segments.
+/// The mark of the newest of the `shown` segments, which is the last; no mark if there is none. Fails only if an
+/// allocation fails.
 pub fn newest_mark(alloc: Global, shown: &[MarkedSegment]) -> Result<SharedMark, AllocError>
     ensures mark { IfOk result (λ id. (store : Store) → newest_mark (so_far store shown.now) ≡ mark_in store id) }
     ensures decided { IfOk result (λ id. (store : Store) → AreDecided store shown.now → IsDecided store id) }
@@ -33,7 +34,7 @@ pub fn newest_mark(alloc: Global, shown: &[MarkedSegment]) -> Result<SharedMark,
 }
 
 #[tactic(auto, using(crate::proofs::Listed::newest_ends, crate::proofs::Listed::none_seen))]
-/// Where the newest of these segments ends.
+/// When the newest of the `shown` segments ends, in nanoseconds from 1970; `None` if it has no instant.
 pub fn newest_end(shown: &[MarkedSegment]) -> Option<i128>
     ensures { (store : Store) → result ≡ newest_end (so_far store shown.now) }
 {
@@ -61,7 +62,7 @@ fn after(number: u64, segments: &[Segment]) -> &[Segment]
 }
 
 #[tactic(auto, using(crate::proofs::Listed::same_new, crate::proofs::Listed::all_new, crate::proofs::Listed::tail_whole))]
-/// The segments of a playlist that weren't shown before: its last ones.
+/// Those `segments` of a playlist that aren't among the `shown` ones: its last ones.
 pub fn fresh_of<'a>(shown: &[MarkedSegment], segments: &'a [Segment]) -> &'a [Segment]
     requires { AreContiguous segments.now }
     ensures value { (store : Store) → result.now ≡ filter (is_new (so_far store shown.now)) segments.now }
@@ -87,8 +88,9 @@ fn copied_segments(alloc: Global, segments: &[Segment]) -> Result<Vec<Segment>, 
 }
 
 #[tactic(auto, using(crate::proofs::Listed::tail_whole))]
-/// A list that ends with these, which a playlist's list ends with: that list itself, or one of copies where they are fewer
-/// than half of it, so that a segment which is shown for long doesn't hold all that were listed with it.
+/// A list that ends with `fresh`, as `segments` does: `segments` itself, or a list of copies if `fresh` are fewer
+/// than half of it, so that a segment which is shown for long doesn't hold all that were listed with it. Fails only
+/// if an allocation fails.
 pub fn list_with(
     alloc: Global,
     fresh: &[Segment],
@@ -104,7 +106,7 @@ pub fn list_with(
     Shared::new(alloc, Items::from_vec(copies))
 }
 
-/// These, which a list ends with, as its members.
+/// The members of `list` that are `fresh`, with which it ends.
 pub fn last_members<'a>(list: &'a Shared<Items<Segment>>, fresh: &[Segment]) -> Members<'a, Segment>
     requires { IsTail fresh.now list.now }
     ensures { result ≡ fresh.now }
@@ -139,7 +141,7 @@ fn copies(
     Ok(done)
 }
 
-/// These segments, and others after them.
+/// The `shown` segments, and `fresh` after them. Fails only if an allocation fails.
 pub fn joined(
     alloc: Global,
     shown: &[MarkedSegment],
@@ -180,7 +182,9 @@ fn ends_unmarked(marked: &[MarkedSegment]) -> bool
     }
 }
 
-/// How long the newest run has lasted with these segments, after one of this mark and a run that had lasted so long.
+/// How long the newest run has lasted after the segments `marked`: before them the newest segment had the mark
+/// `newest`, and its run had lasted for `so_far`. It is at most a nanosecond more than the run's pod in `store`, and
+/// 0 if the last of `marked` has no mark.
 pub fn length_after(
     store: &PodStore,
     newest: &Option<Shared<Text>>,
@@ -210,7 +214,7 @@ pub fn length_after(
 }
 
 #[tactic(auto, using(crate::proofs::Counted::front_whole, crate::proofs::Counted::front_less, crate::proofs::Counted::front_seen, crate::proofs::Counted::front_stops, crate::proofs::Counted::front_ends))]
-/// These segments up to the one of this number.
+/// The segments of `list` up to the one of the media sequence number `number`.
 pub fn front_to(number: u64, list: &[MarkedSegment]) -> &[MarkedSegment]
     ensures seen { (store : Store) → so_far store result.now ≡ up_to number (so_far store list.now) }
     ensures front { IsFront result.now list.now }
@@ -226,7 +230,7 @@ pub fn front_to(number: u64, list: &[MarkedSegment]) -> &[MarkedSegment]
 }
 
 #[tactic(auto, using(crate::proofs::Counted::front_whole, crate::proofs::Counted::front_less, crate::proofs::Counted::gone_seen, crate::proofs::Counted::gone_stops, crate::proofs::Counted::gone_ends))]
-/// Those of these segments that stand before this number.
+/// The segments of `list` before the media sequence number `number`.
 pub fn front_before(number: u64, list: &[MarkedSegment]) -> &[MarkedSegment]
     ensures seen { (store : Store) → so_far store result.now ≡ gone_before number (so_far store list.now) }
     ensures front { IsFront result.now list.now }
@@ -242,7 +246,7 @@ pub fn front_before(number: u64, list: &[MarkedSegment]) -> &[MarkedSegment]
 }
 
 #[tactic(auto, using(crate::proofs::Counted::none_counted, crate::proofs::Counted::counted_on, crate::proofs::Counted::counted_there, crate::proofs::Counted::counted_within, crate::proofs::Counted::counted_all))]
-/// How many of these segments stand before those from this number on.
+/// How many segments of `list` come before the media sequence number `number`.
 pub fn count_before(number: u64, list: &[MarkedSegment]) -> usize
     ensures seen { (store : Store) → so_far store (drop result list.now) ≡ shown_from number (so_far store list.now) }
     ensures within { result ≤ length list.now }
@@ -257,7 +261,7 @@ pub fn count_before(number: u64, list: &[MarkedSegment]) -> usize
     0
 }
 
-/// The values of a list from a place on.
+/// The values of `list` from `place` on, from 0. Fails only if an allocation fails.
 pub fn from_place<T: Drop>(list: Vec<T>, place: usize) -> Result<Vec<T>, AllocError>
     requires { place ≤ length list.items }
     ensures { IfOk result (λ v. v.items ≡ drop place list.items) }
@@ -270,7 +274,8 @@ pub fn from_place<T: Drop>(list: Vec<T>, place: usize) -> Result<Vec<T>, AllocEr
 }
 
 #[tactic(auto, using(crate::proofs::Counted::none_passed, crate::proofs::Counted::one_passed, crate::proofs::Counted::passed_to, crate::proofs::Counted::passed_all))]
-/// The last break entered: that of the newest of these segments that has a mark, else this one.
+/// The last break entered: that of the newest segment of `list` that has a mark, else `entered`. Fails only if an
+/// allocation fails.
 pub fn last_entered(
     list: &[MarkedSegment],
     entered: &Option<Shared<Text>>,

@@ -1,13 +1,14 @@
 //! The new segments of a refresh, with the breaks that they are marked with.
-ghost use Rattle.std.specs.Prelude.{◌≡◌, ◌++◌, ℕ, true, List, Option, IfOk, OnOk, Some, None};
+ghost use Rattle.std.specs.Prelude.{◌≡◌, ◌++◌, ℕ, ℤ, true, List, Option, IfOk, IfSome, OnOk, Some, None};
 ghost use Rattle.std.specs.Option.{option_copied};
 ghost use Rattle.playlist_model.specs.LookBack.{or_earlier};
 ghost use Rattle.pod_store.specs.Store.{is_empty, pod_for};
 ghost use Rattle.break_finder.specs.Entering.{entered};
 ghost use Rattle.channel_spec.specs.Marking.{limits};
 ghost use Rattle.channel_window.specs.Marking.{is_still_inside, stays, next_id, mark_on};
+ghost use Rattle.channel_window.specs.Inner.Staying.{stays_in};
 
-use break_finder::{Entrances, Knowledge};
+use break_finder::{Entrances, Knowledge, Stay};
 use fixed_duration::Nanos;
 use playlist_model::{Instant, Member, Members, Segment, Shared, Text};
 use pod_store::PodStore;
@@ -27,7 +28,7 @@ pub struct Limits {
     pub mapped: bool,
 }
 
-/// The text, where there is one.
+/// The characters of `text`, if there is one.
 pub fn text_in(text: &Option<Shared<Text>>) -> Option<&str>
     ensures { option_copied result ≡ text.now }
 {
@@ -37,7 +38,7 @@ pub fn text_in(text: &Option<Shared<Text>>) -> Option<&str>
     }
 }
 
-/// Another owner of a text, where there is one.
+/// Another owner of `text`, if there is one. Fails only if it has too many.
 pub fn copied_text(text: &Option<Shared<Text>>) -> Result<Option<Shared<Text>>, AllocError>
     ensures { IfOk result (λ t. t ≡ text.now) }
 {
@@ -45,6 +46,13 @@ pub fn copied_text(text: &Option<Shared<Text>>) -> Result<Option<Shared<Text>>, 
         Some(text) => Ok(Some(text.clone()?)),
         None => Ok(None),
     }
+}
+
+// Until when segments stay in a break; none do where it has no pod.
+#[derive(Drop)]
+struct Staying {
+    id: Shared<Text>,
+    stay: Option<Stay>,
 }
 
 // What decides the marks of a refresh's segments, with the breaks that can be entered in it.
@@ -56,18 +64,21 @@ struct Marker<'a> {
     entrances: Entrances<'a>,
     // None, which the segments without a mark own together.
     unmarked: SharedMark,
+    // That of the break that was asked for last: it is looked up once for a run.
+    staying: Option<Staying>,
 }
 
 impl<'a> Model for Marker<'a> {
     ghost use Rattle.std.specs.Prelude.{◌≡◌, None};
     ghost use Rattle.break_finder.specs.Entrances.{entrances_in};
     ghost use Rattle.channel_spec.specs.Marking.{Moment};
+    ghost use Rattle.channel_window.specs.Inner.Staying.{IsStaying};
 
     ghost Value = { Moment };
 
     ghost view = { λ a. record { tolerance = a.limits.tolerance; target_duration = a.limits.target_duration; mapped = a.limits.mapped; breaks = a.knowledge.now; store = a.store.now } };
 
-    ghost invariant = { λ a. (a.entrances ≡ record { tolerance = a.limits.tolerance; found = entrances_in a.limits.target_duration a.limits.mapped a.store.now a.knowledge.now }) × (a.unmarked ≡ None) };
+    ghost invariant = { λ a. (a.entrances ≡ record { tolerance = a.limits.tolerance; found = entrances_in a.limits.target_duration a.limits.mapped a.store.now a.knowledge.now }) × (a.unmarked ≡ None) × IsStaying a.knowledge.now a.store.now a.limits.tolerance a.staying };
 }
 
 // What decides them for about so many segments.
@@ -93,27 +104,97 @@ fn marker_of<'a>(
             segments,
         )?,
         unmarked: Shared::new(alloc, None)?,
+        staying: None,
     })
 }
 
+// Whether a segment at an instant stays in a break.
+fn stays_in(stay: Option<Stay>, instant: Option<Instant>) -> bool
+    ensures { result ≡ stays_in stay instant }
+{
+    match stay {
+        Some(stay) => stay.holds(instant),
+        None => false,
+    }
+}
+
 impl<'a> Marker<'a> {
-    fn is_still_inside(&self, id: &str, instant: Option<Instant>) -> bool
-        ensures { result ≡ is_still_inside self.now id.now instant (pod_for self.now.store id.now) }
+    // Until when segments stay in a break.
+    fn stay_of(&self, id: &str) -> Option<Stay>
+        ensures { (instant : Option ℤ) → stays_in result instant ≡ is_still_inside self.now id.now instant (pod_for self.now.store id.now) }
     {
         match self.store.pod_for(id) {
-            Some(pod) => self
-                .knowledge
-                .inside(id, instant, self.limits.tolerance, pod),
-            None => false,
+            Some(pod) => Some(self.knowledge.stay(id, self.limits.tolerance, pod)),
+            None => None,
         }
     }
 
-    fn stays(&self, newest: &Option<Shared<Text>>, instant: Option<Instant>) -> bool
-        ensures { result ≡ stays self.now newest.now instant }
+    // That of the break that was asked for last, where it is this one.
+    fn stay_again(&self, id: &Shared<Text>) -> Option<Option<Stay>>
+        ensures { IfSome result (λ stay. (instant : Option ℤ) → stays_in stay instant ≡ is_still_inside self.now id.now instant (pod_for self.now.store id.now)) }
+    {
+        match &self.staying {
+            Some(staying) if staying.id == *id => Some(staying.stay),
+            _ => None,
+        }
+    }
+
+    // Until when segments stay in a break, with its ID.
+    fn staying_in(&self, id: &Shared<Text>) -> Result<Staying, AllocError>
+        ensures id { IfOk result (λ staying. staying.id ≡ id.now) }
+        ensures stay { IfOk result (λ staying. (instant : Option ℤ) → stays_in staying.stay instant ≡ is_still_inside self.now id.now instant (pod_for self.now.store id.now)) }
+    {
+        Ok(Staying {
+            id: id.clone()?,
+            stay: self.stay_of(id.as_str()),
+        })
+    }
+
+    // Looks that up, and keeps it.
+    fn look_up(&mut self, id: &Shared<Text>) -> Result<Option<Stay>, AllocError>
+        ensures stay { IfOk result (λ stay. (instant : Option ℤ) → stays_in stay instant ≡ is_still_inside self.old id.now instant (pod_for self.old.store id.now)) }
+        ensures kept { self.new ≡ self.old }
+    {
+        let staying = self.staying_in(id)?;
+        let stay = staying.stay;
+        self.staying = Some(staying);
+        Ok(stay)
+    }
+
+    // The same, which is looked up once for a run.
+    fn stay_now(&mut self, id: &Shared<Text>) -> Result<Option<Stay>, AllocError>
+        ensures stay { IfOk result (λ stay. (instant : Option ℤ) → stays_in stay instant ≡ is_still_inside self.old id.now instant (pod_for self.old.store id.now)) }
+        ensures kept { self.new ≡ self.old }
+    {
+        match self.stay_again(id) {
+            Some(stay) => Ok(stay),
+            None => self.look_up(id),
+        }
+    }
+
+    fn is_still_inside(
+        &mut self,
+        id: &Shared<Text>,
+        instant: Option<Instant>,
+    ) -> Result<bool, AllocError>
+        ensures inside { IfOk result (λ inside. inside ≡ is_still_inside self.old id.now instant (pod_for self.old.store id.now)) }
+        ensures kept { self.new ≡ self.old }
+    {
+        let stay = self.stay_now(id)?;
+        Ok(stays_in(stay, instant))
+    }
+
+    fn stays(
+        &mut self,
+        newest: &Option<Shared<Text>>,
+        instant: Option<Instant>,
+    ) -> Result<bool, AllocError>
+        ensures stays { IfOk result (λ staying. staying ≡ stays self.old newest.now instant) }
+        ensures kept { self.new ≡ self.old }
     {
         match newest {
-            Some(id) => self.is_still_inside(id.as_str(), instant),
-            None => false,
+            Some(id) => self.is_still_inside(id, instant),
+            None => Ok(false),
         }
     }
 
@@ -267,7 +348,7 @@ impl<'a> Marker<'a> {
         if self.is_unmarked(&run.before, begun) {
             return Ok(marked_with(segment, instant, run.before.clone()?));
         }
-        let staying = self.stays(&run.before, begun);
+        let staying = self.stays(&run.before, begun)?;
         let mark = self.next_id(alloc, staying, &run.before, &run.entered, begun)?;
         enter(&mut run.entered, &mark)?;
         run.before = mark.clone()?;
@@ -334,8 +415,9 @@ impl<'a> Marker<'a> {
     }
 }
 
-/// These segments, which begin at these instants, with their marks: after a segment of this mark, and after this
-/// last break entered.
+/// The `segments`, which begin at the `instants`, with their marks. A segment enters a break that `knowledge` and
+/// `store` let it enter by `limits`, or stays in the break of the segment before it, or has no mark. `newest` is the
+/// mark of the segment before the first one, and `last` the last break entered. Fails only if an allocation fails.
 pub fn mark_on(
     alloc: Global,
     limits: &Limits,

@@ -41,7 +41,8 @@ fn items_of(store: &PodStore, marked: &MarkedSegment) -> usize
     }
 }
 
-/// The place of the first item of the run of the last of these segments, in their stitched list.
+/// The place, from 0, of the first item of the newest run of `held` in their stitched list, whose pods are in
+/// `store`: the window starts there (RFC 8216, section 6.2.2).
 pub fn place_of(store: &PodStore, held: &[MarkedSegment]) -> usize
     requires { place_on store.now None 0 0 held.now < 2 ^ 64 }
     ensures { result ≡ place_on store.now None 0 0 held.now }
@@ -121,7 +122,8 @@ fn due_of(ads: &[Ad], so_far: Nanos) -> usize
     counted.count
 }
 
-/// How many items stand for a run of this mark, that is whole or so long so far.
+/// How many items there are for a run of the mark `mark`, whose pod is in `store`: all of the pod's if it is `whole`,
+/// else those of its due prefix for a run that has lasted for `so_far`. 1 without a mark, 0 without a pod.
 pub fn run_count(store: &PodStore, mark: &Option<Shared<Text>>, whole: bool, so_far: Nanos) -> usize
     ensures { result ≡ run_count store.now whole so_far mark.now }
 {
@@ -138,7 +140,7 @@ pub fn run_count(store: &PodStore, mark: &Option<Shared<Text>>, whole: bool, so_
     }
 }
 
-/// How many items stand for the rest of a pod.
+/// How many items there are for `rest`, the rest of a pod in `store`.
 pub fn rest_count(store: &PodStore, rest: &Option<Rest>) -> usize
     ensures value { result ≡ rest_count store.now rest.now }
     ensures few { result ≤ 500 }

@@ -42,8 +42,8 @@ fn limits_of(tolerance: Nanos, playlist: &Playlist) -> Limits
     }
 }
 
-/// What a channel knows and shows with the segments of a playlist, those that it showed before among them. Fails only
-/// where an allocation fails.
+/// What the channel of `state` knows and shows with the segments of `playlist`, of which new ones enter breaks by
+/// `tolerance`. Those that it showed before are among them. Fails only if an allocation fails.
 pub fn shown_with(
     alloc: Global,
     tolerance: Nanos,

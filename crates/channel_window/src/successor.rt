@@ -9,7 +9,7 @@ use channel_spec::RefreshFault;
 use playlist_model::{Playlist, PlaylistKind, Segment, Shared, same_segment};
 use std::ops::Range;
 
-/// The media number of the first of these segments.
+/// The Media Sequence Number of the first of `segments` (RFC 8216, section 4.3.3.2); 0 if there is none.
 pub fn first_number(segments: &[Segment]) -> u64
     ensures { result ≡ first_number segments.now }
 {
@@ -45,7 +45,7 @@ fn last_discontinuity(segments: &[Segment]) -> u64
     }
 }
 
-/// Whether these segments have initialisation sections: whether the first one has.
+/// Whether `segments` have initialisation sections (RFC 8216, section 4.3.2.5): whether the first one has.
 pub fn is_mapped(segments: &[Segment]) -> bool
     ensures { result ≡ is_mapped segments.now }
 {
@@ -109,7 +109,8 @@ fn first_changed(old: &[Segment], new: &[Segment], taken: &Range<usize>) -> Opti
     }
 }
 
-// Whether the one starts directly after the other, with a discontinuity number that doesn't follow.
+// Whether the one starts directly after the other, with a discontinuity number that doesn't follow: it is less, or
+// more than 1,000 higher (RFC 8216, section 6.2.1).
 fn discontinuity_out_of_range(old: &[Segment], new: &[Segment]) -> bool
     ensures { result ≡ discontinuity_out_of_range old.now new.now }
 {
@@ -126,9 +127,15 @@ fn is_same_window(old: &[Segment], new: &[Segment]) -> bool
     first_number(new) == first_number(old) && end_number(new) == end_number(old)
 }
 
-/// Whether the playlist `new` may follow `old` (RFC 8216, 6.2.1 and 6.2.2): the first of the faults N1 to N9 if it may not.
-/// `taken` are the places of segments of `new` that were taken over from `old`, one after the other: they are not looked at.
-/// Takes no memory.
+/// Whether the playlist `new` may follow `old` (RFC 8216, sections 6.2.1, 6.2.2 and 4.3.3.4): the first of the faults
+/// N1 to N9 if it may not. `taken` are the places of segments of `new` that were taken over from `old`, one after the
+/// other: they are not looked at. Takes no memory.
+///
+/// ```text
+/// old: s3 s4 s5, new: s4 s5 s6    Ok(())
+/// old: s3 s4 s5, new: s2 s3 s4    Err(RefreshFault::Back)
+/// old: s3 s4 s5, new: s7 s8 s9    Err(RefreshFault::Gap)
+/// ```
 pub fn check_successor(
     old: &Playlist,
     new: &Playlist,

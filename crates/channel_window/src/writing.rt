@@ -2,9 +2,8 @@
 ghost use Rattle.std.specs.Prelude.{◌≡◌, ◌<◌, ◌≤◌, ◌+◌, ◌-◌, ◌^◌, ◌||◌, ◌∷◌, ℕ, List, IfOk, IfErr, OnOk, None, drop, filter, length, map, min, nat_lt, not, bytes_eq, reverse, false, true};
 ghost use Rattle.std.specs.List.{list_all, list_any};
 ghost use Rattle.stitcher.specs.Stitched.{fits};
-ghost use Rattle.pod_store.specs.Store.{Store, is_one_of, pod_for};
+ghost use Rattle.pod_store.specs.Store.{Store, pod_for};
 ghost use Rattle.playlist_model.specs.declared.DateRange.{DateRange};
-ghost use Rattle.break_finder.specs.Inner.Kept.{has_text};
 ghost use Rattle.stitcher.specs.StitchedSegments.{AreDecided, ends_in, item_fits, rest_in, stitched_segments};
 ghost use Rattle.stitcher.specs.Written.{written_item};
 ghost use Rattle.channel_spec.specs.Kept.{items_on, numbers_on, rest_after, rest_on, start_on, stitched_on, window_on};
@@ -25,10 +24,10 @@ use crate::state::ChannelState;
 use crate::successor::first_number;
 use channel_spec::RefreshFault;
 use fixed_duration::Nanos;
-use indexmap::IndexSet;
 use playlist_model::{DateRange, Playlist, Segment, Shared, Text};
-use pod_store::PodStore;
+use pod_store::{IdSet, PodStore};
 use std::alloc::{AllocError, Global};
+use std::hash::RandomState;
 use stitcher::{Ends, MarkedSegment, Numbers, Rest, StitchFault, StitchedList, TextRef, stitch_at};
 
 // The stitched list of these segments between these ends, whose first item has these numbers.
@@ -96,7 +95,8 @@ fn written_before(state: &ChannelState, last: &Playlist) -> usize
         .saturating_add(run)
 }
 
-// Where the window starts in the stitched list of the segments that are shown, after the rest.
+// Where the window starts in the stitched list of the segments that are shown, after the rest (RFC 8216, section
+// 6.2.2).
 fn start_of(state: &ChannelState, playlist: &Playlist, list: &[MarkedSegment]) -> usize
     requires room { HasRoom state.now.store state.now.rest list.now }
     requires front { IsFront state.now.shown list.now }
@@ -195,8 +195,10 @@ pub struct PlacedList<'a> {
     pub rest: Option<Rest>,
 }
 
-/// The stitched list of the segments `list`, which are shown with `playlist`, and where the window starts in it. `lasted`: how
-/// long the newest run of a break has lasted. `NumberRange` where a number would pass 2^64 - 1.
+/// The stitched list of the segments `list`, which the channel of `state` shows with `playlist`, and the place in it
+/// where the window starts (RFC 8216, section 6.2.2). The newest run of a break has lasted for `lasted`.
+/// `NumberRange` if a number would pass 2^64 - 1 (RFC 8216, sections 4.3.3.2 and 4.3.3.3); `OutOfMemory` only if an
+/// allocation fails.
 pub fn placed_of<'a>(
     alloc: Global,
     state: &ChannelState,
@@ -230,7 +232,7 @@ pub fn placed_of<'a>(
     })
 }
 
-/// The numbers of the first of these items.
+/// The numbers of the first of `items`; all are 0 if there is none.
 pub fn head_of(items: &StitchedList<'_>) -> Numbers
     ensures { result ≡ head_of items.now }
 {
@@ -334,45 +336,18 @@ fn numbers_on(
     }
 }
 
-// Adds an ID to a set.
-fn add_id<'a>(set: &mut IndexSet<&'a str>, id: &'a Text) -> Result<(), AllocError>
-    ensures { OnOk result ((other : List ℕ) → has_text set.new.keys other ≡ (has_text set.old.keys other || bytes_eq other id.now)) }
-{
-    set.insert(id.as_str())?;
-    Ok(())
-}
-
-// These IDs as a set.
-fn set_of<'a>(alloc: Global, ids: &'a [Shared<Text>]) -> Result<IndexSet<&'a str>, AllocError>
-    ensures { IfOk result (λ set. (id : List ℕ) → has_text set.keys id ≡ is_one_of ids.now id) }
-{
-    let mut set: IndexSet<&str> = IndexSet::new(alloc);
-    let mut rest = ids;
-    while let Some((id, later)) = rest.split_first() {
-        add_id(&mut set, id)?;
-        rest = later;
-    }
-    Ok(set)
-}
-
-fn has_id(set: &IndexSet<&str>, id: &Text) -> bool
-    ensures { result ≡ has_text set.now.keys id.now }
-{
-    set.contains(id.as_str())
-}
-
 // The texts of the date ranges of other breaks, where they stand.
 fn texts_left<'a>(
     alloc: Global,
-    set: &IndexSet<&str>,
+    set: &IdSet<'_>,
     date_ranges: &'a [DateRange],
 ) -> Result<Vec<TextRef<'a>>, AllocError>
-    ensures { IfOk result (λ v. v.items ≡ texts_left set.now.keys date_ranges.now) }
+    ensures { IfOk result (λ v. v.items ≡ texts_left set.now date_ranges.now) }
 {
     let mut texts = Vec::new(alloc);
     let mut rest = date_ranges;
     while let Some((date_range, later)) = rest.split_first() {
-        if !has_id(set, &date_range.id) {
+        if !set.contains(date_range.id.as_str()) {
             texts.push(TextRef::new(&date_range.attributes))?;
         }
         rest = later;
@@ -380,10 +355,11 @@ fn texts_left<'a>(
     Ok(texts)
 }
 
-#[tactic(auto, using(crate::proofs::Ranges::left_alike))]
-/// The texts of the date ranges that are written: none of these breaks, and none at all where no item states a time.
+/// The texts of those `date_ranges` that are written (RFC 8216, section 4.3.2.7): all but those of the breaks `ids`,
+/// and none if no item of `items` states a time. Fails only if an allocation fails. `hashing`: the keys for a table of the IDs.
 pub fn date_ranges_left<'a>(
     alloc: Global,
+    hashing: RandomState,
     items: &StitchedList<'_>,
     ids: &[Shared<Text>],
     date_ranges: &'a [DateRange],
@@ -393,6 +369,6 @@ pub fn date_ranges_left<'a>(
     if !is_any_timed(items) {
         return Ok(Vec::new(alloc));
     }
-    let set = set_of(alloc, ids)?;
+    let set = IdSet::of(alloc, hashing, ids)?;
     texts_left(alloc, &set, date_ranges)
 }

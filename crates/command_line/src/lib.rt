@@ -71,7 +71,14 @@ fn live_with<'a>(port: &str, count: &str) -> Option<Command<'a>>
     Some(Command::Live { port, count })
 }
 
-/// What these words ask for, the program's name left out. None is usage.
+/// What `words` ask for, which are the program's without its name. `None` if they are none of its commands: the
+/// caller prints the usage. Takes no memory.
+///
+/// ```text
+/// vod BASE               a run over one playlist, without a decision file
+/// vod BASE DECISIONS     a run over one playlist
+/// live PORT COUNT        a server on the loopback address, for COUNT connections
+/// ```
 pub fn read_command(words: &[String]) -> Option<Command<'_>>
     ensures { option_map asked result ≡ asked_by (map string_bytes words.now) }
 {

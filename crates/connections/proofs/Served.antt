@@ -9,7 +9,7 @@ use Rattle.http_edge.specs.Served.{IsServed}
 use Rattle.connections.specs.declared.conversation.Conversation.{Conversation}
 use Rattle.connections.specs.declared.conversation.Conversation.TheVariants.{Asking, Answering}
 use Rattle.connections.specs.Conversing.{Goes}
-use Rattle.connections.specs.Table.{State, at, left_of, taken_of, ClientEvent, came, gave, took, went, Puts, GoesOn, Happens}
+use Rattle.connections.specs.Table.{State, at, left_of, taken_of, ClientEvent, arrival, request_bytes, reply_bytes, departure, Puts, GoesOn, Happens}
 use Rattle.connections.specs.Runs.{visits, said, taken, Service, InTurn, AreOf, IsAsking, HasReply, StandsAt, IsRun, IsServedRun}
 
 -- ---- places
@@ -72,10 +72,10 @@ moved place events services old new e h = subst (StandsAt place events services)
 
 -- ---- a client comes
 
-on_came : (first middle last : State) (k : ℕ) (before : List ClientEvent) → IsServedRun first before middle → Happens middle (came k) last
-    → IsServedRun first (came k ∷ before) last
-on_came first middle last k before run h =
-    let events = came k ∷ before in record {
+on_arrival : (first middle last : State) (k : ℕ) (before : List ClientEvent) → IsServedRun first before middle → Happens middle (arrival k) last
+    → IsServedRun first (arrival k ∷ before) last
+on_arrival first middle last k before run h =
+    let events = arrival k ∷ before in record {
       services = run.services;
       turns = subst (InTurn first.edge run.services) (sym h.1) run.turns;
       pieces = run.pieces;
@@ -89,10 +89,10 @@ on_came first middle last k before run h =
 
 -- ---- a client goes
 
-on_went : (first middle last : State) (k : ℕ) (before : List ClientEvent) → IsServedRun first before middle → Happens middle (went k) last
-    → IsServedRun first (went k ∷ before) last
-on_went first middle last k before run h =
-    let events = went k ∷ before in record {
+on_departure : (first middle last : State) (k : ℕ) (before : List ClientEvent) → IsServedRun first before middle → Happens middle (departure k) last
+    → IsServedRun first (departure k ∷ before) last
+on_departure first middle last k before run h =
+    let events = departure k ∷ before in record {
       services = run.services;
       turns = subst (InTurn first.edge run.services) (sym h.1) run.turns;
       pieces = run.pieces;
@@ -106,7 +106,7 @@ on_went first middle last k before run h =
 -- ---- a client takes
 
 took_here : (k count : ℕ) (before : List ClientEvent) (services : List Service) (c : Option Conversation) → count ≤ length (left_of c) → StandsAt k before services c
-    → StandsAt k (took k count ∷ before) services (taken_of count c)
+    → StandsAt k (reply_bytes k count ∷ before) services (taken_of count c)
 took_here k count before services None le h = tt
 took_here k count before services (Some (Asking bytes pieces)) le h = record {
   all = h.all;
@@ -126,10 +126,10 @@ took_here k count before services (Some (Answering rest status)) le h = record {
       ∙ ap (λ n. drop n h.service.text) (sym (chosen (k == k) (taken k before + count) (taken k before) (same k)));
 }
 
-on_took : (first middle last : State) (k count : ℕ) (before : List ClientEvent) → IsServedRun first before middle → Happens middle (took k count) last
-    → IsServedRun first (took k count ∷ before) last
-on_took first middle last k count before run h =
-    let events = took k count ∷ before in record {
+on_reply_bytes : (first middle last : State) (k count : ℕ) (before : List ClientEvent) → IsServedRun first before middle → Happens middle (reply_bytes k count) last
+    → IsServedRun first (reply_bytes k count ∷ before) last
+on_reply_bytes first middle last k count before run h =
+    let events = reply_bytes k count ∷ before in record {
       services = run.services;
       turns = subst (InTurn first.edge run.services) (sym h.2) run.turns;
       pieces = run.pieces;
@@ -142,42 +142,42 @@ on_took first middle last k count before run h =
 
 -- ---- a client gives
 
-said_here : (k : ℕ) (piece : List ℕ) (before : List ClientEvent) → said k (gave k piece ∷ before) ≡ said k before ++ piece
+said_here : (k : ℕ) (piece : List ℕ) (before : List ClientEvent) → said k (request_bytes k piece ∷ before) ≡ said k before ++ piece
 said_here k piece before = chosen (k == k) (said k before ++ piece) (said k before) (same k)
 
-still_of : (k : ℕ) (piece : List ℕ) (before : List ClientEvent) (services : List Service) → AreOf before services → AreOf (gave k piece ∷ before) services
+still_of : (k : ℕ) (piece : List ℕ) (before : List ClientEvent) (services : List Service) → AreOf before services → AreOf (request_bytes k piece ∷ before) services
 still_of k piece before [] a = a
 still_of k piece before (s ∷ earlier) a = inl a
 
 -- another place
 given_there : (k : ℕ) (piece : List ℕ) (before : List ClientEvent) (services : List Service) (middle last : State) (it : Option Conversation) → Puts middle last k it
     → ((place : ℕ) → StandsAt place before services (at middle place)) → (place : ℕ) → (k == place) ≡ false
-    → StandsAt place (gave k piece ∷ before) services (at last place)
+    → StandsAt place (request_bytes k piece ∷ before) services (at last place)
 given_there k piece before services middle last it puts each place e =
-    moved place (gave k piece ∷ before) services (at middle place) (at last place) (puts.others place (other_of k place e))
-    (carried place (gave k piece ∷ before) before services (at middle place) refl (left (k == place) (said place before ++ piece) (said place before) e) refl (each place))
+    moved place (request_bytes k piece ∷ before) services (at middle place) (at last place) (puts.others place (other_of k place e))
+    (carried place (request_bytes k piece ∷ before) before services (at middle place) refl (left (k == place) (said place before ++ piece) (said place before) e) refl (each place))
 
 -- nothing is served by it
 unserved : (first middle last : State) (k : ℕ) (piece : List ℕ) (before : List ClientEvent) (it : Option Conversation) (run : IsServedRun first before middle)
-    → Puts middle last k it → last.edge ≡ middle.edge → StandsAt k (gave k piece ∷ before) run.services it
-    → IsServedRun first (gave k piece ∷ before) last
+    → Puts middle last k it → last.edge ≡ middle.edge → StandsAt k (request_bytes k piece ∷ before) run.services it
+    → IsServedRun first (request_bytes k piece ∷ before) last
 unserved first middle last k piece before it run puts edge here = record {
   services = run.services;
   turns = subst (InTurn first.edge run.services) (sym edge) run.turns;
   pieces = still_of k piece before run.services run.pieces;
   each =
-      by_place (λ place. StandsAt place (gave k piece ∷ before) run.services (at last place)) k
-      (moved k (gave k piece ∷ before) run.services it (at last k) puts.here here)
+      by_place (λ place. StandsAt place (request_bytes k piece ∷ before) run.services (at last place)) k
+      (moved k (request_bytes k piece ∷ before) run.services it (at last k) puts.here here)
       (given_there k piece before run.services middle last it puts run.each);
 }
 
 -- it makes the request whole
 newly : (first middle last : State) (k : ℕ) (piece : List ℕ) (before : List ClientEvent) (bytes rest : List ℕ) (status : ℕ) (run : IsServedRun first before middle)
     → IsAsking k before bytes → IsServed (bytes ++ piece) middle.edge last.edge rest status → Puts middle last k (Some (Answering rest status))
-    → IsServedRun first (gave k piece ∷ before) last
+    → IsServedRun first (request_bytes k piece ∷ before) last
 newly first middle last k piece before bytes rest status run asks served puts =
     let service : Service = record { place = k; visit = visits k before; bytes = bytes ++ piece; text = rest; status = status } in
-    let events = gave k piece ∷ before in record {
+    let events = request_bytes k piece ∷ before in record {
       services = service ∷ run.services;
       turns = (middle.edge, run.turns, served);
       pieces =
@@ -204,7 +204,7 @@ newly first middle last k piece before bytes rest status run asks served puts =
 
 to_asking : (first middle last : State) (k : ℕ) (piece : List ℕ) (before : List ClientEvent) (bytes : List ℕ) (pieces : ℕ) (run : IsServedRun first before middle)
     → IsAsking k before bytes → (after : Conversation) → Goes (Asking bytes pieces) piece middle.edge last.edge after → Puts middle last k (Some after)
-    → IsServedRun first (gave k piece ∷ before) last
+    → IsServedRun first (request_bytes k piece ∷ before) last
 to_asking first middle last k piece before bytes pieces run stands (Asking more count) goes puts =
     unserved first middle last k piece before (Some (Asking more count)) run puts goes.4 (record {
       all = goes.0 ∙ ap (λ l. l ++ piece) stands.all ∙ sym (said_here k piece before);
@@ -215,7 +215,7 @@ to_asking first middle last k piece before bytes pieces run stands (Answering re
     newly first middle last k piece before bytes rest status run stands goes puts
 
 to_answering : (k : ℕ) (piece : List ℕ) (before : List ClientEvent) (services : List Service) (rest : List ℕ) (status : ℕ) → HasReply k before services rest status
-    → HasReply k (gave k piece ∷ before) services rest status
+    → HasReply k (request_bytes k piece ∷ before) services rest status
 to_answering k piece before services rest status h = record {
   service = h.service;
   one = h.one;
@@ -227,12 +227,12 @@ to_answering k piece before services rest status h = record {
   rest_is = h.rest_is;
 }
 
-on_gave_at : (first middle last : State) (k : ℕ) (piece : List ℕ) (before : List ClientEvent) (c : Option Conversation) (run : IsServedRun first before middle)
-    → StandsAt k before run.services c → GoesOn c middle k piece last → IsServedRun first (gave k piece ∷ before) last
-on_gave_at first middle last k piece before None run stands h = unserved first middle last k piece before None run h.0 h.1 tt
-on_gave_at first middle last k piece before (Some (Asking bytes pieces)) run stands h =
+on_request_bytes_at : (first middle last : State) (k : ℕ) (piece : List ℕ) (before : List ClientEvent) (c : Option Conversation) (run : IsServedRun first before middle)
+    → StandsAt k before run.services c → GoesOn c middle k piece last → IsServedRun first (request_bytes k piece ∷ before) last
+on_request_bytes_at first middle last k piece before None run stands h = unserved first middle last k piece before None run h.0 h.1 tt
+on_request_bytes_at first middle last k piece before (Some (Asking bytes pieces)) run stands h =
     to_asking first middle last k piece before bytes pieces run stands h.0 h.1 h.2
-on_gave_at first middle last k piece before (Some (Answering rest status)) run stands h =
+on_request_bytes_at first middle last k piece before (Some (Answering rest status)) run stands h =
     unserved first middle last k piece before (Some (Answering rest status)) run
     (subst (λ (c : Conversation). Puts middle last k (Some c)) h.1.0 h.2) h.1.1
     (to_answering k piece before run.services rest status stands)
@@ -241,10 +241,10 @@ on_gave_at first middle last k piece before (Some (Answering rest status)) run s
 
 on_event : (first middle last : State) (e : ClientEvent) (before : List ClientEvent) → IsServedRun first before middle → Happens middle e last
     → IsServedRun first (e ∷ before) last
-on_event first middle last (came k) before run h = on_came first middle last k before run h
-on_event first middle last (gave k piece) before run h = on_gave_at first middle last k piece before (at middle k) run (run.each k) h
-on_event first middle last (took k count) before run h = on_took first middle last k count before run h
-on_event first middle last (went k) before run h = on_went first middle last k before run h
+on_event first middle last (arrival k) before run h = on_arrival first middle last k before run h
+on_event first middle last (request_bytes k piece) before run h = on_request_bytes_at first middle last k piece before (at middle k) run (run.each k) h
+on_event first middle last (reply_bytes k count) before run h = on_reply_bytes first middle last k count before run h
+on_event first middle last (departure k) before run h = on_departure first middle last k before run h
 
 pub served : (first last : State) (events : List ClientEvent) → ((place : ℕ) → at first place ≡ None) → IsRun first events last → IsServedRun first events last
 served first last [] vacant h = record {

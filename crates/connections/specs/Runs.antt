@@ -5,33 +5,33 @@ use Rattle.http_edge.specs.Edges.{NamedChannel}
 use Rattle.http_edge.specs.Served.{IsServed}
 use Rattle.connections.specs.declared.conversation.Conversation.{Conversation}
 use Rattle.connections.specs.declared.conversation.Conversation.TheVariants.{Asking, Answering}
-use Rattle.connections.specs.Table.{State, at, ClientEvent, came, gave, took, went, Happens}
+use Rattle.connections.specs.Table.{State, at, ClientEvent, arrival, request_bytes, reply_bytes, departure, Happens}
 
 -- ---- what happened at a place, of all that happened, the newest first
 
 -- how many clients came there
 abbrev pub visits : ℕ → List ClientEvent → ℕ
 visits place [] = 0
-visits place (came k ∷ before) = if k == place then visits place before + 1 else visits place before
-visits place (gave k piece ∷ before) = visits place before
-visits place (took k count ∷ before) = visits place before
-visits place (went k ∷ before) = visits place before
+visits place (arrival k ∷ before) = if k == place then visits place before + 1 else visits place before
+visits place (request_bytes k piece ∷ before) = visits place before
+visits place (reply_bytes k count ∷ before) = visits place before
+visits place (departure k ∷ before) = visits place before
 
 -- what the last of them said since it came
 abbrev pub said : ℕ → List ClientEvent → List ℕ
 said place [] = []
-said place (came k ∷ before) = if k == place then [] else said place before
-said place (gave k piece ∷ before) = if k == place then said place before ++ piece else said place before
-said place (took k count ∷ before) = said place before
-said place (went k ∷ before) = said place before
+said place (arrival k ∷ before) = if k == place then [] else said place before
+said place (request_bytes k piece ∷ before) = if k == place then said place before ++ piece else said place before
+said place (reply_bytes k count ∷ before) = said place before
+said place (departure k ∷ before) = said place before
 
 -- how many bytes it took of its reply
 abbrev pub taken : ℕ → List ClientEvent → ℕ
 taken place [] = 0
-taken place (came k ∷ before) = if k == place then 0 else taken place before
-taken place (gave k piece ∷ before) = taken place before
-taken place (took k count ∷ before) = if k == place then taken place before + count else taken place before
-taken place (went k ∷ before) = taken place before
+taken place (arrival k ∷ before) = if k == place then 0 else taken place before
+taken place (request_bytes k piece ∷ before) = taken place before
+taken place (reply_bytes k count ∷ before) = if k == place then taken place before + count else taken place before
+taken place (departure k ∷ before) = taken place before
 
 -- ---- what is served
 
@@ -58,11 +58,11 @@ pub record IsNewly (k : ℕ) (piece : List ℕ) (before : List ClientEvent) (s :
 -- at most one is served at each piece that comes
 abbrev pub AreOf : List ClientEvent → List Service → Type 0
 AreOf [] services = services ≡ []
-AreOf (came k ∷ before) services = AreOf before services
-AreOf (took k count ∷ before) services = AreOf before services
-AreOf (went k ∷ before) services = AreOf before services
-AreOf (gave k piece ∷ before) [] = AreOf before []
-AreOf (gave k piece ∷ before) (s ∷ earlier) = AreOf before (s ∷ earlier) ⊎ (IsNewly k piece before s × AreOf before earlier)
+AreOf (arrival k ∷ before) services = AreOf before services
+AreOf (reply_bytes k count ∷ before) services = AreOf before services
+AreOf (departure k ∷ before) services = AreOf before services
+AreOf (request_bytes k piece ∷ before) [] = AreOf before []
+AreOf (request_bytes k piece ∷ before) (s ∷ earlier) = AreOf before (s ∷ earlier) ⊎ (IsNewly k piece before s × AreOf before earlier)
 
 abbrev pub IsOneOf : Service → List Service → Type 0
 IsOneOf s [] = ⊥

@@ -42,13 +42,13 @@ phase_of (Some (Answering rest status)) = phase.Answering status
 
 pub data ClientEvent : Type 0 where
   -- a client came
-  came : ℕ → ClientEvent
+  arrival : ℕ → ClientEvent
   -- it gave its next bytes
-  gave : ℕ → List ℕ → ClientEvent
+  request_bytes : ℕ → List ℕ → ClientEvent
   -- it took so many bytes of its reply
-  took : ℕ → ℕ → ClientEvent
+  reply_bytes : ℕ → ℕ → ClientEvent
   -- it went, or was given up
-  went : ℕ → ClientEvent
+  departure : ℕ → ClientEvent
 
 -- only this place is another, and it is this
 pub record Puts (old new : State) (place : ℕ) (it : Option Conversation) : Type 0 where
@@ -69,8 +69,8 @@ taken_of count None = None
 taken_of count (Some (Asking bytes pieces)) = Some (Asking bytes pieces)
 
 abbrev pub Happens : State → ClientEvent → State → Type 0
-Happens old (came place) new = Puts old new place (Some (Asking [] 0)) × (new.edge ≡ old.edge)
-Happens old (gave place piece) new = GoesOn (at old place) old place piece new
-Happens old (took place count) new =
+Happens old (arrival place) new = Puts old new place (Some (Asking [] 0)) × (new.edge ≡ old.edge)
+Happens old (request_bytes place piece) new = GoesOn (at old place) old place piece new
+Happens old (reply_bytes place count) new =
     (count ≤ length (left_of (at old place))) × Puts old new place (taken_of count (at old place)) × (new.edge ≡ old.edge)
-Happens old (went place) new = Puts old new place None × (new.edge ≡ old.edge)
+Happens old (departure place) new = Puts old new place None × (new.edge ≡ old.edge)

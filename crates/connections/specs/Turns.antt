@@ -7,7 +7,7 @@ use Rattle.connections.specs.declared.devices.Passage.TheVariants.{Bytes, WouldW
 use Rattle.connections.specs.declared.turns.Turn.{Turn}
 use Rattle.connections.specs.declared.turns.Turn.TheVariants.{Waits, Goes, Full, Done, Failed}
 use Rattle.connections.specs.Devices.{DeviceStand}
-use Rattle.connections.specs.Table.{State, at, left_of, gave, took, went, Happens}
+use Rattle.connections.specs.Table.{State, at, left_of, request_bytes, reply_bytes, departure, Happens}
 use Rattle.connections.specs.Runs.{IsRun}
 use Rattle.connections.specs.Arrivals.{is_asking}
 use Rattle.connections.specs.Wires.{GoesHeard, GoesTold}
@@ -39,7 +39,7 @@ joined (piece ∷ before) = joined before ++ piece
 abbrev pub SaidWhileAsking : ℕ → State → List (List ℕ) → State → Type 0
 SaidWhileAsking place old [] new = new ≡ old
 SaidWhileAsking place old (piece ∷ before) new =
-    (middle : State) × SaidWhileAsking place old before middle × (is_asking (at middle place) ≡ true) × Happens middle (gave place piece) new
+    (middle : State) × SaidWhileAsking place old before middle × (is_asking (at middle place) ≡ true) × Happens middle (request_bytes place piece) new
 
 -- the reader gave some pieces, and they are what the client at this place said, in the same order. Nothing was read past the
 -- one that made the request whole
@@ -54,7 +54,7 @@ pub record HasListenedUntil (fault : EdgeFault) (reader_old reader_new : DeviceS
   pub state : State
   pub listened : HasListened reader_old reader place old state
   pub last : GoesHeard fault reader reader_new (at state place)
-  pub happens : Happens state (went place) new
+  pub happens : Happens state (departure place) new
 
 -- ---- speaking
 
@@ -64,7 +64,7 @@ pub record HasSpoken (writer_old writer_new : DeviceStand) (place : ℕ) (old ne
   pub taken : Appends writer_old.bytes writer_new.bytes (take count (left_of (at old place)))
   pub left : left_of (at new place) ≡ drop count (left_of (at old place))
   pub counts : List ℕ
-  pub run : IsRun old (map (took place) counts) new
+  pub run : IsRun old (map (reply_bytes place) counts) new
 
 -- so it was until the last call, after which the client went for this fault
 pub record HasSpokenUntil (fault : EdgeFault) (writer_old writer_new : DeviceStand) (place : ℕ) (old new : State) : Type 0 where
@@ -72,7 +72,7 @@ pub record HasSpokenUntil (fault : EdgeFault) (writer_old writer_new : DeviceSta
   pub state : State
   pub spoken : HasSpoken writer_old writer place old state
   pub last : GoesTold fault writer writer_new
-  pub happens : Happens state (went place) new
+  pub happens : Happens state (departure place) new
 
 -- ---- draining
 

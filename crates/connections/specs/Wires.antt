@@ -10,7 +10,7 @@ use Rattle.connections.specs.declared.wire.Moved.{Moved}
 use Rattle.connections.specs.declared.wire.Moved.TheVariants.{Some, Waits, Nothing, Full, Failed}
 use Rattle.connections.specs.Devices.{DeviceStand, one_call}
 use Rattle.connections.specs.Conversing.{HasTooManyAt}
-use Rattle.connections.specs.Table.{State, at, left_of, gave, took, Happens}
+use Rattle.connections.specs.Table.{State, at, left_of, request_bytes, reply_bytes, Happens}
 
 -- ---- one call
 
@@ -37,7 +37,7 @@ pub record MovedNothing (passage : Passage) (old new : DeviceStand) : Type 0 whe
 pub record HasHeard (reader_old reader_new : DeviceStand) (place : ℕ) (old new : State) : Type 0 where
   pub piece : List ℕ
   pub gave_it : GavePiece reader_old reader_new piece
-  pub happens : Happens old (gave place piece) new
+  pub happens : Happens old (request_bytes place piece) new
 
 -- why a client goes that was heard: the read failed; or it gave nothing, which is the client's end; or the request isn't whole
 -- with this piece, which is the last of the most; or an allocation failed
@@ -54,7 +54,7 @@ GoesHeard ends.Write old new it = ⊥
 pub record HasSaid (writer_old writer_new : DeviceStand) (place : ℕ) (old new : State) : Type 0 where
   pub count : ℕ
   pub took_it : TookFirst writer_old writer_new count (left_of (at old place))
-  pub happens : Happens old (took place count) new
+  pub happens : Happens old (reply_bytes place count) new
 
 -- why a client goes that was told of its reply: the write failed, or took nothing
 abbrev pub GoesTold : EdgeFault → DeviceStand → DeviceStand → Type 0

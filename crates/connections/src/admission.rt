@@ -18,7 +18,7 @@ impl Model for Admission {
 }
 
 impl Admission {
-    /// So many are let in.
+    /// An admission that lets in `count` connections.
     pub fn new(count: u32) -> Admission
         ensures { result ≡ count }
     {
@@ -40,7 +40,7 @@ impl Admission {
         self.left -= 1;
     }
 
-    /// Whether all came that are let in, and none of them is there any more.
+    /// Whether all connections came that are let in and none of them is there any more, if `present` are there now.
     pub fn is_over(&self, present: usize) -> bool
         ensures { result ≡ (self.now == 0 && present == 0) }
     {

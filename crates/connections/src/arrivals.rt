@@ -30,7 +30,7 @@ impl Model for Arrivals {
     ghost view = { λ a. a.arrivals.items };
 }
 
-/// Whether an instant has come.
+/// Whether the instant `until` has come at the instant `now`.
 pub fn has_come(until: Instant, now: Instant) -> bool
     ensures { result ≡ has_come until now }
 {
@@ -89,7 +89,7 @@ fn remove(arrivals: &mut Vec<Arrival>, place: usize)
 }
 
 impl Arrivals {
-    /// Nobody, and the memory for so many. Fails only where an allocation fails.
+    /// No arrivals, and the memory for `most` of them. Fails only if an allocation fails.
     pub fn new(alloc: Global, most: usize) -> Result<Arrivals, AllocError>
         ensures { IfOk result (λ new. new ≡ []) }
     {
@@ -105,8 +105,9 @@ impl Arrivals {
         self.arrivals.len()
     }
 
-    /// One comes after the others. Fails only where an allocation fails, and leaves them then.
-    pub fn came(&mut self, place: usize, until: Instant) -> Result<(), AllocError>
+    /// Adds, after the others, the connection at `place`, whose time is up at `until`. Fails only if an allocation
+    /// fails; the arrivals are then as they were.
+    pub fn push(&mut self, place: usize, until: Instant) -> Result<(), AllocError>
         ensures ok { OnOk result (self.new ≡ self.old ++ record { place = place; until = until } ∷ []) }
         ensures err { OnErr result (self.new ≡ self.old) }
     {
@@ -114,35 +115,38 @@ impl Arrivals {
         Ok(())
     }
 
-    /// The one at this place goes, if there is one.
-    pub fn went(&mut self, place: usize)
+    /// Takes out the connection at `place`, if there is one.
+    pub fn remove(&mut self, place: usize)
         ensures { self.new ≡ filter (is_elsewhere place) self.old }
     {
         remove(&mut self.arrivals, place);
     }
 
-    /// The first whose time is up.
+    /// The place of the first connection whose time is up at `now`.
     pub fn late(&self, now: Instant) -> Option<usize>
         ensures { result ≡ first_that (is_late now) self.now }
     {
         first_late(self.arrivals.as_slice(), now)
     }
 
-    /// The client that has asked longest without being whole.
+    /// The place of the client that has asked longest and whose request isn't whole, by what `connections` hold.
     pub fn asked_longest(&self, connections: &Connections) -> Option<usize>
         ensures { result ≡ first_that (asks connections.now) self.now }
     {
         first_asking(self.arrivals.as_slice(), connections)
     }
 
-    /// The one that is given up where bytes have no room.
+    /// The place of the client that is given up if there is no room for bytes: of those that `connections` hold bytes
+    /// of, the one that has asked longest.
     pub fn for_bytes(&self, connections: &Connections) -> Option<usize>
         ensures { result ≡ gives_room connections.now self.now }
     {
         first_holding(self.arrivals.as_slice(), connections)
     }
 
-    /// The one that is given up where another comes and no place is vacant. Those whose reply is gone are `ending`.
+    /// The place of the client that is given up if another comes and no place is vacant: the one that has asked
+    /// longest by what `connections` hold; if none asks, the first of `ending`, whose replies are gone; else the
+    /// first of all.
     pub fn for_place(&self, ending: &Arrivals, connections: &Connections) -> Option<usize>
         ensures { result ≡ gives_place connections.now self.now ending.now }
     {

@@ -17,9 +17,10 @@ pub enum Conversation {
     Answering(Leaving, u16),
 }
 
-/// Takes the client's next bytes. Once they are a whole request, or can't become one, it is applied, or refused, as a
-/// whole, and what is left is the reply: the same that `serve` gives these bytes. The piece with which `serve` would tell
-/// `TooManyReads` is the one with which this does.
+/// Gives `piece`, the client's next bytes, to its `conversation`. Once its bytes are a whole request, or can't become
+/// one, the request is applied to `edge`, or refused, as a whole, and what is left is the reply: the same that
+/// `serve` gives these bytes. `TooManyReads` at the piece with which `serve` would answer it; `OutOfMemory` only if
+/// an allocation fails. After a fault `edge` is as it was.
 pub(crate) fn give(
     conversation: Conversation,
     alloc: Global,

@@ -23,7 +23,8 @@ fn later(now: Instant, time: Duration) -> Instant
     }
 }
 
-/// Until when a client that comes now may ask and be answered.
+/// Until when a client that comes at `now` may ask and be answered: 10 s later (RFC 9112, section 9.5), or `now`
+/// itself if the clock doesn't reach so far.
 pub fn serving_deadline(now: Instant) -> Instant
     ensures later { FitsClock (instant_nanos now + serving_nanos) → instant_nanos result ≡ instant_nanos now + serving_nanos }
     ensures last { ¬ (FitsClock (instant_nanos now + serving_nanos)) → result ≡ now }
@@ -31,7 +32,8 @@ pub fn serving_deadline(now: Instant) -> Instant
     later(now, Duration::from_millis(SERVING_MILLIS))
 }
 
-/// Until when a client may close whose reply is gone now.
+/// Until when a client whose reply is gone at `now` may close: 250 ms later, or `now` itself if the clock doesn't
+/// reach so far.
 pub fn ending_deadline(now: Instant) -> Instant
     ensures later { FitsClock (instant_nanos now + ending_nanos) → instant_nanos result ≡ instant_nanos now + ending_nanos }
     ensures last { ¬ (FitsClock (instant_nanos now + ending_nanos)) → result ≡ now }

@@ -27,7 +27,8 @@ pub trait Incoming {
     /// How often it was read, and what the last read came to.
     ghost reads: { Self → Calls };
 
-    /// Gives a front of the bytes that are left: none only at the end.
+    /// Puts a front of the bytes that are left into `buf`, which has room for at least one, and says how many: none
+    /// only at the end.
     fn read(&mut self, buf: &mut [u8]) -> Passage
         requires { 0 < length buf.old }
         ensures bound { PassesAtMost result (length buf.new) }
@@ -43,7 +44,7 @@ pub trait Outgoing {
     /// How often it was written to, and what the last write came to.
     ghost writes: { Self → Calls };
 
-    /// Takes a front of these bytes, of which there is at least one.
+    /// Takes a front of `buf`, which has at least one byte, and says how many.
     fn write(&mut self, buf: &[u8]) -> Passage
         requires { 0 < length buf.now }
         ensures bound { PassesAtMost result (length buf.now) }
@@ -88,7 +89,7 @@ fn passage_of(answer: io::Result<usize>) -> Passage
 }
 
 impl<T> NonBlocking<T> {
-    /// A device that wasn't called yet.
+    /// The device `inner`, of which no call was counted yet.
     pub fn new(inner: T) -> NonBlocking<T>
         ensures { result ≡ (inner, no_calls) }
     {

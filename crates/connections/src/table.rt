@@ -7,7 +7,7 @@ ghost use Rattle.connections.specs.Inner.Giving.{IsFaultOfGiving};
 ghost use Rattle.connections.specs.Limits.{most_held, place_count};
 ghost use Rattle.connections.specs.Arrivals.{is_asking};
 ghost use Rattle.connections.specs.Table.{at, held_of, held_in, left_of, taken_of, phase_of, Puts, Happens};
-ghost use Rattle.connections.specs.Table.{came, gave, took, went};
+ghost use Rattle.connections.specs.Table.{arrival, request_bytes, reply_bytes, departure};
 ghost use Rattle.connections.specs.Seats.{places_below};
 
 use crate::conversation::{Conversation, give};
@@ -15,6 +15,7 @@ use crate::seats::{Seat, all_seats};
 use http_edge::{Edge, EdgeFault};
 use http_messages::Arriving;
 use std::alloc::{AllocError, Global};
+use std::hash::RandomState;
 use std::marker::Model;
 
 /// The most bytes of requests that aren't whole, over all connections.
@@ -95,13 +96,13 @@ impl Connections {
     }
 
     /// A new edge, which stands for no request, with no connection yet: all that come are served over this one. A client's
-    /// device is a `T`, since no other seat is made. Fails only where an allocation fails.
-    pub fn over_new_edge<T>(alloc: Global) -> Result<Opened<T>, AllocError>
+    /// device is a `T`, since no other seat is made. `hashing`: the keys for each channel's tables of IDs. Fails only where an allocation fails.
+    pub fn over_new_edge<T>(alloc: Global, hashing: RandomState) -> Result<Opened<T>, AllocError>
         ensures edge { IfOk result (λ new. RepresentsRequests new.connections.edge []) }
         ensures vacant { IfOk result (λ new. new.connections.places ≡ replicate place_count None) }
         ensures seats { IfOk result (λ new. new.seats.items ≡ places_below place_count) }
     {
-        let edge = Edge::new(alloc)?;
+        let edge = Edge::new(alloc, hashing)?;
         Ok(Opened {
             connections: Connections::new(alloc, edge)?,
             seats: all_seats(alloc)?,
@@ -123,7 +124,8 @@ impl Connections {
         self.held
     }
 
-    /// What stands at a place.
+    /// What is at `place`, from 0: nobody, a client that asks, or one that is answered. Nobody is past the last
+    /// place.
     pub fn phase(&self, place: usize) -> Phase
         ensures { result ≡ phase_of (at self.now place) }
     {
@@ -134,14 +136,14 @@ impl Connections {
         }
     }
 
-    /// Whether somebody stands there whose request isn't whole.
+    /// Whether a client is at `place`, from 0, whose request isn't whole.
     pub fn is_asking(&self, place: usize) -> bool
         ensures { result ≡ is_asking (at self.now place) }
     {
         self.phase(place) == Phase::Asking
     }
 
-    /// The bytes of the request of who stands there, where it isn't whole.
+    /// How many bytes are held of the request of the client at `place`, from 0, that isn't whole; 0 if there is none.
     pub fn held_at(&self, place: usize) -> usize
         ensures { result ≡ held_of (at self.now place) }
     {
@@ -178,21 +180,22 @@ impl Connections {
         self.places[place] = it;
     }
 
-    /// A client came, to a place where nobody is.
-    pub fn came<T>(&mut self, seat: &Seat<T>)
+    /// A client comes to the place of `seat`, where nobody is.
+    pub fn insert<T>(&mut self, seat: &Seat<T>)
         requires { at self.old seat.now ≡ None }
-        ensures { Happens self.old (came seat.now) self.new }
+        ensures { Happens self.old (arrival seat.now) self.new }
     {
         self.has_all();
         let conversation = Conversation::Asking(Arriving::new(self.alloc), 0);
         self.put_back(seat.place(), conversation);
     }
 
-    /// A client gave its next bytes. After a fault the connection is gone, and the edge is as it was.
+    /// The client at `seat` gives `piece`, its next bytes. After a fault the connection is removed, and the edge is
+    /// as it was; the faults are `TooManyReads` and `OutOfMemory`.
     pub(crate) fn give<T>(&mut self, seat: &Seat<T>, piece: &[u8]) -> Result<(), EdgeFault>
         requires { held_in self.old.places + length piece.now ≤ most_held }
-        ensures ok { OnOk result (Happens self.old (gave seat.now piece.now) self.new) }
-        ensures err { OnErr result (Happens self.old (went seat.now) self.new) }
+        ensures ok { OnOk result (Happens self.old (request_bytes seat.now piece.now) self.new) }
+        ensures err { OnErr result (Happens self.old (departure seat.now) self.new) }
         ensures kind { IfErr result IsFaultOfGiving }
         ensures many { IsErrOf result EdgeFault.TooManyReads → HasTooManyAt (at self.old seat.now) piece.now }
     {
@@ -206,7 +209,7 @@ impl Connections {
         Ok(())
     }
 
-    /// What is left of the reply to a client, in two parts.
+    /// What is left of the reply to the client at `seat`, in two parts; both are empty if it isn't answered.
     pub(crate) fn parts<T>(&self, seat: &Seat<T>) -> (&[u8], &[u8])
         ensures { result.0.now ++ result.1.now ≡ left_of (at self.now seat.now) }
     {
@@ -216,10 +219,10 @@ impl Connections {
         }
     }
 
-    /// A client took so many bytes of its reply.
-    pub(crate) fn took<T>(&mut self, seat: &Seat<T>, count: usize)
+    /// The client at `seat` took `count` bytes more of its reply.
+    pub(crate) fn advance<T>(&mut self, seat: &Seat<T>, count: usize)
         requires { count ≤ length (left_of (at self.old seat.now)) }
-        ensures { Happens self.old (took seat.now count) self.new }
+        ensures { Happens self.old (reply_bytes seat.now count) self.new }
     {
         self.has_all();
         let place = seat.place();
@@ -230,9 +233,9 @@ impl Connections {
         self.put_back(place, after);
     }
 
-    /// A client went, or is given up.
-    pub fn went<T>(&mut self, seat: &Seat<T>)
-        ensures { Happens self.old (went seat.now) self.new }
+    /// The client at `seat` goes, or is given up. Nothing is at its place then.
+    pub fn remove<T>(&mut self, seat: &Seat<T>)
+        ensures { Happens self.old (departure seat.now) self.new }
     {
         self.has_all();
         let _ = self.take_out(seat.place());
@@ -246,7 +249,7 @@ fn taken(conversation: Conversation, count: usize) -> Conversation
 {
     match conversation {
         Conversation::Answering(mut leaving, status) => {
-            leaving.took(count);
+            leaving.advance(count);
             Conversation::Answering(leaving, status)
         }
         asking => asking,

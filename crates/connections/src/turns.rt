@@ -37,8 +37,17 @@ pub enum Turn {
     Failed(EdgeFault),
 }
 
-/// Hears a client until its request is whole (`Done`): all that its device gave is what it said, in order, and nothing is
-/// read past it.
+/// Reads from the client at `seat`, whose device is `device`, into `block`, until its request is whole (`Done`). All
+/// that the device gave is what the client said to `connections`, in order, and nothing is read past the request.
+/// `Waits` if it would wait, `Goes` after 4 reads, `Full` if `block` is longer than the room that `connections` have
+/// left, `Failed` if the client is gone.
+///
+/// ```text
+/// match listen(&mut device, &mut connections, &seat, &mut block) {
+///     Turn::Done => speak(&mut device, &mut connections, &seat),    its request is whole: the reply is written
+///     other => other,
+/// }
+/// ```
 pub fn listen<T: Incoming>(
     device: &mut T,
     connections: &mut Connections,
@@ -70,7 +79,9 @@ pub fn listen<T: Incoming>(
     Turn::Goes
 }
 
-/// Tells a client its reply, until nothing of it is left (`Done`): all that its device took is what was left, in order.
+/// Writes to the client at `seat`, whose device is `device`, what `connections` have left of its reply, until nothing
+/// is left (`Done`). All that the device took is what was left, in order. `Waits` if it would wait, `Goes` after 4
+/// writes, `Failed` if the client is gone.
 pub fn speak<T: Outgoing>(device: &mut T, connections: &mut Connections, seat: &Seat<T>) -> Turn
     ensures stays { Stays result (HasSpoken (device_stand T.contents T.writes device.old) (device_stand T.contents T.writes device.new) seat.now connections.old connections.new) }
     ensures gone { IfGone result (λ fault. HasSpokenUntil fault (device_stand T.contents T.writes device.old) (device_stand T.contents T.writes device.new) seat.now connections.old connections.new) }
@@ -91,8 +102,9 @@ pub fn speak<T: Outgoing>(device: &mut T, connections: &mut Connections, seat: &
     Turn::Goes
 }
 
-/// Reads what a client still sends after its reply, and passes it over, until it ends or fails (`Done`): closing before it
-/// has come would reset the connection, and the reply with it.
+/// Reads what a client still sends by `device` after its reply, and passes it over, until it ends or fails (`Done`):
+/// closing before that would reset the connection, and the reply with it. `Waits` if it would wait, `Goes` after 32
+/// reads of at most 8,192 bytes.
 pub fn drain<T: Incoming>(device: &mut T) -> Turn
     ensures waits { result ≡ Turn.Waits → (T.reads device.new).last ≡ Some WouldWait }
     ensures done { result ≡ Turn.Done → HasNoMore (T.reads device.new).last }
@@ -111,7 +123,8 @@ pub fn drain<T: Incoming>(device: &mut T) -> Turn
     Turn::Goes
 }
 
-/// Reads once, and tells whether a client has sent nothing that is unread: it has ended, or would have to be waited for.
+/// Reads one byte of `device`, and says whether its client has sent nothing that is unread: it has ended, or would
+/// have to be waited for.
 pub fn is_read_out<T: Incoming>(device: &mut T) -> bool
     ensures { result ≡ is_read_out (T.reads device.new).last }
 {

@@ -2,7 +2,7 @@
 ghost use Rattle.std.specs.Prelude.{◌≡◌, ◌<◌, ◌+◌, ◌++◌, [], length, take, true};
 ghost use Rattle.http_edge.specs.declared.serving.EdgeFault.TheVariants.{Read, Write, Ended};
 ghost use Rattle.connections.specs.Limits.{most_held};
-ghost use Rattle.connections.specs.Table.{Happens, at, left_of, held_in, went};
+ghost use Rattle.connections.specs.Table.{Happens, at, left_of, held_in, departure};
 ghost use Rattle.connections.specs.Runs.{HasRun};
 ghost use Rattle.connections.specs.declared.devices.Passage.TheVariants.{WouldWait};
 ghost use Rattle.connections.specs.Devices.{device_stand};
@@ -37,17 +37,19 @@ pub enum Moved {
 
 // The fault of a client that goes.
 fn gone<T>(connections: &mut Connections, seat: &Seat<T>, fault: EdgeFault) -> Moved
-    ensures went { Happens connections.old (went seat.now) connections.new }
+    ensures removed { Happens connections.old (departure seat.now) connections.new }
     ensures fault { result ≡ Moved.Failed fault }
 {
-    connections.went(seat);
+    connections.remove(seat);
     Moved::Failed(fault)
 }
 
 #[tactic(auto, using(crate::proofs::Leading::stays))]
-/// Reads once from a client: what it gave is what it said at its own place, and nothing else is. No other byte is read.
-/// Where it would wait, all is as it was. A client goes only where its device failed (`Read`) or gave nothing (`Ended`),
-/// or where `serve` would tell the same fault of the same pieces (`TooManyReads`), or an allocation failed.
+/// Reads once from `device` into `block`: what it gave is what the client said at the place of `seat` in
+/// `connections`, and nothing else is. No other byte is read. If it would wait (`Waits`), or `block` is longer than
+/// the room that is left (`Full`), all is as it was. A client goes (`Failed`) only if its device failed (`Read`) or
+/// gave nothing (`Ended`), or if `serve` would answer the same fault of the same pieces (`TooManyReads`), or if an
+/// allocation failed.
 pub fn hear<T: Incoming>(
     device: &mut T,
     connections: &mut Connections,
@@ -62,7 +64,7 @@ pub fn hear<T: Incoming>(
     ensures unread { result ≡ Moved.Full → device.new ≡ device.old }
     ensures moves { result ≡ Moved.Nothing → ⊥ }
     ensures fault { IfFailed result (λ fault. GoesHeard fault (device_stand T.remaining T.reads device.old) (device_stand T.remaining T.reads device.new) (at connections.old seat.now)) }
-    ensures failed { IsFailed result → Happens connections.old (went seat.now) connections.new }
+    ensures failed { IsFailed result → Happens connections.old (departure seat.now) connections.new }
     ensures run { HasRun connections.old connections.new }
 {
     if block.len() > MAX_HELD - connections.held() {
@@ -117,8 +119,9 @@ fn front<'a>(block: &'a mut ArrayVec<u8, BLOCK>, head: &'a [u8], body: &'a [u8])
 }
 
 #[tactic(auto, using(crate::proofs::Leading::stays))]
-/// Writes once to a client, of what is left of the reply at its own place, and nothing else. Where it would wait, or nothing
-/// is left, all is as it was. A client goes only where the write failed or took nothing (`Write`).
+/// Writes once to `device`, of what `connections` have left of the reply at the place of `seat`, and nothing else. If
+/// it would wait (`Waits`), or nothing is left (`Nothing`), all is as it was. A client goes (`Failed`) only if the
+/// write failed or took nothing (`Write`).
 pub fn say<T: Outgoing>(device: &mut T, connections: &mut Connections, seat: &Seat<T>) -> Moved
     ensures some { result ≡ Moved.Some → HasSaid (device_stand T.contents T.writes device.old) (device_stand T.contents T.writes device.new) seat.now connections.old connections.new }
     ensures waits { result ≡ Moved.Waits → MovedNothing WouldWait (device_stand T.contents T.writes device.old) (device_stand T.contents T.writes device.new) }
@@ -126,7 +129,7 @@ pub fn say<T: Outgoing>(device: &mut T, connections: &mut Connections, seat: &Se
     ensures nothing { result ≡ Moved.Nothing → (left_of (at connections.old seat.now) ≡ []) × (connections.new ≡ connections.old) }
     ensures unwritten { result ≡ Moved.Nothing → device.new ≡ device.old }
     ensures fault { IfFailed result (λ fault. GoesTold fault (device_stand T.contents T.writes device.old) (device_stand T.contents T.writes device.new)) }
-    ensures failed { IsFailed result → Happens connections.old (went seat.now) connections.new }
+    ensures failed { IsFailed result → Happens connections.old (departure seat.now) connections.new }
     ensures room { result ≡ Moved.Full → ⊥ }
     ensures run { HasRun connections.old connections.new }
 {
@@ -144,6 +147,6 @@ pub fn say<T: Outgoing>(device: &mut T, connections: &mut Connections, seat: &Se
     if count == 0 {
         return gone(connections, seat, EdgeFault::Write);
     }
-    connections.took(seat, count);
+    connections.advance(seat, count);
     Moved::Some
 }

@@ -34,7 +34,8 @@ impl Model for Instant {
 }
 
 impl Instant {
-    /// The instant so many nanoseconds from 1970, where it lies in the years 1900 to 2199.
+    /// The instant `nanos` nanoseconds after 1970 began in UTC (before it, if negative). `None` outside the years
+    /// 1900 to 2199.
     pub fn from_nanos(nanos: i128) -> Option<Instant>
         ensures { result ≡ if_in_range nanos }
     {

@@ -28,11 +28,16 @@ const SECONDS_PER_DAY: i64 = 86_400;
 
 const NANOS_PER_SECOND: i128 = 1_000_000_000;
 
-/// Reads a date and time as EXT-X-PROGRAM-DATE-TIME states it (RFC 8216, section 4.3.2.6, after
-/// ISO 8601): `YYYY-MM-DDThh:mm:ss`, then optionally a point and 1 to 9 digits, then `Z`, an offset
-/// from UTC `+hh:mm`, `+hhmm`, `+hh` or the same with `-`, or nothing for UTC. `BadTime` for every
-/// other text, where the date is no day of the Gregorian calendar, and where the instant lies
-/// before 1900 or after 2199. Takes no memory.
+/// The instant that `text` states as EXT-X-PROGRAM-DATE-TIME does (RFC 8216, section 4.3.2.6, after ISO 8601):
+/// `YYYY-MM-DDThh:mm:ss`, then optionally a point and 1 to 9 digits, then `Z`, an offset from UTC `+hh:mm`, `+hhmm`,
+/// `+hh` or the same with `-`, or nothing for UTC. `BadTime` for every other text, for a date that is no day of the
+/// Gregorian calendar, and for an instant before 1900 or after 2199. Takes no memory.
+///
+/// ```text
+/// read_instant("1970-01-01T00:00:01.5Z")    Ok(Instant(1_500_000_000))
+/// read_instant("1970-01-01T01:00:01+01")    Ok(Instant(1_000_000_000))
+/// read_instant("1970-02-30T00:00:00Z")      Err(TimeFault::BadTime)
+/// ```
 pub fn read_instant(text: &str) -> Result<Instant, TimeFault>
     ensures { result ≡ ok_or (instant_of text.now) TimeFault.BadTime }
 {
@@ -79,7 +84,8 @@ impl TimeReader {
         Some(day)
     }
 
-    /// The instant that a text says, as `read_instant` reads it (RFC 8216, section 4.3.2.6). Takes no memory.
+    /// The instant that `text` states, as [`read_instant`] reads it (RFC 8216, section 4.3.2.6), with the same fault.
+    /// Takes no memory.
     pub fn read(&mut self, text: &str) -> Result<Instant, TimeFault>
         ensures { result ≡ ok_or (instant_of text.now) TimeFault.BadTime }
     {

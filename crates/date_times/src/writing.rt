@@ -241,8 +241,8 @@ fn put_after_date(text: &mut [u8; LONGEST], nanos: u64) -> usize
     end + 1
 }
 
-/// Appends an instant in UTC with `Z`, with three decimals of a second, or nine where three would
-/// lose something. Where an allocation failed the text is as it was.
+/// Appends `instant` to `out`, in UTC with `Z` (RFC 8216, section 4.3.2.6): with three decimals of a second, or nine
+/// if three would lose something. After a failed allocation `out` is as it was.
 #[tactic(auto, using(crate::proofs::TimeLaws::time_reads))]
 pub fn write_instant(instant: Instant, out: &mut String) -> Result<(), AllocError>
     ensures text { Appends result out.old out.new (time_text instant) }
@@ -293,8 +293,8 @@ impl TimeWriter {
         self.date
     }
 
-    /// Appends an instant in UTC with `Z`, with three decimals of a second, or nine where three would lose something (RFC 8216,
-    /// 4.3.2.6). Where an allocation failed the text is as it was.
+    /// Appends `instant` to `out`, as [`write_instant`] does (RFC 8216, section 4.3.2.6). After a failed allocation
+    /// `out` is as it was.
     pub fn write(&mut self, instant: Instant, out: &mut String) -> Result<(), AllocError>
         ensures text { Appends result out.old out.new (time_text instant) }
         ensures err { OnErr result (string_bytes out.new ≡ string_bytes out.old) }

@@ -88,7 +88,8 @@ fn ads_of(alloc: Global, pod: usize, list: &[Value]) -> Result<Vec<Ad>, Decision
     Ok(done)
 }
 
-/// The pod of a break, from its ads.
+/// The pod that `ads` state, for the break that the decision file lists at `pod`, from 0. `EmptyPod` if there are
+/// none; then the faults of each ad in turn; `OutOfMemory` only if an allocation fails.
 pub fn pod_said(alloc: Global, pod: usize, ads: &[Value]) -> Result<Pod, DecisionFault>
     ensures { Gives (λ p. p) result (pod_said pod (map view ads.now)) }
 {

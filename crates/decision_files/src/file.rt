@@ -1,20 +1,18 @@
 //! A decision file.
-ghost use Rattle.std.specs.Prelude.{◌≡◌, ◌∷◌, ◌++◌, [], true, not, map, codes, bytes_eq, IfOk};
-ghost use Rattle.std.specs.List.{list_any};
+ghost use Rattle.std.specs.Prelude.{◌≡◌, ◌∷◌, ◌++◌, [], map, codes, IfOk};
 ghost use Rattle.serde_json.specs.View.{view};
 ghost use Rattle.pod_store.specs.Outcome.{Gives, each_after};
 ghost use Rattle.pod_store.specs.Inner.Outcome.{GivesExactly};
 ghost use Rattle.decision_files.specs.Decided.{id_said, pod_said, break_said, next_break, breaks_said, withdraw_said, in_no_break, of_no_break, fallback_pod, fallback_said, value_said, json_of, decisions_of};
-ghost use Rattle.decision_files.specs.Inner.Views.{texts_of};
 
 use crate::ads::pod_said;
 use crate::members::{list_at, text_at, values_of};
 use crate::texts::is_id;
-use indexmap::IndexSet;
 use playlist_model::{Items, Text, text_of};
-use pod_store::{Decision, DecisionFault, DecisionKind, Decisions, Place, Pod};
+use pod_store::{Decision, DecisionFault, DecisionKind, Decisions, IdSet, Place, Pod};
 use serde_json::Value;
 use std::alloc::Global;
+use std::hash::RandomState;
 
 fn id_said(pod: usize, value: &Value) -> Result<&str, DecisionFault>
     ensures { GivesExactly (λ id. id.now) result (id_said pod (view value.now)) }
@@ -27,28 +25,20 @@ fn id_said(pod: usize, value: &Value) -> Result<&str, DecisionFault>
     Ok(id)
 }
 
-// Notes an ID beside those of the breaks before. False where it is one of them.
-fn note_id<'a>(before: &mut IndexSet<&'a str>, id: &'a str) -> Result<bool, DecisionFault>
-    ensures first { Gives (λ first. first) result (Ok (not (list_any (bytes_eq id.now) (texts_of before.old.keys)))) }
-    ensures ids { IfOk result (λ first. first ≡ true → texts_of before.new.keys ≡ texts_of before.old.keys ++ id.now ∷ []) }
-{
-    Ok(before.insert(id)?)
-}
-
 // The break of this value, which stands after those whose IDs came before.
 fn break_said<'a>(
     alloc: Global,
     pod: usize,
-    before: &mut IndexSet<&'a str>,
+    before: &mut IdSet<'a>,
     value: &'a Value,
 ) -> Result<Decision, DecisionFault>
-    ensures said { Gives (λ d. d) result (break_said pod (texts_of before.old.keys) (view value.now)) }
-    ensures ids { IfOk result (λ d. texts_of before.new.keys ≡ texts_of before.old.keys ++ d.0 ∷ []) }
+    ensures said { Gives (λ d. d) result (break_said pod before.old (view value.now)) }
+    ensures ids { IfOk result (λ d. before.new ≡ before.old ++ d.0 ∷ []) }
 {
     let place = Place::in_break(pod);
     let id = id_said(pod, value)?;
     let ads = list_at(value, "ads").ok_or(place.fault(DecisionKind::Shape))?;
-    if !note_id(before, id)? {
+    if !before.insert(id)? {
         return Err(place.fault(DecisionKind::Shape));
     }
     let said = pod_said(alloc, pod, ads)?;
@@ -56,11 +46,15 @@ fn break_said<'a>(
     Ok((id, said))
 }
 
-fn breaks_of(alloc: Global, list: &[Value]) -> Result<Vec<Decision>, DecisionFault>
+fn breaks_of(
+    alloc: Global,
+    hashing: RandomState,
+    list: &[Value],
+) -> Result<Vec<Decision>, DecisionFault>
     ensures { Gives (λ v. v.items) result (each_after next_break [] (map view list.now)) }
 {
     let mut done: Vec<Decision> = Vec::new(alloc);
-    let mut ids: IndexSet<&str> = IndexSet::new(alloc);
+    let mut ids = IdSet::new(alloc, hashing);
     let mut rest = list;
     while let Some((value, later)) = rest.split_first() {
         let decision = break_said(alloc, done.len(), &mut ids, value)?;
@@ -70,11 +64,15 @@ fn breaks_of(alloc: Global, list: &[Value]) -> Result<Vec<Decision>, DecisionFau
     Ok(done)
 }
 
-fn breaks_said(alloc: Global, value: &Value) -> Result<Decisions, DecisionFault>
+fn breaks_said(
+    alloc: Global,
+    hashing: RandomState,
+    value: &Value,
+) -> Result<Decisions, DecisionFault>
     ensures { Gives (λ d. d) result (breaks_said (view value.now)) }
 {
     let list = values_of(value).ok_or(Place::nowhere().fault(DecisionKind::Shape))?;
-    let breaks = breaks_of(alloc, list)?;
+    let breaks = breaks_of(alloc, hashing, list)?;
     Ok(Decisions::Breaks(Items::from_vec(breaks)))
 }
 
@@ -130,14 +128,18 @@ fn fallback_said(alloc: Global, value: &Value) -> Result<Decisions, DecisionFaul
     fallback_pod(alloc, value)
 }
 
-fn value_said(alloc: Global, value: &Value) -> Result<Decisions, DecisionFault>
+fn value_said(
+    alloc: Global,
+    hashing: RandomState,
+    value: &Value,
+) -> Result<Decisions, DecisionFault>
     ensures { Gives (λ d. d) result (value_said (view value.now)) }
 {
     let breaks = value.get("breaks");
     let withdraw = value.get("withdraw");
     let fallback = value.get("fallback");
     match (breaks, withdraw, fallback) {
-        (Some(breaks), None, None) => breaks_said(alloc, breaks),
+        (Some(breaks), None, None) => breaks_said(alloc, hashing, breaks),
         (None, Some(id), None) => withdraw_said(alloc, id),
         (None, None, Some(pod)) => fallback_said(alloc, pod),
         _ => Err(Place::nowhere().fault(DecisionKind::Shape)),
@@ -163,11 +165,21 @@ fn json_of(alloc: Global, bytes: &[u8]) -> Result<Value, DecisionFault>
     }
 }
 
-/// What the bytes of a decision file say. The faults in this order: `NotJson`; for the whole `Shape`; and
-/// then those of each break in turn.
-pub fn read_decisions(alloc: Global, bytes: &[u8]) -> Result<Decisions, DecisionFault>
+/// What `bytes`, a decision file, say. The faults, in this order: `NotJson`; `Shape` for the whole; then those of
+/// each break in turn, with its place; `OutOfMemory` only if an allocation fails. `hashing`: the keys for a table of
+/// the file's IDs.
+///
+/// ```text
+/// read_decisions(alloc, hashing, b"{\"withdraw\": \"b1\"}")    Ok(Decisions::Withdraw(id)), and `id` is "b1"
+/// read_decisions(alloc, hashing, b"[")                       Err: J1 NotJson
+/// ```
+pub fn read_decisions(
+    alloc: Global,
+    hashing: RandomState,
+    bytes: &[u8],
+) -> Result<Decisions, DecisionFault>
     ensures { Gives (λ d. d) result (decisions_of bytes.now) }
 {
     let value = json_of(alloc, bytes)?;
-    value_said(alloc, &value)
+    value_said(alloc, hashing, &value)
 }

@@ -28,7 +28,9 @@ pub struct Part {
     pub byte_range: Option<ByteRange>,
 }
 
-/// A resource and the part that the object's byte range states.
+/// The resource `uri`, and the part of it that the byte range of the object `value` states. The faults, at `place`
+/// and in this order: `BadUri` if `uri` can't be one, then those of `byte_range_said`; `OutOfMemory` only if an
+/// allocation fails.
 pub fn part_said(
     alloc: Global,
     place: Place,
@@ -45,7 +47,8 @@ pub fn part_said(
     Ok(Part { uri, byte_range })
 }
 
-/// What an ad's map says.
+/// The resource and the part of it that `value`, the initialisation section of an ad, states (RFC 8216, section
+/// 4.3.2.5). `Shape`, at `place`, if it is no object with a URI; then the faults of `part_said`.
 pub fn map_said(alloc: Global, place: Place, value: &Value) -> Result<Part, DecisionFault>
     ensures { Gives part_of result (map_said place (view value.now)) }
 {
@@ -124,7 +127,8 @@ fn key_members(alloc: Global, place: Place, value: &Value) -> Result<Key, Decisi
     })
 }
 
-/// What an ad's key says.
+/// The key that `value`, the key of an ad, states (RFC 8216, section 4.3.2.4). `Shape`, at `place`, if it is no
+/// object; then the faults of its members in turn.
 pub fn key_said(alloc: Global, place: Place, value: &Value) -> Result<Key, DecisionFault>
     ensures { Gives (λ key. key) result (key_said place (view value.now)) }
 {
@@ -134,7 +138,7 @@ pub fn key_said(alloc: Global, place: Place, value: &Value) -> Result<Key, Decis
     key_members(alloc, place, value)
 }
 
-/// The keys of an ad that states this key, or none.
+/// The keys of an ad that states `key`, or none. Fails only if an allocation fails.
 pub fn keys_of(alloc: Global, key: Option<Key>) -> Result<Keys, AllocError>
     ensures { IfOk result (λ keys. keys ≡ keys_of key) }
 {
@@ -145,7 +149,8 @@ pub fn keys_of(alloc: Global, key: Option<Key>) -> Result<Keys, AllocError>
     Keys::from_vec(alloc, keys)
 }
 
-/// The section of this part, with copies of these keys.
+/// The initialisation section of `part`, under copies of `keys` (RFC 8216, section 4.3.2.5). Fails only if an
+/// allocation fails.
 pub fn section_with(keys: &Keys, part: Part) -> Result<InitSection, AllocError>
     ensures { IfOk result (λ section. section ≡ section_with keys.now (part_of part)) }
 {

@@ -8,7 +8,7 @@ use playlist_model::ByteRange;
 use pod_store::{DecisionFault, DecisionKind, Place};
 use serde_json::Value;
 
-/// The text at a name, where there is one.
+/// The text under `name` in the object `value`, if there is one.
 pub fn text_at<'a>(value: &'a Value, name: &str) -> Option<&'a str>
     ensures { option_map (λ text. text.now) result ≡ text_at name.now (view value.now) }
 {
@@ -19,7 +19,7 @@ pub fn text_at<'a>(value: &'a Value, name: &str) -> Option<&'a str>
 }
 
 #[tactic(auto, using(crate::proofs::Lists::list_of_items))]
-/// The values of an array.
+/// The values of the array `value`; `None` if it is none.
 pub fn values_of(value: &Value) -> Option<&[Value]>
     ensures { option_map (λ list. map view list.now) result ≡ values_of (view value.now) }
 {
@@ -29,7 +29,7 @@ pub fn values_of(value: &Value) -> Option<&[Value]>
     }
 }
 
-/// The values of the array at a name, where there is one.
+/// The values of the array under `name` in the object `value`, if there is one.
 pub fn list_at<'a>(value: &'a Value, name: &str) -> Option<&'a [Value]>
     ensures { option_map (λ list. map view list.now) result ≡ list_at name.now (view value.now) }
 {
@@ -64,7 +64,8 @@ fn stated_byte_range(
     Ok(ByteRange { length, offset })
 }
 
-/// The byte range that `offset` and `length` state: both or neither is there.
+/// The byte range that `offset` and `length` of the object `value` state, in bytes (RFC 8216, section 4.3.2.2): both
+/// are there, or neither. The faults, at `place`: `Shape` if one alone is there, then those of the two numbers.
 pub fn byte_range_said(place: Place, value: &Value) -> Result<Option<ByteRange>, DecisionFault>
     ensures { result ≡ byte_range_said place (view value.now) }
 {

@@ -84,7 +84,9 @@ fn segments_of(
     Ok(done)
 }
 
-/// The segments of an ad.
+/// The segments that `value`, the ad at `ad` of the break at `pod`, both from 0, states. `before` segments of its pod
+/// come before it, which counts towards the most that a pod may have. The faults, in this order: `Shape`, `EmptyPod`,
+/// then those of each segment in turn; `OutOfMemory` only if an allocation fails.
 pub fn segments_said(
     alloc: Global,
     pod: usize,

@@ -76,7 +76,15 @@ impl Model for Nanos {
 }
 
 impl Nanos {
-    /// Reads a text of decimal seconds, below 1,000,000 s. Digits past the ninth after the point are dropped.
+    /// The duration that `text` states in decimal seconds (RFC 8216, section 4.3.2.1): digits with at most one point,
+    /// below 1,000,000 s. Digits past the ninth after the point are dropped. The faults: `Empty` if `text` is empty;
+    /// `NotDigits` if it has anything else than digits and one point, or no digit; `TooLarge` from 1,000,000 s on.
+    /// Takes no memory.
+    ///
+    /// ```text
+    /// Nanos::read("6.006")    Ok(Nanos(6_006_000_000))
+    /// Nanos::read("6,006")    Err(DurationFault::NotDigits)
+    /// ```
     pub fn read(text: &str) -> Result<Nanos, DurationFault>
         ensures { result ≡ duration_of text.now }
     {
@@ -98,8 +106,8 @@ impl Nanos {
     }
 
     #[tactic(auto, using(crate::proofs::Again::read_again, crate::proofs::Again::text_whole))]
-    /// Appends the duration in seconds, without a point where they are whole, else without zeros at the end.
-    /// Where an allocation failed the text is as it was.
+    /// Appends the duration in seconds to `out`: without a point if it is of whole seconds, else without zeros at the
+    /// end. After a failed allocation `out` is as it was.
     pub fn write_to(&self, out: &mut String) -> Result<(), AllocError>
         ensures ok { Appends result out.old out.new (duration_text self.now) }
         ensures err { OnErr result (string_bytes out.new ≡ string_bytes out.old) }
@@ -139,7 +147,7 @@ impl Nanos {
         }
     }
 
-    /// The sum, or `None` where it passes 2^64 - 1 nanoseconds.
+    /// The sum of this duration and `other`, or `None` if it passes 2^64 - 1 nanoseconds.
     pub fn checked_add(self, other: Nanos) -> Option<Nanos>
         ensures { SomeIff result (self + other < 2 ^ 64) (self + other) }
     {
@@ -206,8 +214,8 @@ fn first_nine(digits: &[u8]) -> &[u8]
     digits.get(..9).unwrap_or(digits)
 }
 
-/// The nanoseconds that the digits after the point of a number of seconds stand for. Digits after the
-/// ninth are dropped.
+/// The nanoseconds that `digits` stand for, which come after the point of a number of seconds: less than
+/// 1,000,000,000. Digits after the ninth are dropped.
 pub fn nanos_of_fraction(digits: &[u8]) -> u32
     requires { IsTrue (are_digits digits.now) }
     ensures value { result ≡ number_of (nine_digits digits.now) }

@@ -13,8 +13,9 @@ pub struct Answer {
     pub with_body: bool,
 }
 
-/// Answers what was asked: a request is applied as a whole, and of a refusal the client is told. Fails only where an
-/// allocation fails, and leaves the edge then. (A request for which memory lacks has a reply, 503.)
+/// What is answered to what was `asked`. A request is applied to `edge` as a whole; of a refusal the client is told.
+/// Fails only if an allocation fails, and leaves `edge` as it was. (A request that memory doesn't suffice for has a
+/// reply, 503.)
 pub fn reply_to(alloc: Global, edge: &mut Edge, asked: Asked) -> Result<Answer, AllocError>
     ensures ok { IfOk result (λ answer. IsReplyTo asked edge.old edge.new answer.reply answer.with_body) }
     ensures err { OnErr result (edge.new ≡ edge.old) }

@@ -17,6 +17,7 @@ use http_messages::{Allow, Reply, Request};
 use indexmap::IndexMap;
 use live_channel::Channel;
 use std::alloc::{AllocError, Global};
+use std::hash::RandomState;
 use std::marker::Model;
 
 /// The most channels.
@@ -26,6 +27,8 @@ pub const MAX_CHANNELS: usize = 64;
 #[derive(Drop)]
 pub struct Channels {
     alloc: Global,
+    // The keys for each channel's tables of IDs.
+    hashing: RandomState,
     by_name: IndexMap<String, Channel>,
 }
 
@@ -45,17 +48,19 @@ fn is_method(request: &Request, name: &str) -> bool
 }
 
 impl Channels {
-    /// No channels.
-    pub fn new(alloc: Global) -> Channels
+    /// No channels. `hashing`: the keys for each channel's tables of IDs.
+    pub fn new(alloc: Global, hashing: RandomState) -> Channels
         ensures { result ≡ [] }
     {
         Channels {
             alloc,
+            hashing,
             by_name: IndexMap::new(alloc),
         }
     }
 
-    /// What a request on what a channel has is answered, and does. Where an allocation fails all channels are as they were.
+    /// What a `request` on the `resource` of the channel `name` does, and the reply to it. Fails only if an
+    /// allocation fails; all channels are then as they were.
     pub fn on_resource(
         &mut self,
         name: &str,
@@ -129,13 +134,14 @@ impl Channels {
             Ok(wanted) => wanted,
             Err(fault) => return body_fault_reply(alloc, fault),
         };
-        match Channel::new(alloc, wanted.base.as_str(), wanted.tolerance) {
+        match Channel::new(alloc, self.hashing, wanted.base.as_str(), wanted.tolerance) {
             Ok(channel) => self.add(name, channel),
             Err(fault) => channel_fault_reply(alloc, fault),
         }
     }
 
-    // Takes in a channel that was given nothing, where there is none of this name and there is room.
+    // Takes in `channel`, which was given nothing, under `name`, if none has it and there is room: 503 for a 65th
+    // (RFC 9110, section 15.6.4).
     fn add(&mut self, name: &str, channel: Channel) -> Result<Reply, AllocError>
         requires { IsChannelOf channel [] }
         ensures { (table : Table) → Stands self.old table → TakenTurn (added table name.now channel.base channel.tolerance) table result self.new }

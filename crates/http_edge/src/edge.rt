@@ -8,6 +8,7 @@ use channel_api::{Routes, not_found};
 use http::StatusCode;
 use http_messages::{Reply, Request};
 use std::alloc::{AllocError, Global};
+use std::hash::RandomState;
 use std::marker::Model;
 
 /// Channels over HTTP. By its type an edge stands for some list of requests.
@@ -30,8 +31,9 @@ impl Model for Edge {
 }
 
 impl Edge {
-    /// An edge without channels: it stands for no request. Fails only where an allocation fails.
-    pub fn new(alloc: Global) -> Result<Edge, AllocError>
+    /// An edge without channels: it stands for no request. `hashing`: the keys for each channel's tables of IDs. Fails only where
+    /// an allocation fails.
+    pub fn new(alloc: Global, hashing: RandomState) -> Result<Edge, AllocError>
         ensures { IfOk result (λ edge. RepresentsRequests edge []) }
     {
         let Ok(routes) = Routes::new(alloc) else {
@@ -40,12 +42,19 @@ impl Edge {
         Ok(Edge {
             alloc,
             routes,
-            channels: Channels::new(alloc),
+            channels: Channels::new(alloc, hashing),
         })
     }
 
-    /// Applies a request as a whole, and answers it. Whatever requests the edge stood for, the reply is the one owed after
-    /// them, and the edge stands for this request too; for a failed allocation the reply is 503, and the request is left out.
+    /// Applies `request` as a whole, and gives its reply. Whatever requests the edge stands for, the reply is the one
+    /// owed after them, and the edge stands for `request` too. After a failed allocation the reply is 503, and
+    /// `request` is left out.
+    ///
+    /// ```text
+    /// let mut edge = Edge::new(alloc, hashing)?;
+    /// edge.answer(&request)    PUT /channels/one, with a base:    201
+    /// edge.answer(&request)    GET /channels/two/live.m3u8:       404
+    /// ```
     pub fn answer(&mut self, request: &Request) -> Reply
         ensures { AnswersRequest self.old request.now result self.new }
     {

@@ -23,7 +23,8 @@ fn is_out_of_memory(fault: RefreshFault) -> bool
     }
 }
 
-/// Gives a channel a refresh of the origin's playlist. A failed allocation leaves the channel as it was.
+/// Gives `body`, the origin's playlist, to `channel`. The reply is 204, or 422 or 409 with the fault. Fails only if
+/// an allocation fails; `channel` is then as it was.
 pub fn refresh(alloc: Global, channel: &mut Channel, body: &[u8]) -> Result<Reply, AllocError>
     ensures { TakesEvent channel.old (refreshed body.now) (refresh_owed body.now) result channel.new }
 {
@@ -38,7 +39,8 @@ pub fn refresh(alloc: Global, channel: &mut Channel, body: &[u8]) -> Result<Repl
     }
 }
 
-/// Gives a channel a decision file. A failed allocation leaves the channel as it was.
+/// Gives `body`, a decision file, to `channel`. The reply is 204, or 422 or 409 with the fault. Fails only if an
+/// allocation fails; `channel` is then as it was.
 pub fn decide(alloc: Global, channel: &mut Channel, body: &[u8]) -> Result<Reply, AllocError>
     ensures { TakesEvent channel.old (decided body.now) (decisions_owed body.now) result channel.new }
 {
@@ -53,7 +55,7 @@ pub fn decide(alloc: Global, channel: &mut Channel, body: &[u8]) -> Result<Reply
     }
 }
 
-/// The playlist of a channel.
+/// The reply with the playlist that `channel` wrote last, or 404 if it wrote none. Fails only if an allocation fails.
 pub fn live(alloc: Global, channel: &Channel) -> Result<Reply, AllocError>
     ensures { IfOk result (λ reply. reply ≡ live_reply channel.now.text) }
 {

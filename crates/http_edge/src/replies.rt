@@ -10,7 +10,8 @@ use http_messages::Reply;
 use live_channel::{Channel, ChannelFault};
 use std::alloc::{AllocError, Global};
 
-/// What a new channel was to be made with has a fault.
+/// The reply 422 that names `fault`, for which a channel wasn't made. Fails if `fault` is `OutOfMemory`, or an
+/// allocation fails.
 pub fn channel_fault_reply(alloc: Global, fault: ChannelFault) -> Result<Reply, AllocError>
     ensures reply { IfOk result (λ reply. reply ≡ channel_fault_reply fault) }
     ensures memory { fault ≡ ChannelFault.OutOfMemory → IsErr result }
@@ -41,7 +42,8 @@ fn why_lines(alloc: Global, channel: &Channel) -> Result<String, AllocError>
     Ok(lines)
 }
 
-/// The known breaks, and why each is filled or not. Takes no memory where none is known.
+/// The reply with a line for each break that `channel` knows: its ID, and why it is filled or not. Fails only if an
+/// allocation fails, and takes no memory if no break is known.
 pub fn why_reply(alloc: Global, channel: &Channel) -> Result<Reply, AllocError>
     ensures reply { IfOk result (λ reply. reply ≡ text_reply (why_text (explained channel.now.kept) channel.now.kept.breaks)) }
     ensures memory { IsErr result → channel.now.kept.breaks ≢ [] }

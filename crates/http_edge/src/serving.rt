@@ -108,7 +108,10 @@ fn put<K: Sink>(reply: &Reply, with_body: bool, sink: &mut K) -> Result<Served, 
     }
 }
 
-/// Reads one request, applies it, and writes its reply and nothing else.
+/// Reads one request from `source`, applies it to `edge`, and writes its reply and nothing else to `sink`. After
+/// `Write` the request stands, and `sink` has taken a front of the reply. After any other fault nothing was done or
+/// written: `Read` if a read failed, `Ended` if `source` ended before the request was whole, `TooManyReads` at the
+/// 65,536th read, `OutOfMemory` if an allocation failed. Each reply closes its connection (RFC 9112, section 9.3).
 pub fn serve<S: Source, K: Sink>(
     alloc: Global,
     edge: &mut Edge,

@@ -51,8 +51,8 @@ impl Arriving {
         self.bytes.len()
     }
 
-    /// Takes the next piece. However the bytes are cut, the request that they begin with is the one that is asked. Fails
-    /// only where an allocation fails.
+    /// Takes `piece`, the next bytes. However the bytes are cut, the request that they begin with is the one that is
+    /// asked. Fails only if an allocation fails.
     pub fn take(self, alloc: Global, piece: &[u8]) -> Result<Arrived, AllocError>
         ensures { IfOk result (IsArrived (self ++ piece.now)) }
     {

@@ -56,6 +56,7 @@ pub enum HeadRead {
     Bad,
 }
 
+// Whether `field` is called `name`: upper and lower case are the same (RFC 9110, section 5.1).
 fn is_named(field: &Header<'_>, name: &str) -> bool
     ensures { result ≡ is_named name.now (header_parts field.now) }
 {
@@ -71,6 +72,8 @@ fn decimal_said(value: &[u8]) -> Option<u64>
     }
 }
 
+// How a body of this length is read; one of more than 4,194,304 bytes is refused with 413 (RFC 9110, section
+// 15.5.14).
 fn body_of_length(value: &[u8]) -> Framing
     ensures { result ≡ body_of_length (decimal_of value.now) }
 {
@@ -97,7 +100,7 @@ fn has_coding(fields: &[Header<'_>]) -> bool
     false
 }
 
-// The length that the fields state.
+// The length that `fields` state: that of the one Content-Length (RFC 9112, section 6.3).
 fn stated_by(fields: &[Header<'_>]) -> Framing
     ensures { result ≡ stated_by (filter (is_named (codes "content-length")) (map header_parts fields.now)) }
 {
@@ -115,6 +118,8 @@ fn stated_by(fields: &[Header<'_>]) -> Framing
     said
 }
 
+// How the body of a request of `method` with `fields` is read: a PUT has the length that it states, and a transfer
+// coding is refused with 411 (RFC 9112, section 6.1); others have none.
 fn framing_of(method: &str, fields: &[Header<'_>]) -> Framing
     ensures { result ≡ framing_of method.now (map header_parts fields.now) }
 {
@@ -127,7 +132,8 @@ fn framing_of(method: &str, fields: &[Header<'_>]) -> Framing
     stated_by(fields)
 }
 
-/// Reads a head at the front of these bytes, which are at most as many as a head may have.
+/// The head at the front of `bytes`, which are at most as many as a head may have: 16,384 bytes, and 64 fields (RFC
+/// 9112, section 2.1). It may be partial, or bad. Fails only if an allocation fails.
 pub fn read_head(alloc: Global, bytes: &[u8]) -> Result<HeadRead, AllocError>
     requires { length bytes.now ≤ head_limit }
     ensures { IfOk result (IsReadAs bytes.now) }

@@ -29,7 +29,7 @@ impl Model for Leaving {
 }
 
 impl Leaving {
-    /// All of a reply, with its body or without. It takes no memory.
+    /// All of `reply`, with its body if `with_body`. Takes no memory.
     pub fn new(reply: Reply, with_body: bool) -> Leaving
         ensures { result ≡ text_sent with_body reply }
     {
@@ -59,8 +59,8 @@ impl Leaving {
         head.len() + body.len()
     }
 
-    /// The client took so many bytes more.
-    pub fn took(&mut self, count: usize)
+    /// The client took `count` bytes more.
+    pub fn advance(&mut self, count: usize)
         requires { count ≤ length self.old }
         ensures { self.new ≡ drop count self.old }
     {

@@ -25,7 +25,7 @@ impl Model for Body {
 }
 
 impl Body {
-    /// The bytes from one place up to another.
+    /// The bytes of `bytes` from the place `begin` up to the place `end`, both from 0.
     pub fn part_of(bytes: Vec<u8>, begin: usize, end: usize) -> Body
         requires ordered { begin ≤ end }
         requires within { end ≤ vec_len bytes }
@@ -86,7 +86,7 @@ pub struct Reply {
 }
 
 impl Reply {
-    /// A reply with no content.
+    /// A reply of `status` with no content.
     pub fn bare(status: StatusCode) -> Reply
         ensures { result ≡ bare status }
     {

@@ -98,7 +98,8 @@ fn with_head(bytes: &[u8], head: Head) -> Step
     }
 }
 
-// Looks at the bytes read so far, of which the head may be known already.
+/// What `bytes`, those read so far, are: a whole request, one that is refused, or the front of one. Their head is
+/// `head`, if it is known already. Fails only if an allocation fails.
 pub(crate) fn look(alloc: Global, bytes: &[u8], head: Option<Head>) -> Result<Step, AllocError>
     requires { IfSome head (IsHeadAt bytes.now) }
     ensures { IfOk result (IsStep bytes.now) }
@@ -113,7 +114,7 @@ pub(crate) fn look(alloc: Global, bytes: &[u8], head: Option<Head>) -> Result<St
     }
 }
 
-// The request of this head, whose body is the next bytes.
+/// The request of `head`, at the front of `bytes`, whose body is the next `count` bytes.
 pub(crate) fn request_of(bytes: Vec<u8>, head: Head, count: usize) -> Request
     requires { head.len + count ≤ length bytes.items }
     ensures { result ≡ record { method = head.method; target = head.target; body = take count (drop head.len bytes.items) } }
@@ -126,8 +127,17 @@ pub(crate) fn request_of(bytes: Vec<u8>, head: Head, count: usize) -> Request
     }
 }
 
-/// Reads a request, up to the end of its body or until it is refused. However the source cuts its bytes, the request that
-/// they begin with is the one that is answered.
+/// Reads a request from `source`, up to the end of its body or until it is refused (RFC 9112). However `source` cuts
+/// its bytes, the request that they begin with is the one that is answered. `Read` if a read fails, `Ended` if
+/// `source` ends before the request is whole, `TooManyReads` at the 65,536th read, `OutOfMemory` if an allocation
+/// fails.
+///
+/// ```text
+/// match receive(alloc, &mut source)? {
+///     Asked::Request(request) => ..,    its method, its target and its body
+///     Asked::Refused(refusal) => refusal_reply(alloc, refusal)?,
+/// }
+/// ```
 pub fn receive<S: Source>(alloc: Global, source: &mut S) -> Result<Asked, ReceiveFault>
     ensures asked { IfOk result (λ asked. HasAsked (S.remaining source.old) (S.remaining source.new) asked) }
     ensures ended { IsErrOf result ReceiveFault.Ended → HasEnded (S.remaining source.old) (S.remaining source.new) }

@@ -40,7 +40,7 @@ impl Refusal {
     }
 }
 
-/// A reply that is a text. Fails only where an allocation fails.
+/// The reply of `status` whose body is `text`. Fails only if an allocation fails.
 pub fn plain_reply(alloc: Global, status: StatusCode, text: &str) -> Result<Reply, AllocError>
     ensures { IfOk result (λ reply. reply ≡ plain status text.now) }
 {
@@ -55,7 +55,8 @@ pub fn plain_reply(alloc: Global, status: StatusCode, text: &str) -> Result<Repl
     })
 }
 
-/// The reply to a request that is refused. Fails only where an allocation fails.
+/// The reply to a request that is refused for `refusal`, with its status and a text. Fails only if an allocation
+/// fails.
 pub fn refusal_reply(alloc: Global, refusal: Refusal) -> Result<Reply, AllocError>
     ensures { IfOk result (λ reply. reply ≡ refusal_reply refusal) }
 {

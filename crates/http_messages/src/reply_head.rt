@@ -48,6 +48,7 @@ fn push_field(head: &mut ArrayString<256>, name: &str, value: &str)
     head.push_str("\r\n");
 }
 
+// Appends the status line (RFC 9112, section 4).
 fn push_status_line(head: &mut ArrayString<256>, status: StatusCode)
     requires { array_string_len head.old ≤ 0 }
     ensures bytes { head.new.bytes ≡ head.old.bytes ++ status_line status }
@@ -91,7 +92,8 @@ fn push_length(head: &mut ArrayString<256>, status: StatusCode, body: &[u8])
     }
 }
 
-/// The head of a reply, with the empty line that ends it. It lies in the value itself, so that it takes no memory.
+/// The head of `reply` with the empty line that ends it (RFC 9112, sections 4 and 9.3): it says that the connection
+/// is closed. It is held in the value itself, so that it takes no memory.
 pub fn head_of(reply: &Reply) -> ArrayString<256>
     ensures { result.bytes ≡ head_text reply.now }
 {

@@ -50,21 +50,22 @@ fn hand_out_at_once<K: Sink>(head: &[u8], body: &[u8], sink: &mut K) -> Result<(
     hand_out_both(head, body, sink)
 }
 
-/// Whether the reply to this method has a body (RFC 9110, 9.3.2).
+/// Whether the reply to `method` has a body: not to HEAD (RFC 9110, section 9.3.2).
 pub fn sends_body(method: &Method) -> bool
     ensures { result ≡ sends_body method.now }
 {
     method.as_str() != "HEAD"
 }
 
-// What is sent of the body.
+/// What is sent of the body of `reply`: all if `with_body`, else nothing.
 pub(crate) fn body_sent(reply: &Reply, with_body: bool) -> &[u8]
     ensures { result.now ≡ body_sent with_body reply.now }
 {
     if with_body { reply.body() } else { &[] }
 }
 
-/// Writes a reply, with its body or without. It takes no memory.
+/// Writes `reply` to `sink`, with its body if `with_body`. `SinkFailed` if a write fails or takes nothing: `sink` has
+/// then taken a front of it. Takes no memory.
 pub fn send<K: Sink>(reply: &Reply, with_body: bool, sink: &mut K) -> Result<(), SinkFailed>
     ensures ok { OnOk result (Appends (K.contents sink.old) (K.contents sink.new) (text_sent with_body reply.now)) }
     ensures err { OnErr result (TookFront (K.contents sink.old) (K.contents sink.new) (text_sent with_body reply.now)) }

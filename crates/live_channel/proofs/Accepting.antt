@@ -1,13 +1,16 @@
 -- An accepted refresh, from the segments that a channel holds.
 use Rattle.std.proofs.Common.{zero, suc, drop, ◌≡◌, ℕ, ◌||◌, List, [], ◌∷◌, map, length, refl, ap, ◌∙◌, subst}
-use Rattle.std.specs.Prelude.{is_some}
+use Rattle.std.specs.Prelude.{Bool, true, false, not, is_some}
+use Rattle.playlist_model.specs.declared.DateRange.{DateRange}
+use Rattle.pod_store.specs.Inner.Store.{NameTheSame}
+use Rattle.break_finder.proofs.TagIds.{filter_same}
 use Rattle.std.specs.List.{list_any}
 use Rattle.std.proofs.lemmas.List.{length-map}
 use Rattle.playlist_model.specs.declared.Playlist.{Playlist}
 use Rattle.pod_store.specs.Marks.{Marked}
 use Rattle.stitcher.specs.Stitched.{Numbers, Item}
 use Rattle.playlist_write.specs.Owed.{playlist_text}
-use Rattle.pod_store.specs.Store.{Store}
+use Rattle.pod_store.specs.Store.{Store, is_one_of}
 use Rattle.stitcher.specs.declared.OutSegment.{OutSegment}
 use Rattle.stitcher.specs.declared.marked.MarkedSegment.{MarkedSegment as Held}
 use Rattle.stitcher.specs.StitchedSegments.{AreDecided}
@@ -39,6 +42,11 @@ timed (item ∷ later) = ap (λ b. is_some item.piece.instant || b) (timed later
 
 -- ---- what is written of it
 
+-- the same date ranges are left by another list of the same breaks
+left_alike : (timed : Bool) (short long : List (List ℕ)) (date_ranges : List DateRange) → NameTheSame short long → date_ranges_left timed short date_ranges ≡ date_ranges_left timed long date_ranges
+left_alike true short long date_ranges same = filter_same (λ (r : DateRange). not (is_one_of short r.id)) (λ (r : DateRange). not (is_one_of long r.id)) (λ r. ap not (same.ids r.id)) date_ranges
+left_alike false short long date_ranges same = refl
+
 module _ (state : ChannelState) (p : Playlist) (held : List Held) (n : ℕ) where
   abbrev seen : List Marked
   seen = so_far state.store held
@@ -46,7 +54,7 @@ module _ (state : ChannelState) (p : Playlist) (held : List Held) (n : ℕ) wher
   abbrev window : List Item
   window = window_on (kept_in state) p seen n
 
-  pub text_seen : (items : List OutSegment) (breaks : List (List ℕ)) (text : List ℕ) → items ≡ map written_item window → breaks ≡ breaks_after (kept_in state) p seen
+  pub text_seen : (items : List OutSegment) (breaks : List (List ℕ)) (text : List ℕ) → items ≡ map written_item window → NameTheSame breaks (breaks_after (kept_in state) p seen)
       → text ≡ playlist_text (out_playlist p (map date_range_text (date_ranges_left (list_any states_time items) breaks p.date_ranges)) items)
       → text ≡ text_with_window p (breaks_after (kept_in state) p seen) window
   text_seen items breaks text w u t =
@@ -54,7 +62,7 @@ module _ (state : ChannelState) (p : Playlist) (held : List Held) (n : ℕ) wher
       t
       ∙ (ap (λ os. playlist_text (out_playlist p (map date_range_text (date_ranges_left (list_any states_time items) breaks p.date_ranges)) os)) w
       ∙ (ap (λ b. playlist_text (out_playlist p (map date_range_text (date_ranges_left b breaks p.date_ranges)) (map written_item window))) stated
-      ∙ ap (λ ids. playlist_text (out_playlist p (map date_range_text (date_ranges_left (list_any states_instant window) ids p.date_ranges)) (map written_item window))) u))
+      ∙ ap (λ rs. playlist_text (out_playlist p (map date_range_text rs) (map written_item window))) (left_alike (list_any states_instant window) breaks (breaks_after (kept_in state) p seen) p.date_ranges u)))
 
   pub numbers_seen : (items : List OutSegment) (k : Numbers) → items ≡ map written_item window → k ≡ head_of items → k ≡ head_numbers window
   numbers_seen items k w h = h ∙ (ap head_of w ∙ heads window)

@@ -1,12 +1,14 @@
 -- The breaks that mark segments, as a channel holds them and as they are meant.
-use Rattle.std.proofs.Common.{◌≡◌, ℕ, ◌<◌, ◌≤◌, Bool, true, false, cond, List, [], ◌∷◌, ◌++◌, map, refl, ap, sym, ◌∙◌, append_assoc}
+use Rattle.std.proofs.Common.{◌≡◌, ℕ, ◌<◌, ◌≤◌, Bool, true, false, cond, List, [], ◌∷◌, ◌++◌, map, refl, ap, sym, subst, ◌∙◌, append_assoc}
 use Rattle.std.proofs.lemmas.Bool.{lt-leb, le-leb}
 use Rattle.std.proofs.lemmas.List.{append-nil}
 use Rattle.std.specs.Prelude.{Option, Some, None, IsSome, nat_le, option_map}
 use mathlib.Core.List.{reverse_aux}
 use Rattle.pod_store.specs.Pods.{Pod}
 use Rattle.pod_store.specs.Marks.{Marked}
-use Rattle.pod_store.specs.Store.{Store, pod_for}
+use Rattle.pod_store.specs.Store.{Store, pod_for, is_one_of}
+use Rattle.pod_store.specs.Inner.Store.{NameTheSame}
+use Rattle.pod_store.proofs.Repeats.{itself, and_then, with_more, once}
 use Rattle.stitcher.specs.declared.marked.MarkedSegment.{MarkedSegment as Held}
 use Rattle.stitcher.specs.StitchedSegments.{meant, mark_in, mark_with, rest_from, rest_in, IsDecided, AreDecided}
 use Rattle.channel_spec.specs.Marking.{mark_id}
@@ -59,22 +61,41 @@ breaks_seen state kept p held last other rest d e left decided =
     ∙ append_assoc marks (ids_in other) (ids_in (rest_id (rest_after kept p (so_far state.store held)))))
 
 -- a segment without a mark adds no break
-pub none_there : (marks : List (List ℕ)) (number : ℕ) (m : Held) → m.mark ≡ None → marks ≡ marks ++ mark_held number m
-none_there marks number m e = sym (ap (λ ids. marks ++ ids) (by (nat_le number m.segment.media_sequence) (ids_in m.mark) (ap ids_in e)) ∙ append-nil marks)
+pub none_there : (marks : List (List ℕ)) (number : ℕ) (m : Held) → m.mark ≡ None → NameTheSame marks (marks ++ mark_held number m)
+none_there marks number m e =
+    subst (λ ids. NameTheSame marks ids) (sym (ap (λ ids. marks ++ ids) (by (nat_le number m.segment.media_sequence) (ids_in m.mark) (ap ids_in e)) ∙ append-nil marks)) (itself marks)
   where
     by : (b : Bool) (ids : List (List ℕ)) → ids ≡ [] → cond b ids [] ≡ []
     by true ids h = h
     by false ids h = refl
 
 -- nor does one before the number
-pub none_before : (marks : List (List ℕ)) (number : ℕ) (m : Held) → m.segment.media_sequence < number → marks ≡ marks ++ mark_held number m
-none_before marks number m h = sym (ap (λ b. marks ++ cond b (ids_in m.mark) []) (lt-leb number m.segment.media_sequence h) ∙ append-nil marks)
+pub none_before : (marks : List (List ℕ)) (number : ℕ) (m : Held) → m.segment.media_sequence < number → NameTheSame marks (marks ++ mark_held number m)
+none_before marks number m h =
+    subst (λ ids. NameTheSame marks ids) (sym (ap (λ b. marks ++ cond b (ids_in m.mark) []) (lt-leb number m.segment.media_sequence h) ∙ append-nil marks)) (itself marks)
 
 -- one from the number on adds its own
-pub one_there : (marks new : List (List ℕ)) (number : ℕ) (m : Held) → number ≤ m.segment.media_sequence → new ≡ marks ++ ids_in m.mark → new ≡ marks ++ mark_held number m
-one_there marks new number m h e = e ∙ sym (ap (λ b. marks ++ cond b (ids_in m.mark) []) (le-leb number m.segment.media_sequence h))
+pub one_there : (marks new : List (List ℕ)) (number : ℕ) (m : Held) → number ≤ m.segment.media_sequence → NameTheSame new (marks ++ ids_in m.mark) → NameTheSame new (marks ++ mark_held number m)
+one_there marks new number m h e =
+    subst (λ ids. NameTheSame new ids) (sym (ap (λ b. marks ++ cond b (ids_in m.mark) []) (le-leb number m.segment.media_sequence h))) e
 
-pub one_marked : (marks new : List (List ℕ)) (number : ℕ) (here : Held) (later list : List Held) → marks ++ marks_held number (here ∷ later) ≡ marks_held number list
-    → new ≡ marks ++ mark_held number here → new ++ marks_held number later ≡ marks_held number list
+pub one_marked : (marks new : List (List ℕ)) (number : ℕ) (here : Held) (later list : List Held) → NameTheSame (marks ++ marks_held number (here ∷ later)) (marks_held number list)
+    → NameTheSame new (marks ++ mark_held number here) → NameTheSame (new ++ marks_held number later) (marks_held number list)
 one_marked marks new number here later list h e =
-    ap (λ xs. xs ++ marks_held number later) e ∙ (append_assoc marks (mark_held number here) (marks_held number later) ∙ h)
+    and_then (new ++ marks_held number later) ((marks ++ mark_held number here) ++ marks_held number later) (marks_held number list) (with_more new (marks ++ mark_held number here) (marks_held number later) e)
+    (subst (λ ids. NameTheSame ids (marks_held number list)) (sym (append_assoc marks (mark_held number here) (marks_held number later))) h)
+
+-- all of them are named, and then others
+pub then_more : (marks new all more : List (List ℕ)) → NameTheSame (marks ++ []) all → NameTheSame new (marks ++ more) → NameTheSame new (all ++ more)
+then_more marks new all more h e =
+    and_then new (marks ++ more) (all ++ more) e (with_more marks all more (subst (λ ids. NameTheSame ids all) (append-nil marks) h))
+
+-- one that stood last is put once
+pub put_once : (marks : List (List ℕ)) (id : List ℕ) → is_one_of marks id ≡ true → NameTheSame marks (marks ++ id ∷ [])
+put_once marks id h = once marks id h
+
+pub put_again : (marks new more : List (List ℕ)) → new ≡ marks ++ more → NameTheSame new (marks ++ more)
+put_again marks new more e = subst (λ ids. NameTheSame ids (marks ++ more)) (sym e) (itself (marks ++ more))
+
+pub put_none : (marks more : List (List ℕ)) → more ≡ [] → NameTheSame marks (marks ++ more)
+put_none marks more e = subst (λ ids. NameTheSame marks ids) (sym (ap (λ ids. marks ++ ids) e ∙ append-nil marks)) (itself marks)

@@ -30,6 +30,7 @@ use Rattle.channel_spec.specs.Live.{is_marked, rest_id, succession_fault}
 use Rattle.channel_spec.specs.Marking.{last_entered}
 use Rattle.channel_spec.proofs.StoreAfter.{entries_after}
 use Rattle.channel_spec.specs.Kept.{Kept, shown_from, kept_after, kept_items, kept_list, kept_window, kept_refusal, rest_after}
+use Rattle.pod_store.proofs.Repeats.{kept_alike}
 use Rattle.channel_spec.proofs.HeldPods.{kept_found, same_id, is_shown_with, in_use_with_is}
 use Rattle.owed_is_denoted.proofs.Given.{is_read}
 use Rattle.live_channel.specs.declared.channel.Refreshed.{Refreshed}
@@ -40,7 +41,7 @@ use Rattle.channel_window.specs.Marking.{so_far}
 use Rattle.channel_window.specs.Showing.{AreKept, kept_in}
 use Rattle.channel_window.specs.Listed.{IsRestDecided}
 use Rattle.live_channel.specs.Channel.{Channel, Reading, refreshed, IsAsTyped, Stands, IsContiguous, channel_with, judged, refreshed_with, fresh_after, step_judged, step_read, says_read, is_out_of_memory, Steps, StepsUnless, Refreshes}
-use Rattle.live_channel.specs.Inner.Accepting.{IsAccepted, IsRead, Follows, RefusesNext, Refused, accepted_state}
+use Rattle.live_channel.specs.Inner.Accepting.{breaks_after, IsAccepted, IsRead, Follows, RefusesNext, Refused, accepted_state}
 use Rattle.channel_window.proofs.Shown.{marked_too}
 use Rattle.live_channel.proofs.Stores.{MarksStay, RestStays, Stay, unturned}
 use Rattle.live_channel.proofs.Steps.{steps_refresh}
@@ -171,7 +172,7 @@ module _ (base : Parts) (tolerance : ℕ) (state : ChannelState) (text : Option 
 
     listed : (id : List ℕ) → (is_shown_with (first_number p.segments) (kept_list tolerance kept p) (or_earlier (last_entered (kept_list tolerance kept p)) kept.entered) id || is_this id (rest_id (rest_after kept p (kept_list tolerance kept p)))) ≡ true
         → is_one_of a.in_use.items id ≡ true
-    listed id k = ap (λ ids. is_one_of ids id) accepted.in_use ∙ (in_use_with_is (first_number p.segments) (kept_list tolerance kept p) (or_earlier (last_entered (kept_list tolerance kept p)) kept.entered) (rest_after kept p (kept_list tolerance kept p)) id ∙ k)
+    listed id k = accepted.in_use.ids id ∙ (in_use_with_is (first_number p.segments) (kept_list tolerance kept p) (or_earlier (last_entered (kept_list tolerance kept p)) kept.entered) (rest_after kept p (kept_list tolerance kept p)) id ∙ k)
 
     in_use : AllByRecursion (λ (x : Marked). (id : List ℕ) → is_marked id x.mark ≡ true → is_one_of a.in_use.items id ≡ true) (so_far state.store a.shown.items)
     in_use =
@@ -191,7 +192,7 @@ module _ (base : Parts) (tolerance : ℕ) (state : ChannelState) (text : Option 
 
     kept_is : kept_in (accepted_state state p a) ≡ kept_after tolerance kept p
     kept_is =
-        kept_ext (kept_in (accepted_state state p a)) (kept_after tolerance kept p) (ap (λ ids. kept_in_use ids state.store) accepted.in_use) accepted.breaks refl
+        kept_ext (kept_in (accepted_state state p a)) (kept_after tolerance kept p) (kept_alike a.in_use.items (breaks_after kept p (kept_list tolerance kept p)) state.store accepted.in_use) accepted.breaks refl
         (ap (λ (xs : List Marked). reverse xs) stay.marks.same ∙ accepted.shown) accepted.entered accepted.numbers accepted.lasted (stay.rest.same ∙ accepted.rest)
 
     steps : Steps before bytes (Ok a.refreshed) after

@@ -23,6 +23,7 @@ use playlist_parse::{Read, Source};
 use playlist_write::resumed::WrittenText;
 use pod_store::{DecisionFault, PodStore};
 use std::alloc::{AllocError, Global};
+use std::hash::RandomState;
 use std::marker::Model;
 use stitcher::{MarkedSegment, Numbers};
 use uri_resolver::{Base, BaseFault};
@@ -85,8 +86,16 @@ fn why_after(knowledge: &Knowledge, store: &PodStore, last: &Playlist, id: &str)
 }
 
 impl Channel {
-    /// A channel that was given nothing.
-    pub fn new(alloc: Global, base: &str, tolerance: Nanos) -> Result<Channel, ChannelFault>
+    /// A channel that was given nothing. Its playlists are under the URL `base`, and a segment is near a break's
+    /// start if it begins at most `tolerance` from it. `BadBase` if `base` isn't an absolute http or https URL (RFC
+    /// 8216, section 4.1); then `BadTolerance` if `tolerance` is over 10 s; `OutOfMemory` only if an allocation
+    /// fails. `hashing`: the keys for its tables of IDs, which strangers choose.
+    pub fn new(
+        alloc: Global,
+        hashing: RandomState,
+        base: &str,
+        tolerance: Nanos,
+    ) -> Result<Channel, ChannelFault>
         ensures ok { IfOk result (λ c. (base_of base.now ≡ Some c.base) × (c.tolerance ≡ tolerance) × (tolerance ≤ max_tolerance) × Represents c []) }
         ensures base { IsErrOf result ChannelFault.BadBase → base_of base.now ≡ None }
         ensures tolerance { IsErrOf result ChannelFault.BadTolerance → IsSome (base_of base.now) × (max_tolerance < tolerance) }
@@ -103,8 +112,8 @@ impl Channel {
             base,
             tolerance,
             state: ChannelState {
-                store: PodStore::new(alloc),
-                knowledge: Knowledge::new(alloc),
+                store: PodStore::new(alloc, hashing),
+                knowledge: Knowledge::new(alloc, hashing),
                 last: None,
                 shown: Items::from_vec(Vec::new(alloc)),
                 entered: None,
@@ -134,9 +143,18 @@ impl Channel {
         Ok(refreshed)
     }
 
-    /// Takes a refresh of the origin's playlist: it is accepted, and the text that is written is the one owed then, or
-    /// it is refused with its first fault, and the channel is as it was. What the text has in common with that of the last
-    /// refresh is not read again, and the lines of segments that were written last are copied.
+    /// Takes `bytes`, the origin's playlist as it is now. Either it is accepted, and the text that is written is the
+    /// one owed then; or it is refused with its first fault, and the channel is as it was. The order of faults: those
+    /// of reading it (P1 to P24), whether it may follow the last one (N1 to N9; RFC 8216, sections 6.2.1 and 6.2.2),
+    /// `NumberRange`; `OutOfMemory` only if an allocation fails. What `bytes` have in common with the text of the
+    /// last refresh is not read again, and the lines of segments that were written last are copied.
+    ///
+    /// ```text
+    /// let mut channel = Channel::new(alloc, hashing, "http://origin.example/ch/index.m3u8", Nanos(100_000_000))?;
+    /// channel.decide(alloc, decisions)?;
+    /// channel.refresh(alloc, playlist)?;
+    /// channel.playlist()    Some: the text of the stitched playlist
+    /// ```
     pub fn refresh(&mut self, alloc: Global, bytes: &[u8]) -> Result<Refreshed, RefreshFault>
         ensures { Refreshes self.old bytes.now result self.new }
     {
@@ -145,9 +163,9 @@ impl Channel {
         self.take(alloc, read)
     }
 
-    /// Takes a refresh, with the answers and the faults of `refresh`, of bytes that the caller gives up: their memory is given
-    /// back once they are read, so that a large input and the text that is written of it needn't be held at once. So nothing of
-    /// the text is kept for the next refresh.
+    /// Takes `bytes` as `refresh` does, with its answers and its faults, and gives their memory back once they are
+    /// read. So a large input and the text that is written of it needn't be held at once. Nothing of the text is kept
+    /// for the next refresh, which reads its own whole.
     pub fn refresh_owned(
         &mut self,
         alloc: Global,
@@ -160,18 +178,20 @@ impl Channel {
         self.take(alloc, read)
     }
 
-    /// Takes the decisions that a file says.
+    /// Takes `bytes`, a decision file. The faults, in this order: those of reading it (J1 to J7), then those of
+    /// `PodStore::decide`; `OutOfMemory` only if an allocation fails. After a fault the channel is as it was.
     pub fn decide(&mut self, alloc: Global, bytes: &[u8]) -> Result<(), DecisionFault>
         ensures changes { ChangesStore self.old self.new result (after_bytes self.old.kept.store bytes.now) }
         ensures answer { Decides self.old bytes.now result }
         ensures stands { StandsOn self.old (decided bytes.now) result self.new }
     {
-        let decisions = read_decisions(alloc, bytes)?;
+        let decisions = read_decisions(alloc, self.state.store.hashing(), bytes)?;
         know_pods(&decisions);
         self.state.store.decide(decisions)
     }
 
-    /// Takes the pod of a break away. Takes no memory.
+    /// Takes the pod of the break `id` away. `Unknown` if it has none of its own, `Used` if it is in use; the channel
+    /// is then as it was. Takes no memory.
     pub fn withdraw(&mut self, id: &str) -> Result<(), DecisionFault>
         ensures changes { ChangesStoreExactly self.old self.new result (without_break self.old.kept.store id.now) }
         ensures answer { Withdraws self.old id.now result }
@@ -205,7 +225,7 @@ impl Channel {
     }
 
     #[tactic(auto, using(crate::proofs::Owed::knows))]
-    /// The ID of the known break at a place, from 0, in the order in which they became known.
+    /// The ID of the known break at `place`, from 0, in the order in which they became known. `None` past the last.
     pub fn known(&self, place: usize) -> Option<&str>
         ensures place { option_map (λ id. id.now) result ≡ option_map id_of (slice_get self.now.kept.breaks place) }
         ensures owed { Knows self.now place (option_map (λ id. id.now) result) }
@@ -214,8 +234,8 @@ impl Channel {
     }
 
     #[tactic(auto, using(crate::proofs::Owed::explains))]
-    /// Why a break is filled or not, by the last accepted refresh and the pods that are decided now: `NotKnown` before
-    /// the first one.
+    /// Why the break `id` is filled or not, by the last accepted refresh and the pods that are decided now:
+    /// `NotKnown` before the first refresh. Takes no memory.
     pub fn explain(&self, id: &str) -> Why
         ensures why { result ≡ explained self.now.kept id.now }
         ensures owed { Explains self.now id.now result }

@@ -1,5 +1,7 @@
 //! The breaks in use.
-ghost use Rattle.std.specs.Prelude.{◌≡◌, ◌++◌, IfOk, OnOk};
+ghost use Rattle.std.specs.Prelude.{◌≡◌, ◌++◌, ◌∷◌, [], true, IfOk, OnOk};
+ghost use Rattle.pod_store.specs.Store.{is_one_of};
+ghost use Rattle.pod_store.specs.Inner.Store.{NameTheSame};
 ghost use Rattle.channel_spec.specs.Live.{ids_in};
 ghost use Rattle.live_channel.specs.Inner.Marks.{breaks_held, mark_held, marks_and_last, rest_held};
 
@@ -7,15 +9,36 @@ use playlist_model::{Shared, Text};
 use std::alloc::{AllocError, Global};
 use stitcher::{MarkedSegment, Rest};
 
+#[tactic(auto, using(pod_store::proofs::Repeats::last_named))]
+// Whether a break is the last of these: one that marks a segment mostly marks the one before.
+fn is_last(marks: &[Shared<Text>], id: &Text) -> bool
+    ensures { result ≡ true → is_one_of marks.now id.now ≡ true }
+{
+    match marks.split_last() {
+        Some((last, _)) => last.as_str() == id.as_str(),
+        None => false,
+    }
+}
+
+#[tactic(auto, using(crate::proofs::Marks::put_once, crate::proofs::Marks::put_again))]
+// Puts a break after others, where it isn't the last of them.
+fn push_once(marks: &mut Vec<Shared<Text>>, id: &Shared<Text>) -> Result<(), AllocError>
+    ensures { OnOk result (NameTheSame marks.new.items (marks.old.items ++ id.now ∷ [])) }
+{
+    if is_last(marks.as_slice(), id) {
+        return Ok(());
+    }
+    marks.push(id.clone()?)?;
+    Ok(())
+}
+
+#[tactic(auto, using(crate::proofs::Marks::put_none))]
 // Puts a break, where there is one, after others.
 fn push_mark(marks: &mut Vec<Shared<Text>>, mark: &Option<Shared<Text>>) -> Result<(), AllocError>
-    ensures { OnOk result (marks.new.items ≡ marks.old.items ++ ids_in mark.now) }
+    ensures { OnOk result (NameTheSame marks.new.items (marks.old.items ++ ids_in mark.now)) }
 {
     match mark {
-        Some(id) => {
-            marks.push(id.clone()?)?;
-            Ok(())
-        }
+        Some(id) => push_once(marks, id),
         None => Ok(()),
     }
 }
@@ -27,7 +50,7 @@ fn push_marked(
     number: u64,
     marked: &MarkedSegment,
 ) -> Result<(), AllocError>
-    ensures { OnOk result (marks.new.items ≡ marks.old.items ++ mark_held number marked.now) }
+    ensures { OnOk result (NameTheSame marks.new.items (marks.old.items ++ mark_held number marked.now)) }
 {
     // Most segments have no mark.
     if marked.mark.is_none() || marked.segment.media_sequence < number {
@@ -36,16 +59,15 @@ fn push_marked(
     push_mark(marks, &marked.mark)
 }
 
-#[tactic(auto, using(crate::proofs::Marks::one_marked))]
-// The breaks that mark the segments from this number on, one for each segment and in their order, and then the last one
-// entered.
+#[tactic(auto, using(crate::proofs::Marks::one_marked, crate::proofs::Marks::then_more))]
+// The breaks that mark the segments from this number on, one for each run and in their order, and then the last one entered.
 fn marks_and_last(
     alloc: Global,
     number: u64,
     list: &[MarkedSegment],
     entered: &Option<Shared<Text>>,
 ) -> Result<Vec<Shared<Text>>, AllocError>
-    ensures { IfOk result (λ marks. marks.items ≡ marks_and_last number list.now entered.now) }
+    ensures { IfOk result (λ marks. NameTheSame marks.items (marks_and_last number list.now entered.now)) }
 {
     let mut marks = Vec::new(alloc);
     let mut rest = list;
@@ -57,21 +79,20 @@ fn marks_and_last(
     Ok(marks)
 }
 
+#[tactic(auto, using(crate::proofs::Marks::put_none))]
 // Puts the break of a rest, where there is one, after others.
 fn push_rest(marks: &mut Vec<Shared<Text>>, rest: &Option<Rest>) -> Result<(), AllocError>
-    ensures { OnOk result (marks.new.items ≡ marks.old.items ++ rest_held rest.now) }
+    ensures { OnOk result (NameTheSame marks.new.items (marks.old.items ++ rest_held rest.now)) }
 {
     match rest {
-        Some(rest) => {
-            marks.push(rest.id.clone()?)?;
-            Ok(())
-        }
+        Some(rest) => push_once(marks, &rest.id),
         None => Ok(()),
     }
 }
 
-/// The breaks in use: those that mark the segments from this number on, one for each segment and in their order, then the last
-/// one entered, and then the one of the rest.
+/// The breaks in use: those that mark the segments of `list` from the media sequence number `number` on, one for each
+/// run and in their order; then the last one entered, `entered`; then the one of `rest`, the rest of a pod that
+/// the window starts with. Fails only if an allocation fails.
 pub fn breaks_in_use(
     alloc: Global,
     number: u64,
@@ -79,7 +100,7 @@ pub fn breaks_in_use(
     entered: &Option<Shared<Text>>,
     rest: &Option<Rest>,
 ) -> Result<Vec<Shared<Text>>, AllocError>
-    ensures { IfOk result (λ breaks. breaks.items ≡ breaks_held number list.now entered.now rest.now) }
+    ensures { IfOk result (λ breaks. NameTheSame breaks.items (breaks_held number list.now entered.now rest.now)) }
 {
     let mut marks = marks_and_last(alloc, number, list, entered)?;
     push_rest(&mut marks, rest)?;

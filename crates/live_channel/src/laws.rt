@@ -26,7 +26,7 @@ pub fn acceptance_is_exact()
 {}
 
 /// The stitched list only grows, whatever is given: a segment that was written keeps its place, and its media and
-/// discontinuity numbers.
+/// discontinuity numbers (RFC 8216, section 6.2.1).
 pub fn stitched_list_grows()
     ensures { StitchedListGrows }
 {}

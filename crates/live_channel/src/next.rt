@@ -27,6 +27,7 @@ use playlist_model::{Items, Playlist, Shared, Text};
 use playlist_write::OutPlaylist;
 use playlist_write::resumed::{WrittenText, front_length, laid_after, laid_out};
 use std::alloc::{AllocError, Global};
+use std::hash::RandomState;
 use stitcher::{MarkedSegment, Numbers, Rest, StitchedList, TextRef};
 
 /// What a channel comes to by an accepted refresh.
@@ -111,7 +112,8 @@ fn text_of(
     }
 }
 
-// The text of a playlist with these date ranges and items in place of its own.
+// The text of `playlist` with these date ranges and items in place of its own, and of the version 6 or more (RFC
+// 8216, section 7).
 fn text_with<'a>(
     alloc: Global,
     playlist: &Playlist,
@@ -138,6 +140,7 @@ fn text_with<'a>(
 // The text of a playlist with these items in place of its segments, without the date ranges of the breaks in use.
 fn text_without(
     alloc: Global,
+    hashing: RandomState,
     playlist: &Playlist,
     in_use: &[Shared<Text>],
     items: StitchedList<'_>,
@@ -147,11 +150,19 @@ fn text_without(
     ensures text { IfOk result (λ w. w.text ≡ playlist_text (out_playlist playlist.now (map date_range_text (date_ranges_left (list_any states_time items.entry) in_use.now playlist.now.date_ranges)) items.entry)) }
     ensures laid { IfOk result (IsLaid items.entry) }
 {
-    let date_ranges = date_ranges_left(alloc, &items, in_use, playlist.date_ranges.as_slice())?;
+    let date_ranges = date_ranges_left(
+        alloc,
+        hashing,
+        &items,
+        in_use,
+        playlist.date_ranges.as_slice(),
+    )?;
     text_with(alloc, playlist, date_ranges, items, again)
 }
 
-/// What a channel comes to by a refresh that shows this. `NumberRange` where a number would pass 2^64 - 1.
+/// What the channel of `state` comes to by the refresh `playlist` that shows `showing`. `written` is the text that it
+/// wrote last, of which lines are copied. `NumberRange` if a number would pass 2^64 - 1 (RFC 8216, sections 4.3.3.2
+/// and 4.3.3.3); `OutOfMemory` only if an allocation fails.
 pub fn next_of(
     alloc: Global,
     state: &ChannelState,
@@ -187,7 +198,8 @@ pub fn next_of(
         segments: items.count(),
         fresh: showing.fresh,
     };
-    let written = text_without(alloc, playlist, in_use.as_slice(), items, &again)?;
+    let hashing = state.store.hashing();
+    let written = text_without(alloc, hashing, playlist, in_use.as_slice(), items, &again)?;
     let gone = count_before(number, list);
     Ok(NextState {
         knowledge: showing.knowledge,

@@ -59,7 +59,9 @@ fn next_kept(
     next_of(alloc, state, written, playlist, showing)
 }
 
-/// What a channel comes to by the playlist that was read, where it is accepted.
+/// What the channel of `state`, with `tolerance` and the text `written` that it wrote last, comes to by the playlist
+/// that is `read`, if that is accepted. The faults, in this order: those of `check_successor` (N1 to N9), then
+/// `NumberRange`; `OutOfMemory` only if an allocation fails.
 pub fn next_after(
     alloc: Global,
     tolerance: Nanos,
@@ -80,7 +82,9 @@ pub fn next_after(
 }
 
 #[tactic(auto, using(crate::proofs::Refreshing::read_rises))]
-/// The playlist that `bytes` are read as, with what was kept of the text of the last one.
+/// The playlist that `bytes` are read as under `base`. What they have in common with `source`, the lines that are
+/// kept of the playlist `last`, is taken from it. The faults are those of reading (P1 to P24); `OutOfMemory` only if
+/// an allocation fails.
 pub fn playlist_after(
     alloc: Global,
     bytes: &[u8],
@@ -100,7 +104,8 @@ pub fn playlist_after(
 }
 
 #[tactic(auto, using(crate::proofs::Refreshing::read_rises))]
-/// The playlist that `bytes` are read as, of whose text nothing is kept.
+/// The playlist that `bytes` are read as under `base`, of whose text nothing is kept. The faults are those of
+/// `playlist_after`.
 pub fn playlist_of(alloc: Global, bytes: &[u8], base: &Base) -> Result<Read, RefreshFault>
     ensures ok { IfOk result (λ read. IsRead base.now bytes.now read.playlist) }
     ensures source { IfOk result (λ read. IsSource base.now read.playlist read.source) }
@@ -116,8 +121,9 @@ pub fn playlist_of(alloc: Global, bytes: &[u8], base: &Base) -> Result<Read, Ref
     })
 }
 
-/// Keeps what an accepted refresh comes to. The breaks that were entered with the fallback keep copies of it, which alone
-/// takes memory: where it is refused, all is as it was.
+/// Keeps in `state` what an accepted refresh by `playlist` comes to, which is `next`, and in `written` the text that
+/// is written then. The breaks that were entered with the fallback keep copies of it. `OutOfMemory` only if an
+/// allocation for these fails; `state` and `written` are then as they were.
 pub fn accept(
     state: &mut ChannelState,
     written: &mut Option<WrittenText>,

@@ -36,7 +36,7 @@ fn know_segment(segment: &Segment)
     know_section(&segment.init_section);
 }
 
-/// Knows that the URIs of segments, their keys and their sections are UTF-8.
+/// Knows that the URIs of `segments`, of their keys and of their initialisation sections are UTF-8.
 pub fn utf8_of_uris(segments: &[Segment])
     ensures { list_all uris_are_text segments.now ≡ true }
 {
@@ -54,7 +54,7 @@ fn know_breaks(breaks: &[Decision])
 }
 
 #[tactic(auto, using(crate::proofs::Typed::breaks_keep, crate::proofs::Typed::fallback_keeps))]
-/// Knows that decided pods keep the rules of pods.
+/// Knows that the pods of `decisions` keep the rules of pods.
 pub fn know_pods(decisions: &Decisions)
     ensures { AllPods KeepsRules decisions.now }
 {

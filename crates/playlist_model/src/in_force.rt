@@ -11,7 +11,7 @@ use std::alloc::{AllocError, Global};
 use std::marker::Model;
 
 impl Key {
-    /// Whether a key stands before another: those in force are sorted by the bytes of their format.
+    /// Whether this key is before `other`: the keys in force are sorted by the bytes of their format.
     pub fn is_before(&self, other: &Key) -> bool
         ensures { result ≡ is_before self.now other.now }
     {
@@ -19,7 +19,8 @@ impl Key {
     }
 }
 
-// The IV of a key: the media sequence number, where the key is of the format `identity` and states none.
+// The IV of `key` (RFC 8216, section 5.2): the Media Sequence Number, if the key is of the format `identity` and
+// states none.
 fn effective_iv(key: &Key, media_sequence: u64) -> Option<u128>
     ensures { result ≡ (effective_key media_sequence key.now).iv }
 {
@@ -90,7 +91,7 @@ impl<'a> KeyRef<'a> {
         &self.stated.other_attributes
     }
 
-    /// Whether it stands before another, as `Key::is_before` says.
+    /// Whether this key is before `other`, as [`Key::is_before`] says.
     pub fn is_before(&self, other: &KeyRef<'_>) -> bool
         ensures { result ≡ is_before self.now other.now }
     {
@@ -148,7 +149,7 @@ impl Keys {
         Keys { held: Held::Clear }
     }
 
-    /// These keys. Fails only where an allocation fails, and then drops them.
+    /// The list of `keys`. Fails only if an allocation fails, and then drops them.
     pub fn from_vec(alloc: Global, keys: Vec<Key>) -> Result<Keys, AllocError>
         ensures { IfOk result (λ k. k ≡ keys.items) }
     {
@@ -160,7 +161,9 @@ impl Keys {
     }
 
     #[tactic(auto, using(crate::proofs::KeysUnder::under_stays))]
-    /// The keys, as they decrypt the segment of this media sequence number (section 5.2). Takes no memory.
+    /// The keys as they decrypt the segment whose Media Sequence Number is `media_sequence`: a key of the format
+    /// identity that states no IV has that number as its IV (RFC 8216, section 5.2). Takes no memory, and fails only
+    /// if the keys have too many owners.
     #[inline(always)]
     pub fn under(&self, media_sequence: u64) -> Result<Keys, AllocError>
         ensures { IfOk result (λ k. k ≡ map (effective_key media_sequence) self.now) }
@@ -307,9 +310,9 @@ fn needs_iv(key: &KeyRef<'_>) -> bool
     key.method() == "AES-128" && key.iv().is_none()
 }
 
-/// Whether one of these keys can't decrypt an initialisation section: its method is AES-128 and it
-/// states no IV. A segment's media sequence number stands in for a missing IV, and a section has none
-/// (4.3.2.5).
+/// Whether one of `keys` can't decrypt an initialisation section: its method is AES-128 and it states no IV. A
+/// segment's Media Sequence Number stands in for a missing IV, and an initialisation section has none (RFC 8216,
+/// section 4.3.2.5).
 pub fn is_iv_needed(keys: &Keys) -> bool
     ensures { result ≡ list_any needs_iv keys.now }
 {

@@ -20,7 +20,7 @@ impl<T> Model for Items<T> {
 }
 
 impl<T> Items<T> {
-    /// The list of a vector's values.
+    /// The list of the values of `vec`, in their order.
     pub fn from_vec(vec: Vec<T>) -> Items<T>
         ensures { result ≡ vec.items }
     {
@@ -63,7 +63,7 @@ impl Model for Text {
 }
 
 impl Text {
-    /// The text of a string.
+    /// The text of `string`.
     pub fn from_string(string: String) -> Text
         ensures { result ≡ string_bytes string }
     {
@@ -86,7 +86,7 @@ impl Text {
         self.string.as_str()
     }
 
-    /// A copy of a text. Fails only where an allocation fails.
+    /// A copy of `text`. Fails only if an allocation fails.
     pub fn copy_of(alloc: Global, text: &str) -> Result<Text, AllocError>
         ensures { IfOk result (λ t. t ≡ text.now) }
     {
@@ -108,7 +108,7 @@ impl<T> Model for Shared<T> {
 }
 
 impl<T: Drop> Shared<T> {
-    /// A value, to be shared. Fails only where an allocation fails, and then drops it.
+    /// The `value`, to be shared. Fails only if an allocation fails, and then drops it.
     pub fn new(alloc: Global, value: T) -> Result<Shared<T>, AllocError>
         ensures { IfOk result (λ shared. shared ≡ value) }
     {
@@ -118,7 +118,7 @@ impl<T: Drop> Shared<T> {
 }
 
 impl Shared<Text> {
-    /// A copy of a text, to be shared. Fails only where an allocation fails.
+    /// A copy of `text`, to be shared. Fails only if an allocation fails.
     pub fn copy_of(alloc: Global, text: &str) -> Result<Shared<Text>, AllocError>
         ensures { IfOk result (λ shared. shared ≡ text.now) }
     {

@@ -12,7 +12,6 @@ use fixed_duration::Nanos;
 use std::alloc::{AllocError, AllocFailed, Global};
 use std::marker::Model;
 
-mod base;
 mod fault;
 mod in_force;
 mod items;
@@ -22,8 +21,8 @@ mod member;
 mod other_attributes;
 mod same;
 mod short_text;
+mod uri;
 
-pub use base::{has_quote, has_scheme, same_resource};
 pub use date_times::{Instant, TimeFault, read_instant, write_instant};
 pub use fault::FaultText;
 pub use in_force::{KeyRef, Keys, KeysIter, is_iv_needed};
@@ -33,6 +32,7 @@ pub use member::{Member, Members};
 pub use other_attributes::OtherAttributes;
 pub use same::{is_same_key, is_same_section, same_segment};
 pub use short_text::ShortText;
+pub use uri::{has_quote, has_scheme, same_resource};
 
 /// Why a text is no playlist that can be read.
 #[derive(Clone, Copy, PartialEq, Eq, Debug)]
@@ -284,7 +284,7 @@ fn are_printable(bytes: &[u8]) -> bool
 }
 
 #[tactic(auto, using(crate::proofs::Printable::printable_has_no_control))]
-/// Whether a text holds a control character: U+0000 to U+001F or U+007F to U+009F.
+/// Whether `text` holds a control character (RFC 8216, section 4.1): U+0000 to U+001F or U+007F to U+009F.
 pub fn has_control(text: &str) -> bool
     ensures { result ≡ has_control text.now }
 {
@@ -295,7 +295,7 @@ pub fn has_control(text: &str) -> bool
     text.chars().any(char::is_control)
 }
 
-/// The text of these bytes.
+/// The text that `bytes` are. `NotUtf8` if they aren't UTF-8 (RFC 8216, section 4.1). Takes no memory.
 pub fn text_of(bytes: &[u8]) -> Result<&str, FaultKind>
     ensures { MatchResult result (λ text. IsTrue (is_utf8 bytes.now) × (text.now ≡ bytes.now)) (λ e. (is_utf8 bytes.now ≡ false) × (e ≡ FaultKind.NotUtf8)) }
 {

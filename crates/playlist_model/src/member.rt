@@ -64,7 +64,7 @@ impl<'a, T> Model for Members<'a, T> {
 }
 
 impl<'a, T: Drop> Members<'a, T> {
-    /// The values from a place on, from 0; none past the end.
+    /// The values of `list` from `place` on, from 0; none past the end.
     pub fn from_place(list: &'a Shared<Items<T>>, place: usize) -> Members<'a, T>
         ensures { result ≡ drop place list.now }
     {

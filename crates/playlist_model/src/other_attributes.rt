@@ -37,7 +37,8 @@ impl OtherAttributes {
     }
 
     #[tactic(auto, using(crate::proofs::Carried::others_are))]
-    /// Those of a key tag's attributes that are carried. Fails only where an allocation fails.
+    /// Those attributes in the `list` of a key tag that are carried (RFC 8216, section 4.3.2.4): all but METHOD, URI,
+    /// IV and KEYFORMAT, in their order. Fails only if an allocation fails.
     pub fn of(alloc: Global, list: &AttrList<'_>) -> Result<OtherAttributes, AllocError>
         ensures { IfOk result (λ others. others ≡ after_commas (carried (map attr_pair list.now))) }
     {

@@ -12,7 +12,7 @@ fn is_same_iv(iv: Option<u128>, other: Option<u128>) -> bool
 }
 
 #[tactic(auto, using(crate::proofs::SameParts::other_iv))]
-/// Whether two keys are the same in all their parts.
+/// Whether the keys `a` and `b` are the same in all their parts.
 pub fn is_same_key(a: &KeyRef<'_>, b: &KeyRef<'_>) -> bool
     ensures { result ≡ same_key a.now b.now }
 {
@@ -41,7 +41,7 @@ fn are_same_keys(one: &Keys, other: &Keys) -> bool
     others.next().is_none()
 }
 
-/// Whether two initialisation sections are the same, with the same keys.
+/// Whether the initialisation sections `a` and `b` are the same, with the same keys (RFC 8216, section 4.3.2.5).
 pub fn is_same_section(a: &InitSection, b: &InitSection) -> bool
     ensures { result ≡ same_section a.now b.now }
 {
@@ -83,9 +83,14 @@ fn are_same_segments(a: &Segment, b: &Segment) -> bool
 }
 
 #[tactic(auto, using(crate::proofs::SameSegments::same_segment_decides))]
-/// Whether two segments are the same in resource, byte range, effective keys, initialisation section,
-/// duration and both numbers: in all but title, steps and time, which an origin may say otherwise when
-/// it lists a segment again (RFC 8216, 6.2.1). Takes no memory.
+/// Whether the segments `a` and `b` are the same in resource, byte range, effective keys, initialisation section,
+/// duration and both numbers: in all but title, discontinuities and time, which an origin may state otherwise when it
+/// lists a segment again (RFC 8216, sections 6.2.1 and 6.2.2). Takes no memory.
+///
+/// ```text
+/// same_segment(&a, &b)    true, if `b` is `a` with another title
+/// same_segment(&a, &b)    false, if `b` is `a` with another URI
+/// ```
 pub fn same_segment(a: &Segment, b: &Segment) -> bool
     ensures value { result ≡ same_segment a.now b.now }
 

@@ -33,7 +33,7 @@ impl Model for ShortText {
 }
 
 impl ShortText {
-    /// The text of a string, which it keeps.
+    /// The text of `string`, which it keeps.
     pub fn from_string(string: String) -> ShortText
         ensures { result ≡ string_bytes string }
     {
@@ -68,7 +68,8 @@ impl ShortText {
         Ok(ShortText::from_string(text))
     }
 
-    /// Two texts as one. Fails only where an allocation fails, and never where both have 48 bytes at the most.
+    /// The text `front` and then `back`. Fails only if an allocation fails, and never if both have at most 48 bytes
+    /// together.
     #[inline(always)]
     pub fn joined(alloc: Global, front: &str, back: &str) -> Result<ShortText, AllocError>
         ensures text { IfOk result (λ text. text ≡ front.now ++ back.now) }
@@ -80,7 +81,7 @@ impl ShortText {
         ShortText::owned(alloc, front, back)
     }
 
-    /// A copy of a text. Fails only where an allocation fails, and never where the text has 48 bytes at the most.
+    /// A copy of `text`. Fails only if an allocation fails, and never if `text` has at most 48 bytes.
     pub fn copy_of(alloc: Global, text: &str) -> Result<ShortText, AllocError>
         ensures text { IfOk result (λ t. t ≡ text.now) }
         ensures memory { IsErr result → most_inline < length text.now }

@@ -12,10 +12,10 @@ use playlist_model::{DateRange, FaultKind, Instant, Text, read_instant};
 use segment_state::attributes::{attributes_of, required};
 use std::alloc::{AllocError, Global};
 
-/// The date range that the text after `#EXT-X-DATERANGE:` states. The faults, in this order:
-/// `BadAttributes` where the text is no attribute list, `MissingAttribute` without ID, `BadAttributes`
-/// where ID stands without quotes, `BadTime` for START-DATE and END-DATE, `BadDuration` for DURATION
-/// and PLANNED-DURATION.
+/// The date range that `rest` states, which comes after `#EXT-X-DATERANGE:` (RFC 8216, section 4.3.2.7). The faults,
+/// in this order: `BadAttributes` if it is no attribute list, `MissingAttribute` without ID, `BadAttributes` if ID is
+/// without quotes, `BadTime` for START-DATE and END-DATE, `BadDuration` for DURATION and PLANNED-DURATION;
+/// `OutOfMemory` only if an allocation fails.
 pub fn date_range_of(alloc: Global, rest: &str) -> Result<DateRange, FaultKind>
     ensures { Gives date_range result (date_range_said limited rest.now) }
 {

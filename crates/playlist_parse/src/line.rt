@@ -53,7 +53,8 @@ fn cut_at_colon(text: &str) -> Option<(&str, &str)>
 }
 
 #[tactic(auto, using(crate::proofs::LineLemmas::tag_without_colon, crate::proofs::LineLemmas::tag_with_colon))]
-/// What kind of line a text without a line feed is.
+/// What kind of line `line` is, which is without its line feed (RFC 8216, section 4.1): a tag, a URI, or one that is
+/// passed over, as it is blank or a comment.
 pub fn kind_of(line: &str) -> LineKind<'_>
     ensures { line_kind_view result ≡ kind_of line.now }
 {
@@ -93,8 +94,8 @@ fn without_carriage_return(piece: &str) -> &str
     piece
 }
 
-/// Whether bytes are printable ASCII characters and line feeds alone, so that no line of them has a control character. It
-/// looks at all of them, many at a time.
+/// Whether `bytes` are printable ASCII characters and line feeds alone, so that no line of them has a control
+/// character. It looks at all of them, many at a time.
 pub fn has_plain_bytes(bytes: &[u8]) -> bool
     ensures { result ≡ list_all is_plain_byte bytes.now }
 {
@@ -187,7 +188,7 @@ pub struct CutText<'a> {
     pub tail: &'a str,
 }
 
-/// A text cut after its last line that names a segment.
+/// The lines of `text` up to the last one that names a segment, and those after it.
 pub fn cut_after_segments(text: &str) -> CutText<'_>
     ensures { lines text.now ≡ lines result.front.now ++ lines result.tail.now }
 {
@@ -220,7 +221,7 @@ impl<'a> Model for Lines<'a> {
 
 impl<'a> Lines<'a> {
     #[tactic(auto, using(crate::proofs::Places::lines_are_slices_at, crate::proofs::Places::texts_are_lines))]
-    /// The lines of a playlist's text, cut at each line feed, each with its place (RFC 8216, section 4.1).
+    /// The lines of `text`, a playlist's, cut at each line feed, each with its place (RFC 8216, section 4.1).
     pub fn new(text: &'a str) -> Lines<'a>
         ensures lines { result ≡ map with_end (placed_lines text.now) }
 
@@ -242,7 +243,7 @@ impl<'a> Lines<'a> {
         self.rest
     }
 
-    /// The lines after a front of the text that is left, where it begins so and the front ends with a line feed.
+    /// The lines after `front`, if the text that is left begins so and `front` ends with a line feed.
     pub(crate) fn after(&self, front: &str) -> Option<Lines<'a>>
         ensures { MatchOption result (Unit {0}) (λ later. map line_text self.now ≡ lines front.now ++ map line_text later) }
     {
@@ -256,7 +257,7 @@ impl<'a> Lines<'a> {
         })
     }
 
-    /// The next line, where there is one.
+    /// The next line, if there is one, without the LF or the CR LF that ends it (RFC 8216, section 4.1).
     #[inline(always)]
     pub fn next(&mut self) -> Option<Line<'a>>
         ensures { MatchOption result ((self.old ≡ []) × (self.new ≡ [])) (λ line. self.old ≡ line_view line ∷ self.new) }

@@ -105,7 +105,7 @@ impl ReadHeading {
         self.has_media
     }
 
-    /// Whether the other says the same.
+    /// Whether `other` says the same.
     pub fn is(&self, other: &ReadHeading) -> bool
         ensures { result ≡ true → self.now ≡ other.now }
     {
@@ -187,7 +187,7 @@ fn copy_segments(list: &mut Vec<Segment>, more: &[Segment]) -> Result<(), AllocE
 }
 
 impl<'a> Progress<'a> {
-    /// Nothing but the header has been read.
+    /// The progress of a reading under `base` of which nothing but the header was read.
     pub fn new(alloc: Global, base: &'a Base) -> Progress<'a>
         ensures { result ≡ progress_at base.now (said.nothing ∷ []) }
     {
@@ -207,7 +207,8 @@ impl<'a> Progress<'a> {
         }
     }
 
-    /// What one line adds. A line of a text that was seen to be plain need not be looked at for control characters.
+    /// Takes what `line` adds (RFC 8216, sections 4.1 and 4.3): its first fault, or a state after it. A line of a
+    /// text that was seen to be plain, which `is_plain` says, isn't looked at for control characters.
     #[inline(always)]
     pub fn line(&mut self, line: &'a str, is_plain: bool) -> Result<(), FaultKind>
         requires { is_plain ≡ true → has_control line.now ≡ false }
@@ -245,6 +246,8 @@ impl<'a> Progress<'a> {
         Ok(())
     }
 
+    // Takes the tag `name`, with `rest` after its colon if it has one; EXT-X-I-FRAMES-ONLY is refused (RFC 8216,
+    // section 4.3.3.6).
     fn tag(&mut self, name: &str, rest: &'a str, colon: bool) -> Result<(), FaultKind>
         ensures { TakesLine (λ base before. said_by_kind limited base before (kinds.tag name.now rest.now colon)) self.old self.new result }
     {
@@ -332,7 +335,8 @@ impl<'a> Progress<'a> {
         Ok(())
     }
 
-    // EXT-X-TARGETDURATION (4.3.3.1)
+    // EXT-X-TARGETDURATION (RFC 8216, section 4.3.3.1), which comes once, as each tag of the whole playlist (section
+    // 4.3.3).
     fn target(&mut self, rest: &str) -> Result<(), FaultKind>
         ensures { TakesLine (λ base before. said_by_tag limited base before said.target_tag rest.now) self.old self.new result }
     {
@@ -395,7 +399,8 @@ impl<'a> Progress<'a> {
         Ok(())
     }
 
-    // The target duration, where the text as a whole has no fault.
+    // The target duration, if the text as a whole has no fault: EXT-X-TARGETDURATION is required (RFC 8216, section
+    // 4.3.3.1).
     fn target_of_whole(&self) -> Result<u64, FaultKind>
         ensures { result ≡ refuse_if (is_none self.now.heading.target_duration) FaultKind.NoTarget (refuse_if (not self.now.heading.has_media) FaultKind.NoSegments (refuse_if (are_mixed self.now.segments) FaultKind.MixedMaps (Ok (unwrap_or self.now.heading.target_duration 0)))) }
     {
@@ -471,15 +476,15 @@ impl<'a> Progress<'a> {
         self.state.stop()
     }
 
-    /// Whether this stands here.
+    /// Whether the state is that of `stop`, between two segments. Takes no memory.
     pub fn stands_at(&self, stop: &Stop) -> bool
         ensures { result ≡ true → IsStop self.now.standing stop.now }
     {
         self.state.stands_at(stop)
     }
 
-    /// Goes to a stop, under the heading and with the date ranges and the segments that stand up to it. False where it can't be
-    /// told; then all is as it was.
+    /// Goes to `stop`, under `heading` and with the `date_ranges` and the `segments` up to it. False if the first
+    /// numbers of this playlist don't lead there; all is then as it was. Fails only if an allocation fails.
     pub fn go_to(
         &mut self,
         heading: &ReadHeading,
@@ -532,6 +537,8 @@ fn number(rest: &str) -> Result<u64, FaultKind>
     read_decimal(rest).map_err(|_| FaultKind::BadValue)
 }
 
+// The number that EXT-X-VERSION states: `BadVersion` if it is none, `Version` if it isn't one from 1 to 7 (RFC 8216,
+// section 4.3.1.2).
 fn version_of(rest: &str) -> Result<u64, FaultKind>
     ensures { result ≡ version_of rest.now }
 {
@@ -544,6 +551,7 @@ fn version_of(rest: &str) -> Result<u64, FaultKind>
     Ok(version)
 }
 
+// What EXT-X-PLAYLIST-TYPE states: EVENT or VOD (RFC 8216, section 4.3.3.5).
 fn playlist_type_of(rest: &str) -> Result<PlaylistKind, FaultKind>
     ensures { result ≡ playlist_type_of rest.now }
 {
@@ -566,7 +574,7 @@ fn are_all_mapped(segments: &[Segment]) -> bool
     segments.iter().all(|s: &Segment| s.init_section.is_some())
 }
 
-// Whether some segments have an initialisation section, and others have none.
+// Whether some segments have an initialisation section, and others have none (RFC 8216, section 4.3.2.5).
 fn are_mixed(segments: &[Segment]) -> bool
     ensures { result ≡ are_mixed segments.now }
 {

@@ -17,7 +17,7 @@ use playlist_model::{FaultKind, MAX_BYTES, Playlist, PlaylistFault, text_of};
 use std::alloc::Global;
 use uri_resolver::Base;
 
-// A fault at a line. A failed allocation stands at none.
+/// The fault `kind` at the line `line`, from 1; out of memory is at none, and has the line 0.
 pub fn fault_at(kind: FaultKind, line: u64) -> PlaylistFault
     ensures { result ≡ fault_at kind line }
 {
@@ -40,7 +40,7 @@ pub struct Reading<'a> {
     pub number: u64,
 }
 
-/// A reading of `lines`, which stand after a header that is read.
+/// A reading under `base` of `lines`, which come after a header that was read.
 pub fn reading_of<'a>(alloc: Global, base: &'a Base, lines: Lines<'a>) -> Reading<'a>
     ensures lines { result.lines ≡ lines.entry }
     ensures number { result.number ≡ 2 }
@@ -53,7 +53,8 @@ pub fn reading_of<'a>(alloc: Global, base: &'a Base, lines: Lines<'a>) -> Readin
     }
 }
 
-/// Reads lines until `most` segments are read, or none is left. `is_plain`: no line has a control character.
+/// Goes on with `reading` until it has `most` segments, or no line is left. `is_plain` says that no line has a
+/// control character. The fault is the first one, with its line.
 pub fn read_some<'a>(
     reading: &mut Reading<'a>,
     is_plain: bool,
@@ -76,7 +77,8 @@ pub fn read_some<'a>(
     Ok(())
 }
 
-/// Reads all lines that are left. `is_plain`: none of them has a control character.
+/// Goes on with `reading` until no line is left. `is_plain` says that none of them has a control character. The fault
+/// is the first one, with its line.
 #[inline(always)]
 pub fn read_all<'a>(reading: &mut Reading<'a>, is_plain: bool) -> Result<(), PlaylistFault>
     requires few { reading.old.number + length reading.old.lines < 2 ^ 64 }
@@ -93,7 +95,8 @@ pub fn read_all<'a>(reading: &mut Reading<'a>, is_plain: bool) -> Result<(), Pla
     Ok(())
 }
 
-/// The playlist of a text, all of whose lines are read: or a fault of the whole text.
+/// The playlist of `reading`, whose lines are all read, or a fault of the whole text (RFC 8216, sections 4.3.2.5 and
+/// 4.3.3.1), at the line 0.
 pub fn playlist_of(reading: Reading<'_>) -> Result<Playlist, PlaylistFault>
     ensures answer { (base : Parts) (all : List (List ℕ)) → Reached base reading.entry.progress reading.entry.number [] all → Answers result (and_whole (said_from (said_by limited base) (nothing ∷ []) all)) }
     ensures whole { IfOk result (λ playlist. Ends reading.entry.progress (Ok playlist)) }
@@ -115,15 +118,31 @@ fn read_lines<'a>(
     requires plain { is_plain ≡ true → list_all is_free (map line_text lines) ≡ true }
     ensures { Answers result (and_whole (said_from (said_by limited base.now) (nothing ∷ []) (map line_text lines.entry))) }
 {
-    let mut reading = reading_of(alloc, base, lines);
-    match read_all(&mut reading, is_plain) {
-        Ok(()) => playlist_of(reading),
-        Err(fault) => Err(fault),
+    // (in variables of its own: a value behind a reference keeps none of its fields in registers)
+    let mut progress = Progress::new(alloc, base);
+    let mut lines = lines;
+    let mut number: u64 = 2;
+    while let Some(line) = lines.next() {
+        match progress.line(line.text, is_plain) {
+            Ok(()) => number += 1,
+            Err(kind) => return Err(fault_at(kind, number)),
+        }
+    }
+    match progress.playlist() {
+        Ok(playlist) => Ok(playlist),
+        Err(kind) => Err(fault_at(kind, 0)),
     }
 }
 
-/// The playlist that bytes denote under a base, of at most 4,194,304 bytes, 10,000 segments, 64
-/// attributes in a tag and 16 key formats in force; or its first fault and the line of that.
+/// The playlist that `bytes` denote under `base` (RFC 8216, section 4), of at most 4,194,304 bytes, 10,000 segments,
+/// 64 attributes in a tag and 16 key formats in force; or its first fault and the line of that. The text is UTF-8
+/// (section 4.1), and its first line is `#EXTM3U` (section 4.3.1.1). `OutOfMemory`, at the line 0, only if an
+/// allocation fails.
+///
+/// ```text
+/// read(alloc, b"#EXTM3U\n#EXT-X-TARGETDURATION:6\n#EXTINF:6,\ns0.ts\n", &base)    Ok: one segment
+/// read(alloc, b"#EXTM3U\n#EXTINF:6,\ns0.ts\n", &base)                            Err: P18 NoTarget
+/// ```
 pub fn read(alloc: Global, bytes: &[u8], base: &Base) -> Result<Playlist, PlaylistFault>
     ensures { Answers result (reading limited base.now bytes.now) }
 {

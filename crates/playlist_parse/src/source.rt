@@ -361,10 +361,10 @@ fn read_body<'a>(
     }
 }
 
-/// The playlist that `bytes` denote under `base`, or its first fault and the line of that: the answers of `read` (RFC 8216,
-/// section 4). `last` is the last playlist, and `source` what was kept of its text. What both texts have in common is taken
-/// over from there, and `taken` says at which places of the new playlist that is. What is kept of this text serves the next
-/// reading. Fails with `OutOfMemory` if an allocation fails.
+/// The playlist that `bytes` denote under `base`, or its first fault and the line of that: the answers of `read` (RFC
+/// 8216, section 4). `last` is the last playlist, and `source` what was kept of its text. What both texts have in
+/// common is taken over from there, and `taken` says at which places of the new playlist that is. What is kept of
+/// this text serves the next reading. `OutOfMemory` only if an allocation fails.
 pub fn read_after(
     alloc: Global,
     bytes: &[u8],

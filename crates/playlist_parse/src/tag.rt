@@ -49,7 +49,8 @@ fn flag(tag: Tag, colon: bool) -> Tag
     if colon { Tag::Unknown } else { tag }
 }
 
-/// The tag of this name, with or without a colon after it.
+/// The tag called `name` (RFC 8216, section 4.3), after which a `colon` comes or not. A name that isn't known is
+/// passed over (section 6.3.1), and one of a master playlist is refused (section 4.3.4).
 pub fn tag_of(name: &str, colon: bool) -> Tag
     ensures { tag_view result ≡ name_of name.now colon }
 {

@@ -3,7 +3,7 @@ use fixed_duration::Nanos;
 use playlist_model::{Instant, Keys, Segment, Shared, ShortText, same_segment};
 use std::alloc::{AllocError, Global};
 
-/// A clear segment of this duration and title, which has no section.
+/// A clear segment of `duration` and `title`, which has no initialisation section.
 pub(crate) fn segment(alloc: Global, duration: Nanos, title: &str) -> Result<Segment, AllocError> {
     Ok(Segment {
         media_sequence: 7,

@@ -6,10 +6,11 @@ ghost use Rattle.stitcher.specs.StitchedSegments.{AreDecided};
 use playlist_model::{Items, Key, Members, OtherAttributes, Segment, Shared};
 use pod_store::PodStore;
 use std::alloc::{AllocError, Global};
+use std::hash::RandomState;
 use stitcher::{Ends, MarkedSegment, Numbers, StitchedList, stitch};
 use timeline::OptionalInstant;
 
-/// A key of method AES-128, of this format, resource and IV, with no other attribute.
+/// A key of the method AES-128, with `format`, the resource `uri` and `iv`, and no other attribute.
 pub fn key(alloc: Global, format: &str, uri: &str, iv: Option<u128>) -> Result<Key, AllocError>
     ensures { IfOk result (λ key. key ≡ record { format = format.now; method = codes "AES-128"; uri = uri.now; iv = iv; other_attributes = [] }) }
 {
@@ -22,7 +23,7 @@ pub fn key(alloc: Global, format: &str, uri: &str, iv: Option<u128>) -> Result<K
     })
 }
 
-/// These segments, with a time and no mark.
+/// The `segments` with a time and no mark.
 pub(crate) fn unmarked(
     alloc: Global,
     segments: &Shared<Items<Segment>>,
@@ -41,12 +42,13 @@ pub(crate) fn unmarked(
     Ok(done)
 }
 
-/// The stitched list of segments with no mark, whose first item has the media sequence number 7 and the discontinuity
-/// sequence number 3, after a discontinuity.
-pub(crate) fn listed(
+/// The stitched list of the segments `marked`, which have no mark; its store of pods uses the keys `hashing`. Its first
+/// item has the media sequence number 7 and the discontinuity sequence number 3, after a discontinuity.
+pub(crate) fn listed<'a>(
     alloc: Global,
-    marked: &[MarkedSegment],
-) -> Result<StitchedList<'_>, AllocError>
+    hashing: RandomState,
+    marked: &'a [MarkedSegment],
+) -> Result<StitchedList<'a>, AllocError>
     requires { AreDecided nothing_decided marked.now }
 {
     let first = Numbers {
@@ -58,7 +60,7 @@ pub(crate) fn listed(
         rest: None,
         so_far: None,
     };
-    match stitch(alloc, marked, &PodStore::new(alloc), first, &ends) {
+    match stitch(alloc, marked, &PodStore::new(alloc, hashing), first, &ends) {
         Ok(list) => Ok(list),
         Err(_) => Err(AllocError),
     }

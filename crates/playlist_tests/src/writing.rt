@@ -8,6 +8,7 @@ use playlist_model::{ByteRange, InitSection, Items, Keys, PlaylistKind, Segment,
 use playlist_write::resumed::laid_out;
 use playlist_write::{OutPlaylist, WriteFault, write};
 use std::alloc::{AllocError, Global};
+use std::hash::RandomState;
 use stitcher::{StitchedList, TextRef};
 
 const ROOM: usize = 4096;
@@ -178,6 +179,7 @@ fn answer(alloc: Global, playlist: &OutPlaylist<'_>, asked: Asked) -> Result<boo
 // What the playlist of this version and date range and so many segments answers.
 fn answer_with(
     alloc: Global,
+    hashing: RandomState,
     date_range: &str,
     version: u64,
     count: usize,
@@ -186,7 +188,7 @@ fn answer_with(
     let segments = segments(alloc, count)?;
     let marked = unmarked(alloc, &segments)?;
     let date_range = Text::copy_of(alloc, date_range)?;
-    let listed = listed(alloc, marked.as_slice())?;
+    let listed = listed(alloc, hashing, marked.as_slice())?;
     let playlist = playlist(alloc, listed, &date_range, version)?;
     answer(alloc, &playlist, asked)
 }
@@ -206,8 +208,9 @@ static ASKED: [(&str, u64, usize, Asked, bool); 8] = [
 
 #[test]
 fn playlists(rt: HostRuntime) {
+    let hashing = RandomState::new(&rt).expect(&rt, "random bytes");
     for (date_range, version, count, asked, owed) in ASKED.iter() {
-        let found = answer_with(rt.alloc(), date_range, *version, *count, *asked);
+        let found = answer_with(rt.alloc(), hashing, date_range, *version, *count, *asked);
         assert!(rt; found == Ok(*owed), "{date_range} {version} {count}");
     }
 }

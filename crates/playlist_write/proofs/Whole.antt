@@ -18,7 +18,7 @@ use Rattle.playlist_model.proofs.SaidCounts.{counted_some}
 use Rattle.stitcher.specs.declared.OutSegment.{OutSegment}
 use Rattle.playlist_write.specs.declared.OutPlaylist.{OutPlaylist}
 use Rattle.playlist_write.specs.Spelling.{spelled, date_range_line}
-use Rattle.playlist_write.specs.Owed.{none_yet, header_owed, type_owed, independent_owed, ended_owed, segments_owed, first_media_sequence, first_discontinuity, line_of, said_text, ended_date_range_line, date_ranges_text, playlist_text}
+use Rattle.playlist_write.specs.Owed.{none_yet, header_owed, type_owed, independent_owed, ended_owed, segments_owed, first_media_sequence, stated_discontinuity_sequence, line_of, said_text, ended_date_range_line, date_ranges_text, playlist_text}
 use Rattle.writable.specs.Fitting.{is_clean, says_date_range, date_range_fits}
 use Rattle.playlist_write.specs.WellFormed.{is_word, version_fits, segment_fits, out_numbers, numbers_fit, is_mapped, sections_agree, well_formed}
 use Rattle.playlist_write.specs.Denoted.{denoted, denoted_segment, denoted_date_range, date_range_told}
@@ -68,7 +68,7 @@ numbers_known : OutPlaylist → Known
 unfolding start
 numbers_known p = record start {
   heading = record start.heading { version = Some p.version; target_duration = Some p.target_duration; has_sequence = true; has_discontinuity_sequence = true };
-  standing = record start.standing { media_sequence = first_media_sequence p.segments; discontinuity_sequence = first_discontinuity p.segments };
+  standing = record start.standing { media_sequence = first_media_sequence p.segments; discontinuity_sequence = stated_discontinuity_sequence p.segments };
 }
 
 header_known : OutPlaylist → Known
@@ -89,7 +89,7 @@ goes_ended : (b : Bool) (k : Known) → k.heading.end_list ≡ false → Goes k 
 goes_ended false k e = record { allowed = tt; leads = ap (λ x. record k { heading = record k.heading { end_list = x } }) e }
 goes_ended true k e = record { allowed = (tt, e, tt); leads = refl }
 
-goes_header : (p : OutPlaylist) → (p.version == 6 || p.version == 7) ≡ true → p.target_duration < 2 ^ 64 → first_media_sequence p.segments < 2 ^ 64 → first_discontinuity p.segments < 2 ^ 64 → Goes start (header_owed p) (header_known p)
+goes_header : (p : OutPlaylist) → (p.version == 6 || p.version == 7) ≡ true → p.target_duration < 2 ^ 64 → first_media_sequence p.segments < 2 ^ 64 → stated_discontinuity_sequence p.segments < 2 ^ 64 → Goes start (header_owed p) (header_known p)
 unfolding start numbers_known header_known
 goes_header p v t s d =
     let numbers = numbers_known p in
@@ -146,7 +146,7 @@ numbers_after previous (out ∷ outs) h =
     let m : out.media_sequence ≡ previous.media_sequence + 1 = eqb-true _ _ b.0 in
     and_from _ _ a.0 (subst (λ n. numbers_go_on (n + 1) out.discontinuity_sequence outs ≡ true) m (numbers_after out outs a.1))
 
-numbers_start : (outs : List OutSegment) → numbers_fit outs ≡ true → numbers_go_on (first_media_sequence outs) (first_discontinuity outs) outs ≡ true
+numbers_start : (outs : List OutSegment) → numbers_fit outs ≡ true → numbers_go_on (first_media_sequence outs) (stated_discontinuity_sequence outs) outs ≡ true
 numbers_start [] h = refl
 numbers_start (out ∷ outs) h =
     let a : (nat_le out.discontinuities out.discontinuity_sequence ≡ true) × (all_follow out_numbers out outs ≡ true) = and_parts _ _ h in
@@ -154,7 +154,7 @@ numbers_start (out ∷ outs) h =
     let d : (out.discontinuity_sequence == out.discontinuity_sequence - out.discontinuities + out.discontinuities) ≡ true = eq-eqb out.discontinuity_sequence (out.discontinuity_sequence - out.discontinuities + out.discontinuities) (omega arith) in
     and_from _ _ (and_from _ _ (eq-eqb out.media_sequence out.media_sequence refl) d) (numbers_after out outs a.1)
 
-first_fits : (outs : List OutSegment) → list_all segment_fits outs ≡ true → (first_media_sequence outs < 2 ^ 64) × (first_discontinuity outs < 2 ^ 64)
+first_fits : (outs : List OutSegment) → list_all segment_fits outs ≡ true → (first_media_sequence outs < 2 ^ 64) × (stated_discontinuity_sequence outs < 2 ^ 64)
 first_fits [] h = (omega arith, omega arith)
 first_fits (out ∷ outs) h =
     let p = segment_parts out (and_parts _ _ h).0 in let ms = p.media_sequence in let ds = p.discontinuity_sequence in (ms, omega arith)
@@ -240,7 +240,7 @@ module _ (base : Parts) (p : OutPlaylist) where
       let h : Known = record (header_known p) { date_ranges = flat_map denoted_date_range p.date_ranges } in
       let one = goes_header p f.0 (ltb-true _ _ f.1) firsts.0 firsts.1 in
       let two = goes_date_ranges p.date_ranges (header_known p) a.1 in
-      let three = goes_segments h (first_is_mapped p.segments) p.segments none_yet 0 0 (first_media_sequence p.segments) (first_discontinuity p.segments) None [] c.1 same numbers (omega arith) (omega arith) refl (λ m. refl) in
+      let three = goes_segments h (first_is_mapped p.segments) p.segments none_yet 0 0 (first_media_sequence p.segments) (stated_discontinuity_sequence p.segments) None [] c.1 same numbers (omega arith) (omega arith) refl (λ m. refl) in
       let between : Known = ready h three.current three.count three.discontinuity_count three.last (map denoted_segment p.segments) in
       let four = goes_ended p.end_list between refl in
       let counted : 0 < three.count = omega (arith, three.counted) in

@@ -83,14 +83,14 @@ abbrev pub first_media_sequence : List OutSegment → ℕ
 first_media_sequence [] = 0
 first_media_sequence (out ∷ later) = out.media_sequence
 
--- the number before the steps of the first segment
-abbrev pub first_discontinuity : List OutSegment → ℕ
-first_discontinuity [] = 0
-first_discontinuity (out ∷ later) = out.discontinuity_sequence - out.discontinuities
+-- what EXT-X-DISCONTINUITY-SEQUENCE states (4.3.3.3): the number before the discontinuities of the first segment
+abbrev pub stated_discontinuity_sequence : List OutSegment → ℕ
+stated_discontinuity_sequence [] = 0
+stated_discontinuity_sequence (out ∷ later) = out.discontinuity_sequence - out.discontinuities
 
 abbrev pub numbers_owed : OutPlaylist → List Said
 numbers_owed p =
-    version p.version ∷ target p.target_duration ∷ sequence (first_media_sequence p.segments) ∷ discontinuity_sequence (first_discontinuity p.segments) ∷ []
+    version p.version ∷ target p.target_duration ∷ sequence (first_media_sequence p.segments) ∷ discontinuity_sequence (stated_discontinuity_sequence p.segments) ∷ []
 
 abbrev pub header_owed : OutPlaylist → List Said
 header_owed p = numbers_owed p ++ (type_owed p.playlist_type ++ independent_owed p.independent_segments)

@@ -88,7 +88,8 @@ fn reads_as_date_range(alloc: Global, text: &str) -> Result<bool, AllocError>
     }
 }
 
-/// Whether a text can be written as that of a date range.
+/// Whether `text` can be written as the attributes of an EXT-X-DATERANGE (RFC 8216, section 4.3.2.7): it is read as
+/// one, and holds no control character. Fails only if an allocation fails.
 pub fn date_range_fits(alloc: Global, text: &str) -> Result<bool, AllocError>
     ensures { IfOk result (λ b. b ≡ date_range_fits text.now) }
 {
@@ -98,7 +99,7 @@ pub fn date_range_fits(alloc: Global, text: &str) -> Result<bool, AllocError>
     reads_as_date_range(alloc, text)
 }
 
-/// Whether all of these can.
+/// Whether each of `texts` can be written, as `date_range_fits` says. Fails only if an allocation fails.
 pub fn date_ranges_fit(alloc: Global, texts: &[TextRef<'_>]) -> Result<bool, AllocError>
     ensures { IfOk result (λ b. b ≡ list_all date_range_fits texts.now) }
 {

@@ -90,7 +90,8 @@ fn put_iv(text: &mut [u8; LENGTH], iv: u128)
     put_sixteen(text, 23, iv);
 }
 
-/// Appends the closing quote of a value and an initialisation vector.
+/// Appends to `out` the closing quote of a value, and IV of a key tag (RFC 8216, section 4.3.2.4) with the 32
+/// hexadecimal digits of `iv`. Fails only if an allocation fails.
 pub fn push_quote_and_iv(out: &mut String, iv: u128) -> Result<(), AllocError>
     ensures { Appends result out.old out.new (codes "\",IV=0x" ++ fixed_digits 16 32 iv) }
 {
@@ -101,7 +102,7 @@ pub fn push_quote_and_iv(out: &mut String, iv: u128) -> Result<(), AllocError>
     out.push_str(text)
 }
 
-/// The same, and ends the line.
+/// Appends to `out` what `push_quote_and_iv` does of `iv`, and a line feed. Fails only if an allocation fails.
 pub fn push_last_iv(out: &mut String, iv: u128) -> Result<(), AllocError>
     ensures { Appends result out.old out.new (codes "\",IV=0x" ++ (fixed_digits 16 32 iv ++ 10 ∷ [])) }
 {

@@ -2,7 +2,7 @@
 ghost use Rattle.std.specs.Prelude.{◌≡◌, ◌++◌, OnOk, string_bytes};
 ghost use Rattle.playlist_model.specs.Said as Said;
 ghost use Rattle.playlist_write.specs.Spelling.{type_text};
-ghost use Rattle.playlist_write.specs.Owed.{line_of, ended_date_range_line, said_text, numbers_owed, header_owed, type_owed, independent_owed, ended_owed, first_media_sequence, first_discontinuity, date_ranges_text};
+ghost use Rattle.playlist_write.specs.Owed.{line_of, ended_date_range_line, said_text, numbers_owed, header_owed, type_owed, independent_owed, ended_owed, first_media_sequence, stated_discontinuity_sequence, date_ranges_text};
 ghost use Rattle.fixed_duration.specs.Appended.{Appends};
 
 use crate::OutPlaylist;
@@ -20,8 +20,10 @@ fn first_media_sequence(segments: &StitchedList<'_>) -> u64
     }
 }
 
-fn first_discontinuity(segments: &StitchedList<'_>) -> u64
-    ensures { result ≡ first_discontinuity segments.now }
+// What EXT-X-DISCONTINUITY-SEQUENCE states: the number before the discontinuities of the first segment (RFC 8216,
+// section 4.3.3.3).
+fn stated_discontinuity_sequence(segments: &StitchedList<'_>) -> u64
+    ensures { result ≡ stated_discontinuity_sequence segments.now }
 {
     match segments.items().next() {
         Some(first) => first
@@ -90,9 +92,10 @@ fn push_numbers(out: &mut String, playlist: &OutPlaylist<'_>) -> Result<(), Allo
     push_version(out, playlist.version)?;
     push_target(out, playlist.target_duration)?;
     push_sequence(out, first_media_sequence(segments))?;
-    push_discontinuity_sequence(out, first_discontinuity(segments))
+    push_discontinuity_sequence(out, stated_discontinuity_sequence(segments))
 }
 
+// Appends EXT-X-INDEPENDENT-SEGMENTS, if the origin states it (RFC 8216, section 4.3.5.1).
 #[tactic(auto, unfolding(crate::specs::Owed::line_of))]
 fn push_independent(out: &mut String, independent: bool) -> Result<(), AllocError>
     ensures { Appends result out.old out.new (said_text (independent_owed independent)) }
@@ -103,7 +106,8 @@ fn push_independent(out: &mut String, independent: bool) -> Result<(), AllocErro
     Ok(())
 }
 
-/// Appends the lines that stand before the date ranges.
+/// Appends to `out` the lines of `playlist` before its date ranges (RFC 8216, section 4.3.3). Fails only if an
+/// allocation fails.
 pub fn push_header(out: &mut String, playlist: &OutPlaylist<'_>) -> Result<(), AllocError>
     ensures { Appends result out.old out.new (said_text (header_owed playlist.now)) }
 {
@@ -113,14 +117,15 @@ pub fn push_header(out: &mut String, playlist: &OutPlaylist<'_>) -> Result<(), A
 }
 
 #[tactic(auto, unfolding(crate::specs::Owed::ended_date_range_line))]
-/// Appends a date range as it stands.
+/// Appends to `out` the line of a date range, whose attributes are `text`, word for word (RFC 8216, section 4.3.2.7).
+/// Fails only if an allocation fails.
 pub fn push_date_range(out: &mut String, text: &str) -> Result<(), AllocError>
     ensures { Appends result out.old out.new (ended_date_range_line text.now) }
 {
     push_line_of(out, "#EXT-X-DATERANGE:", text)
 }
 
-/// Appends the date ranges as they stand.
+/// Appends to `out` the lines of `date_ranges`, word for word. Fails only if an allocation fails.
 pub fn push_date_ranges(out: &mut String, date_ranges: &[TextRef<'_>]) -> Result<(), AllocError>
     ensures { Appends result out.old out.new (date_ranges_text date_ranges.now) }
 {
@@ -131,7 +136,7 @@ pub fn push_date_ranges(out: &mut String, date_ranges: &[TextRef<'_>]) -> Result
 }
 
 #[tactic(auto, unfolding(crate::specs::Owed::line_of))]
-/// Appends the line that says that no segment will follow, if so.
+/// Appends EXT-X-ENDLIST to `out` if `ended` (RFC 8216, section 4.3.3.4). Fails only if an allocation fails.
 pub fn push_end(out: &mut String, ended: bool) -> Result<(), AllocError>
     ensures { Appends result out.old out.new (said_text (ended_owed ended)) }
 {

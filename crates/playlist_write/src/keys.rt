@@ -176,7 +176,8 @@ fn push_tags_between(out: &mut String, old: &Keys, new: &Keys) -> Result<(), All
     push_any_tags(out, old, new)
 }
 
-/// Appends the key tags that lead from keys to keys.
+/// Appends to `out` the key tags that lead from the keys `old` to the keys `new` (RFC 8216, section 4.3.2.4). Fails
+/// only if an allocation fails.
 #[inline(always)]
 pub fn push_key_tags(out: &mut String, old: &Keys, new: &Keys) -> Result<(), AllocError>
     ensures { Appends result out.old out.new (said_text (keys_owed old.now new.now)) }
@@ -199,7 +200,8 @@ fn push_part(out: &mut String, part: Option<ByteRange>) -> Result<(), AllocError
     Ok(())
 }
 
-/// Appends the map tag of an initialisation section.
+/// Appends to `out` the EXT-X-MAP of the initialisation section `section` (RFC 8216, section 4.3.2.5). Fails only if
+/// an allocation fails.
 pub fn push_section(out: &mut String, section: &InitSection) -> Result<(), AllocError>
     ensures { Appends result out.old out.new (section_line section.now) }
 {

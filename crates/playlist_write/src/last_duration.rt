@@ -78,7 +78,8 @@ impl<'a> LastDuration<'a> {
         push_duration(out, duration, title)
     }
 
-    /// Appends the line of a duration and a title.
+    /// Appends to `out` the line of EXTINF with `duration` and `title` (RFC 8216, section 4.3.2.1), which are kept as
+    /// the last ones. Fails only if an allocation fails.
     #[inline(always)]
     pub fn push(
         &mut self,

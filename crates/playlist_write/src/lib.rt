@@ -122,8 +122,15 @@ fn write_text<S: Sink>(
 }
 
 #[tactic(auto, using(crate::proofs::Whole::text_denotes))]
-/// Writes a playlist: its whole text, or a front of it where the sink fails or an allocation fails. It holds no more of
-/// the text than 64 KiB and the lines of one segment or date range.
+/// Writes the text of `playlist` to `sink` (RFC 8216, section 4). After a fault `sink` has taken a front of it: `Io`
+/// if a write failed or took nothing, `OutOfMemory` if an allocation failed. It holds no more of the text than 64 KiB
+/// and the lines of one segment or date range.
+///
+/// ```text
+/// let mut sink = TestSink::new(alloc, 4096, 4096, 0)?;
+/// write(alloc, &playlist, &mut sink)    Ok(())
+/// sink.bytes()                          b"#EXTM3U\n#EXT-X-VERSION:6\n .."
+/// ```
 pub fn write<S: Sink>(
     alloc: Global,
     playlist: &OutPlaylist<'_>,

@@ -8,7 +8,7 @@ use itoa::Buffer;
 use playlist_model::ByteRange;
 use std::alloc::AllocError;
 
-/// Appends a number.
+/// Appends `number` to `out` in decimal. Fails only if an allocation fails.
 pub fn push_number(out: &mut String, number: u64) -> Result<(), AllocError>
     ensures { Appends result out.old out.new (decimal number) }
 {
@@ -17,14 +17,14 @@ pub fn push_number(out: &mut String, number: u64) -> Result<(), AllocError>
     Ok(())
 }
 
-/// Ends a line.
+/// Appends a line feed to `out`. Fails only if an allocation fails.
 pub fn push_feed(out: &mut String) -> Result<(), AllocError>
     ensures { Appends result out.old out.new (10 ∷ []) }
 {
     out.push('\n')
 }
 
-/// Appends a line.
+/// Appends `line` and a line feed to `out`. Fails only if an allocation fails.
 pub fn push_line(out: &mut String, line: &str) -> Result<(), AllocError>
     ensures { Appends result out.old out.new (with_feed line.now) }
 {
@@ -32,7 +32,7 @@ pub fn push_line(out: &mut String, line: &str) -> Result<(), AllocError>
     push_feed(out)
 }
 
-/// Appends a line of two parts.
+/// Appends to `out` the line of `tag` and then `rest`. Fails only if an allocation fails.
 pub fn push_line_of(out: &mut String, tag: &str, rest: &str) -> Result<(), AllocError>
     ensures { Appends result out.old out.new (with_feed (tag.now ++ rest.now)) }
 {
@@ -40,7 +40,7 @@ pub fn push_line_of(out: &mut String, tag: &str, rest: &str) -> Result<(), Alloc
     push_line(out, rest)
 }
 
-/// Appends a line that ends with a number.
+/// Appends to `out` the line of `tag` and then `number` in decimal. Fails only if an allocation fails.
 pub fn push_number_line(out: &mut String, tag: &str, number: u64) -> Result<(), AllocError>
     ensures { Appends result out.old out.new (with_feed (tag.now ++ decimal number)) }
 {
@@ -49,7 +49,7 @@ pub fn push_number_line(out: &mut String, tag: &str, number: u64) -> Result<(), 
     push_feed(out)
 }
 
-/// Appends a byte range as `n@o`.
+/// Appends `byte_range` to `out` as `n@o` (RFC 8216, section 4.3.2.2). Fails only if an allocation fails.
 pub fn push_byte_range(out: &mut String, byte_range: ByteRange) -> Result<(), AllocError>
     ensures { Appends result out.old out.new (byte_range_text byte_range.length byte_range.offset) }
 {

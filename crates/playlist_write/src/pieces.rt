@@ -39,7 +39,8 @@ fn hand_out_piece<S: Sink>(held: &mut String, sink: &mut S) -> Result<(), SinkFa
     Ok(())
 }
 
-/// Adds the date ranges as they stand to what is held, and hands out each piece.
+/// Appends the lines of `date_ranges`, word for word, to the text `held`, and hands its front to `sink` each time
+/// that a piece is full. The faults, and what `sink` has taken after one, are those of `write`.
 pub fn write_date_ranges<S: Sink>(
     held: &mut String,
     date_ranges: &[TextRef<'_>],
@@ -58,7 +59,8 @@ pub fn write_date_ranges<S: Sink>(
     Ok(())
 }
 
-/// Adds the lines of all segments to what is held, and hands out each piece.
+/// Appends the lines of all `segments` to the text `held`, and hands its front to `sink` each time that a piece is
+/// full. The faults, and what `sink` has taken after one, are those of `write`.
 pub fn write_segments<S: Sink>(
     alloc: Global,
     held: &mut String,

@@ -189,7 +189,8 @@ fn all_before(alloc: Global, playlist: &OutPlaylist<'_>) -> Result<String, Alloc
     Ok(text)
 }
 
-/// The whole text of a playlist (RFC 8216, section 4), made anew. Fails only if an allocation fails.
+/// The whole text of `playlist` (RFC 8216, section 4), made anew, with each tag as section 4.3 has it. Fails only if
+/// an allocation fails.
 pub fn laid_out(alloc: Global, playlist: &OutPlaylist<'_>) -> Result<WrittenText, AllocError>
     ensures text { IfOk result (λ w. w.text ≡ playlist_text playlist.now) }
     ensures laid { IfOk result (IsLaid playlist.now.segments) }
@@ -218,8 +219,9 @@ fn states_all(before: &InForce<'_>, segments: StitchedItems<'_>) -> bool
     }
 }
 
-/// How many bytes the lines of the first `gone` segments and of the one after them take. None if that one doesn't state all
-/// that is in force after it: then its lines depend on what was before it.
+/// How many bytes the lines of the first `gone` of `segments` and of the one after them take. `None` if that one
+/// doesn't state all that is in force after it: then its lines depend on what was before it. Fails only if an
+/// allocation fails.
 pub fn front_length(
     alloc: Global,
     segments: &StitchedList<'_>,
@@ -280,9 +282,9 @@ fn joined(
     with_end(alloc, text, from, till, &end)
 }
 
-/// The text that `laid_out` makes, of which lines stand in the text that was written last: the playlist's first `again`
-/// segments are the last ones of `last`, and `length` is what `front_length` tells of those in front of them. Fails only if an
-/// allocation fails.
+/// The text of `playlist` that `laid_out` makes, of which lines are copied from `last`, the text that was written
+/// last. The first `again` segments of `playlist` are the last ones of `last`, and `length` is what `front_length`
+/// gives for those in front of them, in bytes. Fails only if an allocation fails.
 pub fn laid_after(
     alloc: Global,
     playlist: &OutPlaylist<'_>,

@@ -51,8 +51,8 @@ fn date_ranges_room(date_ranges: &[TextRef<'_>]) -> usize
     room
 }
 
-// At least as much room as most texts take: a text that grows is held twice while it is moved, and room that isn't used takes
-// no memory.
+/// How many bytes most texts of `playlist` take at most: a text that grows is held twice while it is moved, and room
+/// that isn't used takes no memory.
 pub(crate) fn room_for(playlist: &OutPlaylist<'_>) -> usize
     ensures { result ≤ text_room playlist.now }
 {

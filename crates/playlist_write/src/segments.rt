@@ -71,6 +71,8 @@ fn keys_then<'a>(keys: &'a Keys, changed: Option<&'a InitSection>) -> &'a Keys
     }
 }
 
+// Appends the EXT-X-MAP of the initialisation section that changed, if one did, under its keys (RFC 8216, section
+// 4.3.2.5).
 fn push_changed_section(
     out: &mut String,
     keys: &Keys,
@@ -119,7 +121,8 @@ fn push_title(out: &mut String, title: &str) -> Result<(), AllocError>
     push_line(out, title)
 }
 
-/// Appends the line of a duration and a title.
+/// Appends to `out` the line of EXTINF with `duration` and `title` (RFC 8216, section 4.3.2.1). Fails only if an
+/// allocation fails.
 pub fn push_duration(out: &mut String, duration: Nanos, title: &str) -> Result<(), AllocError>
     ensures { Appends result out.old out.new (line_of (Said.duration duration title.now)) }
 {
@@ -167,7 +170,9 @@ fn push_media<'a>(
     Ok(())
 }
 
-/// Appends the lines of a segment after those with these keys and this section in force.
+/// Appends to `out` the lines of the segment `next`, after lines at whose end `keys` and `section` are in force (RFC
+/// 8216, section 4.3.2). `times` and `last` keep the time and the duration that were written last, so that equal ones
+/// are copied. Fails only if an allocation fails.
 pub fn push_segment<'a>(
     out: &mut String,
     times: &mut TimeWriter,
@@ -189,7 +194,7 @@ pub fn push_segment<'a>(
     Ok(())
 }
 
-/// The initialisation section of a segment, where it has one.
+/// The initialisation section of `segment`, if it has one.
 pub fn section_of(segment: &Segment) -> Option<&InitSection>
     ensures { option_copied result ≡ segment.now.init_section }
 {

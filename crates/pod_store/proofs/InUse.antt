@@ -1,6 +1,6 @@
 -- The breaks that are in use are kept.
 use Rattle.std.proofs.Common.{◌≡◌, ℕ, Bool, true, false, cond, List, [], ◌∷◌, map, refl, ap, ◌∙◌, subst}
-use Rattle.std.specs.Prelude.{filter, String}
+use Rattle.std.specs.Prelude.{filter, String, not, ◌||◌}
 use Rattle.std.specs.Map.Calls.{RetainsPairs}
 use Rattle.std.specs.declared.alloc.Global.{Global}
 use Rattle.pod_store.specs.declared.kept.StoredPod.{StoredPod}
@@ -38,3 +38,21 @@ module _ (ids : List (List ℕ)) where
   pub seen_in_use : (pairs : Pairs) → map entry_of (pairs_in_use ids pairs) ≡ held_in_use ids (map entry_of pairs)
   seen_in_use [] = refl
   seen_in_use (pair ∷ later) = step pair (filter (is_pair_held ids) later) (filter (is_held ids) (map entry_of later)) (is_pair_held ids pair) (seen_in_use later)
+
+-- the same breaks are in use by another list of the same IDs
+module _ (set ids : List (List ℕ)) (same : (id : List ℕ) → is_one_of set id ≡ is_one_of ids id) where
+  alike_by : (e : Entry) (later : List Entry) (b : Bool) → held_in_use set later ≡ held_in_use ids later
+      → map (entry_now set) (cond b (e ∷ filter (is_held set) later) (filter (is_held set) later)) ≡ map (entry_now ids) (cond b (e ∷ filter (is_held ids) later) (filter (is_held ids) later))
+  alike_by e later true rec =
+      ap (λ (u : Bool). record e { used = u } ∷ map (entry_now set) (filter (is_held set) later)) (same e.id) ∙ ap (λ xs. entry_now ids e ∷ xs) rec
+  alike_by e later false rec = rec
+
+  pub held_alike : (entries : List Entry) → held_in_use set entries ≡ held_in_use ids entries
+  held_alike [] = refl
+  held_alike (e ∷ later) =
+      ap (λ (u : Bool). map (entry_now set) (cond (not e.used || u) (e ∷ filter (is_held set) later) (filter (is_held set) later))) (same e.id)
+      ∙ alike_by e later (not e.used || is_one_of ids e.id) (held_alike later)
+
+  -- so they are what a store sees that keeps them by it
+  pub seen_alike : (pairs : Pairs) → map entry_of (pairs_in_use set pairs) ≡ held_in_use ids (map entry_of pairs)
+  seen_alike pairs = seen_in_use set pairs ∙ held_alike (map entry_of pairs)

@@ -2,3 +2,4 @@ pub mod Outcome
 pub mod WorkedExamples
 pub mod Store
 pub mod Kept
+pub mod IdSets

@@ -1,20 +1,21 @@
 //! The store of decided breaks.
-ghost use Rattle.std.specs.Prelude.{◌≡◌, ℕ, ◌+◌, ◌==◌, ◌≤◌, ◌<◌, ◌^◌, map, filter, fold, length, option_map, is_some, true, false, OnOk, OnErr, IfOk, IfErr};
+ghost use Rattle.std.specs.Prelude.{◌≡◌, ℕ, List, ◌+◌, ◌==◌, ◌≤◌, ◌<◌, ◌^◌, map, filter, fold, length, option_map, is_some, true, false, OnOk, OnErr, IfOk, IfErr};
 ghost use Rattle.std.specs.List.{list_all, list_any};
 ghost use Rattle.std.specs.Option.{option_copied};
 ghost use Rattle.pod_store.specs.Pods.{section_fits, segment_fits, ad_fits, pod_fits};
-ghost use Rattle.pod_store.specs.Store.{nothing_decided, with_entries, names_used, put, without, entry_for, has_own, own_pod, pod_for, fits, is_empty, is_used, is_named, is_named_if_any, with_all, withdrawn, decided, held_in_use, with_used, with_copy, with_copies, adopted, kept_in_use, count_with, is_new_decision, Changes, ChangesExactly};
+ghost use Rattle.pod_store.specs.Store.{nothing_decided, with_entries, names_used, put, without, entry_for, has_own, own_pod, pod_for, is_one_of, fits, is_empty, is_used, is_named, is_named_if_any, with_all, withdrawn, decided, held_in_use, with_used, with_copy, with_copies, adopted, kept_in_use, count_with, is_new_decision, Changes, ChangesExactly};
 ghost use Rattle.pod_store.specs.Inner.Store.{GrowsBy};
 ghost use Rattle.pod_store.specs.Outcome.{no_memory};
 
 use crate::fault::{DecisionFault, DecisionKind, Place};
 use crate::kept::{
-    SharedDecision, StoredPod, copy, count_named, keep_in_use, kept_for, mark, put_all, remove,
+    Pods, SharedDecision, copy, count_named, keep_in_use, kept_for, mark, put_all, remove,
 };
-use crate::{Ad, Decision, Decisions, Pod, PodSegment};
+use crate::{Ad, Decision, Decisions, IdSet, Pod, PodSegment};
 use indexmap::IndexMap;
 use playlist_model::{InitSection, Shared, Text};
 use std::alloc::{AllocError, Global};
+use std::hash::RandomState;
 use std::marker::Model;
 
 /// How many breaks get their pods by decisions at most.
@@ -24,7 +25,7 @@ const MAX_PODS: usize = 256;
 /// has none of its own. A break that is entered with the fallback keeps a copy of it, whatever becomes of the fallback.
 #[derive(Drop)]
 pub struct PodStore {
-    kept: IndexMap<String, StoredPod>,
+    kept: Pods,
     fallback: Option<Shared<Pod>>,
     alloc: Global,
 }
@@ -39,6 +40,8 @@ impl Model for PodStore {
     ghost view = { λ a. record { entries = map entry_of a.kept.entries; fallback = a.fallback } };
 }
 
+// Whether the duration of `segment`, rounded to whole seconds, is at most the target duration (RFC 8216, section
+// 4.3.3.1).
 fn segment_fits(segment: &PodSegment, target: u64) -> bool
     ensures { result ≡ segment_fits target segment.now }
 {
@@ -53,10 +56,14 @@ fn segments_fit(segments: &[PodSegment], target: u64) -> bool
         .all(|s: &PodSegment| segment_fits(s, target))
 }
 
-fn section_fits(map: &Option<InitSection>, mapped: bool) -> bool
-    ensures { result ≡ section_fits mapped map.now }
+fn section_fits(init_section: &Option<InitSection>, mapped: bool) -> bool
+    ensures { result ≡ section_fits mapped init_section.now }
 {
-    if mapped { map.is_some() } else { map.is_none() }
+    if mapped {
+        init_section.is_some()
+    } else {
+        init_section.is_none()
+    }
 }
 
 fn ad_fits(ad: &Ad, target: u64, mapped: bool) -> bool
@@ -66,8 +73,9 @@ fn ad_fits(ad: &Ad, target: u64, mapped: bool) -> bool
 }
 
 impl Pod {
-    /// Whether its ads have initialisation sections exactly where the origin's segments have them, and each
-    /// segment's duration rounds to at most the target.
+    /// Whether this pod fits a playlist: each segment, rounded to whole seconds, is at most the target duration
+    /// `target` (RFC 8216, section 4.3.3.1), and each ad has an initialisation section exactly if the origin's
+    /// segments have one, which is `mapped` (section 4.3.2.5).
     pub fn fits(&self, target: u64, mapped: bool) -> bool
         ensures { result ≡ pod_fits target mapped self.now }
     {
@@ -87,15 +95,20 @@ fn shared(alloc: Global, decisions: Vec<Decision>) -> Result<Vec<SharedDecision>
 }
 
 impl PodStore {
-    /// No break is decided, and there is no fallback.
-    pub fn new(alloc: Global) -> PodStore
+    /// No break is decided, and there is no fallback. `hashing`: the keys of its table's hash.
+    pub fn new(alloc: Global, hashing: RandomState) -> PodStore
         ensures { result ≡ nothing_decided }
     {
         PodStore {
-            kept: IndexMap::new(alloc),
+            kept: IndexMap::with_hasher(alloc, hashing),
             fallback: None,
             alloc,
         }
+    }
+
+    /// The keys of its table's hash, for other tables of IDs.
+    pub fn hashing(&self) -> RandomState {
+        *self.kept.hasher()
     }
 
     /// Whether no break has a pod, and there is no fallback.
@@ -105,7 +118,8 @@ impl PodStore {
         self.kept.len() == 0 && self.fallback.is_none()
     }
 
-    /// The pod that a break has of its own: one that a decision gave it, or a copy of the fallback that it was entered with.
+    /// The pod that the break `id` has of its own: one that a decision gave it, or a copy of the fallback that it was
+    /// entered with.
     pub fn get(&self, id: &str) -> Option<&Pod>
         ensures { option_copied result ≡ own_pod self.now id.now }
     {
@@ -124,7 +138,7 @@ impl PodStore {
         }
     }
 
-    /// The pod that a break is filled with: its own, else the fallback. Takes no memory.
+    /// The pod that the break `id` is filled with: its own, else the fallback. Takes no memory.
     pub fn pod_for(&self, id: &str) -> Option<&Pod>
         ensures { option_copied result ≡ pod_for self.now id.now }
     {
@@ -134,9 +148,9 @@ impl PodStore {
         }
     }
 
-    /// Whether a break has a pod that it is filled with, and that fits: its ads have initialisation sections exactly where
-    /// the origin's segments have them, and each segment's duration rounds to at most the target. The fallback stands in for
-    /// no pod of the break's own. Takes no memory.
+    /// Whether the break `id` has a pod that it is filled with, and that pod fits, as `Pod::fits` says of `target`,
+    /// in seconds, and of `mapped`. A pod of the break's own that doesn't fit isn't replaced by the fallback. Takes
+    /// no memory.
     pub fn fits(&self, id: &str, target: u64, mapped: bool) -> bool
         ensures { result ≡ fits self.now id.now target mapped }
     {
@@ -146,7 +160,7 @@ impl PodStore {
         }
     }
 
-    /// Whether a break has a pod of its own and is used.
+    /// Whether the break `id` has a pod of its own and is used.
     pub fn is_used(&self, id: &str) -> bool
         ensures { result ≡ is_used self.now id.now }
     {
@@ -247,9 +261,17 @@ impl PodStore {
         Ok(())
     }
 
-    /// Takes decisions. `Used` where one of the breaks is used; then `Full` where decisions would have given pods to more than
-    /// 256; a break that is decided already gets the new pod in its place. A withdrawal is `withdraw`'s. A fallback takes
-    /// the place of the one before, if any; a failed allocation alone refuses it. Where it fails the store is as it was.
+    /// Does what `decisions` say. `Used` if one of their breaks is used; then `Full` if decisions would have given
+    /// pods to more than 256 breaks. A break that is decided already gets the new pod in place of the old one. A
+    /// withdrawal has the faults of `withdraw`. A fallback takes the place of the one before, if any. `OutOfMemory`
+    /// only if an allocation fails. After a fault the store is as it was.
+    ///
+    /// ```text
+    /// let mut store = PodStore::new(alloc);
+    /// store.decide(decisions)?;        a pod for the break b1
+    /// store.pod_for("b1")              Some(pod)
+    /// store.pod_for("b2")              None, as there is no fallback
+    /// ```
     pub fn decide(&mut self, decisions: Decisions) -> Result<(), DecisionFault>
         ensures { Changes self.old self.new result (decided self.old decisions) }
     {
@@ -264,8 +286,8 @@ impl PodStore {
         }
     }
 
-    /// Takes the pod of a break away. `Unknown` where it has none of its own, `Used` where the break is used; the
-    /// store is as it was then. Takes no memory.
+    /// Takes the pod of the break `id` away. `Unknown` if it has none of its own, `Used` if the break is used; the
+    /// store is then as it was. Takes no memory.
     pub fn withdraw(&mut self, id: &str) -> Result<(), DecisionFault>
         ensures { ChangesExactly self.old self.new result (withdrawn self.old id.now) }
     {
@@ -301,8 +323,9 @@ impl PodStore {
         }
     }
 
-    /// A break is used with the pod that it is filled with: its own, or a copy of the fallback, which is its own then. False
-    /// where it has neither. Where an allocation fails the store is as it was.
+    /// The break `id` is used from now on with the pod that it is filled with: its own, or a copy of the fallback,
+    /// which is its own then. `false` if it has neither. `OutOfMemory` only if an allocation fails; the store is then
+    /// as it was.
     pub fn adopt(&mut self, id: &str) -> Result<bool, DecisionFault>
         ensures ok { IfOk result (λ there. (there ≡ is_some (pod_for self.old id.now)) × (self.new ≡ adopted self.old id.now)) }
         ensures err { IfErr result (λ e. (e ≡ no_memory) × (self.new ≡ self.old)) }
@@ -343,24 +366,27 @@ impl PodStore {
         }
     }
 
-    #[tactic(auto, using(crate::proofs::InUse::seen_in_use))]
-    // Drops the pods of the used breaks that are none of these, and marks those of the others that are these as used.
-    fn drop_others(&mut self, ids: &[Shared<Text>])
+    #[tactic(auto, using(crate::proofs::InUse::seen_alike))]
+    // Drops the pods of the used breaks that are none of these, and marks those of the others that are these as used. The set
+    // has the same IDs.
+    fn drop_others(&mut self, ids: &[Shared<Text>], set: &IdSet<'_>)
+        requires { (id : List ℕ) → is_one_of set.now id ≡ is_one_of ids.now id }
         ensures { self.new ≡ with_entries self.old (held_in_use ids.now self.old.entries) }
     {
-        keep_in_use(&mut self.kept, ids);
+        keep_in_use(&mut self.kept, set);
     }
 
     #[tactic(auto, using(crate::proofs::Copies::fallback_stands))]
-    /// These breaks are in use from now on: each of them that has no pod of its own keeps a copy of the fallback, where there
-    /// is one, and the pods of the used breaks that are none of these are dropped. Where an allocation fails the store is as it
-    /// was.
+    /// The breaks `ids` are in use from now on, and no others. Each of them that has no pod of its own keeps a copy
+    /// of the fallback, if there is one; the pods of used breaks that aren't among `ids` are dropped. Fails only if
+    /// an allocation fails; the store is then as it was.
     pub fn keep_in_use(&mut self, ids: &[Shared<Text>]) -> Result<(), AllocError>
         ensures ok { OnOk result (self.new ≡ kept_in_use ids.now self.old) }
         ensures err { OnErr result (self.new ≡ self.old) }
     {
+        let set = IdSet::of(self.alloc, *self.kept.hasher(), ids)?;
         self.copy_fallback(ids)?;
-        self.drop_others(ids);
+        self.drop_others(ids, &set);
         Ok(())
     }
 }

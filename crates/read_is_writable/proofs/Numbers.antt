@@ -15,8 +15,8 @@ use Rattle.read_is_writable.proofs.Lines.{is_good, all_good}
 pub first_number : List Said → ℕ
 first_number said = unwrap_or (latest the_sequence said) 0
 
-pub first_discontinuity : List Said → ℕ
-first_discontinuity said = unwrap_or (latest the_discontinuity_sequence said) 0
+pub stated_discontinuity_sequence : List Said → ℕ
+stated_discontinuity_sequence said = unwrap_or (latest the_discontinuity_sequence said) 0
 
 -- segments that begin at a media number and follow a discontinuity number, and the discontinuity number of the last
 pub Runs : ℕ → ℕ → List Segment → ℕ → Type 0
@@ -41,7 +41,7 @@ other_number number before m (x ∷ xs) last h r = absurd (omega arith)
 
 pub record Numbered (said : List Said) : Type 0 where
   pub last : ℕ
-  pub runs : Runs (first_number said) (first_discontinuity said) (segments_of said) last
+  pub runs : Runs (first_number said) (stated_discontinuity_sequence said) (segments_of said) last
   pub stands : discontinuity_at said ≡ last + steps_at said
   pub counted : length (segments_of said) ≡ count is_media said
 
@@ -49,24 +49,24 @@ moved : (first last count steps k : ℕ) → first + count ≡ last + steps → 
 moved first last count steps k h e = omega arith
 
 next : (before : List Said) (said : Said) → Numbered before → is_good before said ≡ true → Numbered (said ∷ before)
-unfolding first_number first_discontinuity
+unfolding first_number stated_discontinuity_sequence
 next before (media u) n h = record {
   last = discontinuity_at before;
-  runs = one_more (first_number before) (first_discontinuity before) (segments_of before) n.last (segment_at before u) n.runs (omega (arith, n.counted)) n.stands;
+  runs = one_more (first_number before) (stated_discontinuity_sequence before) (segments_of before) n.last (segment_at before u) n.runs (omega (arith, n.counted)) n.stands;
   stands = omega arith;
   counted = length-append (segments_of before) (segment_at before u ∷ []) ∙ ap (λ k. k + 1) n.counted;
 }
 next before (sequence k) n h =
     let none : length (segments_of before) ≡ 0 = n.counted ∙ none_counted is_media before (not-true _ (and_parts _ _ h).1) in record {
       last = n.last;
-      runs = other_number (first_number before) (first_discontinuity before) k (segments_of before) n.last none n.runs;
+      runs = other_number (first_number before) (stated_discontinuity_sequence before) k (segments_of before) n.last none n.runs;
       stands = n.stands;
       counted = n.counted;
     }
 next before (discontinuity_sequence k) n h =
     let apart : (not (has is_media before) ≡ true) × (not (has is_discontinuity before) ≡ true) = and_parts _ _ (and_parts _ _ h).1 in
     let none : length (segments_of before) ≡ 0 = n.counted ∙ none_counted is_media before (not-true _ apart.0) in
-    let r : (first_discontinuity before ≡ n.last) × Runs (first_number before) k (segments_of before) k = none_run (first_number before) (first_discontinuity before) (first_number before) k (segments_of before) n.last none n.runs in record {
+    let r : (stated_discontinuity_sequence before ≡ n.last) × Runs (first_number before) k (segments_of before) k = none_run (first_number before) (stated_discontinuity_sequence before) (first_number before) k (segments_of before) n.last none n.runs in record {
       last = k;
       runs = r.1;
       stands = moved (unwrap_or (latest the_discontinuity_sequence before) 0) n.last (count is_discontinuity before) (steps_at before) k n.stands r.0;
@@ -76,7 +76,7 @@ next before discontinuity n h = record { last = n.last; runs = n.runs; stands = 
 next before _ n h = record { last = n.last; runs = n.runs; stands = n.stands; counted = n.counted }
 
 pub numbered : (said : List Said) → all_good said ≡ true → Numbered said
-unfolding first_number first_discontinuity Runs
+unfolding first_number stated_discontinuity_sequence Runs
 numbered [] h = record { last = 0; runs = refl; stands = refl; counted = refl }
 numbered (said ∷ before) h = let a = and_parts _ _ h in next before said (numbered before a.1) a.0
 
@@ -95,7 +95,7 @@ rise number before (s ∷ later) last some (a, b, rest) = and_from _ _ (le-leb _
 pub numbers_rise : (said : List Said) → all_good said ≡ true → has is_media said ≡ true → numbers_read (segments_of said) ≡ true
 numbers_rise said h some =
     let n = numbered said h in
-    rise (first_number said) (first_discontinuity said) (segments_of said) n.last (omega (arith, n.counted, some_counted is_media said some)) n.runs
+    rise (first_number said) (stated_discontinuity_sequence said) (segments_of said) n.last (omega (arith, n.counted, some_counted is_media said some)) n.runs
 
 -- ---- words
 

@@ -8,7 +8,7 @@ use Rattle.scte35_codec.specs.Hexadecimal.{is_marked, are_pairs, is_hex_text, he
 use Rattle.scte35_codec.proofs.Hexadecimals.{pairs_decode}
 use Rattle.scte35_codec.specs.declared.fault.SpliceFault.{SpliceFault}
 use Rattle.scte35_codec.specs.declared.fault.SpliceFault.TheVariants.{NotHex, TooShort, TableId, Length, Protocol, Encrypted, CommandLength, OutOfMemory, TooLarge}
-use Rattle.scte35_codec.specs.Reading.{◌>>=◌, Stops, Gives, media_sequence_at, bytes_at, bit, specified_time_at, time_at, optional_time_at, component_at, components_at, target_at, optional_duration_at, body_at, optional_body_at, insert_at, whole_insert_at, unmeasured_at, measured_of, command_at, ending_at, tail_at, contents_of, number_in, reading}
+use Rattle.scte35_codec.specs.Reading.{◌>>=◌, Stops, Gives, number_at, bytes_at, bit, specified_time_at, time_at, optional_time_at, component_at, components_at, target_at, optional_duration_at, body_at, optional_body_at, insert_at, whole_insert_at, unmeasured_at, measured_of, command_at, ending_at, tail_at, contents_of, number_in, reading}
 
 -- a reading fails by the lengths alone
 abbrev pub ByLength : {A : Type 0} → Result A SpliceFault → Type 0
@@ -23,7 +23,7 @@ by_test : {A : Type 0} (b : Bool) (x y : Result A SpliceFault) → ByLength x �
 by_test true x y h g = h
 by_test false x y h g = g
 
-by_number : (count : ℕ) (bytes : List ℕ) → ByLength (media_sequence_at count bytes)
+by_number : (count : ℕ) (bytes : List ℕ) → ByLength (number_at count bytes)
 by_number count bytes = by_test (ltb (length bytes) count) _ _ refl tt
 
 by_bytes : (count : ℕ) (bytes : List ℕ) → ByLength (bytes_at count bytes)
@@ -31,7 +31,7 @@ by_bytes count bytes = by_test (ltb (length bytes) count) _ _ refl tt
 
 by_time : (bytes : List ℕ) → ByLength (time_at bytes)
 unfolding time_at specified_time_at
-by_time bytes = by_then (media_sequence_at 1 bytes) _ (by_number 1 bytes) (λ flags. by_test (bit 7 flags.0) _ _ (by_then (media_sequence_at 5 bytes) _ (by_number 5 bytes) (λ _. tt)) tt)
+by_time bytes = by_then (number_at 1 bytes) _ (by_number 1 bytes) (λ flags. by_test (bit 7 flags.0) _ _ (by_then (number_at 5 bytes) _ (by_number 5 bytes) (λ _. tt)) tt)
 
 by_optional_time : (immediate : Bool) (bytes : List ℕ) → ByLength (optional_time_at immediate bytes)
 unfolding optional_time_at
@@ -43,27 +43,27 @@ unfolding components_at component_at
 by_components immediate zero bytes = tt
 by_components immediate (suc n) bytes =
     by_then (component_at immediate bytes) _
-    (by_then (media_sequence_at 1 bytes) _ (by_number 1 bytes) (λ tag. by_then (optional_time_at immediate tag.1) _ (by_optional_time immediate tag.1) (λ _. tt)))
+    (by_then (number_at 1 bytes) _ (by_number 1 bytes) (λ tag. by_then (optional_time_at immediate tag.1) _ (by_optional_time immediate tag.1) (λ _. tt)))
     (λ first. by_then (components_at immediate n first.1) _ (by_components immediate n first.1) (λ _. tt))
 
 by_target : (program immediate : Bool) (bytes : List ℕ) → ByLength (target_at program immediate bytes)
 unfolding target_at
 by_target true immediate bytes = by_then (optional_time_at immediate bytes) _ (by_optional_time immediate bytes) (λ _. tt)
 by_target false immediate bytes =
-    by_then (media_sequence_at 1 bytes) _ (by_number 1 bytes) (λ count. by_then (components_at immediate count.0 count.1) _ (by_components immediate count.0 count.1) (λ _. tt))
+    by_then (number_at 1 bytes) _ (by_number 1 bytes) (λ count. by_then (components_at immediate count.0 count.1) _ (by_components immediate count.0 count.1) (λ _. tt))
 
 by_duration : (stated : Bool) (bytes : List ℕ) → ByLength (optional_duration_at stated bytes)
 unfolding optional_duration_at
 by_duration false bytes = tt
-by_duration true bytes = by_then (media_sequence_at 5 bytes) _ (by_number 5 bytes) (λ _. tt)
+by_duration true bytes = by_then (number_at 5 bytes) _ (by_number 5 bytes) (λ _. tt)
 
 by_body : (bytes : List ℕ) → ByLength (body_at bytes)
 unfolding body_at
 by_body bytes =
-    by_then (media_sequence_at 1 bytes) _ (by_number 1 bytes) (λ flags.
+    by_then (number_at 1 bytes) _ (by_number 1 bytes) (λ flags.
     by_then (target_at (bit 6 flags.0) (bit 4 flags.0) flags.1) _ (by_target (bit 6 flags.0) (bit 4 flags.0) flags.1) (λ target.
     by_then (optional_duration_at (bit 5 flags.0) target.1) _ (by_duration (bit 5 flags.0) target.1) (λ duration.
-    by_then (media_sequence_at 4 duration.1) _ (by_number 4 duration.1) (λ _. tt))))
+    by_then (number_at 4 duration.1) _ (by_number 4 duration.1) (λ _. tt))))
 
 by_optional_body : (cancelled : Bool) (bytes : List ℕ) → ByLength (optional_body_at cancelled bytes)
 unfolding optional_body_at
@@ -73,8 +73,8 @@ by_optional_body false bytes = by_then (body_at bytes) _ (by_body bytes) (λ _. 
 by_insert : (bytes : List ℕ) → ByLength (insert_at bytes)
 unfolding insert_at
 by_insert bytes =
-    by_then (media_sequence_at 4 bytes) _ (by_number 4 bytes) (λ event.
-    by_then (media_sequence_at 1 event.1) _ (by_number 1 event.1) (λ flags.
+    by_then (number_at 4 bytes) _ (by_number 4 bytes) (λ event.
+    by_then (number_at 1 event.1) _ (by_number 1 event.1) (λ flags.
     by_then (optional_body_at (bit 7 flags.0) flags.1) _ (by_optional_body (bit 7 flags.0) flags.1) (λ _. tt)))
 
 by_command : (n kind : ℕ) (bytes : List ℕ) → ByLength (command_at n kind bytes)
@@ -92,7 +92,7 @@ by_command n kind bytes =
 by_tail : (bytes : List ℕ) → ByLength (tail_at bytes)
 unfolding tail_at ending_at
 by_tail bytes =
-    by_then (media_sequence_at 2 bytes) _ (by_number 2 bytes) (λ count.
+    by_then (number_at 2 bytes) _ (by_number 2 bytes) (λ count.
     by_then (bytes_at count.0 count.1) _ (by_bytes count.0 count.1) (λ descriptors.
     by_then (ending_at descriptors.1) _ (by_test (ltb (length descriptors.1) 4) _ _ refl tt) (λ _. tt)))
 

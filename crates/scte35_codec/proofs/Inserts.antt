@@ -10,7 +10,7 @@ use Rattle.std.specs.List.{list_all}
 use Rattle.std.proofs.Common.{leb}
 use Rattle.std.proofs.lemmas.Bool.{and_from, le-leb}
 use Rattle.scte35_codec.specs.Writing.{place_fits, target_fits, duration_fits, body_fits}
-use Rattle.scte35_codec.specs.Reading.{◌>>=◌, media_sequence_at, bit, optional_time_at, components_at, target_at, optional_duration_at, body_at, optional_body_at, insert_at}
+use Rattle.scte35_codec.specs.Reading.{◌>>=◌, number_at, bit, optional_time_at, components_at, target_at, optional_duration_at, body_at, optional_body_at, insert_at}
 use Rattle.scte35_codec.specs.Layout.{IsBytes}
 use Rattle.scte35_codec.proofs.Takes.{bind_ok, ok_is, flag-test, test-flag, Takes, Takes-none, Takes-then, number_takes, group_takes, Lies, Again, group_again}
 use Rattle.scte35_codec.proofs.Times.{optional_time_takes, optional_time_again, components_takes, components_again, optional_duration_takes, optional_duration_again}
@@ -32,7 +32,7 @@ target_takes true immediate bytes t rest fits e =
     let time = optional_time_takes immediate bytes b.0.0 b.0.1 fits b.1 in
     subst (λ (x : Target × List ℕ). TakesTarget true immediate x.0 bytes x.1) {x = (Program b.0.0, b.0.1)} (ok_is (Program b.0.0, b.0.1) (t, rest) b.2) (record { takes = time.0; kind = refl; small = time.1 })
 target_takes false immediate bytes t rest fits e =
-    let a = bind_ok (media_sequence_at 1 bytes) (λ count. components_at immediate count.0 count.1 >>= λ components. Ok (Components components.0, components.1)) (t, rest) e in
+    let a = bind_ok (number_at 1 bytes) (λ count. components_at immediate count.0 count.1 >>= λ components. Ok (Components components.0, components.1)) (t, rest) e in
     let b = bind_ok (components_at immediate a.0.0 a.0.1) (λ components. Ok (Components components.0, components.1)) (t, rest) a.2 in
     let read = number_takes 1 bytes a.0.0 a.0.1 fits a.1 in
     let cs : List Component = b.0.0 in
@@ -76,11 +76,11 @@ made_of flags target duration ids = record {
 body_takes : (bytes : List ℕ) (b : Body) (rest : List ℕ) → IsBytes bytes → body_at bytes ≡ Ok (b, rest) → TakesBody b bytes rest
 unfolding body_at body_fields
 body_takes bytes b rest fits e =
-    let f = bind_ok (media_sequence_at 1 bytes) (λ flags. target_at (bit 6 flags.0) (bit 4 flags.0) flags.1 >>= λ target. optional_duration_at (bit 5 flags.0) target.1 >>= λ duration. media_sequence_at 4 duration.1 >>= λ ids. Ok (made_of flags.0 target.0 duration.0 ids.0, ids.1)) (b, rest) e in
+    let f = bind_ok (number_at 1 bytes) (λ flags. target_at (bit 6 flags.0) (bit 4 flags.0) flags.1 >>= λ target. optional_duration_at (bit 5 flags.0) target.1 >>= λ duration. number_at 4 duration.1 >>= λ ids. Ok (made_of flags.0 target.0 duration.0 ids.0, ids.1)) (b, rest) e in
     let flags = f.0.0 in
-    let t = bind_ok (target_at (bit 6 flags) (bit 4 flags) f.0.1) (λ target. optional_duration_at (bit 5 flags) target.1 >>= λ duration. media_sequence_at 4 duration.1 >>= λ ids. Ok (made_of flags target.0 duration.0 ids.0, ids.1)) (b, rest) f.2 in
-    let d = bind_ok (optional_duration_at (bit 5 flags) t.0.1) (λ duration. media_sequence_at 4 duration.1 >>= λ ids. Ok (made_of flags t.0.0 duration.0 ids.0, ids.1)) (b, rest) t.2 in
-    let i = bind_ok (media_sequence_at 4 d.0.1) (λ ids. Ok (made_of flags t.0.0 d.0.0 ids.0, ids.1)) (b, rest) d.2 in
+    let t = bind_ok (target_at (bit 6 flags) (bit 4 flags) f.0.1) (λ target. optional_duration_at (bit 5 flags) target.1 >>= λ duration. number_at 4 duration.1 >>= λ ids. Ok (made_of flags target.0 duration.0 ids.0, ids.1)) (b, rest) f.2 in
+    let d = bind_ok (optional_duration_at (bit 5 flags) t.0.1) (λ duration. number_at 4 duration.1 >>= λ ids. Ok (made_of flags t.0.0 duration.0 ids.0, ids.1)) (b, rest) t.2 in
+    let i = bind_ok (number_at 4 d.0.1) (λ ids. Ok (made_of flags t.0.0 d.0.0 ids.0, ids.1)) (b, rest) d.2 in
     let made = made_of flags t.0.0 d.0.0 i.0.0 in
     let read = number_takes 1 bytes flags f.0.1 fits f.1 in
     let below : flags < 2 ^ 8 = read.below in
@@ -154,8 +154,8 @@ optional_body_again (Some b) after bytes timed lies =
 pub insert_takes : (bytes : List ℕ) (i : SpliceEvent) (rest : List ℕ) → IsBytes bytes → insert_at bytes ≡ Ok (i, rest) → TakesEvent i bytes rest
 unfolding insert_at splice_insert
 insert_takes bytes i rest fits e =
-    let v = bind_ok (media_sequence_at 4 bytes) (λ event. media_sequence_at 1 event.1 >>= λ flags. optional_body_at (bit 7 flags.0) flags.1 >>= λ body. Ok (record { event_id = event.0; body = body.0 }, body.1)) (i, rest) e in
-    let f = bind_ok (media_sequence_at 1 v.0.1) (λ flags. optional_body_at (bit 7 flags.0) flags.1 >>= λ body. Ok (record { event_id = v.0.0; body = body.0 }, body.1)) (i, rest) v.2 in
+    let v = bind_ok (number_at 4 bytes) (λ event. number_at 1 event.1 >>= λ flags. optional_body_at (bit 7 flags.0) flags.1 >>= λ body. Ok (record { event_id = event.0; body = body.0 }, body.1)) (i, rest) e in
+    let f = bind_ok (number_at 1 v.0.1) (λ flags. optional_body_at (bit 7 flags.0) flags.1 >>= λ body. Ok (record { event_id = v.0.0; body = body.0 }, body.1)) (i, rest) v.2 in
     let o = bind_ok (optional_body_at (bit 7 f.0.0) f.0.1) (λ body. Ok (record { event_id = v.0.0; body = body.0 }, body.1)) (i, rest) f.2 in
     let flags = f.0.0 in
     let event = number_takes 4 bytes v.0.0 v.0.1 fits v.1 in

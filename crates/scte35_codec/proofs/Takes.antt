@@ -6,7 +6,7 @@ use Rattle.scte35_codec.specs.declared.fault.SpliceFault.{SpliceFault}
 use Rattle.scte35_codec.specs.declared.fault.SpliceFault.TheVariants.{CommandLength}
 use Rattle.scte35_codec.specs.Layout.{Field, width, number, Splits, Holds, IsRead}
 use Rattle.scte35_codec.specs.Section.{flag}
-use Rattle.scte35_codec.specs.Reading.{◌>>=◌, media_sequence_at}
+use Rattle.scte35_codec.specs.Reading.{◌>>=◌, number_at}
 use Rattle.scte35_codec.specs.Layout.{IsBytes}
 use Rattle.scte35_codec.proofs.Numbers.{IsBytes-drop, IsBytes-take}
 use Rattle.scte35_codec.proofs.Fields.{width-append, Holds-join, Holds-parts, number-two, number_fits}
@@ -88,7 +88,7 @@ pub record IsNumber (count : ℕ) (bytes : List ℕ) (n : ℕ) (rest : List ℕ)
   pub front_fits : IsBytes front
   pub rest_fits : IsBytes rest
 
-pub number_takes : (count : ℕ) (bytes : List ℕ) (n : ℕ) (rest : List ℕ) → IsBytes bytes → media_sequence_at count bytes ≡ Ok (n, rest) → IsNumber count bytes n rest
+pub number_takes : (count : ℕ) (bytes : List ℕ) (n : ℕ) (rest : List ℕ) → IsBytes bytes → number_at count bytes ≡ Ok (n, rest) → IsNumber count bytes n rest
 number_takes count bytes n rest fits e =
     let g = guard_ok (ltb (length bytes) count) CommandLength (number (take count bytes), drop count bytes) (n, rest) e in
     let long : count ≤ length bytes = ltb-false _ _ g.0 in
@@ -134,7 +134,7 @@ pub record Group (count : ℕ) (fields after : List Field) (bytes : List ℕ) : 
   pub split : Splits IsRead fields value
   pub below : value < 2 ^ (8 * count)
   pub long : count ≤ length bytes
-  pub again : Again (media_sequence_at count bytes) value after
+  pub again : Again (number_at count bytes) value after
 
 -- what is in front, and what follows
 pub parts : (count : ℕ) (fields after : List Field) (bytes : List ℕ) → 8 * count ≡ width fields → Lies (fields ++ after) bytes → (count ≤ length bytes) × (Lies fields (take count bytes) × Lies after (drop count bytes))
@@ -159,7 +159,7 @@ group_again count fields after bytes size lies =
     }
 
 -- the highest of five bytes
-pub first_of_five : (bytes : List ℕ) (n : ℕ) (rest : List ℕ) → IsBytes bytes → media_sequence_at 5 bytes ≡ Ok (n, rest) → (after : List ℕ) × (media_sequence_at 1 bytes ≡ Ok (n / 2 ^ 32, after))
+pub first_of_five : (bytes : List ℕ) (n : ℕ) (rest : List ℕ) → IsBytes bytes → number_at 5 bytes ≡ Ok (n, rest) → (after : List ℕ) × (number_at 1 bytes ≡ Ok (n / 2 ^ 32, after))
 first_of_five bytes n rest fits e =
     let g = guard_ok (ltb (length bytes) 5) CommandLength (number (take 5 bytes), drop 5 bytes) (n, rest) e in
     let long : 5 ≤ length bytes = ltb-false _ _ g.0 in

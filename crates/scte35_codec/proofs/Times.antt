@@ -8,7 +8,7 @@ use Rattle.scte35_codec.specs.declared.info.BreakDuration.{BreakDuration}
 use Rattle.scte35_codec.specs.Layout.{Field, Is, Splits, IsRead}
 use Rattle.scte35_codec.specs.Section.{optional, time_fields, splice_time, component, break_duration, is_timed}
 use Rattle.scte35_codec.specs.Writing.{pts_fits, place_fits, duration_fits}
-use Rattle.scte35_codec.specs.Reading.{◌>>=◌, media_sequence_at, bit, time_at, specified_time_at, optional_time_at, component_at, components_at, optional_duration_at}
+use Rattle.scte35_codec.specs.Reading.{◌>>=◌, number_at, bit, time_at, specified_time_at, optional_time_at, component_at, components_at, optional_duration_at}
 use Rattle.scte35_codec.specs.Layout.{IsBytes}
 use Rattle.scte35_codec.proofs.Takes.{bind_ok, ok_is, flag-test, test-flag, Takes, Takes-none, Takes-then, number_takes, group_takes, Lies, Again, group_again, first_of_five}
 use Rattle.std.proofs.lemmas.Bool.{eqb-true, eqb-false, cases_lt, lt-ltb}
@@ -22,15 +22,15 @@ record TakesTime (t : SpliceTime) (bytes rest : List ℕ) : Type 0 where
   pub small : pts_fits t.pts ≡ true
 
 -- the highest bit of five bytes is that of their first
-high_bit : (bytes : List ℕ) (n m : ℕ) (rest after : List ℕ) → IsBytes bytes → media_sequence_at 5 bytes ≡ Ok (n, rest) → media_sequence_at 1 bytes ≡ Ok (m, after) → n / 2 ^ 32 ≡ m
+high_bit : (bytes : List ℕ) (n m : ℕ) (rest after : List ℕ) → IsBytes bytes → number_at 5 bytes ≡ Ok (n, rest) → number_at 1 bytes ≡ Ok (m, after) → n / 2 ^ 32 ≡ m
 high_bit bytes n m rest after fits e f =
     let one = first_of_five bytes n rest fits e in
     ap (λ (p : ℕ × List ℕ). p.0) (ok_is (n / 2 ^ 32, one.0) (m, after) (sym one.1 ∙ f))
 
-specified_takes : (bytes : List ℕ) (m : ℕ) (after : List ℕ) (t : SpliceTime) (rest : List ℕ) → IsBytes bytes → media_sequence_at 1 bytes ≡ Ok (m, after) → bit 7 m ≡ true → specified_time_at bytes ≡ Ok (t, rest) → TakesTime t bytes rest
+specified_takes : (bytes : List ℕ) (m : ℕ) (after : List ℕ) (t : SpliceTime) (rest : List ℕ) → IsBytes bytes → number_at 1 bytes ≡ Ok (m, after) → bit 7 m ≡ true → specified_time_at bytes ≡ Ok (t, rest) → TakesTime t bytes rest
 unfolding specified_time_at
 specified_takes bytes m after t rest fits one set e =
-    let b = bind_ok (media_sequence_at 5 bytes) (λ time. Ok (record { pts = Some (time.0 % 2 ^ 33) }, time.1)) (t, rest) e in
+    let b = bind_ok (number_at 5 bytes) (λ time. Ok (record { pts = Some (time.0 % 2 ^ 33) }, time.1)) (t, rest) e in
     let n = b.0.0 in
     let read = number_takes 5 bytes n b.0.1 fits b.1 in
     let top = high_bit bytes n m b.0.1 after fits b.1 one in
@@ -40,7 +40,7 @@ specified_takes bytes m after t rest fits one set e =
     subst (λ (x : SpliceTime × List ℕ). TakesTime x.0 bytes x.1) {x = (record { pts = Some (n % 2 ^ 33) }, b.0.1)} (ok_is (record { pts = Some (n % 2 ^ 33) }, b.0.1) (t, rest) b.2)
     (record { takes = group_takes 5 (time_fields (Some (n % 2 ^ 33))) bytes n b.0.1 read refl split; small = lt-ltb (n % 2 ^ 33) (2 ^ 33) (mod_below n (2 ^ 33) (pow_pos 33)) })
 
-unspecified_takes : (bytes : List ℕ) (m : ℕ) (after : List ℕ) → IsBytes bytes → media_sequence_at 1 bytes ≡ Ok (m, after) → bit 7 m ≡ false → Takes (time_fields None) bytes after
+unspecified_takes : (bytes : List ℕ) (m : ℕ) (after : List ℕ) → IsBytes bytes → number_at 1 bytes ≡ Ok (m, after) → bit 7 m ≡ false → Takes (time_fields None) bytes after
 unspecified_takes bytes m after fits one clear =
     let read = number_takes 1 bytes m after fits one in
     let not_one = eqb-false (m / 2 ^ 7 % 2) 1 clear in
@@ -53,7 +53,7 @@ chosen : {A : Type 0} (b : Bool) (x y z : A) → cond b x y ≡ z → (b ≡ tru
 chosen true x y z e = (λ _. e, λ f. absurd cc)
 chosen false x y z e = (λ f. absurd cc, λ _. e)
 
-time_takes_by : (b : Bool) (bytes : List ℕ) (m : ℕ) (after : List ℕ) (t : SpliceTime) (rest : List ℕ) → IsBytes bytes → media_sequence_at 1 bytes ≡ Ok (m, after) → bit 7 m ≡ b → cond b (specified_time_at bytes) (Ok (record { pts = None }, after)) ≡ Ok (t, rest) → TakesTime t bytes rest
+time_takes_by : (b : Bool) (bytes : List ℕ) (m : ℕ) (after : List ℕ) (t : SpliceTime) (rest : List ℕ) → IsBytes bytes → number_at 1 bytes ≡ Ok (m, after) → bit 7 m ≡ b → cond b (specified_time_at bytes) (Ok (record { pts = None }, after)) ≡ Ok (t, rest) → TakesTime t bytes rest
 time_takes_by true bytes m after t rest fits one is e = specified_takes bytes m after t rest fits one is e
 time_takes_by false bytes m after t rest fits one is e =
     subst (λ (x : SpliceTime × List ℕ). TakesTime x.0 bytes x.1) {x = (record { pts = None }, after)} (ok_is (record { pts = None }, after) (t, rest) e) (record { takes = unspecified_takes bytes m after fits one is; small = refl })
@@ -61,7 +61,7 @@ time_takes_by false bytes m after t rest fits one is e =
 time_takes : (bytes : List ℕ) (t : SpliceTime) (rest : List ℕ) → IsBytes bytes → time_at bytes ≡ Ok (t, rest) → TakesTime t bytes rest
 unfolding time_at
 time_takes bytes t rest fits e =
-    let b = bind_ok (media_sequence_at 1 bytes) (λ flags. cond (bit 7 flags.0) (specified_time_at bytes) (Ok (record { pts = None }, flags.1))) (t, rest) e in
+    let b = bind_ok (number_at 1 bytes) (λ flags. cond (bit 7 flags.0) (specified_time_at bytes) (Ok (record { pts = None }, flags.1))) (t, rest) e in
     time_takes_by (bit 7 b.0.0) bytes b.0.0 b.0.1 t rest fits b.1 refl b.2
 
 time_again_by : (pts : Option ℕ) (after : List Field) (bytes : List ℕ) → Lies (time_fields pts ++ after) bytes → Again (time_at bytes) (record { pts = pts }) after
@@ -108,7 +108,7 @@ Component = ℕ × Option SpliceTime
 component_takes : (immediate : Bool) (bytes : List ℕ) (c : Component) (rest : List ℕ) → IsBytes bytes → component_at immediate bytes ≡ Ok (c, rest) → Takes (component c) bytes rest × (place_fits immediate c.1 ≡ true)
 unfolding component_at
 component_takes immediate bytes c rest fits e =
-    let a = bind_ok (media_sequence_at 1 bytes) (λ tag. optional_time_at immediate tag.1 >>= λ time. Ok ((tag.0, time.0), time.1)) (c, rest) e in
+    let a = bind_ok (number_at 1 bytes) (λ tag. optional_time_at immediate tag.1 >>= λ time. Ok ((tag.0, time.0), time.1)) (c, rest) e in
     let b = bind_ok (optional_time_at immediate a.0.1) (λ time. Ok ((a.0.0, time.0), time.1)) (c, rest) a.2 in
     let read = number_takes 1 bytes a.0.0 a.0.1 fits a.1 in
     let tag_fields : List Field = (8, Is a.0.0) ∷ [] in
@@ -158,7 +158,7 @@ unfolding optional_duration_at
 optional_duration_takes false bytes d rest fits e =
     subst (λ (x : Option BreakDuration × List ℕ). Takes (optional break_duration x.0) bytes x.1 × (is_some x.0 ≡ false) × (duration_fits x.0 ≡ true)) {x = (None, bytes)} (ok_is (None, bytes) (d, rest) e) (Takes-none bytes fits, refl, refl)
 optional_duration_takes true bytes d rest fits e =
-    let b = bind_ok (media_sequence_at 5 bytes) (λ duration. Ok (Some (record { auto_return = bit 39 duration.0; ticks = duration.0 % 2 ^ 33 }), duration.1)) (d, rest) e in
+    let b = bind_ok (number_at 5 bytes) (λ duration. Ok (Some (record { auto_return = bit 39 duration.0; ticks = duration.0 % 2 ^ 33 }), duration.1)) (d, rest) e in
     let n = b.0.0 in
     let read = number_takes 5 bytes n b.0.1 fits b.1 in
     let below : n < 2 ^ 40 = read.below in

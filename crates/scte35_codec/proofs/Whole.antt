@@ -11,7 +11,7 @@ use Rattle.scte35_codec.specs.declared.info.SpliceInfo.{SpliceInfo}
 use Rattle.scte35_codec.specs.Section.{section_of}
 use Rattle.scte35_codec.specs.Writing.{fits, command_fits, command_length, section_length, has_section}
 use Rattle.scte35_codec.proofs.Fits.{is_proper}
-use Rattle.scte35_codec.specs.Reading.{◌>>=◌, Gives, number_in, bit, bytes_at, media_sequence_at, command_at, ending_at, tail_at, contents_of, reading}
+use Rattle.scte35_codec.specs.Reading.{◌>>=◌, Gives, number_in, bit, bytes_at, number_at, command_at, ending_at, tail_at, contents_of, reading}
 use Rattle.scte35_codec.specs.Layout.{IsBytes}
 use Rattle.scte35_codec.proofs.Numbers.{IsBytes-drop, IsBytes-take}
 use Rattle.scte35_codec.proofs.Fields.{width-append, number_fits}
@@ -55,7 +55,7 @@ Tail = List ℕ × List ℕ × ℕ
 tail_takes : (bytes : List ℕ) (t : Tail) → IsBytes bytes → tail_at bytes ≡ Ok t → Takes (tail_fields t.0 t.1 t.2) bytes []
 unfolding tail_at
 tail_takes bytes t fits e =
-    let a = bind_ok (media_sequence_at 2 bytes) (λ count. bytes_at count.0 count.1 >>= λ descriptors. ending_at descriptors.1 >>= λ ending. Ok (descriptors.0, ending.0, ending.1)) t e in
+    let a = bind_ok (number_at 2 bytes) (λ count. bytes_at count.0 count.1 >>= λ descriptors. ending_at descriptors.1 >>= λ ending. Ok (descriptors.0, ending.0, ending.1)) t e in
     let b = bind_ok (bytes_at a.0.0 a.0.1) (λ descriptors. ending_at descriptors.1 >>= λ ending. Ok (descriptors.0, ending.0, ending.1)) t a.2 in
     let d = bind_ok (ending_at b.0.1) (λ ending. Ok (b.0.0, ending.0, ending.1)) t b.2 in
     let n = a.0.0 in

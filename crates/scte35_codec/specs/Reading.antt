@@ -35,19 +35,19 @@ abbrev pub bytes_at : ℕ → List ℕ → Result (List ℕ × List ℕ) SpliceF
 bytes_at count bytes = if nat_lt (length bytes) count then Err CommandLength else Ok (take count bytes, drop count bytes)
 
 -- the number in the first bytes, and the bytes after them
-abbrev pub media_sequence_at : ℕ → List ℕ → Result (ℕ × List ℕ) SpliceFault
-media_sequence_at count bytes = if nat_lt (length bytes) count then Err CommandLength else Ok (number (take count bytes), drop count bytes)
+abbrev pub number_at : ℕ → List ℕ → Result (ℕ × List ℕ) SpliceFault
+number_at count bytes = if nat_lt (length bytes) count then Err CommandLength else Ok (number (take count bytes), drop count bytes)
 
 -- ---- The parts of splice_insert
 
 unfoldable pub specified_time_at : List ℕ → Result (SpliceTime × List ℕ) SpliceFault
 specified_time_at bytes = do
-  time ← media_sequence_at 5 bytes
+  time ← number_at 5 bytes
   Ok (record { pts = Some (time.0 % 2 ^ 33) }, time.1)
 
 unfoldable pub time_at : List ℕ → Result (SpliceTime × List ℕ) SpliceFault
 time_at bytes = do
-  flags ← media_sequence_at 1 bytes
+  flags ← number_at 1 bytes
   if bit 7 flags.0 then specified_time_at bytes else Ok (record { pts = None }, flags.1)
 
 -- no time where the splice is immediate
@@ -59,7 +59,7 @@ optional_time_at false bytes = do
 
 unfoldable pub component_at : Bool → List ℕ → Result ((ℕ × Option SpliceTime) × List ℕ) SpliceFault
 component_at immediate bytes = do
-  tag ← media_sequence_at 1 bytes
+  tag ← number_at 1 bytes
   time ← optional_time_at immediate tag.1
   Ok ((tag.0, time.0), time.1)
 
@@ -75,22 +75,22 @@ target_at true immediate bytes = do
   time ← optional_time_at immediate bytes
   Ok (Program time.0, time.1)
 target_at false immediate bytes = do
-  count ← media_sequence_at 1 bytes
+  count ← number_at 1 bytes
   components ← components_at immediate count.0 count.1
   Ok (Components components.0, components.1)
 
 unfoldable pub optional_duration_at : Bool → List ℕ → Result (Option BreakDuration × List ℕ) SpliceFault
 optional_duration_at false bytes = Ok (None, bytes)
 optional_duration_at true bytes = do
-  duration ← media_sequence_at 5 bytes
+  duration ← number_at 5 bytes
   Ok (Some (record { auto_return = bit 39 duration.0; ticks = duration.0 % 2 ^ 33 }), duration.1)
 
 unfoldable pub body_at : List ℕ → Result (Body × List ℕ) SpliceFault
 body_at bytes = do
-  flags ← media_sequence_at 1 bytes
+  flags ← number_at 1 bytes
   target ← target_at (bit 6 flags.0) (bit 4 flags.0) flags.1
   duration ← optional_duration_at (bit 5 flags.0) target.1
-  ids ← media_sequence_at 4 duration.1
+  ids ← number_at 4 duration.1
   Ok (
     record {
       out_of_network = bit 7 flags.0;
@@ -113,8 +113,8 @@ optional_body_at false bytes = do
 
 unfoldable pub insert_at : List ℕ → Result (SpliceEvent × List ℕ) SpliceFault
 insert_at bytes = do
-  event ← media_sequence_at 4 bytes
-  flags ← media_sequence_at 1 event.1
+  event ← number_at 4 bytes
+  flags ← number_at 1 event.1
   body ← optional_body_at (bit 7 flags.0) flags.1
   Ok (record { event_id = event.0; body = body.0 }, body.1)
 
@@ -151,7 +151,7 @@ ending_at bytes =
 -- the descriptors, the stuffing and the CRC, which stand after the command
 unfoldable pub tail_at : List ℕ → Result (List ℕ × List ℕ × ℕ) SpliceFault
 tail_at bytes = do
-  count ← media_sequence_at 2 bytes
+  count ← number_at 2 bytes
   descriptors ← bytes_at count.0 count.1
   ending ← ending_at descriptors.1
   Ok (descriptors.0, ending.0, ending.1)

@@ -2,11 +2,11 @@
 
 ghost use Rattle.std.specs.Prelude.{◌≡◌, ◌+◌, ◌^◌, ◌<◌, ◌≤◌, length, IfOk};
 ghost use Rattle.scte35_codec.specs.Layout.{number};
-ghost use Rattle.scte35_codec.specs.Reading.{Gives, media_sequence_at, bytes_at, number_in, bit};
+ghost use Rattle.scte35_codec.specs.Reading.{Gives, number_at, bytes_at, number_in, bit};
 
 use crate::fault::SpliceFault;
 
-/// The number of at most eight bytes.
+/// The number that `bytes` hold, at most eight of them, the highest byte first.
 pub fn number(bytes: &[u8]) -> u64
     requires { length bytes.now ≤ 8 }
     ensures value { result ≡ number bytes.now }
@@ -19,7 +19,7 @@ pub fn number(bytes: &[u8]) -> u64
     number
 }
 
-/// The number in `count` bytes from `start` on.
+/// The number in the `count` bytes of `bytes` from the place `start` on, from 0: at most eight, the highest first.
 pub fn number_in(bytes: &[u8], start: usize, count: usize) -> u64
     requires few { count ≤ 8 }
     requires within { start + count ≤ length bytes.now }
@@ -29,7 +29,7 @@ pub fn number_in(bytes: &[u8], start: usize, count: usize) -> u64
     number(&bytes[start..start + count])
 }
 
-/// The bit at a place, where the lowest is at place 0.
+/// The bit of `number` at `place`: the lowest is at place 0.
 pub fn bit(number: u64, place: u32) -> bool
     requires { place < 64 }
     ensures { result ≡ bit place number }
@@ -37,17 +37,18 @@ pub fn bit(number: u64, place: u32) -> bool
     (number >> place) % 2 == 1
 }
 
-/// The number in the first `count` bytes, and the bytes after it.
+/// The number in the first `count` of `bytes`, at most eight, and the bytes after them. `CommandLength` if there are
+/// fewer.
 pub fn take_number(bytes: &[u8], count: usize) -> Result<(u64, &[u8]), SpliceFault>
     requires { count ≤ 8 }
-    ensures value { Gives (λ x. (x.0, x.1.now)) result (media_sequence_at count bytes.now) }
+    ensures value { Gives (λ x. (x.0, x.1.now)) result (number_at count bytes.now) }
     ensures below { IfOk result (λ x. x.0 < 256 ^ count) }
 {
     let (front, rest) = take_bytes(bytes, count)?;
     Ok((number(front), rest))
 }
 
-/// The first `count` bytes, and the bytes after them.
+/// The first `count` of `bytes`, and those after them. `CommandLength` if there are fewer.
 pub fn take_bytes(bytes: &[u8], count: usize) -> Result<(&[u8], &[u8]), SpliceFault>
     ensures value { Gives (λ x. (x.0.now, x.1.now)) result (bytes_at count bytes.now) }
     ensures len { IfOk result (λ x. length x.0.now ≡ count) }

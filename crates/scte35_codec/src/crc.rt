@@ -7,9 +7,9 @@ ghost use Rattle.scte35_codec.specs.Crc.{after_bit, crc_of, lowest_bits};
 // The powers of the polynomial below the highest, a bit for each.
 const POLYNOMIAL: u32 = 0x04C1_1DB7;
 
-/// CRC_32 of some bytes: the one of MPEG-2 (ISO/IEC 13818-1, Annex A), of polynomial 0x04C11DB7 with all
-/// ones at first, which nothing reflects or inverts. That of a whole section with its CRC_32 is 0. Takes
-/// no memory.
+/// CRC_32 of `bytes` (SCTE 35, section 9.6): the one of MPEG-2 (ISO/IEC 13818-1, Annex A), of polynomial 0x04C11DB7
+/// with all ones at first, which nothing reflects or inverts. That of a whole section with its CRC_32 is 0. Takes no
+/// memory.
 #[tactic(auto, using(crate::proofs::Registers::crc_by_bytes))]
 pub fn crc_of(bytes: &[u8]) -> u32
     ensures { result ≡ crc_of bytes.now }

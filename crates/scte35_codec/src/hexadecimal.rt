@@ -97,10 +97,11 @@ fn section_of_text(alloc: Global, text: &str) -> Result<SpliceInfo, SpliceFault>
     read_digits(alloc, digits)
 }
 
-/// Reads a splice_info_section from hexadecimal text, as the SCTE35 attributes of EXT-X-DATERANGE in
-/// RFC 8216, section 4.3.2.7.1, write it: `0x` or `0X`, and two digits in either case for each byte.
+/// The splice_info_section (SCTE 35, section 9.6) that `text` holds in hexadecimal, as the SCTE35 attributes of
+/// EXT-X-DATERANGE are written (RFC 8216, section 4.3.2.7.1): `0x` or `0X`, and two digits in either case for each
+/// byte.
 ///
-/// A text that is not of this form is `NotHex`; else the answer is that of [`read`] for the bytes.
+/// `NotHex` if `text` is not of this form; else the answer is that of [`read`] for the bytes.
 pub fn read_hex(alloc: Global, text: &str) -> Result<SpliceInfo, SpliceFault>
     // What is read is what the text's bytes say.
     ensures found { IfOk result (λ info. (bytes : List ℕ) × (hex_bytes text.now ≡ Ok bytes) × IsSection (section_of info) bytes) }

@@ -8,10 +8,10 @@
 mod bits;
 mod crc;
 mod fault;
-mod fitting;
 mod hexadecimal;
 mod info;
 pub mod laws;
+mod limits;
 mod reading;
 mod writing;
 

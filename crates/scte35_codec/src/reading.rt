@@ -22,6 +22,7 @@ const SHORTEST: usize = 20;
 // splice_command_length where the length of a splice_insert is not stated.
 const UNSTATED: u64 = 0xFFF;
 
+// The splice_time() at the front of `bytes`, and the bytes after it (SCTE 35, section 9.8.1).
 #[tactic(auto, unfolding(crate::specs::Reading::time_at, crate::specs::Reading::specified_time_at))]
 fn take_time(bytes: &[u8]) -> Result<(SpliceTime, &[u8]), SpliceFault>
     ensures { Gives (λ x. (x.0, x.1.now)) result (time_at bytes.now) }
@@ -62,6 +63,7 @@ fn take_component(
     Ok(((tag as u8, time), rest))
 }
 
+// The break_duration() at the front of `bytes`, if it is stated, and the bytes after it (SCTE 35, section 9.8.2).
 #[tactic(auto, unfolding(crate::specs::Reading::optional_duration_at))]
 fn take_optional_duration(
     stated: bool,
@@ -150,6 +152,7 @@ fn take_optional_body(
     Ok((Some(body), rest))
 }
 
+// The splice_insert() at the front of `bytes`, and the bytes after it (SCTE 35, section 9.7.3).
 #[tactic(auto, unfolding(crate::specs::Reading::insert_at))]
 fn take_insert(alloc: Global, bytes: &[u8]) -> Result<(SpliceInsert, &[u8]), SpliceFault>
     ensures { Gives (λ x. (event_of x.0, x.1.now)) result (insert_at bytes.now) }
@@ -268,6 +271,7 @@ fn contents(alloc: Global, bytes: &[u8]) -> Result<SpliceInfo, SpliceFault>
     })
 }
 
+// The section that all of `bytes` are, or its first fault (SCTE 35, section 9.6).
 #[tactic(auto, unfolding(crate::specs::Reading::reading))]
 fn section(alloc: Global, bytes: &[u8]) -> Result<SpliceInfo, SpliceFault>
     ensures exact { Gives section_of result (reading bytes.now) }
@@ -292,11 +296,19 @@ fn section(alloc: Global, bytes: &[u8]) -> Result<SpliceInfo, SpliceFault>
     contents(alloc, bytes)
 }
 
-/// Reads a splice_info_section of ANSI/SCTE 35, all of the bytes.
+/// The splice_info_section (SCTE 35, section 9.6) that all of `bytes` are.
 ///
-/// The answer is the value whose layout the bytes have, where there is one, else the first fault in the
-/// order of [`SpliceFault`]. The CRC is not verified, and reserved bits are ignored. A fault that
-/// comes before `CommandLength` is told whatever memory there is.
+/// The answer is the value whose layout `bytes` have, if there is one, else the first fault in the order of
+/// [`SpliceFault`]. The CRC is not verified, and reserved bits are ignored. A fault that comes before `CommandLength`
+/// is answered whatever memory there is.
+///
+/// ```text
+/// let info = read(alloc, &bytes)?;
+/// match info.command {
+///     SpliceCommand::Insert(insert) => ..,    a splice_insert, taken apart
+///     SpliceCommand::Other { .. } => ..,      its type, and its bytes as they are
+/// }
+/// ```
 pub fn read(alloc: Global, bytes: &[u8]) -> Result<SpliceInfo, SpliceFault>
     // What is read is laid out so, field by field.
     ensures found { IfOk result (λ info. IsSection (section_of info) bytes.now) }

@@ -13,11 +13,11 @@ ghost use Rattle.scte35_codec.specs.declared.fault.SpliceFault.TheVariants.{OutO
 
 use crate::crc::crc_of;
 use crate::fault::SpliceFault;
-use crate::fitting::{command_len, has_section, section_length};
 use crate::info::{
     BreakDuration, InsertBody, SPLICE_INSERT, SpliceCommand, SpliceInfo, SpliceInsert,
     SpliceTarget, SpliceTime,
 };
+use crate::limits::{command_len, has_section, section_length};
 use std::alloc::{AllocError, Global};
 
 // The reserved bits and flags in front of a time of 33 bits, and of a time that is not specified.
@@ -295,13 +295,12 @@ fn front_of(alloc: Global, info: &SpliceInfo) -> Result<Vec<u8>, SpliceFault>
     Ok(out)
 }
 
-/// Writes a value as a splice_info_section, with its lengths counted.
+/// The splice_info_section (SCTE 35, section 9.6) of `info`, as bytes, with its lengths counted.
 ///
-/// Reserved bits are ones, section_syntax_indicator, private_indicator and encryption_algorithm are 0,
-/// and the CRC is written as it is given. `TooLarge` is answered exactly where a number does not fit its
-/// field, a time is there where the splice is immediate or is not there where it isn't, a command of
-/// another type has the type of splice_insert, there are more than 255 components, or section_length
-/// would pass 4093.
+/// Reserved bits are ones, section_syntax_indicator, private_indicator and encryption_algorithm are 0, and the CRC is
+/// written as it is given. `TooLarge` is answered exactly if a number does not fit its field, a time is there though
+/// the splice is immediate or is missing though it isn't, a command of another type has the type of splice_insert,
+/// there are more than 255 components, or section_length would pass 4093. `OutOfMemory` only if an allocation fails.
 pub fn write(alloc: Global, info: &SpliceInfo) -> Result<Vec<u8>, SpliceFault>
     // A value is refused exactly where it has no section that may be written.
     ensures refused { (result ≡ Err TooLarge) ↔ (has_section (section_of info.now) ≡ false) }
@@ -319,9 +318,9 @@ pub fn write(alloc: Global, info: &SpliceInfo) -> Result<Vec<u8>, SpliceFault>
     Ok(out)
 }
 
-/// Writes a value as [`write`] does, but with the CRC_32 that its bytes have in place of the value's own:
-/// the one by which the registers of ISO/IEC 13818-1, Annex A, are zero after the whole section, as ANSI/SCTE
-/// 35 wants it. So it is a section that others take.
+/// The section of `info` as [`write`] makes it and with the same faults, but with the CRC_32 that its bytes have in
+/// place of the CRC of `info`: the one by which the registers of ISO/IEC 13818-1, Annex A, are zero after the whole
+/// section, as SCTE 35 wants it. So it is a section that others take.
 pub fn write_with_crc(alloc: Global, info: &SpliceInfo) -> Result<Vec<u8>, SpliceFault>
     // A value is refused exactly where it has no section that may be written.
     ensures refused { (result ≡ Err TooLarge) ↔ (has_section (section_of info.now) ≡ false) }

@@ -10,8 +10,8 @@ use attr_list::{AttrFault, AttrList};
 use playlist_model::FaultKind;
 use std::alloc::Global;
 
-/// The attributes that stand after a tag's colon. `BadAttributes` exactly where that text is no
-/// attribute list of at most 64 attributes; a failed allocation apart.
+/// The attributes in `rest`, which comes after a tag's colon (RFC 8216, section 4.2). `BadAttributes` exactly if it
+/// is no attribute list of at most 64 attributes; `OutOfMemory` only if an allocation fails.
 pub fn attributes_of(alloc: Global, rest: &str) -> Result<AttrList<'_>, FaultKind>
     ensures { Gives pairs_of result (attributes limited rest.now) }
 {
@@ -22,8 +22,8 @@ pub fn attributes_of(alloc: Global, rest: &str) -> Result<AttrList<'_>, FaultKin
     }
 }
 
-/// The value of an attribute that may be left out. `BadAttributes` exactly where it is there, and in
-/// quotes though it has to stand without, or without though it has to stand in quotes.
+/// The value of the attribute `name` of `list`, which may be left out. `BadAttributes` exactly if it is there and in
+/// quotes though it isn't `quoted` by its type, or without though it is (RFC 8216, section 4.2). Takes no memory.
 pub fn optional<'a>(
     list: &AttrList<'a>,
     name: &str,
@@ -40,9 +40,9 @@ pub fn optional<'a>(
     Ok(Some(attr.value))
 }
 
-/// The value of an attribute that has to be there. `MissingAttribute` exactly where it is not;
-/// `BadAttributes` exactly where it is, and in quotes though it has to stand without, or without though
-/// it has to stand in quotes.
+/// The value of the attribute `name` of `list`, which has to be there. `MissingAttribute` exactly if it is not;
+/// `BadAttributes` exactly if it is, and in quotes though it isn't `quoted` by its type, or without though it is (RFC
+/// 8216, section 4.2). Takes no memory.
 pub fn required<'a>(list: &AttrList<'a>, name: &str, quoted: bool) -> Result<&'a str, FaultKind>
     ensures { GivesExactly (λ value. value.now) result (required quoted (attribute (pairs_of list.now) name.now)) }
 {

@@ -124,7 +124,7 @@ impl<'a> Durations<'a> {
         Ok(Shared::new(self.alloc, title)?)
     }
 
-    // What a text says by itself.
+    // What EXTINF states by itself: a duration, and a title after the comma (RFC 8216, section 4.3.2.1).
     fn parsed(&mut self, text: &'a str) -> Result<(Nanos, Shared<ShortText>), FaultKind>
         ensures said { Gives (λ own. duration own.0 own.1) result (duration_said text.now) }
         ensures kept { self.new ≡ self.old }
@@ -157,8 +157,9 @@ impl<'a> Durations<'a> {
         Ok(())
     }
 
-    /// Reads the duration and the title that EXTINF states for the next segment. `BadDuration` where
-    /// it states none.
+    /// Reads the duration and the title that `text`, the value of EXTINF, states for the next segment (RFC 8216,
+    /// section 4.3.2.1). `BadDuration` if it states none, `OutOfMemory` only if an allocation fails; all is then as
+    /// it was.
     #[inline]
     pub fn read(&mut self, text: &'a str) -> Result<(), FaultKind>
         ensures due { OnOk result (IsDue text.now self.new) }

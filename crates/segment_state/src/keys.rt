@@ -35,8 +35,8 @@ fn remove_format(keys: &mut Vec<Key>, format: &str)
 }
 
 #[tactic(auto, using(crate::proofs::KeyLemmas::insert_key_at, crate::proofs::KeyLemmas::length_put))]
-// Puts a key in its place, in place of the one of its format. `TooMany` where 17 formats would be in
-// force.
+// Puts `key` in its place, in place of the one of its format (RFC 8216, section 4.3.2.4). `TooMany` if 17 formats
+// would be in force.
 fn put_key(keys: &mut Vec<Key>, key: Key) -> Result<(), FaultKind>
     ensures ok { OnOk result (with_key key keys.old.items ≡ Ok keys.new.items) }
     ensures err { IfErr result (λ e. Refuses e (with_key key keys.old.items)) }
@@ -52,8 +52,8 @@ fn put_key(keys: &mut Vec<Key>, key: Key) -> Result<(), FaultKind>
     Ok(())
 }
 
-/// The keys in force after one more, which takes the place of the one of its format. `TooMany` where 17 formats would be in
-/// force.
+/// The `keys` in force with `key`, which takes the place of the one of its format (RFC 8216, section 4.3.2.4).
+/// `TooMany` if 17 formats would be in force; `OutOfMemory` only if an allocation fails.
 pub fn keys_with(alloc: Global, keys: &Keys, key: Key) -> Result<Keys, FaultKind>
     ensures { Gives (λ keys. keys) result (with_key key keys.now) }
 {

@@ -34,7 +34,6 @@ mod keys;
 mod references;
 mod stops;
 mod tags;
-mod times;
 
 /// A part of a resource, which a segment is.
 #[derive(Drop)]
@@ -76,7 +75,7 @@ impl<'a> Model for ReaderState<'a> {
 }
 
 impl<'a> ReaderState<'a> {
-    /// The state before any line.
+    /// The state before any line of a playlist whose references are resolved against `base`.
     pub fn new(alloc: Global, base: &'a Base) -> ReaderState<'a>
         ensures { result ≡ running_at base.now [] }
     {
@@ -98,14 +97,14 @@ impl<'a> ReaderState<'a> {
         }
     }
 
-    /// Sets the Media Sequence Number of the first segment (RFC 8216, 4.3.3.2).
+    /// Sets the Media Sequence Number of the first segment to `number` (RFC 8216, section 4.3.3.2).
     pub fn sequence(&mut self, number: u64)
         ensures { Follows (said.sequence number) self.old self.new }
     {
         self.media_sequence = number;
     }
 
-    /// Sets the Discontinuity Sequence Number before any discontinuity (4.3.3.3).
+    /// Sets the Discontinuity Sequence Number before any discontinuity to `number` (RFC 8216, section 4.3.3.3).
     pub fn discontinuity_sequence(&mut self, number: u64)
         requires { self.old.standing.discontinuity_count ≡ 0 }
         ensures { Follows (said.discontinuity_sequence number) self.old self.new }
@@ -136,16 +135,18 @@ impl<'a> ReaderState<'a> {
         Ok(())
     }
 
-    /// The duration and the title of the next segment (4.3.2.1). `BadDuration` where it states none.
+    /// Takes `rest`, the value of EXTINF: the duration and the title of the next segment (RFC 8216, section 4.3.2.1).
+    /// `BadDuration` if it states none; `OutOfMemory` only if an allocation fails.
     pub fn duration_tag(&mut self, rest: &'a str) -> Result<(), FaultKind>
         ensures { Takes (λ base before. said_by_tag limited base before said.duration_tag rest.now) self.old self.new result }
     {
         self.durations.read(rest)
     }
 
-    /// A key tag (4.3.2.4). The faults, in this order: `BadAttributes` for the list,
-    /// `MissingAttribute` or `BadAttributes` for METHOD, URI, IV and KEYFORMAT, `BadUri`, `TooMany`
-    /// where 17 formats would be in force. METHOD=NONE ends the keys of every format.
+    /// Takes `rest`, the attributes of EXT-X-KEY (RFC 8216, section 4.3.2.4). METHOD=NONE ends the keys of every
+    /// format. The faults, in this order: `BadAttributes` for the list, `MissingAttribute` or `BadAttributes` for
+    /// METHOD, URI, IV and KEYFORMAT, `BadUri`, `TooMany` if 17 formats would be in force; `OutOfMemory` only if an
+    /// allocation fails.
     pub fn key_tag(&mut self, rest: &str) -> Result<(), FaultKind>
         ensures { Takes (λ base before. said_by_tag limited base before said.key_tag rest.now) self.old self.new result }
     {
@@ -156,9 +157,10 @@ impl<'a> ReaderState<'a> {
         Ok(())
     }
 
-    /// A map tag (4.3.2.5), whose keys are those in force at its own line. The faults, in this order:
-    /// `BadAttributes` for the list, `MissingAttribute` or `BadAttributes` for URI, `BadAttributes` or
-    /// `BadRange` for BYTERANGE, `BadUri`, `MapWithoutIv` where a key of METHOD AES-128 has no IV.
+    /// Takes `rest`, the attributes of EXT-X-MAP (RFC 8216, section 4.3.2.5): an initialisation section, whose keys
+    /// are those in force at its own line. The faults, in this order: `BadAttributes` for the list,
+    /// `MissingAttribute` or `BadAttributes` for URI, `BadAttributes` or `BadRange` for BYTERANGE, `BadUri`,
+    /// `MapWithoutIv` if a key of METHOD AES-128 has no IV; `OutOfMemory` only if an allocation fails.
     pub fn map_tag(&mut self, rest: &str) -> Result<(), FaultKind>
         ensures { Takes (λ base before. said_by_tag limited base before said.map_tag rest.now) self.old self.new result }
     {
@@ -175,12 +177,24 @@ impl<'a> ReaderState<'a> {
         Ok(())
     }
 
-    /// The byte range of the next segment (4.3.2.2). `BadRange` where it states none, or its end
-    /// passes 2^64 - 1. Takes no memory.
+    /// Takes `rest`, the value of EXT-X-BYTERANGE: the byte range of the next segment, in bytes (RFC 8216, section
+    /// 4.3.2.2). `BadRange` if it states none, or its end passes 2^64 - 1. Takes no memory.
     pub fn byte_range_tag(&mut self, rest: &str) -> Result<(), FaultKind>
         ensures { TakesExactly (λ base before. said_by_tag limited base before said.byte_range_tag rest.now) self.old self.new result }
     {
         self.byte_range = Some(byte_range_of(rest)?);
+        Ok(())
+    }
+
+    /// Takes `rest`, the value of EXT-X-PROGRAM-DATE-TIME: the instant at which the next segment begins (RFC 8216,
+    /// section 4.3.2.6). Of several, the last counts. `BadTime` if it states none. Takes no memory.
+    pub fn time_tag(&mut self, rest: &str) -> Result<(), FaultKind>
+        ensures { TakesExactly (λ base before. said_by_tag limited base before said.time_tag rest.now) self.old self.new result }
+    {
+        let Ok(instant) = self.times.read(rest) else {
+            return Err(FaultKind::BadTime);
+        };
+        self.program_date_time = Some(instant);
         Ok(())
     }
 
@@ -191,6 +205,7 @@ impl<'a> ReaderState<'a> {
         self.media_count + 1 > MAX_SEGMENTS
     }
 
+    // The next segment's Media Sequence Number (RFC 8216, section 4.3.3.2); none from 2^64 on.
     fn number(&self) -> Option<u64>
         ensures { SomeIff result (self.now.standing.media_sequence + self.now.standing.media_count < 2 ^ 64) (self.now.standing.media_sequence + self.now.standing.media_count) }
     {
@@ -208,6 +223,7 @@ impl<'a> ReaderState<'a> {
         }
     }
 
+    // The next segment's Discontinuity Sequence Number (RFC 8216, section 4.3.3.3).
     fn discontinuity_number(&self) -> u64
         ensures { result ≡ self.now.standing.discontinuity_sequence + self.now.standing.discontinuity_count }
     {
@@ -248,7 +264,8 @@ impl<'a> ReaderState<'a> {
         })
     }
 
-    // What stands after a URI line, of whose segment this part is kept.
+    // What holds after a URI line, of whose segment this part is kept: a segment's own tags end with it (RFC 8216,
+    // section 4.3.2).
     #[inline(always)]
     fn segment_stands(&mut self, last: Option<Part>)
         requires { self.old.standing.media_count < MAX_SEGMENTS }
@@ -262,9 +279,18 @@ impl<'a> ReaderState<'a> {
         self.last = last;
     }
 
-    /// The segment of a URI line (4.3.2, 5.2), which takes the tags of one segment. The faults, in
-    /// this order: `TooMany` past 10,000 segments, `NoDuration`, `BadValue` where its media number
-    /// passes 2^64 - 1, `BadUri`, `RangeNoStart`, `BadRange`.
+    /// The segment of the URI line `reference` (RFC 8216, sections 4.3.2 and 5.2), which takes the tags of one
+    /// segment.
+    ///
+    /// The faults, in this order: `TooMany` past 10,000 segments, `NoDuration`, `BadValue` if its media sequence
+    /// number passes 2^64 - 1, `BadUri`, `RangeNoStart`, `BadRange`; `OutOfMemory` only if an allocation fails.
+    ///
+    /// ```text
+    /// let mut state = ReaderState::new(alloc, &base);
+    /// state.duration_tag("6,")?;
+    /// state.take_segment("s0.ts")    Ok: 6 s of base/s0.ts, with the number 0
+    /// state.take_segment("s1.ts")    Err(FaultKind::NoDuration)
+    /// ```
     pub fn take_segment(&mut self, reference: &str) -> Result<Segment, FaultKind>
         ensures { TakesSegment (λ base before. said_by_uri limited base before reference.now) self.old self.new result }
     {
@@ -303,6 +329,8 @@ fn last_part(segment: &Segment) -> Result<Option<Part>, AllocError>
     Ok(Some(Part { uri, byte_range }))
 }
 
+// The byte range of `length` bytes that states no offset: it follows `last`, the one before, if that is of the same
+// resource `uri` (RFC 8216, section 4.3.2.2).
 fn byte_range_after(
     length: u64,
     uri: &str,

@@ -37,7 +37,7 @@ impl<'a> Model for References<'a> {
 }
 
 impl<'a> References<'a> {
-    /// No reference is resolved yet.
+    /// References under `base`, of which none is resolved yet.
     pub fn new(alloc: Global, base: &'a Base) -> References<'a>
         ensures { result ≡ base.now }
     {
@@ -55,7 +55,8 @@ impl<'a> References<'a> {
         self.base
     }
 
-    /// The resource that a reference names.
+    /// The resource that `reference` names (RFC 8216, section 4.1). `BadUri` if it can't be resolved; `OutOfMemory`
+    /// only if an allocation fails.
     #[inline(always)]
     pub fn resolve(&self, reference: &str) -> Result<ShortText, FaultKind>
         ensures { Gives (λ uri. uri) result (uri_of self.now reference.now) }
@@ -63,7 +64,8 @@ impl<'a> References<'a> {
         short_uri_of(self.base, reference)
     }
 
-    /// The resource of which a segment is a part. It is kept for the next part.
+    /// The resource that `reference` names, of which a segment is a part (RFC 8216, section 4.1). It is kept for the
+    /// next part. The faults are those of `resolve`.
     #[inline(never)]
     pub fn resolve_part(&mut self, reference: &str) -> Result<ShortText, FaultKind>
         ensures value { Gives (λ uri. uri) result (uri_of self.old reference.now) }

@@ -138,7 +138,7 @@ impl<'a> ReaderState<'a> {
         }))
     }
 
-    /// Whether this stands here. Takes no memory.
+    /// Whether the state is that of `stop`, between two segments. Takes no memory.
     pub fn stands_at(&self, stop: &Stop) -> bool
         ensures { result ≡ true → IsStop self.now.standing stop.now }
     {
@@ -187,8 +187,8 @@ impl<'a> ReaderState<'a> {
         self.last = last;
     }
 
-    /// Goes to a later stop, with what stands there. False where the first numbers of this playlist don't lead there; then
-    /// the state is as it was, as after a failed allocation.
+    /// Goes to `stop`, a later place, with what is in force there. False if the first numbers of this playlist don't
+    /// lead there. Fails only if an allocation fails. The state is as it was after either.
     pub fn go_to(&mut self, stop: &Stop) -> Result<bool, AllocError>
         ensures reached { IfOk result (λ done. done ≡ true → IsReached self.old.standing stop.now × (self.new ≡ record self.old { standing = stopped_at self.old.standing stop.now })) }
         ensures kept { IfOk result (λ done. done ≡ false → self.new ≡ self.old) }

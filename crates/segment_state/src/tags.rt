@@ -38,7 +38,8 @@ fn uri_of(base: &Base, reference: &str) -> Result<Text, FaultKind>
     }
 }
 
-/// The same, of a segment: most are short.
+/// The URI of a segment that `reference` is under `base` (RFC 8216, section 4.1), as a text that takes no memory of
+/// its own if it is short, as most are. `BadUri` if it can't be resolved; `OutOfMemory` only if an allocation fails.
 #[inline(always)]
 pub fn short_uri_of(base: &Base, reference: &str) -> Result<ShortText, FaultKind>
     ensures { Gives (λ uri. uri) result (uri_of base.now reference.now) }
@@ -88,8 +89,9 @@ fn set_key(alloc: Global, base: &Base, list: &AttrList<'_>, method: &str) -> Res
     })
 }
 
-/// What EXT-X-KEY says (4.3.2.4). The faults, in this order: `BadAttributes` for the list,
-/// `MissingAttribute` or `BadAttributes` for METHOD, URI, IV and KEYFORMAT, `BadUri`.
+/// What an EXT-X-KEY with the attributes `rest` says under `base` (RFC 8216, section 4.3.2.4). The faults, in this
+/// order: `BadAttributes` for the list, `MissingAttribute` or `BadAttributes` for METHOD, URI, IV and KEYFORMAT,
+/// `BadUri`; `OutOfMemory` only if an allocation fails.
 pub fn key_said(alloc: Global, base: &Base, rest: &str) -> Result<KeyTag, FaultKind>
     ensures { Gives key_tag_said result (key_said limited base.now rest.now) }
 {
@@ -107,8 +109,8 @@ fn decimal(text: &str) -> Result<u64, FaultKind>
     read_decimal(text).map_err(|_| FaultKind::BadRange)
 }
 
-/// The length that `n[@o]` states, and the offset where it states one (4.3.2.2). `BadRange` where it
-/// is neither, or the byte range's end passes 2^64 - 1.
+/// The length that `text` states as `n[@o]`, and the offset if it states one, in bytes (RFC 8216, section 4.3.2.2).
+/// `BadRange` if it states neither, or the byte range's end passes 2^64 - 1. Takes no memory.
 pub fn byte_range_of(text: &str) -> Result<(u64, Option<u64>), FaultKind>
     ensures { result ≡ byte_range_of text.now }
 {
@@ -144,8 +146,9 @@ fn section_byte_range(list: &AttrList<'_>) -> Result<Option<ByteRange>, FaultKin
     Ok(Some(ByteRange { length, offset }))
 }
 
-/// What EXT-X-MAP says (4.3.2.5). The faults, in this order: `BadAttributes` for the list,
-/// `MissingAttribute` or `BadAttributes` for URI, `BadAttributes` or `BadRange` for BYTERANGE, `BadUri`.
+/// What an EXT-X-MAP with the attributes `rest` says under `base` (RFC 8216, section 4.3.2.5). The faults, in this
+/// order: `BadAttributes` for the list, `MissingAttribute` or `BadAttributes` for URI, `BadAttributes` or `BadRange`
+/// for BYTERANGE, `BadUri`; `OutOfMemory` only if an allocation fails.
 pub fn section_said(alloc: Global, base: &Base, rest: &str) -> Result<SectionTag, FaultKind>
     ensures { Gives section_tag_said result (section_said limited base.now rest.now) }
 {

@@ -1,4 +1,4 @@
 pub mod Making
 pub mod Stitched
-pub mod StitchedRows
+pub mod WorkedExamples
 pub mod Cuts

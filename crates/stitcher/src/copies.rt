@@ -62,7 +62,8 @@ fn no_title(alloc: Global) -> Result<Shared<ShortText>, AllocError>
     Shared::new(alloc, ShortText::from_string(String::new(alloc)))
 }
 
-/// What the segments of this ad share.
+/// What the segments of `ad` share: its initialisation section, under its keys, and the empty title. Fails only if an
+/// allocation fails.
 pub fn ad_parts(alloc: Global, ad: &Ad) -> Result<AdParts, AllocError>
     ensures { IfOk result (λ parts. parts ≡ option_map (with_keys ad.now.keys) ad.now.init_section) }
 {
@@ -72,7 +73,8 @@ pub fn ad_parts(alloc: Global, ad: &Ad) -> Result<AdParts, AllocError>
     })
 }
 
-/// A segment of an ad, which repeats the numbers that are written.
+/// The segment `segment` of `ad` with `numbers`, as it is written, which has no time of its own. `parts` are what
+/// `ad_parts` gives for `ad`. Fails only if an allocation fails.
 pub fn ad_segment(
     alloc: Global,
     ad: &Ad,

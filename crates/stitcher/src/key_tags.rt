@@ -20,7 +20,8 @@ fn has_format(keys: &Keys, format: &str) -> bool
     false
 }
 
-/// Whether each format of the old keys is one of the new keys too: else their end has to be said.
+/// Whether each format among the keys `old` is one among `new` too. If not, the tags between them state METHOD=NONE
+/// (RFC 8216, section 4.3.2.4).
 pub fn keeps_formats(old: &Keys, new: &Keys) -> bool
     ensures { result ≡ keeps_formats old.now new.now }
 {
@@ -43,7 +44,7 @@ fn is_among(keys: &Keys, key: &KeyRef<'_>) -> bool
     false
 }
 
-/// Whether a key is not among these, as it is.
+/// Whether `key` is not one of `keys`, in all its parts.
 pub fn is_new_key(keys: &Keys, key: &KeyRef<'_>) -> bool
     ensures { result ≡ is_new_key keys.now key.now }
 {
@@ -90,9 +91,9 @@ fn tags_between(alloc: Global, old: &Keys, new: &Keys) -> Result<Vec<KeyTag>, Al
     tags_after_end(alloc, new)
 }
 
-/// The key tags that lead from the keys in force to others, each sorted by format with one key for
-/// each (RFC 8216, section 4.3.2.4): where a format ends, METHOD=NONE and every new key, else each new
-/// key that isn't in force as it is.
+/// The key tags that lead from the keys `old` to the keys `new`, each sorted by format with one key for each (RFC
+/// 8216, section 4.3.2.4). If a format ends: METHOD=NONE, and every key of `new`; else each key of `new` that isn't
+/// in `old`. `OutOfMemory` only if an allocation fails.
 pub fn transition(alloc: Global, old: &Keys, new: &Keys) -> Result<Vec<KeyTag>, StitchFault>
     ensures tags { IfOk result (λ tags. tags.items ≡ transition old.now new.now) }
 

@@ -10,19 +10,19 @@ mod key_tags;
 pub mod laws;
 mod making;
 mod marked;
-mod origin_text;
-mod played;
+mod segment_ref;
 mod stitched_list;
-mod stitched_rows;
+mod text_ref;
+mod worked_examples;
 
 pub use ends::{Ends, Rest};
 pub use fault::StitchFault;
 pub use key_tags::{is_new_key, keeps_formats, transition};
 pub use making::{is_same_run, stitch, stitch_at};
 pub use marked::{MarkedSegment, Numbers, SharedMark};
-pub use origin_text::TextRef;
-pub use played::SegmentRef;
+pub use segment_ref::SegmentRef;
 pub use stitched_list::{StitchedItems, StitchedList};
+pub use text_ref::TextRef;
 
 /// A segment as it stands in a written playlist. Its own numbers and time are not those of `segment`.
 #[derive(Drop)]

@@ -76,7 +76,8 @@ fn numbers_of(media: u64, discontinuity: u64, steps: u64) -> Numbers
     }
 }
 
-// The numbers of an item so many steps after one with these.
+// The numbers of an item after one with `numbers`, with `steps` discontinuities between (RFC 8216, sections 4.3.3.2
+// and 4.3.3.3).
 fn next_numbers(numbers: Numbers, steps: u64) -> Result<Numbers, StitchFault>
     ensures ok { IfOk result (λ n. (n ≡ next_numbers numbers steps) × (numbers_fit n ≡ true)) }
     ensures err { IfErr result (λ e. (e ≡ StitchFault.NumberRange) × (numbers_fit (next_numbers numbers steps) ≡ false)) }
@@ -133,7 +134,8 @@ fn unmarked_front(segments: &[MarkedSegment]) -> usize
     count
 }
 
-/// Whether both are marked, with one break: a segment of this mark goes on the run of one of that mark.
+/// Whether a segment of the mark `mark` goes on the run of the one before it, whose mark is `previous`: both have a
+/// mark, of one break.
 pub fn is_same_run(mark: &Option<Shared<Text>>, previous: &Option<Shared<Text>>) -> bool
     ensures { result ≡ is_same_run mark.now previous.now }
 {
@@ -228,7 +230,8 @@ impl<'a> Stitching<'a> {
         }
     }
 
-    // The steps to a kept segment of this discontinuity number; of the first none are counted.
+    // How many discontinuities come before a kept segment of this discontinuity number (RFC 8216, section 4.3.2.3);
+    // of the first segment none are counted.
     fn steps_to(&self, discontinuity: u64) -> u64
         ensures { result ≡ steps_from self.now.last discontinuity }
     {
@@ -344,7 +347,8 @@ impl<'a> Stitching<'a> {
         Ok(left)
     }
 
-    // Puts a segment of an ad at the end.
+    // Puts `segment`, one of `ad`, at the end, after a discontinuity if it is the `first` of its ad (RFC 8216,
+    // section 4.3.2.3).
     fn put(
         &mut self,
         alloc: Global,
@@ -510,10 +514,18 @@ impl<'a> Stitching<'a> {
     }
 }
 
-/// The stitched list of these segments between these ends, in the order of a playlist, whose first item has these numbers:
-/// the rest of a pod first, and each run of one mark replaced by the pod that the break has in the store, of which as much is
-/// shown as is due where the run is the last one and open. `NumberRange` exactly where a number would pass 2^64 - 1, a failed
-/// allocation apart.
+/// The items of the `marked` segments, in the order of a playlist, the first item with the numbers `first`. A rest of
+/// a pod, as `ends` names it, comes first. Each run of one mark is replaced by the pod that its break has in `store`,
+/// or by its due prefix if `ends` says that the last run is open.
+///
+/// `NumberRange` exactly if a number would pass 2^64 - 1 (RFC 8216, sections 4.3.3.2 and 4.3.3.3); `OutOfMemory` only
+/// if an allocation fails.
+///
+/// ```text
+/// the segments, with their marks:     s0    s1 of b1    s2 of b1    s3
+/// the pod of b1 in the store:         one ad, of a0 and a1
+/// the items, numbered from `first`:   s0    a0    a1    s3
+/// ```
 pub fn stitch<'a>(
     alloc: Global,
     marked: &'a [MarkedSegment],
@@ -528,7 +540,9 @@ pub fn stitch<'a>(
     stitch_at(alloc, marked, 0, store, first, ends)
 }
 
-/// The same, in which a stretch ends where so many segments are put: its items from there on are found at once.
+/// The items of the `marked` segments as `stitch` gives them, of `store`, `first` and `ends`, with the same faults. A
+/// stretch of items ends before the segment at the place `cut` of `marked`, from 0, so that the items from there on
+/// are found at once.
 pub fn stitch_at<'a>(
     alloc: Global,
     marked: &'a [MarkedSegment],

@@ -8,7 +8,7 @@ ghost use Rattle.stitcher.specs.Stretches.{ad_item, here_items, kept_item, left_
 
 use crate::OutSegment;
 use crate::marked::{MarkedSegment, Numbers};
-use crate::played::SegmentRef;
+use crate::segment_ref::SegmentRef;
 use playlist_model::{Items, Segment};
 use std::alloc::AllocError;
 use std::marker::Model;
@@ -270,7 +270,7 @@ impl<'a> Model for StitchedList<'a> {
 }
 
 impl<'a> StitchedList<'a> {
-    /// The items of stretches. Fails where there are more than memory can hold.
+    /// The list of the items of `stretches`, in their order. Fails only if they are more than memory can hold.
     pub(crate) fn from_stretches(
         stretches: Vec<Stretch<'a>>,
     ) -> Result<StitchedList<'a>, AllocError>
@@ -296,7 +296,8 @@ impl<'a> StitchedList<'a> {
         items
     }
 
-    /// Its items from a place on, one after the other: the stretches before it are passed over at once.
+    /// The items from the `place` on, from 0, one after the other; none past the end. The stretches before it are
+    /// passed over at once.
     pub fn items_from(&self, place: usize) -> StitchedItems<'_>
         ensures { result ≡ drop place self.now }
     {
@@ -313,7 +314,7 @@ impl<'a> StitchedList<'a> {
         self.count - self.passed
     }
 
-    /// Leaves out the first items, so many.
+    /// Leaves out the items before the `place`, from 0; all of them if it is past the end.
     pub fn leave_out(&mut self, place: usize)
         ensures { self.new ≡ drop place self.old }
     {

@@ -3,7 +3,7 @@ use crate::shown::push_shown;
 use attr_list::{Attr, AttrList, read_decimal, read_hex_u128};
 use std::alloc::{AllocError, Global};
 
-/// Each attribute of a list with its place, or the list's fault.
+/// Each attribute of the list `text` with its place, or the fault of the list.
 pub(crate) fn attributes_line(alloc: Global, text: &str) -> Result<String, AllocError> {
     match AttrList::read(alloc, text) {
         Ok(list) => line_of(alloc, list.as_slice()),
@@ -28,7 +28,7 @@ fn push_attribute(line: &mut String, attr: &Attr<'_>) -> Result<(), AllocError> 
     push_value(line, attr)
 }
 
-/// The value that a list gives the name in the first line of a text. The list is in its second line.
+/// The value that a list gives a name: the name is in the first line of `text`, the list in the second.
 pub(crate) fn attribute_line(alloc: Global, text: &str) -> Result<String, AllocError> {
     let (name, text) = text.split_once('\n').unwrap_or((text, ""));
     match AttrList::read(alloc, text) {
@@ -53,7 +53,7 @@ fn push_value(line: &mut String, attr: &Attr<'_>) -> Result<(), AllocError> {
     line.push_str(quote)
 }
 
-/// A decimal number, or its fault.
+/// The decimal number that `text` states, or its fault.
 pub(crate) fn decimal_line(alloc: Global, text: &str) -> Result<String, AllocError> {
     match read_decimal(text) {
         Ok(number) => format!(in alloc; "{number}"),
@@ -61,7 +61,7 @@ pub(crate) fn decimal_line(alloc: Global, text: &str) -> Result<String, AllocErr
     }
 }
 
-/// The number of a hexadecimal sequence, or its fault.
+/// The number of the hexadecimal sequence `text`, or its fault.
 pub(crate) fn hexadecimal_line(alloc: Global, text: &str) -> Result<String, AllocError> {
     match read_hex_u128(text) {
         Ok(number) => format!(in alloc; "{number}"),

@@ -4,6 +4,7 @@ use fixed_duration::Nanos;
 use http_edge::{refresh_fault_text, why_word};
 use live_channel::{Channel, ChannelFault, RefreshFault, Refreshed};
 use std::alloc::Global;
+use std::hash::RandomState;
 use std::io;
 use std::io::Print;
 
@@ -20,7 +21,8 @@ impl Channels {
         Channels { made, back: 0 }
     }
 
-    /// Events go to the channel that was made so many before the last one.
+    /// Sends events to the channel that was made `back` channels before the last one; a `back` that is no number is
+    /// 0.
     pub(crate) fn go_back(&mut self, back: &str) {
         self.back = back.parse().unwrap_or(0);
     }
@@ -31,10 +33,10 @@ impl Channels {
     }
 }
 
-fn new_channel(alloc: Global, words: &str) -> Result<Channel, ChannelFault> {
+fn new_channel(alloc: Global, hashing: RandomState, words: &str) -> Result<Channel, ChannelFault> {
     let (tolerance, base) = words.split_once(' ').unwrap_or(("0", words));
     let tolerance = Nanos(tolerance.parse().unwrap_or(0));
-    Channel::new(alloc, base, tolerance)
+    Channel::new(alloc, hashing, base, tolerance)
 }
 
 // The line of a channel that can't be made.
@@ -46,14 +48,16 @@ fn channel_fault(fault: ChannelFault) -> &'static str {
     }
 }
 
-/// Makes a channel, to which events then go.
+/// Makes a channel as `words` say, whose tables use the keys `hashing`, and adds it to `channels`. Events then go to it.
+/// Prints `ok` or the fault.
 pub(crate) fn print_made(
     rt: &impl Print,
     alloc: Global,
+    hashing: RandomState,
     channels: &mut Channels,
     words: &str,
 ) -> io::Result<()> {
-    match new_channel(alloc, words) {
+    match new_channel(alloc, hashing, words) {
         Ok(channel) => {
             channels.back = 0;
             channels.made.push(channel)?;
@@ -148,8 +152,8 @@ fn print_on_channel(
     }
 }
 
-/// Gives an event to the channel to which events go: a decision, a withdrawal, a refresh, or a question, which is by `why`
-/// where the word is no other.
+/// Gives the event `word`, with `rest` after it, to that one of `channels` to which events go: a decision, a
+/// withdrawal, a refresh, or a question. A `word` that is no other asks `why`. Prints the answer.
 pub(crate) fn print_event(
     rt: &impl Print,
     alloc: Global,

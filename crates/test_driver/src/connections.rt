@@ -60,7 +60,7 @@ fn print_outcome(
     }
 }
 
-/// Serves a connection as the line says, and prints what came of it and what was written.
+/// Serves a connection over `edge` as `words` say, and prints what came of it and what was written.
 pub(crate) fn print_served(
     rt: &impl Print,
     alloc: Global,

@@ -3,6 +3,7 @@ use crate::escapes::bytes_of;
 use decision_files::read_decisions;
 use pod_store::{Ad, Decision, Decisions, Pod};
 use std::alloc::Global;
+use std::hash::RandomState;
 use std::io;
 use std::io::Print;
 
@@ -37,10 +38,15 @@ fn print_breaks(rt: &impl Print, breaks: &[Decision]) -> io::Result<()> {
     Ok(())
 }
 
-/// Prints what a decision file says: its breaks, a line each, the one that is withdrawn, the fallback, that there is none,
-/// or the first fault.
-pub(crate) fn print_decisions(rt: &impl Print, alloc: Global, body: &str) -> io::Result<()> {
-    match read_decisions(alloc, bytes_of(alloc, body)?.as_slice()) {
+/// Prints what the decision file `body` says: its breaks, a line each, the one that is withdrawn, the fallback, that
+/// there is none, or the first fault. It is read with tables that use the keys `hashing`.
+pub(crate) fn print_decisions(
+    rt: &impl Print,
+    alloc: Global,
+    hashing: RandomState,
+    body: &str,
+) -> io::Result<()> {
+    match read_decisions(alloc, hashing, bytes_of(alloc, body)?.as_slice()) {
         Ok(Decisions::Breaks(breaks)) => print_breaks(rt, breaks.as_slice()),
         Ok(Decisions::Withdraw(id)) => println!(rt; "withdraw {}", id.as_str()),
         Ok(Decisions::Fallback(pod)) => print_fallback(rt, &pod),

@@ -3,9 +3,10 @@ ghost use Rattle.std.specs.Prelude.{◌<◌, length, IfSome};
 
 use std::alloc::{AllocError, Global};
 
-/// The bytes that a text stands for. A backslash and `n` stand for a line feed, and with `r` for a carriage return. A
-/// backslash, `x` and two hexadecimal digits (`0` to `9`, `a` to `f`) stand for the byte of this number. A backslash and any
-/// other byte stand for that byte. Each byte that isn't after a backslash stands for itself, and so does one at the end.
+/// The bytes that `text` stands for. A backslash and `n` stand for a line feed, and with `r` for a carriage return. A
+/// backslash, `x` and two hexadecimal digits (`0` to `9`, `a` to `f`) stand for the byte of this number. A backslash
+/// and any other byte stand for that byte. Each byte that isn't after a backslash stands for itself, and so does one
+/// at the end.
 pub(crate) fn bytes_of(alloc: Global, text: &str) -> Result<Vec<u8>, AllocError> {
     let mut bytes = Vec::with_capacity(alloc, text.len())?;
     let mut rest = text.as_bytes();

@@ -5,7 +5,7 @@ use scte35_codec::{
 };
 use std::alloc::AllocError;
 
-/// All that a section says.
+/// Appends to `line` all that the section `info` says.
 pub(crate) fn push_fields(line: &mut String, info: &SpliceInfo) -> Result<(), AllocError> {
     let (adjustment, cw, tier) = (info.pts_adjustment, info.cw_index, info.tier);
     write!(line, "pts_adjustment={adjustment} cw={cw} tier={tier}")?;

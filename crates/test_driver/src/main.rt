@@ -66,6 +66,7 @@ use escapes::bytes_of;
 use http_edge::Edge;
 use scte35_codec::crc_of;
 use std::alloc::Global;
+use std::hash::RandomState;
 use std::io;
 use std::io::Print;
 use texts::print_text;
@@ -74,18 +75,23 @@ use words::split_word;
 #[derive(Drop)]
 // What lines go to.
 struct Session {
+    hashing: RandomState,
     channels: Channels,
     edge: Edge,
 }
 
-fn new_session(alloc: Global) -> io::Result<Session> {
-    let edge = Edge::new(alloc)?;
+fn new_session(alloc: Global, hashing: RandomState) -> io::Result<Session> {
+    let edge = Edge::new(alloc, hashing)?;
     let channels = Channels::new(alloc);
-    Ok(Session { channels, edge })
+    Ok(Session {
+        hashing,
+        channels,
+        edge,
+    })
 }
 
 fn make_edge(alloc: Global, session: &mut Session) -> io::Result<()> {
-    session.edge = Edge::new(alloc)?;
+    session.edge = Edge::new(alloc, session.hashing)?;
     Ok(())
 }
 
@@ -100,7 +106,7 @@ fn print_crc(rt: &impl Print, alloc: Global, body: &str) -> io::Result<()> {
 fn print_line(rt: &impl Print, alloc: Global, session: &mut Session, line: &str) -> io::Result<()> {
     let (word, rest) = split_word(line);
     match word {
-        "channel" => print_made(rt, alloc, &mut session.channels, rest),
+        "channel" => print_made(rt, alloc, session.hashing, &mut session.channels, rest),
         "to" => {
             session.channels.go_back(rest);
             Ok(())
@@ -110,7 +116,7 @@ fn print_line(rt: &impl Print, alloc: Global, session: &mut Session, line: &str)
         }
         "edge" => make_edge(alloc, session),
         "serve" => print_served(rt, alloc, &mut session.edge, rest),
-        "decisions" => print_decisions(rt, alloc, rest),
+        "decisions" => print_decisions(rt, alloc, session.hashing, rest),
         "length" => print_length(rt, alloc, rest),
         "crc" => print_crc(rt, alloc, rest),
         _ => print_text(rt, alloc, word, rest),
@@ -126,6 +132,6 @@ fn print_lines(rt: &HostRuntime, alloc: Global, session: &mut Session) -> io::Re
 
 fn main(rt: HostRuntime) -> io::Result<()> {
     let alloc = rt.alloc();
-    let mut session = new_session(alloc)?;
+    let mut session = new_session(alloc, RandomState::new(&rt)?)?;
     print_lines(&rt, alloc, &mut session)
 }

@@ -4,8 +4,8 @@ use crate::shown::push_bytes;
 use scte35_codec::{SpliceInfo, crc_of, read_hex, write, write_with_crc};
 use std::alloc::{AllocError, Global};
 
-/// What a section in hexadecimal digits says, and the section that is written of it with its own CRC_32, or the fault of
-/// either.
+/// What the section `hex`, in hexadecimal digits, says, and the section that is written of it with its own CRC_32, or
+/// the fault of either.
 pub(crate) fn section_line(alloc: Global, hex: &str) -> Result<String, AllocError> {
     match read_hex(alloc, hex) {
         Ok(info) => fields_line(alloc, &info),
@@ -29,7 +29,7 @@ fn push_checked(line: &mut String, bytes: &[u8]) -> Result<(), AllocError> {
     push_bytes(line, bytes)
 }
 
-/// The section that is read, copied and written again with the CRC_32 that it states, or the fault of either.
+/// The section `hex` as it is read, copied and written again with the CRC_32 that it states, or the fault of either.
 pub(crate) fn rewritten_line(alloc: Global, hex: &str) -> Result<String, AllocError> {
     match read_hex(alloc, hex) {
         Ok(info) => bytes_line(alloc, &info.clone()?),

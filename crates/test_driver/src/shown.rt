@@ -9,7 +9,8 @@ fn push_byte(line: &mut String, byte: u8) -> Result<(), AllocError> {
     }
 }
 
-/// A text without line breaks: each byte that is no printable character of ASCII, or a backslash, in two digits.
+/// Appends `text` to `line` without line breaks: each byte that is no printable character of ASCII, or a backslash,
+/// in two digits.
 pub(crate) fn push_shown(line: &mut String, text: &str) -> Result<(), AllocError> {
     for byte in text.as_bytes() {
         push_byte(line, *byte)?;
@@ -17,7 +18,7 @@ pub(crate) fn push_shown(line: &mut String, text: &str) -> Result<(), AllocError
     Ok(())
 }
 
-/// Bytes in hexadecimal digits.
+/// Appends `bytes` to `line` in hexadecimal digits.
 pub(crate) fn push_bytes(line: &mut String, bytes: &[u8]) -> Result<(), AllocError> {
     line.push_str("0x")?;
     for byte in bytes {
@@ -26,7 +27,7 @@ pub(crate) fn push_bytes(line: &mut String, bytes: &[u8]) -> Result<(), AllocErr
     Ok(())
 }
 
-/// Bytes with their name, where there are any.
+/// Appends `bytes` to `line` in hexadecimal digits after `name`, if there are any.
 pub(crate) fn push_named(line: &mut String, name: &str, bytes: &[u8]) -> Result<(), AllocError> {
     if bytes.is_empty() {
         return Ok(());

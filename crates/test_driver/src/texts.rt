@@ -37,7 +37,8 @@ fn line_of(alloc: Global, word: &str, text: &str) -> Result<String, AllocError> 
     }
 }
 
-/// Prints what a text says; or that these bytes are none, or that nothing is asked by this word.
+/// Prints what the text that `body` stands for says, by the question `word`; or that its bytes are no text, or that
+/// no question has this word.
 pub(crate) fn print_text(rt: &impl Print, alloc: Global, word: &str, body: &str) -> io::Result<()> {
     let bytes = bytes_of(alloc, body)?;
     match std::str::from_utf8(bytes.as_slice()) {

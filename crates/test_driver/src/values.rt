@@ -67,8 +67,8 @@ fn value_line(alloc: Global, info: &SpliceInfo) -> Result<String, AllocError> {
     Ok(line)
 }
 
-/// A splice of the program, by the words `TIMING TIME TICKS`: `immediate`, or any other word; the time, or `none`; how long
-/// the break is.
+/// A splice of the program, by `words`, which are `TIMING TIME TICKS`: `immediate`, or any other word; the time, or
+/// `none`; how long the break is.
 pub(crate) fn program_line(alloc: Global, words: &str) -> Result<String, AllocError> {
     let (timing, words) = split_word(words);
     let (time, ticks) = split_word(words);
@@ -76,7 +76,7 @@ pub(crate) fn program_line(alloc: Global, words: &str) -> Result<String, AllocEr
     value_line(alloc, &insert(alloc, timing, target, number_in(ticks)))
 }
 
-/// A splice of components, by the words `TIMING TIME COUNT`: each has this time.
+/// A splice of components, by `words`, which are `TIMING TIME COUNT`: each component has this time.
 pub(crate) fn components_line(alloc: Global, words: &str) -> Result<String, AllocError> {
     let (timing, words) = split_word(words);
     let (time, count) = split_word(words);
@@ -97,7 +97,7 @@ fn same_components(
     Ok(SpliceTarget::Components(components))
 }
 
-/// A heading, by the words `PTS_ADJUSTMENT TIER`.
+/// A heading, by `words`, which are `PTS_ADJUSTMENT TIER`.
 pub(crate) fn heading_line(alloc: Global, words: &str) -> Result<String, AllocError> {
     let (pts_adjustment, tier) = split_word(words);
     let mut info = insert(alloc, "immediate", SpliceTarget::Program(None), 0);
@@ -106,7 +106,7 @@ pub(crate) fn heading_line(alloc: Global, words: &str) -> Result<String, AllocEr
     value_line(alloc, &info)
 }
 
-/// A command of this type, of no bytes.
+/// A command of the type `command`, of no bytes.
 pub(crate) fn command_line(alloc: Global, command: &str) -> Result<String, AllocError> {
     let command = command.parse().unwrap_or(0);
     let bytes = Vec::new(alloc);

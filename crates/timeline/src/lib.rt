@@ -52,8 +52,8 @@ fn reckoned_here(segment: &Segment, after: Option<i128>) -> Option<i128>
     }
 }
 
-// Where a segment begins: at its stated time, else where the one before it ended, else back from the
-// first time that is stated later.
+// When a segment begins (RFC 8216, section 4.3.2.6): at its stated time, else when the one before it ended, else
+// back from the first time that is stated later.
 fn begins_at(ended: Option<i128>, segment: &Segment, reckoned: Option<i128>) -> OptionalInstant
     ensures { result ≡ bounded (or_earlier segment.now.program_date_time (or_earlier ended reckoned)) }
 {
@@ -143,8 +143,15 @@ impl<'a> Model for Beginnings<'a> {
 }
 
 impl<'a> Beginnings<'a> {
-    /// The instant at which each of these segments begins, after one that ended at `ended`, if any: its stated time; else
-    /// where the one before it ended; else back from the first time stated later; none outside the range of instants.
+    /// The instants at which the `segments` begin, one after the other (RFC 8216, section 4.3.2.6). The segment
+    /// before them ended at `ended`, in nanoseconds from 1970; `None` if that isn't known or there was none. A
+    /// segment begins at its stated time; else when the one before it ended; else at the first time stated later,
+    /// less the durations between. It has none outside the range of instants. Takes no memory.
+    ///
+    /// ```text
+    /// the segments' durations and times, with `ended` None:    6 s; 6 s, 12:00:06; 4 s
+    /// their instants:                                          12:00:00, 12:00:06, 12:00:12
+    /// ```
     pub fn new(alloc: Global, ended: Option<i128>, segments: &'a [Segment]) -> Beginnings<'a>
         ensures { result ≡ instants_after ended segments.now }
     {

@@ -31,7 +31,7 @@ impl Model for OptionalInstant {
 }
 
 impl OptionalInstant {
-    /// The instant so many nanoseconds from 1970; none outside the years 1900 to 2199.
+    /// The instant `nanos` nanoseconds after 1970 began; none if `nanos` is `None` or outside the years 1900 to 2199.
     #[inline(always)]
     pub fn from_nanos(nanos: Option<i128>) -> OptionalInstant
         ensures { result ≡ bounded nanos }
@@ -57,7 +57,8 @@ impl OptionalInstant {
         Some(Instant(self.nanos))
     }
 
-    /// Where a segment of this duration ends that begins at this instant, if there is one.
+    /// When a segment ends that begins at this instant and lasts for `duration`, in nanoseconds from 1970; `None` if
+    /// there is no instant.
     #[inline(always)]
     pub fn end(self, duration: Nanos) -> Option<i128>
         ensures { result ≡ ends_at self duration }

@@ -110,9 +110,16 @@ fn can_be_written(text: &str) -> bool
 }
 
 impl Base {
-    /// The base that a text says. The `url` crate takes off spaces at its ends, and drops tabs and
-    /// line feeds within. `BadBase` exactly where it is no absolute http or https URL; a failed allocation
-    /// apart.
+    /// The base that `text` states: an absolute http or https URL (RFC 8216, section 4.1). The `url` crate takes off
+    /// spaces at its ends, and drops tabs and line feeds within. `BadBase` exactly if it is no such URL;
+    /// `OutOfMemory` only if an allocation fails.
+    ///
+    /// ```text
+    /// let base = Base::new(alloc, "http://a.example/x/i.m3u8")?;
+    /// base.resolve("s0.ts")                     Ok("http://a.example/x/s0.ts")
+    /// base.resolve("/s0.ts")                    Ok("http://a.example/s0.ts")
+    /// base.resolve("http://b.example/s0.ts")    Ok("http://b.example/s0.ts")
+    /// ```
     pub fn new(alloc: Global, text: &str) -> Result<Base, BaseFault>
         ensures { MatchResult result (λ base. base_of text.now ≡ Some base) (λ e. RefusesBase e (base_of text.now)) }
     {
@@ -173,10 +180,9 @@ impl Base {
         Ok(String::from(url))
     }
 
-    /// The resolved URI of a reference (RFC 3986, section 5, as the `url` crate joins): the reference
-    /// itself where it begins with a scheme, else its join to the base. `BadUri` exactly where the join
-    /// fails, or gives a text without a scheme or with a quote or a control character; a failed allocation
-    /// apart.
+    /// The URI that `reference` is under this base (RFC 8216, section 4.1; RFC 3986, section 5, as the `url` crate
+    /// joins): `reference` itself if it begins with a scheme, else its join to the base. `BadUri` exactly if the join
+    /// fails, or has no scheme, a quote or a control character; `OutOfMemory` only if an allocation fails.
     pub fn resolve(&self, reference: &str) -> Result<String, BaseFault>
         ensures { MatchResult result (λ text. resolved self.now reference.now ≡ Some (string_bytes text)) (λ e. RefusesUri e (resolved self.now reference.now)) }
     {
@@ -186,7 +192,8 @@ impl Base {
         self.resolve_other(reference)
     }
 
-    /// The same, where most such texts are short.
+    /// The URI that `reference` is under this base, as `resolve` gives it and with the same faults, as a text that
+    /// takes no memory of its own if it is short.
     #[inline(always)]
     pub fn resolve_short(&self, reference: &str) -> Result<ShortText, BaseFault>
         ensures { MatchResult result (λ text. resolved self.now reference.now ≡ Some text) (λ e. RefusesUri e (resolved self.now reference.now)) }

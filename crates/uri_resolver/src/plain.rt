@@ -112,7 +112,8 @@ fn begins_with_slash(bytes: &[u8]) -> bool
     }
 }
 
-// Whether a reference is a plain path from the directory of the base on.
+/// Whether `reference` is a plain path from the directory of the base on: then its join to the base is that directory
+/// with `reference` after it (RFC 3986, section 5).
 pub fn is_relative(reference: &str) -> bool
     ensures { result ≡ is_relative reference.now }
 {
@@ -123,7 +124,8 @@ pub fn is_relative(reference: &str) -> bool
     }
 }
 
-// Whether a reference is a plain path from the root on.
+/// Whether `reference` is a plain path from the root on: then its join to the base is the base's origin with
+/// `reference` after it (RFC 3986, section 5).
 pub fn is_rooted(reference: &str) -> bool
     ensures { result ≡ is_rooted reference.now }
 {

@@ -12,6 +12,7 @@ use crate::run::vod;
 use arrayvec::ArrayString;
 use byte_streams::{Sink, Source, hand_out};
 use std::alloc::Global;
+use std::hash::RandomState;
 use std::mem::forget;
 
 // A fault's line. It lies in the value itself, since there may be no memory left for it.
@@ -32,10 +33,11 @@ fn print_fault<F: Sink>(fault: VodFault, faults: &mut F)
     let _ = hand_out(line.as_str().as_bytes(), faults);
 }
 
-/// Runs `vod`, writes the fault's line where there is one, and answers the exit status: 0, or 1
-/// after a fault. The process ends then, so that the memory of the channel is left to its end.
+/// Runs `vod` with `hashing`, `base`, `decisions`, `input` and `output`, and gives the exit status: 0, or 1 after a fault,
+/// whose line it writes to `faults`. The process ends then, so that the memory of the channel is left to its end.
 pub fn command_vod<S: Source, K: Sink, F: Sink>(
     alloc: Global,
+    hashing: RandomState,
     base: &str,
     decisions: Option<&[u8]>,
     input: &mut S,
@@ -58,7 +60,7 @@ pub fn command_vod<S: Source, K: Sink, F: Sink>(
     ensures unread { base_of base.now ≡ None → input.new ≡ input.old }
     ensures undecided { (fault : DecisionFault) → events_of (option_copied decisions.entry) ≡ Err fault → input.new ≡ input.old }
 {
-    match vod(alloc, input, output, base, decisions) {
+    match vod(alloc, hashing, input, output, base, decisions) {
         Ok(channel) => {
             forget(channel);
             0

@@ -12,9 +12,10 @@ use std::alloc::Global;
 /// How many reads an input may take.
 pub const MAX_READS: u64 = 65_536;
 
-/// Reads an input to its end, with room for 8,192 bytes in each read. The whole of it is kept, also
-/// past the length that a playlist may have: whether it is UTF-8 is judged first. A read that fails is the last, and so is the
-/// one that tells the end. An empty input takes no memory.
+/// Reads `source` to its end, with room for 8,192 bytes in each read. All bytes are kept, also past the length that a
+/// playlist may have: whether they are UTF-8 is judged first. `Read` if a read fails, `TooManyReads` if the 65,536th
+/// still gives bytes, `OutOfMemory` if an allocation fails. A read that fails is the last, and so is the one that
+/// says that `source` has ended. An empty input takes no memory.
 pub fn read_input<S: Source>(alloc: Global, source: &mut S) -> Result<Vec<u8>, VodFault>
     ensures ok { IfOk result (λ input. GaveAll (S.remaining source.old) (S.remaining source.new) input.items) }
     ensures source { IsFairToSource VodFault.Read VodFault.TooManyReads most_reads result (source_stand S.remaining S.called S.failed source.old) (source_stand S.remaining S.called S.failed source.new) }

@@ -24,12 +24,13 @@ use channel_spec::DEFAULT_TOLERANCE;
 use fixed_duration::Nanos;
 use live_channel::{Channel, ChannelFault};
 use std::alloc::Global;
+use std::hash::RandomState;
 
-fn new_channel(alloc: Global, base: &str) -> Result<Channel, VodFault>
+fn new_channel(alloc: Global, hashing: RandomState, base: &str) -> Result<Channel, VodFault>
     ensures ok { IfOk result (IsNew base.now) }
     ensures err { IfErr result (λ e. e ≢ VodFault.OutOfMemory → (e ≡ VodFault.BadBase) × (base_of base.now ≡ None)) }
 {
-    match Channel::new(alloc, base, Nanos(DEFAULT_TOLERANCE)) {
+    match Channel::new(alloc, hashing, base, Nanos(DEFAULT_TOLERANCE)) {
         Ok(channel) => Ok(channel),
         Err(ChannelFault::OutOfMemory) => Err(VodFault::OutOfMemory),
         Err(_) => Err(VodFault::BadBase),
@@ -78,12 +79,17 @@ fn hand_text<K: Sink>(channel: &Channel, sink: &mut K) -> Result<(), VodFault>
 }
 
 // The channel of a base, which was given the decision file, where there is one.
-fn decided_channel(alloc: Global, base: &str, decisions: Option<&[u8]>) -> Result<Channel, VodFault>
+fn decided_channel(
+    alloc: Global,
+    hashing: RandomState,
+    base: &str,
+    decisions: Option<&[u8]>,
+) -> Result<Channel, VodFault>
     ensures ok { IfOk result (IsDecided base.now (option_copied decisions.entry)) }
     ensures kind { IfErr result IsOfBeginning }
     ensures order { IfErr result (λ e. IsInOrder e base.now (option_copied decisions.entry)) }
 {
-    let mut channel = new_channel(alloc, base)?;
+    let mut channel = new_channel(alloc, hashing, base)?;
     match decide(alloc, &mut channel, decisions) {
         Ok(()) => Ok(channel),
         Err(fault) => Err(fault),
@@ -106,12 +112,21 @@ fn refresh_from<S: Source>(
 }
 
 #[tactic(auto, using(crate::proofs::Known::known_bytes))]
-/// Reads a playlist from an input and writes it with its breaks filled: each run of segments that a break of the decision
-/// file marks is replaced by the pod that the file gives it. Without a decision file no break is filled. The faults stand
-/// in this order: the base, the decision file, reading, the playlist, `NumberRange`, writing. The channel that wrote it is
-/// answered, so that a program that ends then need not give its memory back.
+/// Reads a playlist from `source` and writes it to `sink` with its breaks filled: each run of segments that a break
+/// of the decision file `decisions` marks is replaced by the pod that the file gives it. Without a decision file no
+/// break is filled. References are resolved against the URL `base`.
+///
+/// The faults come in this order: the base, the decision file, reading, the playlist, `NumberRange`, writing. After
+/// `Write` the `sink` has taken a front of the text, and after any other fault nothing. The channel that wrote the
+/// text is the answer, so that a program that ends then needn't give its memory back. `hashing`: the keys for its tables
+/// of IDs.
+///
+/// ```text
+/// vod(alloc, hashing, &mut source, &mut sink, "http://origin.example/ch/index.m3u8", Some(decisions))
+/// ```
 pub fn vod<S: Source, K: Sink>(
     alloc: Global,
+    hashing: RandomState,
     source: &mut S,
     sink: &mut K,
     base: &str,
@@ -140,7 +155,7 @@ pub fn vod<S: Source, K: Sink>(
     ensures to_end { OnEnd result (GaveAtEachButLast (source_stand S.remaining S.called S.failed source.old) (source_stand S.remaining S.called S.failed source.new)) }
     ensures sink { IsFairToSink VodFault.Write result (sink_stand K.contents K.failed sink.old) (sink_stand K.contents K.failed sink.new) }
 {
-    let mut channel = decided_channel(alloc, base, decisions)?;
+    let mut channel = decided_channel(alloc, hashing, base, decisions)?;
     refresh_from(alloc, source, &mut channel)?;
     hand_text(&channel, sink)?;
     Ok(channel)

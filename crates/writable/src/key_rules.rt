@@ -9,7 +9,7 @@ use playlist_model::{
     ByteRange, InitSection, KeyRef, Keys, KeysIter, OtherAttributes, is_iv_needed,
 };
 
-/// Whether a byte range ends below 2^64, where there is one.
+/// Whether `byte_range` ends below byte 2^64 (RFC 8216, section 4.3.2.2), if there is one.
 pub fn byte_range_fits(byte_range: Option<ByteRange>) -> bool
     ensures { result ≡ if_some byte_range_fits byte_range }
 {
@@ -26,7 +26,8 @@ fn others_fit(others: &OtherAttributes) -> bool
     is_clean(others.as_str())
 }
 
-/// Whether a text can be METHOD of a key that encrypts: a word without quotes other than NONE.
+/// Whether `method` can be METHOD of a key that encrypts (RFC 8216, section 4.3.2.4): a word without quotes other
+/// than NONE.
 pub fn method_fits(method: &str) -> bool
     ensures { result ≡ method_fits method.now }
 {
@@ -110,14 +111,16 @@ fn all_state_ivs(keys: &Keys) -> bool
     true
 }
 
-/// Whether these can be the keys of a segment: those of the format `identity` have an IV.
+/// Whether `keys` can be the keys of a segment: as each can be written, and those of the format `identity` have an IV
+/// (RFC 8216, section 5.2).
 pub fn effective_keys_fit(keys: &Keys) -> bool
     ensures { result ≡ effective_keys_fit keys.now }
 {
     keys_fit(keys) && all_state_ivs(keys)
 }
 
-/// Whether a section can be written: its AES-128 keys have an IV.
+/// Whether `section` can be written (RFC 8216, section 4.3.2.5): its URI in quotes, its byte range and its keys, of
+/// which those of the method AES-128 have an IV.
 pub fn section_fits(section: &InitSection) -> bool
     ensures { result ≡ section_fits section.now }
 {

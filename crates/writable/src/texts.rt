@@ -7,7 +7,7 @@ ghost use Rattle.writable.specs.Fitting.{is_clean, value_fits, uri_fits, quoted_
 use fixed_duration::Nanos;
 use playlist_model::{has_control, has_quote, has_scheme};
 
-/// Whether a text holds no control character.
+/// Whether `text` holds no control character (RFC 8216, section 4.1).
 pub fn is_clean(text: &str) -> bool
     ensures { result ≡ is_clean text.now }
 {
@@ -20,7 +20,7 @@ fn are_name_bytes(text: &str) -> bool
     text.as_bytes().iter().all(|b| b.is_ascii_uppercase() || b.is_ascii_digit() || *b == b'-')
 }
 
-/// Whether a text is one or more of A to Z, 0 to 9 and `-`.
+/// Whether `text` can be an attribute's name (RFC 8216, section 4.2): one or more of A to Z, 0 to 9 and `-`.
 pub fn is_name(text: &str) -> bool
     ensures { result ≡ is_name text.now }
 {
@@ -50,7 +50,13 @@ fn is_plain(text: &str) -> bool
     !text.is_empty() && !ends_plain(text)
 }
 
-/// Whether a text can be the value of an attribute, in quotes or without.
+/// Whether `value` can be the value of an attribute (RFC 8216, section 4.2), in quotes if `quoted`, else without. It
+/// holds no control character; in quotes no quote either, and without them no comma, quote or space, and something.
+///
+/// ```text
+/// value_fits("a,b", true)     true
+/// value_fits("a,b", false)    false
+/// ```
 pub fn value_fits(value: &str, quoted: bool) -> bool
     ensures { result ≡ value_fits quoted value.now }
 {
@@ -62,21 +68,21 @@ pub fn value_fits(value: &str, quoted: bool) -> bool
     is_clean(value) && is_value
 }
 
-/// Whether a text is a whole URI that can stand on a line.
+/// Whether `uri` can be on a line of its own: it has a scheme, and no control character (RFC 8216, section 4.1).
 pub fn uri_fits(uri: &str) -> bool
     ensures { result ≡ uri_fits uri.now }
 {
     is_clean(uri) && has_scheme(uri)
 }
 
-/// Whether a text is a whole URI that can stand in quotes.
+/// Whether `uri` can be the value of an attribute in quotes, with a scheme (RFC 8216, section 4.2).
 pub fn quoted_uri_fits(uri: &str) -> bool
     ensures { result ≡ quoted_uri_fits uri.now }
 {
     value_fits(uri, true) && has_scheme(uri)
 }
 
-/// Whether a duration is below 1,000,000 s.
+/// Whether `duration` can be written as EXTINF has it (RFC 8216, section 4.3.2.1): it is below 1,000,000 s.
 pub fn duration_fits(duration: Nanos) -> bool
     ensures { result ≡ duration_fits duration }
 {

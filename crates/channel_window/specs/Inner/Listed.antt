@@ -1,12 +1,11 @@
 -- What proofs and inner functions say with the definitions of `Listed`.
 use Rattle.std.specs.Prelude.{◌≡◌, ℕ, ◌+◌, ◌-◌, drop, length, if◌then◌else◌, Some, None, true, Bool, not, nat_lt, map, filter, List, ◌∷◌, [], Option, is_some}
-use Rattle.std.specs.Borrow.{Bor}
 use Rattle.playlist_model.specs.declared.Segment.{Segment}
 use Rattle.stitcher.specs.Stitched.{Numbers}
 use Rattle.pod_store.specs.Rules.{ads_keep}
 use Rattle.pod_store.specs.Pods.{Pod}
 use Rattle.playlist_model.specs.declared.DateRange.{DateRange}
-use Rattle.break_finder.specs.Inner.Kept.{has_text}
+use Rattle.pod_store.specs.Store.{is_one_of}
 use Rattle.stitcher.specs.declared.marked.MarkedSegment.{MarkedSegment as Held}
 use Rattle.channel_spec.specs.Live.{date_range_text}
 
@@ -19,8 +18,8 @@ abbrev pub is_after : ℕ → Segment → Bool
 is_after number s = nat_lt number s.media_sequence
 
 -- the texts of the date ranges of other breaks than these
-abbrev pub texts_left : List (Bor (List ℕ)) → List DateRange → List (List ℕ)
-texts_left ids date_ranges = map date_range_text (filter (λ (r : DateRange). not (has_text ids r.id)) date_ranges)
+abbrev pub texts_left : List (List ℕ) → List DateRange → List (List ℕ)
+texts_left ids date_ranges = map date_range_text (filter (λ (r : DateRange). not (is_one_of ids r.id)) date_ranges)
 
 -- ---- the numbers of the first item
 

@@ -6,6 +6,7 @@ use Rattle.playlist_model.specs.LookBack.{or_earlier}
 use Rattle.pod_store.specs.Marks.{Marked}
 use Rattle.stitcher.specs.Stitched.{Item, fits}
 use Rattle.pod_store.specs.Store.{kept_in_use}
+use Rattle.pod_store.specs.Inner.Store.{NameTheSame}
 use Rattle.stitcher.specs.StitchedSegments.{AreDecided, rest_in}
 use Rattle.stitcher.specs.Written.{written_item}
 use Rattle.break_finder.specs.Breaks.{Break}
@@ -46,7 +47,7 @@ pub record IsNext (kept : Kept) (p : Playlist) (known : List Break) (list : List
   pub shown : so_far kept.store next.shown.items ≡ shown_from (first_number p.segments) list
   pub decided : AreDecided kept.store next.shown.items
   pub entered : next.entered ≡ or_earlier (last_entered list) kept.entered
-  pub in_use : next.in_use.items ≡ breaks_after kept p list
+  pub in_use : NameTheSame next.in_use.items (breaks_after kept p list)
   pub numbers : next.numbers ≡ head_numbers (window_on kept p list so_long)
   pub lasted : next.so_far ≡ so_long
   pub rest : rest_in kept.store next.rest ≡ rest_after kept p list

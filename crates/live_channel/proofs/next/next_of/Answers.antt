@@ -1,5 +1,6 @@
 use Rattle.std.proofs.Common.{rules, refl, ◌≡◌, ◌∙◌, ◌<◌, ◌^◌, List, ap, drop, length, map, reverse, subst, sym}
 use Rattle.playlist_model.specs.LookBack.{or_earlier}
+use Rattle.pod_store.specs.Inner.Store.{NameTheSame}
 use Rattle.stitcher.specs.StitchedSegments.{AreDecided}
 use Rattle.stitcher.specs.Stitched.{Numbers}
 use Rattle.stitcher.specs.Written.{written_item}
@@ -36,9 +37,9 @@ returns-clause-ok c =
     let rest = c.in_ok-whole.field-0.rest in
     let window : items ≡ map written_item (window_on (kept_in s) p seen n) = c.leave_out.ensures ∙ c.in_ok-whole.ensures.window in
     let entered_is : c.in_ok-entered.entered ≡ or_earlier (last_entered seen) s.entered = search rules in
-    let breaks_are : c.in_ok-in_use.in_use.items ≡ breaks_held (first_number p.segments) held c.in_ok-entered.entered rest = search rules in
-    let breaks : c.in_ok-in_use.in_use.items ≡ breaks_after (kept_in s) p seen =
-    breaks_are ∙ breaks_seen s (kept_in s) p held c.in_ok-entered.entered (or_earlier (last_entered seen) s.entered) rest all_decided entered_is c.in_ok-whole.ensures.rest c.in_ok-whole.ensures.left in
+    let breaks_are : NameTheSame c.in_ok-in_use.in_use.items (breaks_held (first_number p.segments) held c.in_ok-entered.entered rest) = search rules in
+    let breaks : NameTheSame c.in_ok-in_use.in_use.items (breaks_after (kept_in s) p seen) =
+    subst (λ ids. NameTheSame c.in_ok-in_use.in_use.items ids) (breaks_seen s (kept_in s) p held c.in_ok-entered.entered (or_earlier (last_entered seen) s.entered) rest all_decided entered_is c.in_ok-whole.ensures.rest c.in_ok-whole.ensures.left) breaks_are in
     let number = first_number p.segments in
     let dropped_is : so_far s.store (drop c.count_before-gone.result held) ≡ shown_from number seen = search rules in
     let tail : c.in_ok-from_place.field-0.items ≡ drop c.count_before-gone.result held = c.in_ok-from_place.ensures ∙ ap (drop c.count_before-gone.result) (sym same) in

@@ -1,29 +1,27 @@
-use Rattle.std.proofs.Common.{◌≡◌, ◌∷◌, ◌++◌, [], ap, map, subst, ◌∙◌}
-use Rattle.std.proofs.lemmas.List.{append-nil}
-use Rattle.playlist_model.specs.Said.{nothing}
-use Rattle.playlist_model.specs.Reading.{said_by, said_from, and_whole, limited}
-use Rattle.playlist_parse.specs.Answers.{Answers}
-use Rattle.playlist_parse.specs.Inner.LineViews.{line_text}
-use Rattle.playlist_parse.specs.Inner.Reached.{Faulted, left_in}
-use Rattle.playlist_parse.proofs.Reached.{begun_at, none_more}
+use Rattle.std.proofs.Common.{◌≡◌, ◌∷◌, true, ap, map, subst}
+use Rattle.std.specs.List.{list_all}
+use Rattle.std.proofs.lemmas.Bool.{and_parts, not-true}
+use Rattle.playlist_parse.specs.Inner.LineViews.{is_free, line_text}
+use Rattle.playlist_parse.specs.Inner.Reached.{Reached}
+use Rattle.playlist_parse.proofs.Reached.{begun, next, taken_ok}
 use Rattle.playlist_parse.proofs.reader.read_lines.Goals as goal
 
-pub returns-in-Ok : goal.returns-in-Ok
-returns-in-Ok c =
-    let old = c.reading_of-reading.result in
-    let new = c.read_all.new.reading in
-    let base = c.args.base.now in
-    let all = left_in old ++ [] in
-    let lines_are : all ≡ map line_text c.args.lines = append-nil (left_in old) ∙ ap (map line_text) c.reading_of-reading.ensures.lines in
-    let whole = c.in-Ok.ensures.reached base [] all (begun_at base old [] c.reading_of-reading.ensures.number c.reading_of-reading.ensures.begun) in
-    subst (λ ls. Answers c.playlist_of.result (and_whole (said_from (said_by limited base) (nothing ∷ []) ls))) lines_are
-    (c.playlist_of.ensures.answer base all (none_more new [] all c.in-Ok.ensures.none_left whole))
+pub loop-line-init : goal.loop-line-init
+loop-line-init c = (begun c.args.base.now c.new-progress.result (map line_text c.args.lines) c.new-progress.ensures, c.requires.plain)
 
-pub returns-in-Err : goal.returns-in-Err
-returns-in-Err c =
-    let old = c.reading_of-reading.result in
-    let base = c.args.base.now in
-    let all = left_in old ++ [] in
-    let lines_are : all ≡ map line_text c.args.lines = append-nil (left_in old) ∙ ap (map line_text) c.reading_of-reading.ensures.lines in
-    subst (λ ls. Faulted base c.in-Err.fault ls) lines_are
-    (c.in-Err.ensures.reached base [] all (begun_at base old [] c.reading_of-reading.ensures.number c.reading_of-reading.ensures.begun))
+pub line-requires : goal.line-requires
+line-requires c = λ plain.
+    let cut : map line_text c.loop-line.lines ≡ c.in-Some.line.text.now ∷ map line_text c.next.new.self = ap (map line_text) c.in-Some.ensures in
+    let free = subst (λ ls. list_all is_free ls ≡ true) cut (c.loop-line.invariant.1 plain) in
+    let a = and_parts _ _ free in not-true _ a.0
+
+pub loop-line-preserved : goal.loop-line-preserved
+loop-line-preserved c =
+    let line = c.in-Some.line.text.now in
+    let all = map line_text c.args.lines in
+    let cut : map line_text c.loop-line.lines ≡ line ∷ map line_text c.next.new.self = ap (map line_text) c.in-Some.ensures in
+    let r : Reached c.args.base.now c.loop-line.progress c.loop-line.number (line ∷ map line_text c.next.new.self) all =
+    subst (λ left. Reached c.args.base.now c.loop-line.progress c.loop-line.number left all) cut c.loop-line.invariant.0 in (
+      next r (taken_ok line c.line.new.self r c.in-Ok.ensures),
+      λ plain. let a = and_parts _ _ (subst (λ ls. list_all is_free ls ≡ true) cut (c.loop-line.invariant.1 plain)) in a.1,
+    )
