@@ -1,4 +1,4 @@
-"""Which public functions don't name their parameters in their docstrings. tests/rules calls `print_faults`."""
+"""Which public functions don't name their parameters in their docstrings. tests/rules calls `lacking`."""
 import glob
 import os
 import re
@@ -83,11 +83,3 @@ def lacking(top: str) -> list[str]:
             named = ", ".join(f"`{one}`" for one in missing)
             faults.append(f"{os.path.relpath(path, top)}:{number}: the docstring of {name} doesn't name {named}")
     return faults
-
-
-def print_faults(top: str) -> int:
-    """Prints the lines of `lacking`, and says how many they are."""
-    faults = lacking(top)
-    for fault in faults:
-        print(fault)
-    return len(faults)

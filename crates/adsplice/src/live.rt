@@ -111,8 +111,9 @@ fn serve_all(
     true
 }
 
-/// Serves `count` connections on the port `port` of the loopback address, from 1, and gives the exit status. Tables of
-/// names use the keys `hashing`. The memory is taken first, so that a client finds it there.
+/// Serves `count` connections on the port `port` of the loopback address, from 1, and gives the exit status. The
+/// memory is taken first, so that a client finds it there.
+/// `hashing`: the keys for tables of IDs.
 pub fn live(rt: &HostRuntime, hashing: RandomState, port: u16, count: u32) -> ExitCode {
     let Ok(room) = room_for_all(rt, rt.alloc(), hashing) else {
         return fails(rt, "E5 OutOfMemory\n");

@@ -38,7 +38,7 @@ iv_same (Some a) (Some b) h = eq-eqb a b (some_is a b h)
     some_is : (a b : ℕ) → ◌≡◌ {A = Option ℕ} (Some a) (Some b) → a ≡ b
     some_is a b h = cc
 
-key_same : (j k : Key) → j ≡ k → same_key j k ≡ true
+pub key_same : (j k : Key) → j ≡ k → same_key j k ≡ true
 key_same j k e =
     and_from _ _ (and_from _ _ (and_from _ _ (and_from _ _ ((bytes_eq-Decides j.format k.format).1 (ap (λ x. x.format) e)) ((bytes_eq-Decides j.method k.method).1 (ap (λ x. x.method) e)))
     ((bytes_eq-Decides j.uri k.uri).1 (ap (λ x. x.uri) e))) (iv_same j.iv k.iv (ap (λ x. x.iv) e))) ((bytes_eq-Decides j.other_attributes k.other_attributes).1 (ap (λ x. x.other_attributes) e))

@@ -26,7 +26,8 @@ pub fn is_same_key(a: &KeyRef<'_>, b: &KeyRef<'_>) -> bool
         && a.other_attributes() == b.other_attributes()
 }
 
-fn are_same_keys(one: &Keys, other: &Keys) -> bool
+/// Whether the keys `one` and the keys `other` are the same in all their parts, in their order. Takes no memory.
+pub fn are_same_keys(one: &Keys, other: &Keys) -> bool
     ensures { result ≡ pointwise same_key one.now other.now }
 {
     let mut others = other.iter();

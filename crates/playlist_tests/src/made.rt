@@ -42,8 +42,9 @@ pub(crate) fn unmarked(
     Ok(done)
 }
 
-/// The stitched list of the segments `marked`, which have no mark; its store of pods uses the keys `hashing`. Its first
-/// item has the media sequence number 7 and the discontinuity sequence number 3, after a discontinuity.
+/// The stitched list of the segments `marked`, which have no mark. Its first item has the media sequence number 7 and
+/// the discontinuity sequence number 3, after a discontinuity.
+/// `hashing`: the keys for a table of IDs.
 pub(crate) fn listed<'a>(
     alloc: Global,
     hashing: RandomState,

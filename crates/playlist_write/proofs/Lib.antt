@@ -13,3 +13,4 @@ pub mod ZerosInFront
 pub mod HexPairs
 pub mod Taken
 pub mod GoesOn
+pub mod SameKeys

@@ -13,7 +13,7 @@ ghost use Rattle.fixed_duration.specs.Appended.{Appends};
 
 use crate::digits::{push_last_iv, push_quote_and_iv};
 use crate::lines::{push_byte_range, push_feed, push_line};
-use playlist_model::{ByteRange, InitSection, KeyRef, Keys};
+use playlist_model::{ByteRange, InitSection, KeyRef, Keys, are_same_keys};
 use std::alloc::AllocError;
 use stitcher::{is_new_key, keeps_formats};
 
@@ -130,10 +130,15 @@ fn push_no_keys(out: &mut String) -> Result<(), AllocError>
     push_line(out, "#EXT-X-KEY:METHOD=NONE")
 }
 
+#[tactic(auto, using(crate::proofs::SameKeys::same_keys_owe_nothing))]
 // Appends the key tags that lead from any keys to others.
 fn push_any_tags(out: &mut String, old: &Keys, new: &Keys) -> Result<(), AllocError>
     ensures { Appends result out.old out.new (said_text (keys_owed old.now new.now)) }
 {
+    // Mostly no tag stands between two segments: then each key is compared once.
+    if are_same_keys(new, old) {
+        return Ok(());
+    }
     if keeps_formats(old, new) {
         return push_new_keys(out, old, new);
     }

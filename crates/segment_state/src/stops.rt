@@ -1,13 +1,12 @@
 //! What stands after a segment, so that lines which were read before can go on there after others.
 ghost use Rattle.std.specs.Prelude.{◌≡◌, ◌+◌, ◌^◌, ◌<◌, ◌≤◌, true, false, IfOk, IfErr, OnErr, MatchOption, IsTrue, Some, None};
-ghost use Rattle.std.specs.Cmp.Lexicographic.{pointwise};
-ghost use Rattle.playlist_model.specs.Same.{same_key, same_option, same_section};
+ghost use Rattle.playlist_model.specs.Same.{same_option, same_section};
 ghost use Rattle.segment_state.specs.Continued.{IsBetween, IsStop, IsReached, stopped_at};
 ghost use Rattle.segment_state.specs.Inner.Running.{taken_at};
 ghost use Rattle.segment_state.specs.Views.{extent_after};
 
 use crate::{Part, ReaderState};
-use playlist_model::{InitSection, Keys, MAX_SEGMENTS, Shared, is_same_key, is_same_section};
+use playlist_model::{InitSection, Keys, MAX_SEGMENTS, Shared, are_same_keys, is_same_section};
 use std::alloc::AllocError;
 use std::marker::Model;
 
@@ -28,21 +27,6 @@ impl Model for Stop {
     ghost Value = { Stop };
 
     ghost view = { λ a. record { number = a.number; discontinuity = a.discontinuity; keys = a.keys; init_section = a.init_section; extent = extent_after a.last } };
-}
-
-fn are_same_keys(one: &Keys, other: &Keys) -> bool
-    ensures { result ≡ pointwise same_key one.now other.now }
-{
-    let mut others = other.iter();
-    for key in one.iter() {
-        let Some(other) = others.next() else {
-            return false;
-        };
-        if !is_same_key(&key, &other) {
-            return false;
-        }
-    }
-    others.next().is_none()
 }
 
 #[tactic(auto, using(crate::proofs::EqualParts::keys_are))]

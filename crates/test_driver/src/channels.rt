@@ -48,8 +48,8 @@ fn channel_fault(fault: ChannelFault) -> &'static str {
     }
 }
 
-/// Makes a channel as `words` say, whose tables use the keys `hashing`, and adds it to `channels`. Events then go to it.
-/// Prints `ok` or the fault.
+/// Makes a channel as `words` say, to which events then go, and adds it to `channels`. Prints `ok` or the fault.
+/// `hashing`: the keys for tables of IDs.
 pub(crate) fn print_made(
     rt: &impl Print,
     alloc: Global,

@@ -39,7 +39,8 @@ fn print_breaks(rt: &impl Print, breaks: &[Decision]) -> io::Result<()> {
 }
 
 /// Prints what the decision file `body` says: its breaks, a line each, the one that is withdrawn, the fallback, that
-/// there is none, or the first fault. It is read with tables that use the keys `hashing`.
+/// there is none, or the first fault.
+/// `hashing`: the keys for a table of IDs.
 pub(crate) fn print_decisions(
     rt: &impl Print,
     alloc: Global,

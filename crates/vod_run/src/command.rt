@@ -33,8 +33,9 @@ fn print_fault<F: Sink>(fault: VodFault, faults: &mut F)
     let _ = hand_out(line.as_str().as_bytes(), faults);
 }
 
-/// Runs `vod` with `hashing`, `base`, `decisions`, `input` and `output`, and gives the exit status: 0, or 1 after a fault,
-/// whose line it writes to `faults`. The process ends then, so that the memory of the channel is left to its end.
+/// Runs `vod` with `base`, `decisions`, `input` and `output`, and gives the exit status: 0, or 1 after a fault, whose
+/// line it writes to `faults`. The process ends then, so that the memory of the channel is left to its end.
+/// `hashing`: the keys for tables of IDs.
 pub fn command_vod<S: Source, K: Sink, F: Sink>(
     alloc: Global,
     hashing: RandomState,
