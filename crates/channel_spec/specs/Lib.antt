@@ -7,6 +7,7 @@ pub mod Kept
 pub mod KeptLaws
 pub mod BreakLaws
 pub mod OwedLaws
+pub mod ListedLaws
 pub mod Unread
 pub mod Limits
 pub mod Inner

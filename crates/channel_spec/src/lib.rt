@@ -8,6 +8,7 @@ ghost use Rattle.channel_spec.specs.KeptLaws.{KeptFollows, KeptHavePods};
 ghost use Rattle.channel_spec.specs.LastWindow.{ItemsGoOn};
 ghost use Rattle.channel_spec.specs.OwedLaws.{HeaderIsTheLast, DateRangesAreTheOrigins, WindowIsStitched, UnmarkedStandOnce, SegmentsPlayTheWindow, NothingDecidedNothingChanged, PodsAreKept, StoreStaysSmall};
 ghost use Rattle.channel_spec.specs.LiveLaws.{OnlyGrows, EachSucceeds, MarksFollow, HistoriesAreLinked, MarksAreKnown, NoFaultSucceeds, NewestFits, MarksHavePods, UsedAreInUse};
+ghost use Rattle.channel_spec.specs.ListedLaws.{ListedAreShown};
 ghost use Rattle.std.specs.Prelude.{◌≡◌};
 ghost use Rattle.channel_spec.specs.Limits.{default_tolerance, max_tolerance};
 
@@ -159,4 +160,10 @@ pub fn kept_have_pods()
 /// The items of the window that is written next go on those of the one that was written last: no item of it has changed.
 pub fn items_go_on()
     ensures { ItemsGoOn }
+{}
+
+/// Each segment of the playlist that was accepted last is shown with its own numbers, resource, byte range, keys,
+/// initialisation section and duration.
+pub fn listed_are_shown()
+    ensures { ListedAreShown }
 {}

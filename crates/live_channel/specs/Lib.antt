@@ -1,4 +1,5 @@
 pub mod Channel
 pub mod ChannelLaws
+pub mod GivenLaws
 pub mod Inner
 pub mod LastText

@@ -1,5 +1,6 @@
 //! Laws of channels. Each function's contract is its law; calling it does nothing.
 ghost use Rattle.live_channel.specs.ChannelLaws.{StepFollows, StepsRefresh, DecideFollows, UndecidedFollows, WithdrawFollows, ChannelWrites, AcceptanceIsExact, StitchedListGrows, OwedPlaylistsSucceed};
+ghost use Rattle.live_channel.specs.GivenLaws.{GivenIsSound};
 
 /// A refresh of what is kept answers what is owed for all that was given.
 pub fn step_follows()
@@ -35,4 +36,9 @@ pub fn stitched_list_grows()
 /// and no segment that was written changes.
 pub fn owed_playlists_succeed()
     ensures { OwedPlaylistsSucceed }
+{}
+
+/// All that a channel was given makes sense: the laws of [`channel_spec`] take no other events.
+pub fn given_is_sound()
+    ensures { GivenIsSound }
 {}

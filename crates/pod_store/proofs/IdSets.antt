@@ -6,7 +6,7 @@ use Rattle.std.proofs.lemmas.List.Folds.{list_any-append}
 use Rattle.std.proofs.lemmas.Slice.Eq.{bytes_eq-Decides}
 use Rattle.indexmap.specs.IndexSet.{insert_key}
 use Rattle.pod_store.specs.Store.{is_one_of}
-use Rattle.pod_store.specs.Inner.IdSets.{text_of, texts_of}
+use Rattle.pod_store.specs.IdSets.{text_of, texts_of}
 
 abbrev same_text : Bor (List ℕ) → Bor (List ℕ) → Bool
 same_text a b = bytes_eq a.now b.now

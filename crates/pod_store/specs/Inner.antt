@@ -2,4 +2,3 @@ pub mod Outcome
 pub mod WorkedExamples
 pub mod Store
 pub mod Kept
-pub mod IdSets

@@ -17,7 +17,7 @@ pub struct IdSet<'a> {
 
 impl<'a> Model for IdSet<'a> {
     ghost use Rattle.std.specs.Prelude.{List, ℕ};
-    ghost use Rattle.pod_store.specs.Inner.IdSets.{texts_of};
+    ghost use Rattle.pod_store.specs.IdSets.{texts_of};
 
     ghost Value = { List (List ℕ) };
 

@@ -1,0 +1,170 @@
+-- Each segment that the origin lists is shown as it is listed.
+use Rattle.std.proofs.Common.{◌≡◌, inl, inr, ◌⊎◌, ℕ, ◌+◌, ◌<◌, ◌≤◌, Bool, true, false, cond, List, [], ◌∷◌, length, refl, ap, sym, ◌∙◌, subst, arith}
+use Rattle.std.proofs.lemmas.Bool.{le-leb, ltb-true, ltb-false}
+use Rattle.std.specs.Prelude.{Option, Some, None, nat_le, nat_lt, filter, is_none}
+use Rattle.std.specs.List.{AllByRecursion}
+use Rattle.playlist_model.specs.declared.Segment.{Segment}
+use Rattle.playlist_model.specs.declared.Playlist.{Playlist}
+use Rattle.playlist_model.specs.Same.{kept_parts}
+use Rattle.pod_store.specs.Marks.{Marked}
+use Rattle.break_finder.specs.Known.{Accepted}
+use Rattle.channel_spec.specs.declared.fault.RefreshFault.{RefreshFault}
+use Rattle.channel_spec.specs.Marking.{Moment, next_shown, show_all, is_new, history_after}
+use Rattle.channel_spec.specs.Live.{Event, decided, refreshed, Told, told, happens, moment, after_refresh, refusal, succession_fault, last_playlist}
+use Rattle.channel_spec.specs.Kept.{shown_from, shown_by}
+use Rattle.channel_spec.specs.Sound.{RiseFrom, IsSoundPlaylist, IsSoundEvent}
+use Rattle.channel_spec.specs.Successor.{AgreesWith, Succeeds, first_number, end_number}
+use Rattle.channel_spec.specs.ListedLaws.{IsShown, ListedAreShown}
+use Rattle.channel_spec.proofs.Decided.{from_all, no_fault_succeeds}
+use Rattle.channel_spec.proofs.EachWindow.{WindowOf, Holds, first_none, holds}
+use Rattle.channel_spec.proofs.LiveState.{Standing}
+use Rattle.channel_spec.proofs.Risen.{FallFrom}
+use Rattle.channel_spec.proofs.Windows.{In, all_from}
+
+-- ---- segments whose numbers rise
+
+within : (n : ℕ) (segments : List Segment) (s : Segment) → RiseFrom n segments → In s segments → (n ≤ s.media_sequence) × (s.media_sequence < n + length segments)
+unfolding In
+within n [] s r h = absurd h
+within n (t ∷ later) s r (inl e) = let same = ap (λ (u : Segment). u.media_sequence) e in (omega (arith, same, r.0), omega (arith, same, r.0))
+within n (t ∷ later) s r (inr h) = let k = within (n + 1) later s r.1 h in (omega (arith, k.0), omega (arith, k.1))
+
+only : (n : ℕ) (segments : List Segment) (s t : Segment) → RiseFrom n segments → In s segments → In t segments → s.media_sequence ≡ t.media_sequence → s ≡ t
+unfolding In
+only n [] s t r h k e = absurd h
+only n (u ∷ later) s t r (inl a) (inl b) e = a ∙ sym b
+only n (u ∷ later) s t r (inl a) (inr b) e = absurd (omega (arith, ap (λ (v : Segment). v.media_sequence) a, r.0, (within (n + 1) later t r.1 b).0, e))
+only n (u ∷ later) s t r (inr a) (inl b) e = absurd (omega (arith, ap (λ (v : Segment). v.media_sequence) b, r.0, (within (n + 1) later s r.1 a).0, e))
+only n (u ∷ later) s t r (inr a) (inr b) e = only (n + 1) later s t r.1 a b e
+
+-- one has each number in between
+record Has (k : ℕ) (segments : List Segment) : Type 0 where
+  one : Segment
+  inside : In one segments
+  is : one.media_sequence ≡ k
+
+has_step : (n k : ℕ) (s : Segment) (later : List Segment) → s.media_sequence ≡ n → (n < k → Has k later) → n ≤ k → (b : Bool) → nat_lt n k ≡ b → Has k (s ∷ later)
+unfolding In
+has_step n k s later e rec h true t = let f = rec (ltb-true n k t) in record { one = f.one; inside = inr f.inside; is = f.is }
+has_step n k s later e rec h false t = record { one = s; inside = inl refl; is = omega (arith, e, h, ltb-false n k t) }
+
+has : (n k : ℕ) (segments : List Segment) → RiseFrom n segments → n ≤ k → k < n + length segments → Has k segments
+has n k [] r h l = absurd (omega (arith, h, l))
+has n k (s ∷ later) r h l = has_step n k s later r.0 (λ b. has (n + 1) k later r.1 (omega (arith, b)) (omega (arith, l))) h (nat_lt n k) refl
+
+own : (n : ℕ) (segments : List Segment) → RiseFrom n segments → AllByRecursion (AgreesWith segments) segments
+own n segments r =
+    all_from (AgreesWith segments) segments (λ s h.
+    all_from (λ (t : Segment). s.media_sequence ≡ t.media_sequence → kept_parts s ≡ kept_parts t) segments (λ t k e. ap kept_parts (only n segments s t r h k e)))
+
+-- ---- a history that agrees with a playlist
+
+abbrev Agrees : List Segment → Marked → Type 0
+Agrees segments m = AgreesWith segments m.segment
+
+below : (end : ℕ) (history : List Marked) (m : Marked) → FallFrom end history → In m history → m.segment.media_sequence < end
+unfolding In
+below end [] m f h = absurd h
+below end (x ∷ before) m f (inl e) = omega (arith, ap (λ (y : Marked). y.segment.media_sequence) e, f.0)
+below end (x ∷ before) m f (inr h) = omega (arith, below x.segment.media_sequence before m f.1 h, f.0)
+
+old_agree : (last playlist : Playlist) (history : List Marked) → Standing last history → Succeeds playlist last → IsSoundPlaylist playlist
+    → AllByRecursion (Agrees last.segments) history → AllByRecursion (Agrees playlist.segments) history
+old_agree last playlist history s k r a =
+    all_from (Agrees playlist.segments) history (λ m h.
+    all_from (λ (t : Segment). m.segment.media_sequence ≡ t.media_sequence → kept_parts m.segment ≡ kept_parts t) playlist.segments (λ t inside e.
+    let low = (within (first_number playlist.segments) playlist.segments t r.numbers inside).0 in
+    let high = below (end_number last.segments) history m s.falls h in
+    let u = has (first_number last.segments) t.media_sequence last.segments s.read.numbers (omega (arith, low, k.not_back)) (omega (arith, high, e)) in
+    let there : kept_parts m.segment ≡ kept_parts u.one =
+    from_all (λ (v : Segment). m.segment.media_sequence ≡ v.media_sequence → kept_parts m.segment ≡ kept_parts v) last.segments u.one (from_all (Agrees last.segments) history m a h) u.inside (e ∙ sym u.is) in
+    let here : kept_parts u.one ≡ kept_parts t =
+    from_all (λ (v : Segment). u.one.media_sequence ≡ v.media_sequence → kept_parts u.one ≡ kept_parts v) playlist.segments t (from_all (AgreesWith playlist.segments) last.segments u.one k.same u.inside) inside u.is in
+    there ∙ here))
+
+show_agree : (all : List Segment) (m : Moment) (history : List Marked) (segments : List Segment) → AllByRecursion (Agrees all) history → AllByRecursion (AgreesWith all) segments
+    → AllByRecursion (Agrees all) (show_all m history segments)
+show_agree all m history [] h k = h
+show_agree all m history (s ∷ later) h k = show_agree all m (next_shown m history s later ∷ history) later (k.0, h) k.1
+
+filter_step : (P : Segment → Type 0) (x : Segment) (xs : List Segment) (b : Bool) → P x → AllByRecursion P xs → AllByRecursion P (cond b (x ∷ xs) xs)
+filter_step P x xs true p h = (p, h)
+filter_step P x xs false p h = h
+
+all_filter : (P : Segment → Type 0) (test : Segment → Bool) (xs : List Segment) → AllByRecursion P xs → AllByRecursion P (filter test xs)
+all_filter P test [] h = tt
+all_filter P test (x ∷ xs) h = filter_step P x (filter test xs) (test x) h.0 (all_filter P test xs h.1)
+
+-- ---- after every list of events
+
+unfoldable ListedOf : List Accepted → List Marked → Type 0
+ListedOf [] history = Unit {0}
+ListedOf (r ∷ before) history = AllByRecursion (Agrees r.playlist.segments) history
+
+refresh_agrees : (m : Moment) (accepted : List Accepted) (history : List Marked) (start : ℕ) (playlist : Playlist) → WindowOf accepted history start → ListedOf accepted history
+    → IsSoundPlaylist playlist → succession_fault (last_playlist accepted) playlist ≡ None → AllByRecursion (Agrees playlist.segments) (history_after m history playlist)
+unfolding WindowOf ListedOf
+refresh_agrees m [] history start playlist w l r f =
+    subst (λ h. AllByRecursion (Agrees playlist.segments) (history_after m h playlist)) (sym w)
+    (show_agree playlist.segments m [] (filter (is_new []) playlist.segments) tt
+    (all_filter (AgreesWith playlist.segments) (is_new []) playlist.segments (own (first_number playlist.segments) playlist.segments r.numbers)))
+refresh_agrees m (a ∷ before) history start playlist w l r f =
+    show_agree playlist.segments m history (filter (is_new history) playlist.segments)
+    (old_agree a.playlist playlist history w.standing ((no_fault_succeeds a.playlist playlist w.standing.read r).0 f) r l)
+    (all_filter (AgreesWith playlist.segments) (is_new history) playlist.segments (own (first_number playlist.segments) playlist.segments r.numbers))
+
+abbrev Lists : Told → Type 0
+Lists p = ListedOf p.accepted p.history
+
+refusal_lists : (tolerance : ℕ) (p : Told) (playlist : Playlist) → Holds p → Lists p → IsSoundPlaylist playlist → (o : Option RefreshFault) → refusal tolerance p playlist ≡ o
+    → Lists (cond (is_none o) (after_refresh tolerance p playlist) p)
+unfolding ListedOf
+refusal_lists tolerance p playlist h l r None e =
+    refresh_agrees (moment tolerance p playlist) p.accepted p.history p.start playlist h.standing l r (first_none (succession_fault (last_playlist p.accepted) playlist) _ e)
+refusal_lists tolerance p playlist h l r (Some x) e = l
+
+event_lists : (tolerance : ℕ) (p : Told) (event : Event) → Holds p → Lists p → IsSoundEvent event → Lists (happens tolerance p event)
+event_lists tolerance p (decided ds) h l g = l
+event_lists tolerance p (refreshed playlist) h l g = refusal_lists tolerance p playlist h l g (refusal tolerance p playlist) refl
+
+lists : (tolerance : ℕ) (events : List Event) → AllByRecursion IsSoundEvent events → Lists (told tolerance events)
+unfolding ListedOf
+lists tolerance [] g = tt
+lists tolerance (event ∷ before) g = event_lists tolerance (told tolerance before) event (holds tolerance before g.1) (lists tolerance before g.1) g.0
+
+-- ---- each is shown
+
+pick : (segments : List Segment) (s : Segment) (x : Marked) (rest : List Marked) → Agrees segments x → In s segments → s.media_sequence < x.segment.media_sequence + 1
+    → (s.media_sequence < x.segment.media_sequence → IsShown rest s) → (b : Bool) → nat_lt s.media_sequence x.segment.media_sequence ≡ b → IsShown (x ∷ rest) s
+pick segments s x rest a i k rec true e = inr (rec (ltb-true s.media_sequence x.segment.media_sequence e))
+pick segments s x rest a i k rec false e =
+    inl (from_all (λ (t : Segment). x.segment.media_sequence ≡ t.media_sequence → kept_parts x.segment ≡ kept_parts t) segments s a i
+    (omega (arith, k, ltb-false s.media_sequence x.segment.media_sequence e)))
+
+is_shown : (segments : List Segment) (s : Segment) (first end : ℕ) (history : List Marked) → FallFrom end history → In s segments → AllByRecursion (Agrees segments) history
+    → first ≤ s.media_sequence → s.media_sequence < end → end ≤ s.media_sequence + length history → IsShown (shown_from first history) s
+is_shown segments s first end [] f i a h k l = absurd (omega (arith, k, l))
+is_shown segments s first end (x ∷ before) f i a h k l =
+    subst (λ b. IsShown (cond b (x ∷ shown_from first before) []) s) (sym (le-leb first x.segment.media_sequence (omega (arith, f.0, h, k))))
+    (pick segments s x (shown_from first before) a.0 i (omega (arith, f.0, k))
+    (λ less. is_shown segments s first x.segment.media_sequence before f.1 i a.1 h less (omega (arith, f.0, l))) (nat_lt s.media_sequence x.segment.media_sequence) refl)
+
+shown_in : (last : Playlist) (history : List Marked) → Standing last history → AllByRecursion (Agrees last.segments) history
+    → AllByRecursion (IsShown (shown_from (first_number last.segments) history)) last.segments
+shown_in last history s a =
+    all_from (IsShown (shown_from (first_number last.segments) history)) last.segments (λ x i.
+    let w = within (first_number last.segments) last.segments x s.read.numbers i in
+    is_shown last.segments x (first_number last.segments) (end_number last.segments) history s.falls i a w.0 w.1 (omega (arith, w.0, s.long)))
+
+shown_after : (accepted : List Accepted) (history : List Marked) (start : ℕ) (last : Playlist) → last_playlist accepted ≡ Some last → WindowOf accepted history start → ListedOf accepted history
+    → AllByRecursion (IsShown (shown_by (Some last) history)) last.segments
+unfolding WindowOf ListedOf
+shown_after [] history start last e w l = absurd (cc)
+shown_after (r ∷ before) history start last e w l =
+    let same : r.playlist ≡ last = cc in
+    subst (λ (p : Playlist). AllByRecursion (IsShown (shown_from (first_number p.segments) history)) p.segments) same (shown_in r.playlist history w.standing l)
+
+pub listed_are_shown : ListedAreShown
+listed_are_shown tolerance events last now h =
+    let t = told tolerance events in
+    shown_after t.accepted t.history t.start last h.accepted (holds tolerance events h.sound).standing (lists tolerance events h.sound)

@@ -1,0 +1,31 @@
+use Rattle.std.proofs.Common.{refl}
+use Rattle.served_examples.proofs.OnLiterals.{on_literals}
+use Rattle.served_examples.proofs.answers_have_their_values.Goals as goal
+
+pub returns-clause-channels_are_made : goal.returns-clause-channels_are_made
+unfolding on_literals
+returns-clause-channels_are_made c = refl
+
+pub returns-clause-refreshes_are_answered : goal.returns-clause-refreshes_are_answered
+unfolding on_literals
+returns-clause-refreshes_are_answered c = refl
+
+pub returns-clause-playlists_are_read : goal.returns-clause-playlists_are_read
+unfolding on_literals
+returns-clause-playlists_are_read c = refl
+
+pub returns-clause-decisions_are_answered : goal.returns-clause-decisions_are_answered
+unfolding on_literals
+returns-clause-decisions_are_answered c = refl
+
+pub returns-clause-reasons_are_answered : goal.returns-clause-reasons_are_answered
+unfolding on_literals
+returns-clause-reasons_are_answered c = refl
+
+pub returns-clause-tables_are_limited : goal.returns-clause-tables_are_limited
+unfolding on_literals
+returns-clause-tables_are_limited c = refl
+
+pub returns-clause-channels_are_apart : goal.returns-clause-channels_are_apart
+unfolding on_literals
+returns-clause-channels_are_apart c = refl

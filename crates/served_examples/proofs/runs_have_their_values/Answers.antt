@@ -1,0 +1,23 @@
+use Rattle.std.proofs.Common.{refl}
+use Rattle.served_examples.proofs.OnLiterals.{on_literals}
+use Rattle.served_examples.proofs.runs_have_their_values.Goals as goal
+
+pub returns-clause-reads_are_limited : goal.returns-clause-reads_are_limited
+unfolding on_literals
+returns-clause-reads_are_limited c = refl
+
+pub returns-clause-files_are_told : goal.returns-clause-files_are_told
+unfolding on_literals
+returns-clause-files_are_told c = refl
+
+pub returns-clause-files_are_given : goal.returns-clause-files_are_given
+unfolding on_literals
+returns-clause-files_are_given c = refl
+
+pub returns-clause-bytes_are_told : goal.returns-clause-bytes_are_told
+unfolding on_literals
+returns-clause-bytes_are_told c = refl
+
+pub returns-clause-uris_are_text : goal.returns-clause-uris_are_text
+unfolding on_literals
+returns-clause-uris_are_text c = refl

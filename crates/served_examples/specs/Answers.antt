@@ -1,0 +1,152 @@
+-- What each request on channels is answered: the lines of the table "Answers" in docs/OPERATING.md.
+use Rattle.std.specs.Prelude.{ℕ, zero, suc, ◌+◌, ◌++◌, Bool, true, false, List, [], ◌∷◌, codes, Option, Some, None, option_map}
+use Rattle.url.specs.Parts.{Parts}
+use Rattle.playlist_model.specs.Uri.{base_of}
+use Rattle.http_messages.specs.declared.message.Request.{Request}
+use Rattle.http_messages.specs.declared.message.Reply.{Reply}
+use Rattle.http_messages.specs.declared.message.Allow.{Allow}
+use Rattle.http_messages.specs.declared.message.Allow.TheVariants as allow
+use Rattle.http_messages.specs.declared.message.ContentType.TheVariants.{Playlist}
+use Rattle.http_messages.specs.Replies.{bare, plain}
+use Rattle.http_edge.specs.Table.{Table, Turn, TableEntry, added, reply_to}
+use Rattle.http_edge.specs.Isolation.{replies_on}
+use Rattle.worked_examples.specs.Playlists.{text}
+use Rattle.worked_examples.specs.Tables.{Gives}
+
+abbrev pub asks : List ℕ → List ℕ → List ℕ → Request
+asks method target body = record { method = method; target = target; body = body }
+
+abbrev pub put : List ℕ → List ℕ → Request
+put target body = asks (codes "PUT") target body
+
+abbrev pub get : List ℕ → Request
+get target = asks (codes "GET") target []
+
+-- a reply of one line
+abbrev pub line : ℕ → List ℕ → Reply
+line status words = plain status (words ++ 10 ∷ [])
+
+abbrev pub not_found : Reply
+not_found = line 404 (codes "not found")
+
+abbrev pub not_allowed : Allow → Reply
+not_allowed methods = record (line 405 (codes "method not allowed")) { allow = Some methods }
+
+abbrev pub make : Request
+make = put (codes "/channels/a") (codes "{\"base\":\"http://h/\"}")
+
+-- the answer to the last of these requests, the newest of which stands first
+abbrev pub answer : List Request → Option Reply
+answer [] = None
+answer (r ∷ before) = Some (reply_to before r)
+
+abbrev pub ChannelsAreMade : Type 0
+ChannelsAreMade = Gives answer (
+    (make ∷ [], Some (bare 201))
+    ∷ (make ∷ make ∷ [], Some (line 409 (codes "channel exists")))
+    ∷ (put (codes "/channels/a") (codes "{\"base\":\"http://h/\",\"tolerance\":\"10\"}") ∷ [], Some (bare 201))
+    ∷ (put (codes "/channels/a") (codes "{\"base\":\"http://h/\",\"tolerance\":\"10.000000001\"}") ∷ [], Some (line 422 (codes "C2 BadTolerance")))
+    ∷ (put (codes "/channels/a") (codes "{\"base\":\"http://h/\",\"tolerance\":\"x\"}") ∷ [], Some (line 422 (codes "C2 BadTolerance")))
+    ∷ (put (codes "/channels/a") (codes "{\"base\":\"http://h/\",\"tolerance\":1}") ∷ [], Some (line 422 (codes "J2 Shape")))
+    ∷ (put (codes "/channels/a") (codes "{\"base\":\"ftp://h/\"}") ∷ [], Some (line 422 (codes "C1 BadBase")))
+    ∷ (put (codes "/channels/a") (codes "{}") ∷ [], Some (line 422 (codes "J2 Shape")))
+    ∷ (put (codes "/channels/a") (codes "{") ∷ [], Some (line 422 (codes "J1 NotJson")))
+    ∷ (put (codes "/channels/a") (255 ∷ []) ∷ [], Some (line 422 (codes "J1 NotJson")))
+    ∷ (asks (codes "DELETE") (codes "/channels/a") [] ∷ make ∷ [], Some (bare 204))
+    ∷ (asks (codes "DELETE") (codes "/channels/a") [] ∷ [], Some not_found)
+    ∷ (make ∷ asks (codes "DELETE") (codes "/channels/a") [] ∷ make ∷ [], Some (bare 201))
+    ∷ (get (codes "/channels/a") ∷ make ∷ [], Some (not_allowed allow.PutDelete))
+    ∷ (asks (codes "POST") (codes "/channels/a") [] ∷ make ∷ [], Some (not_allowed allow.PutDelete))
+    ∷ (get (codes "/") ∷ make ∷ [], Some not_found)
+    ∷ (put (codes "/channels/A") (codes "{\"base\":\"http://h/\"}") ∷ [], Some not_found) ∷ [])
+
+abbrev pub refresh : List (List ℕ) → Request
+refresh lines = put (codes "/channels/a/origin") (text (codes "#EXTM3U" ∷ codes "#EXT-X-TARGETDURATION:10" ∷ lines))
+
+abbrev pub first_refresh : Request
+first_refresh = refresh (codes "#EXTINF:10," ∷ codes "a:s" ∷ [])
+
+abbrev pub RefreshesAreAnswered : Type 0
+RefreshesAreAnswered = Gives answer (
+    (first_refresh ∷ make ∷ [], Some (bare 204))
+    ∷ (first_refresh ∷ [], Some not_found)
+    ∷ (put (codes "/channels/a/origin") [] ∷ make ∷ [], Some (line 422 (codes "P3 NoHeader line 1")))
+    ∷ (refresh (codes "#EXTINF:10," ∷ codes "a:t" ∷ []) ∷ first_refresh ∷ make ∷ [], Some (line 409 (codes "N8 Changed 0")))
+    ∷ (refresh (codes "#EXT-X-VERSION:3" ∷ codes "#EXTINF:10," ∷ codes "a:s" ∷ []) ∷ first_refresh ∷ make ∷ [], Some (line 409 (codes "N1 VersionChanged")))
+    ∷ (get (codes "/channels/a/origin") ∷ make ∷ [], Some (not_allowed allow.Put))
+    ∷ (asks (codes "POST") (codes "/channels/a/origin") [] ∷ [], Some (not_allowed allow.Put)) ∷ [])
+
+abbrev pub live : Request
+live = get (codes "/channels/a/live.m3u8")
+
+-- the playlist that is owed after that refresh
+abbrev pub owed : Reply
+owed = record {
+  status = 200;
+  allow = None;
+  content = Some (record { media = Playlist; text = text (codes "#EXTM3U" ∷ codes "#EXT-X-VERSION:6" ∷ codes "#EXT-X-TARGETDURATION:10" ∷ codes "#EXT-X-MEDIA-SEQUENCE:0" ∷ codes "#EXT-X-DISCONTINUITY-SEQUENCE:0" ∷ codes "#EXTINF:10," ∷ codes "a:s" ∷ []) });
+}
+
+abbrev pub PlaylistsAreRead : Type 0
+PlaylistsAreRead = Gives answer (
+    (live ∷ first_refresh ∷ make ∷ [], Some owed)
+    ∷ (live ∷ refresh [] ∷ first_refresh ∷ make ∷ [], Some owed)
+    ∷ (live ∷ live ∷ first_refresh ∷ make ∷ [], Some owed)
+    ∷ (live ∷ make ∷ [], Some not_found)
+    ∷ (live ∷ [], Some not_found)
+    ∷ (live ∷ make ∷ asks (codes "DELETE") (codes "/channels/a") [] ∷ first_refresh ∷ make ∷ [], Some not_found)
+    ∷ (asks (codes "HEAD") (codes "/channels/a/live.m3u8") [] ∷ first_refresh ∷ make ∷ [], Some (not_allowed allow.Get))
+    ∷ (asks (codes "POST") (codes "/channels/a/live.m3u8") [] ∷ first_refresh ∷ make ∷ [], Some (not_allowed allow.Get))
+    ∷ (put (codes "/channels/a/live.m3u8") [] ∷ [], Some (not_allowed allow.Get)) ∷ [])
+
+abbrev pub decide : List ℕ → Request
+decide body = put (codes "/channels/a/decisions") body
+
+abbrev pub DecisionsAreAnswered : Type 0
+DecisionsAreAnswered = Gives answer (
+    (decide (codes "{\"breaks\":[]}") ∷ make ∷ [], Some (bare 204))
+    ∷ (decide (codes "{\"breaks\":[]}") ∷ [], Some not_found)
+    ∷ (decide (codes "{") ∷ make ∷ [], Some (line 422 (codes "J1 NotJson")))
+    ∷ (decide (codes "{\"breaks\":[{\"id\":\"b\",\"ads\":[]}]}") ∷ make ∷ [], Some (line 422 (codes "J6 EmptyPod break 0")))
+    ∷ (decide (codes "{\"withdraw\":\"b\"}") ∷ make ∷ [], Some (line 409 (codes "J11 Unknown")))
+    ∷ (get (codes "/channels/a/decisions") ∷ make ∷ [], Some (not_allowed allow.Put))
+    ∷ (asks (codes "DELETE") (codes "/channels/a/decisions") [] ∷ make ∷ [], Some (not_allowed allow.Put)) ∷ [])
+
+abbrev pub why : Request
+why = get (codes "/channels/a/why")
+
+-- 9 is a tab, 10 a line feed
+abbrev pub ReasonsAreAnswered : Type 0
+ReasonsAreAnswered = Gives answer (
+    (why ∷ make ∷ [], Some (bare 200))
+    ∷ (
+      why ∷ refresh (codes "#EXT-X-DATERANGE:ID=\"c\"" ∷ codes "#EXT-X-DATERANGE:ID=\"b\",START-DATE=\"2024-05-01T12:00:00Z\"" ∷ codes "#EXTINF:10," ∷ codes "a:s" ∷ []) ∷ make ∷ [],
+      Some (plain 200 (codes "c" ++ (9 ∷ codes "NoStart" ++ (10 ∷ codes "b" ++ (9 ∷ codes "NotSignalled" ++ 10 ∷ []))))),
+    )
+    ∷ (why ∷ [], Some not_found)
+    ∷ (put (codes "/channels/a/why") [] ∷ make ∷ [], Some (not_allowed allow.Get)) ∷ [])
+
+-- so many channels, of names of one byte
+abbrev pub entries : ℕ → Parts → Table
+entries zero base = []
+entries (suc n) base = record { name = n ∷ []; given = record { base = base; tolerance = 0; events = [] } } ∷ entries n base
+
+abbrev pub reply_of : Turn → Reply
+reply_of turn = turn.reply
+
+abbrev pub added_to : ℕ → Option Reply
+added_to count = option_map (λ (base : Parts). reply_of (added (entries count base) (codes "a") base 0)) (base_of (codes "http://h/"))
+
+-- docs/OPERATING.md: 64 channels at most
+abbrev pub TablesAreLimited : Type 0
+TablesAreLimited = Gives added_to ((0, Some (bare 201)) ∷ (63, Some (bare 201)) ∷ (64, Some (bare 503)) ∷ [])
+
+-- what the requests on channel `a` were answered, the newest first
+abbrev pub on_a : List Request → List Reply
+on_a requests = replies_on (codes "a") requests
+
+-- requests on another channel, or on none, aren't its own
+abbrev pub ChannelsAreApart : Type 0
+ChannelsAreApart = Gives on_a (
+    (live ∷ put (codes "/channels/b") (codes "{\"base\":\"http://h/\"}") ∷ get (codes "/") ∷ make ∷ [], not_found ∷ bare 201 ∷ [])
+    ∷ (asks (codes "DELETE") (codes "/channels/b") [] ∷ make ∷ [], bare 201 ∷ []) ∷ [])

@@ -1,0 +1,66 @@
+-- Many clients at once: who is given up for whom, what was said and taken, and the limits.
+use Rattle.std.specs.Prelude.{ℕ, List, [], ◌∷◌, codes, Option, Some, None}
+use Rattle.std.specs.declared.time.Instant.{Instant}
+use Rattle.connections.specs.declared.arrivals.Arrival.{Arrival}
+use Rattle.connections.specs.declared.conversation.Conversation.{Conversation}
+use Rattle.connections.specs.declared.conversation.Conversation.TheVariants.{Asking, Answering}
+use Rattle.connections.specs.Arrivals.{gives_place, gives_room}
+use Rattle.connections.specs.Limits.{most_held, place_count, serving_nanos, ending_nanos}
+use Rattle.connections.specs.Runs.{visits, said, taken}
+use Rattle.connections.specs.Table.{State, ClientEvent, came, gave, took, went, held_in, left_of, taken_of}
+use Rattle.connections.specs.Turns.{joined}
+use Rattle.worked_examples.specs.Tables.{Gives}
+
+-- docs/OPERATING.md, "Slow clients": 64 MiB, 512 places, 10 s, a quarter of a second
+abbrev pub ClientsAreLimited : Type 0
+ClientsAreLimited = Gives (λ (n : ℕ). n) ((most_held, 67108864) ∷ (place_count, 512) ∷ (serving_nanos, 10000000000) ∷ (ending_nanos, 250000000) ∷ [])
+
+-- place 0: a client with a reply on its way; 1: one that has said nothing; 2: one that has said two bytes; 3: nobody
+abbrev pub three : State
+three = record { edge = []; places = Some (Answering (codes "xyz") 200) ∷ Some (Asking [] 0) ∷ Some (Asking (codes "GE") 1) ∷ None ∷ [] }
+
+abbrev pub at_place : Instant → ℕ → Arrival
+at_place until place = record { place = place; until = until }
+
+-- for one that comes, the client is given up that has asked longest; where none asks, the one that has been ending longest; and
+-- only where all have a reply on its way, the one that came first
+abbrev pub PlacesAreGiven : Type 0
+PlacesAreGiven = (until : Instant) → Gives (λ (served : List Arrival). gives_place three served (at_place until 3 ∷ [])) (
+    (at_place until 0 ∷ at_place until 2 ∷ at_place until 1 ∷ [], Some 2) ∷ (at_place until 0 ∷ [], Some 3) ∷ [])
+
+abbrev pub RepliesAreGivenUpLast : Type 0
+RepliesAreGivenUpLast = (until : Instant) → Gives (λ (served : List Arrival). gives_place three served []) (
+    (at_place until 0 ∷ at_place until 1 ∷ [], Some 1) ∷ (at_place until 0 ∷ [], Some 0) ∷ ([], None) ∷ [])
+
+-- for bytes that have no room, it is the client that has asked longest of those whose bytes are held
+abbrev pub RoomIsGiven : Type 0
+RoomIsGiven = (until : Instant) → Gives (gives_room three) (
+    (at_place until 0 ∷ at_place until 1 ∷ at_place until 2 ∷ [], Some 2) ∷ (at_place until 0 ∷ at_place until 1 ∷ [], None) ∷ [])
+
+abbrev pub BytesAreHeld : Type 0
+BytesAreHeld = Gives held_in ((three.places, 2) ∷ (Some (Asking (codes "GE") 1) ∷ Some (Asking (codes "PUT") 2) ∷ [], 5) ∷ ([], 0) ∷ [])
+
+abbrev pub RepliesAreLeft : Type 0
+RepliesAreLeft = Gives left_of ((Some (Answering (codes "xyz") 200), codes "xyz") ∷ (Some (Asking (codes "GE") 1), []) ∷ (None, []) ∷ [])
+
+abbrev pub BytesAreTaken : Type 0
+BytesAreTaken = Gives (taken_of 2) (
+    (Some (Answering (codes "xyz") 200), Some (Answering (codes "z") 200)) ∷ (Some (Asking (codes "GE") 1), Some (Asking (codes "GE") 1)) ∷ (None, None) ∷ [])
+
+-- what happened, the newest first: at place 1 a client went, and another one came
+abbrev pub events : List ClientEvent
+events =
+    took 1 2 ∷ took 1 3 ∷ gave 2 (codes "Q") ∷ gave 1 (codes "T /") ∷ gave 1 (codes "GE") ∷ came 1 ∷ came 2 ∷ went 1 ∷ took 1 9 ∷ gave 1 (codes "PUT") ∷ came 1 ∷ []
+
+abbrev pub VisitsAreCounted : Type 0
+VisitsAreCounted = Gives (λ (place : ℕ). visits place events) ((1, 2) ∷ (2, 1) ∷ (3, 0) ∷ [])
+
+-- what the last client there said since it came, and how much it took
+abbrev pub WordsAreSaid : Type 0
+WordsAreSaid = Gives (λ (place : ℕ). said place events) ((1, codes "GET /") ∷ (2, codes "Q") ∷ (3, []) ∷ [])
+
+abbrev pub TakenIsCounted : Type 0
+TakenIsCounted = Gives (λ (place : ℕ). taken place events) ((1, 5) ∷ (2, 0) ∷ [])
+
+abbrev pub PiecesAreJoined : Type 0
+PiecesAreJoined = Gives joined ((codes "T /" ∷ codes "GE" ∷ [], codes "GET /") ∷ ([], []) ∷ [])

@@ -1,0 +1,102 @@
+-- What a request names, the length of its body, and how a reply is written.
+use Rattle.std.specs.Prelude.{ℕ, Bool, true, false, List, [], ◌∷◌, ◌++◌, replicate, codes, Option, Some, None}
+use Rattle.http_messages.specs.declared.message.Reply.{Reply}
+use Rattle.http_messages.specs.declared.message.Allow.TheVariants as allow
+use Rattle.http_messages.specs.declared.message.ContentType.TheVariants.{Playlist}
+use Rattle.http_messages.specs.declared.refusal.Refusal.TheVariants.{BadRequest, LengthRequired, TooLarge}
+use Rattle.http_messages.specs.declared.head.Framing.{Framing}
+use Rattle.http_messages.specs.declared.head.Framing.TheVariants.{Body, Refused}
+use Rattle.http_messages.specs.Limits.{head_limit, field_limit, body_limit, most_reads}
+use Rattle.http_messages.specs.Requests.{Field, framing_of}
+use Rattle.http_messages.specs.Replies.{bare, plain, refusal_reply, sends_body, text_sent}
+use Rattle.channel_api.specs.declared.routes.Resource.{Resource}
+use Rattle.channel_api.specs.declared.routes.Resource.TheVariants.{Channel, Origin, Decisions, Live, Why}
+use Rattle.channel_api.specs.Routes.{is_channel_name, path_of, route_of}
+use Rattle.worked_examples.specs.Tables.{Gives}
+
+-- docs/OPERATING.md: a name is 1 to 32 of a to z, 0 to 9 and `-`
+abbrev pub NamesAreChecked : Type 0
+NamesAreChecked = Gives is_channel_name (
+    (codes "news-1", true)
+    ∷ (replicate 32 97, true)
+    ∷ (replicate 33 97, false)
+    ∷ ([], false)
+    ∷ (codes "News", false)
+    ∷ (codes "n_1", false)
+    ∷ (codes "n/1", false) ∷ [])
+
+-- RFC 3986, 3.4: a query begins at the first question mark, and is passed over
+abbrev pub QueriesArePassedOver : Type 0
+QueriesArePassedOver = Gives path_of ((codes "/a?b?c", codes "/a") ∷ (codes "/a", codes "/a") ∷ (codes "?", []) ∷ [])
+
+-- docs/OPERATING.md: the routes
+abbrev pub RoutesAreFound : Type 0
+RoutesAreFound = Gives route_of (
+    (codes "/channels/a", Some (codes "a", Channel))
+    ∷ (codes "/channels/a/origin", Some (codes "a", Origin))
+    ∷ (codes "/channels/a/decisions", Some (codes "a", Decisions))
+    ∷ (codes "/channels/a/live.m3u8", Some (codes "a", Live))
+    ∷ (codes "/channels/a/why", Some (codes "a", Why)) ∷ [])
+
+abbrev pub OtherPathsAreNone : Type 0
+OtherPathsAreNone = Gives route_of (
+    (codes "/channels/A", None) ∷ (codes "/channels/", None) ∷ (codes "/channels/a/", None) ∷ (codes "/channels/a/live", None) ∷ (codes "/a", None) ∷ (codes "/", None) ∷ [])
+
+abbrev pub framing : List ℕ × List Field → Framing
+framing it = framing_of it.0 it.1
+
+-- RFC 9112, 6.1 and 6.3, with docs/CONFORMANCE.md: the body of a PUT has its one Content-Length, of at most 4,194,304 bytes; with
+-- Transfer-Encoding or without a length it is 411, with two or one that is no decimal 400, with more 413. A request of another
+-- method has no body. RFC 9110, 5.1: names of fields are the same in any case
+abbrev pub BodiesAreFramed : Type 0
+BodiesAreFramed = Gives framing (
+    ((codes "PUT", (codes "Host", codes "h") ∷ (codes "Content-Length", codes "5") ∷ []), Body 5)
+    ∷ ((codes "PUT", (codes "content-LENGTH", codes "5") ∷ []), Body 5)
+    ∷ ((codes "PUT", (codes "Content-Length", codes "0") ∷ []), Body 0)
+    ∷ ((codes "PUT", (codes "Content-Length", codes "4194304") ∷ []), Body 4194304)
+    ∷ ((codes "PUT", (codes "Content-Length", codes "4194305") ∷ []), Refused TooLarge)
+    ∷ ((codes "PUT", (codes "Content-Length", codes "-1") ∷ []), Refused BadRequest)
+    ∷ ((codes "PUT", (codes "Content-Length", codes "5") ∷ (codes "Content-Length", codes "5") ∷ []), Refused BadRequest)
+    ∷ ((codes "PUT", []), Refused LengthRequired)
+    ∷ ((codes "PUT", (codes "Content-Length", codes "5") ∷ (codes "transfer-encoding", codes "chunked") ∷ []), Refused LengthRequired)
+    ∷ ((codes "GET", (codes "Content-Length", codes "5") ∷ []), Body 0)
+    ∷ ((codes "POST", (codes "Transfer-Encoding", codes "chunked") ∷ []), Body 0)
+    ∷ ((codes "put", []), Body 0) ∷ [])
+
+-- docs/OPERATING.md: 16,384 bytes and 64 fields of a head, 4,194,304 bytes of a body, 65,536 reads
+abbrev pub MessagesAreLimited : Type 0
+MessagesAreLimited = Gives (λ (n : ℕ). n) ((head_limit, 16384) ∷ (field_limit, 64) ∷ (body_limit, 4194304) ∷ (most_reads, 65536) ∷ [])
+
+-- each line with CR and LF
+abbrev pub lines : List (List ℕ) → List ℕ
+lines [] = []
+lines (line ∷ later) = line ++ (13 ∷ 10 ∷ lines later)
+
+-- RFC 9112, 4 and 9.3: a status line, fields, an empty line and the body; each reply closes its connection. RFC 9110, 8.6: 204 has
+-- no length; 15.5.6: 405 has Allow. RFC 8216, 4: the media type of a playlist
+abbrev pub RepliesAreWritten : Type 0
+RepliesAreWritten = Gives (text_sent true) (
+    (bare 204, lines (codes "HTTP/1.1 204 No Content" ∷ codes "Connection: close" ∷ [] ∷ []))
+    ∷ (bare 201, lines (codes "HTTP/1.1 201 Created" ∷ codes "Content-Length: 0" ∷ codes "Connection: close" ∷ [] ∷ []))
+    ∷ (bare 503, lines (codes "HTTP/1.1 503 Service Unavailable" ∷ codes "Content-Length: 0" ∷ codes "Connection: close" ∷ [] ∷ []))
+    ∷ (
+      record { status = 200; allow = None; content = Some (record { media = Playlist; text = codes "hi" }) },
+      lines (codes "HTTP/1.1 200 OK" ∷ codes "Content-Type: application/vnd.apple.mpegurl" ∷ codes "Content-Length: 2" ∷ codes "Connection: close" ∷ [] ∷ []) ++ codes "hi",
+    )
+    ∷ (
+      record (plain 405 (codes "no")) { allow = Some allow.PutDelete },
+      lines (codes "HTTP/1.1 405 Method Not Allowed" ∷ codes "Content-Type: text/plain; charset=utf-8" ∷ codes "Allow: PUT, DELETE" ∷ codes "Content-Length: 2" ∷ codes "Connection: close" ∷ [] ∷ []) ++ codes "no",
+    )
+    ∷ (record (bare 405) { allow = Some allow.Put }, lines (codes "HTTP/1.1 405 Method Not Allowed" ∷ codes "Allow: PUT" ∷ codes "Content-Length: 0" ∷ codes "Connection: close" ∷ [] ∷ []))
+    ∷ (record (bare 405) { allow = Some allow.Get }, lines (codes "HTTP/1.1 405 Method Not Allowed" ∷ codes "Allow: GET" ∷ codes "Content-Length: 0" ∷ codes "Connection: close" ∷ [] ∷ []))
+    ∷ (refusal_reply BadRequest, lines (codes "HTTP/1.1 400 Bad Request" ∷ codes "Content-Type: text/plain; charset=utf-8" ∷ codes "Content-Length: 12" ∷ codes "Connection: close" ∷ [] ∷ []) ++ codes "bad request\n")
+    ∷ (refusal_reply LengthRequired, lines (codes "HTTP/1.1 411 Length Required" ∷ codes "Content-Type: text/plain; charset=utf-8" ∷ codes "Content-Length: 16" ∷ codes "Connection: close" ∷ [] ∷ []) ++ codes "length required\n")
+    ∷ (refusal_reply TooLarge, lines (codes "HTTP/1.1 413 Payload Too Large" ∷ codes "Content-Type: text/plain; charset=utf-8" ∷ codes "Content-Length: 10" ∷ codes "Connection: close" ∷ [] ∷ []) ++ codes "too large\n") ∷ [])
+
+-- RFC 9110, 9.3.2: a reply to HEAD is the head alone
+abbrev pub HeadsAreSent : Type 0
+HeadsAreSent = Gives sends_body ((codes "GET", true) ∷ (codes "PUT", true) ∷ (codes "HEAD", false) ∷ (codes "head", true) ∷ [])
+
+abbrev pub HeadRepliesAreWritten : Type 0
+HeadRepliesAreWritten = Gives (text_sent false) (
+    (plain 405 (codes "no"), lines (codes "HTTP/1.1 405 Method Not Allowed" ∷ codes "Content-Type: text/plain; charset=utf-8" ∷ codes "Content-Length: 2" ∷ codes "Connection: close" ∷ [] ∷ [])) ∷ [])

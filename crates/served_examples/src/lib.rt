@@ -1,0 +1,57 @@
+//! Worked values of the definitions of requests, replies, connections and runs. Each table in `specs/` has rows of an input
+//! and the value that was worked out by hand from the section of the standard, or the sentence of docs/OPERATING.md, that
+//! stands above it; no code is named. Each function's contract is its tables; calling it does nothing.
+#![tactic(auto)]
+
+ghost use Rattle.served_examples.specs.Requests.{NamesAreChecked, QueriesArePassedOver, RoutesAreFound, OtherPathsAreNone, BodiesAreFramed, MessagesAreLimited, RepliesAreWritten, HeadsAreSent, HeadRepliesAreWritten};
+ghost use Rattle.served_examples.specs.Answers.{ChannelsAreMade, RefreshesAreAnswered, PlaylistsAreRead, DecisionsAreAnswered, ReasonsAreAnswered, TablesAreLimited, ChannelsAreApart};
+ghost use Rattle.served_examples.specs.Clients.{ClientsAreLimited, PlacesAreGiven, RepliesAreGivenUpLast, RoomIsGiven, BytesAreHeld, RepliesAreLeft, BytesAreTaken, VisitsAreCounted, WordsAreSaid, TakenIsCounted, PiecesAreJoined};
+ghost use Rattle.served_examples.specs.Runs.{ReadsAreLimited, FilesAreTold, FilesAreGiven, BytesAreTold, UrisAreText};
+
+/// What a request names, the length of its body, and how a reply is written.
+pub fn requests_have_their_values()
+    ensures names_are_checked { NamesAreChecked }
+    ensures queries_are_passed_over { QueriesArePassedOver }
+    ensures routes_are_found { RoutesAreFound }
+    ensures other_paths_are_none { OtherPathsAreNone }
+    ensures bodies_are_framed { BodiesAreFramed }
+    ensures messages_are_limited { MessagesAreLimited }
+    ensures replies_are_written { RepliesAreWritten }
+    ensures heads_are_sent { HeadsAreSent }
+    ensures head_replies_are_written { HeadRepliesAreWritten }
+{}
+
+/// What each request on channels is answered: the lines of the table "Answers" in docs/OPERATING.md.
+pub fn answers_have_their_values()
+    ensures channels_are_made { ChannelsAreMade }
+    ensures refreshes_are_answered { RefreshesAreAnswered }
+    ensures playlists_are_read { PlaylistsAreRead }
+    ensures decisions_are_answered { DecisionsAreAnswered }
+    ensures reasons_are_answered { ReasonsAreAnswered }
+    ensures tables_are_limited { TablesAreLimited }
+    ensures channels_are_apart { ChannelsAreApart }
+{}
+
+/// Many clients at once: who is given up for whom, what was said and taken, and the limits.
+pub fn clients_have_their_values()
+    ensures clients_are_limited { ClientsAreLimited }
+    ensures places_are_given { PlacesAreGiven }
+    ensures replies_are_given_up_last { RepliesAreGivenUpLast }
+    ensures room_is_given { RoomIsGiven }
+    ensures bytes_are_held { BytesAreHeld }
+    ensures replies_are_left { RepliesAreLeft }
+    ensures bytes_are_taken { BytesAreTaken }
+    ensures visits_are_counted { VisitsAreCounted }
+    ensures words_are_said { WordsAreSaid }
+    ensures taken_is_counted { TakenIsCounted }
+    ensures pieces_are_joined { PiecesAreJoined }
+{}
+
+/// A run over one playlist, and what a channel was given.
+pub fn runs_have_their_values()
+    ensures reads_are_limited { ReadsAreLimited }
+    ensures files_are_told { FilesAreTold }
+    ensures files_are_given { FilesAreGiven }
+    ensures bytes_are_told { BytesAreTold }
+    ensures uris_are_text { UrisAreText }
+{}

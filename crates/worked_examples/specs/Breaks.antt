@@ -1,0 +1,192 @@
+-- What date ranges say of breaks, which breaks are known, and which one a segment enters.
+use Rattle.std.specs.Prelude.{ℕ, Bool, true, false, ℤ, pos, List, [], ◌∷◌, map, codes, Option, Some, None}
+use Rattle.playlist_model.specs.declared.DateRange.{DateRange}
+use Rattle.playlist_model.specs.declared.Playlist.{Playlist}
+use Rattle.pod_store.specs.Pods.{Pod}
+use Rattle.pod_store.specs.Store.{Store}
+use Rattle.break_finder.specs.declared.described.Described.{Described}
+use Rattle.break_finder.specs.declared.signal.Signal.{Signal}
+use Rattle.break_finder.specs.declared.signal.Signal.TheVariants.{Nothing, Leaves, Returns}
+use Rattle.break_finder.specs.declared.why.Why.{Why}
+use Rattle.break_finder.specs.declared.why.Why.TheVariants.{Filled, NotKnown, NoStart, NotSignalled, NotDecided, DoesNotFit, Waiting}
+use Rattle.break_finder.specs.Signals.{signal_of, ticks_nanos}
+use Rattle.break_finder.specs.Breaks.{Break, End, at, closed, and_tag, end_of, is_before_end, is_not_past, is_near, is_signalled}
+use Rattle.break_finder.specs.Known.{Accepted, known}
+use Rattle.break_finder.specs.Entering.{EntryLimits, entered, is_inside, why}
+use Rattle.worked_examples.specs.Tables.{Gives}
+
+-- SCTE 35, 9.7.3: an uncancelled splice_insert leaves the network or returns to it; no other command signals a break
+abbrev pub SignalsAreRead : Type 0
+SignalsAreRead = Gives signal_of (
+    (codes "0xFC302000000000000000FFF00F05000000017FFFFE002932E000010000000000000000", Leaves (Some 2700000))
+    ∷ (codes "0xFC30280000000000030412301405480000017F6FFF000000057E00015F90010203040002AABBCC01020304", Returns (Some 90000))
+    ∷ (codes "0xFC302400000000000000FFF01305000000027F8F0207FE00000009087F00000000000000000000", Leaves None)
+    ∷ (codes "0xFC301B00000000000000FFF00A05000000017F5F00010000000000000000", Returns None)
+    ∷ (codes "0xFC301600000000000000FFF0050500000002FF000000000000", Nothing)
+    ∷ (codes "0xFC301600000000000000FFF00506FE00000009000000000000", Nothing)
+    ∷ (codes "0xFC301100000000000000FFF00000000000000000", Nothing)
+    ∷ (codes "0xFC301200000000000000FFFFFF067F000000000000", Nothing) ∷ (codes "0xF", Nothing) ∷ [])
+
+-- 9.8.2: ticks of 90 kHz
+abbrev pub TicksAreCounted : Type 0
+TicksAreCounted = Gives ticks_nanos ((0, 0) ∷ (1, 11111) ∷ (90000, 1000000000) ∷ (2700000, 30000000000) ∷ (8589934591, 95443717677777) ∷ [])
+
+abbrev pub nothing_said : Described
+nothing_said = record { start = None; end = None; duration = None; planned_duration = None; scte35_out = None; scte35_in = None }
+
+abbrev pub said_first : Described
+said_first = record { start = Some (pos 1); end = Some (pos 2); duration = Some 3; planned_duration = Some 4; scte35_out = Some (Leaves None); scte35_in = Some (Returns None) }
+
+abbrev pub later_tag : DateRange
+later_tag = record { id = codes "b"; start = Some (pos 11); end = Some (pos 12); duration = Some 13; planned_duration = Some 14; scte35_out = Some (codes "0xF"); scte35_in = Some (codes "0xFC301B00000000000000FFF00A05000000017F5F00010000000000000000"); attributes = [] }
+
+-- RFC 8216, 4.3.2.7: tags of one ID are of one date range, whose attributes say the same; the first value of each one stands
+abbrev pub FirstValuesStand : Type 0
+FirstValuesStand = Gives (λ said. and_tag said later_tag) (
+    (said_first, said_first)
+    ∷ (nothing_said, record { start = Some (pos 11); end = Some (pos 12); duration = Some 13; planned_duration = Some 14; scte35_out = Some Nothing; scte35_in = Some (Returns None) })
+    ∷ (record nothing_said { duration = Some 3 }, record { start = Some (pos 11); end = Some (pos 12); duration = Some 3; planned_duration = Some 14; scte35_out = Some Nothing; scte35_in = Some (Returns None) }) ∷ [])
+
+abbrev pub ends : Described → Option End
+ends said = end_of said 50
+
+abbrev pub starting : Described
+starting = record nothing_said { start = Some (pos 100); scte35_out = Some (Leaves None) }
+
+-- docs/CONFORMANCE.md: the first that is known of END-DATE, START-DATE with DURATION, a valid SCTE35-IN, START-DATE with
+-- PLANNED-DURATION, with the section's duration, and with that of the pod, here 50 ns
+abbrev pub BreaksEnd : Type 0
+BreaksEnd = Gives ends (
+    (starting, Some (at (pos 150)))
+    ∷ (record starting { scte35_out = Some (Leaves (Some 90000)) }, Some (at (pos 1000000100)))
+    ∷ (record starting { scte35_out = Some (Leaves (Some 90000)); planned_duration = Some 30 }, Some (at (pos 130)))
+    ∷ (record starting { planned_duration = Some 30; scte35_in = Some (Returns None) }, Some closed)
+    ∷ (record starting { planned_duration = Some 30; scte35_in = Some (Leaves None) }, Some (at (pos 130)))
+    ∷ (record starting { planned_duration = Some 30; scte35_in = Some Nothing }, Some (at (pos 130)))
+    ∷ (record starting { scte35_in = Some (Returns None); duration = Some 20 }, Some (at (pos 120)))
+    ∷ (record starting { duration = Some 20; end = Some (pos 110) }, Some (at (pos 110)))
+    ∷ (record starting { start = None; duration = Some 20 }, None)
+    ∷ (record starting { start = None; end = Some (pos 110) }, Some (at (pos 110)))
+    ∷ (record starting { start = None; scte35_in = Some (Returns None) }, Some closed) ∷ [])
+
+-- a break is signalled where it has a start and an SCTE35-OUT that leaves the network
+abbrev pub BreaksAreSignalled : Type 0
+BreaksAreSignalled = Gives is_signalled (
+    (starting, true)
+    ∷ (record starting { start = None }, false)
+    ∷ (record starting { scte35_out = None }, false)
+    ∷ (record starting { scte35_out = Some Nothing }, false)
+    ∷ (record starting { scte35_out = Some (Returns None) }, false) ∷ [])
+
+-- the tolerance at a start, here 10 ns: on both sides, and as far as it goes
+abbrev pub StartsAreNear : Type 0
+StartsAreNear = Gives (λ instant. is_near instant 10 (Some (pos 100))) (
+    (pos 89, false) ∷ (pos 90, true) ∷ (pos 100, true) ∷ (pos 110, true) ∷ (pos 111, false) ∷ [])
+
+-- and at an end: a segment that begins less than the tolerance before it is past it
+abbrev pub EndsAreNear : Type 0
+EndsAreNear = Gives (λ instant. is_before_end instant 10 (Some (at (pos 100)))) ((pos 89, true) ∷ (pos 90, false) ∷ (pos 100, false) ∷ [])
+
+-- at 89, with a tolerance of 10: whether a segment is inside, and whether it can enter
+abbrev pub before_end_and_not_past : Option End → Bool × Bool
+before_end_and_not_past end = (is_before_end (pos 89) 10 end, is_not_past (pos 89) 10 end)
+
+-- no segment is inside a break that is closed, or has no end; but such a break can be entered
+abbrev pub ClosedBreaksCanBeEntered : Type 0
+ClosedBreaksCanBeEntered = Gives before_end_and_not_past (
+    (Some closed, (false, true)) ∷ (None, (false, true)) ∷ (Some (at (pos 100)), (true, true)) ∷ (Some (at (pos 99)), (false, false)) ∷ [])
+
+abbrev pub tag : List ℕ → DateRange
+tag id = record { id = id; start = Some (pos 100); end = None; duration = None; planned_duration = None; scte35_out = Some (codes "0xFC302000000000000000FFF00F05000000017FFFFE002932E000010000000000000000"); scte35_in = None; attributes = [] }
+
+-- an accepted refresh with these tags, where this break marks the newest segment of the one before
+abbrev pub accepted : List DateRange → Option (List ℕ) → Accepted
+accepted tags carried = record {
+  playlist = record { version = 3; target_duration = 10; playlist_type = None; independent_segments = false; end_list = false; date_ranges = tags; segments = [] };
+  carried = carried;
+}
+
+-- of a break its ID and its DURATION
+abbrev pub briefly : Break → List ℕ × Option ℕ
+briefly b = (b.id, b.said.duration)
+
+abbrev pub known_briefly : List Accepted → List (List ℕ × Option ℕ)
+known_briefly refreshes = map briefly (known refreshes)
+
+abbrev pub lasting : ℕ → DateRange → DateRange
+lasting nanos one = record one { duration = Some nanos }
+
+-- an ID is known while its tag stands in each refresh, or its break marks the newest segment; the first tag counts. A break
+-- that has gone and comes back is a new one. The newest refresh stands first
+abbrev pub BreaksAreKnown : Type 0
+BreaksAreKnown = Gives known_briefly (
+    ([], [])
+    ∷ (accepted (tag (codes "a") ∷ lasting 5 (tag (codes "b")) ∷ lasting 6 (tag (codes "b")) ∷ []) None ∷ [], (codes "a", None) ∷ (codes "b", Some 5) ∷ [])
+    ∷ (accepted (tag (codes "b") ∷ tag (codes "a") ∷ []) None ∷ accepted (tag (codes "a") ∷ []) None ∷ [], (codes "a", None) ∷ (codes "b", None) ∷ [])
+    ∷ (accepted (lasting 7 (tag (codes "a")) ∷ []) None ∷ accepted (lasting 5 (tag (codes "a")) ∷ []) None ∷ [], (codes "a", Some 5) ∷ [])
+    ∷ (accepted [] None ∷ accepted (lasting 5 (tag (codes "a")) ∷ []) None ∷ [], [])
+    ∷ (accepted [] (Some (codes "a")) ∷ accepted (lasting 5 (tag (codes "a")) ∷ []) None ∷ [], (codes "a", Some 5) ∷ [])
+    ∷ (accepted (lasting 7 (tag (codes "a")) ∷ []) None ∷ accepted [] None ∷ accepted (lasting 5 (tag (codes "a")) ∷ []) None ∷ [], (codes "a", Some 7) ∷ []) ∷ [])
+
+-- one ad of one segment that lasts 8 s
+abbrev pub pod : Pod
+pod = record { ads = record { init_section = None; keys = []; segments = record { uri = codes "http://a/b"; byte_range = None; duration = 8000000000 } ∷ [] } ∷ [] }
+
+abbrev pub decided_b : Store
+decided_b = record { entries = record { id = codes "b"; pod = pod; used = false; copied = false } ∷ []; fallback = None }
+
+abbrev pub limits : ℕ → Bool → Option (List ℕ) → EntryLimits
+limits target mapped last = record { tolerance = 10; target_duration = target; mapped = mapped; last = last }
+
+abbrev pub break : Described → Break
+break said = record { id = codes "b"; said = said }
+
+abbrev pub Entrance : Type 0
+Entrance = EntryLimits × Store × List Break × Option ℤ
+
+abbrev pub enters : Entrance → Option (List ℕ)
+enters it = entered it.0 it.1 it.2 it.3
+
+-- docs/CONFORMANCE.md: a segment enters the first known break that is signalled, has a pod that fits, isn't past, isn't the one
+-- that was entered last, and near whose start it begins
+abbrev pub BreaksAreEntered : Type 0
+BreaksAreEntered = Gives enters (
+    ((limits 8 false None, decided_b, break starting ∷ [], Some (pos 110)), Some (codes "b"))
+    ∷ ((limits 8 false (Some (codes "a")), decided_b, break starting ∷ [], Some (pos 90)), Some (codes "b"))
+    ∷ ((limits 8 false (Some (codes "b")), decided_b, break starting ∷ [], Some (pos 100)), None)
+    ∷ ((limits 7 false None, decided_b, break starting ∷ [], Some (pos 100)), None)
+    ∷ ((limits 8 true None, decided_b, break starting ∷ [], Some (pos 100)), None)
+    ∷ ((limits 8 false None, decided_b, break starting ∷ [], Some (pos 111)), None)
+    ∷ ((limits 8 false None, decided_b, break starting ∷ [], None), None)
+    ∷ ((limits 8 false None, record { entries = []; fallback = None }, break starting ∷ [], Some (pos 100)), None)
+    ∷ ((limits 8 false None, record { entries = []; fallback = Some pod }, break starting ∷ [], Some (pos 100)), Some (codes "b"))
+    ∷ ((limits 8 false None, decided_b, break (record starting { scte35_out = None }) ∷ [], Some (pos 100)), None)
+    ∷ ((limits 8 false None, decided_b, break (record starting { end = Some (pos 105) }) ∷ [], Some (pos 100)), None)
+    ∷ ((limits 8 false None, record { entries = []; fallback = Some pod }, record { id = codes "c"; said = starting } ∷ break starting ∷ [], Some (pos 100)), Some (codes "c")) ∷ [])
+
+-- a segment at 100 is inside the break of an ID, where its end allows it
+abbrev pub BreaksGoOn : Type 0
+BreaksGoOn = Gives (λ (breaks : List Break). is_inside breaks (codes "b") (Some (pos 100)) 10 pod) (
+    (break starting ∷ [], true)
+    ∷ (break (record starting { duration = Some 10 }) ∷ [], false)
+    ∷ (break (record starting { duration = Some 11 }) ∷ [], true)
+    ∷ (break (record starting { scte35_in = Some (Returns None) }) ∷ [], false)
+    ∷ ([], false) ∷ [])
+
+abbrev pub Question : Type 0
+Question = List Break × ℕ × Bool × Store × Bool
+
+abbrev pub reason : Question → Why
+reason it = why it.0 (codes "b") it.1 it.2 it.3 it.4
+
+-- docs/OPERATING.md: the first word that holds of Filled, NotKnown, NoStart, NotSignalled, NotDecided, DoesNotFit, Waiting
+abbrev pub ReasonsAreTold : Type 0
+ReasonsAreTold = Gives reason (
+    (([], 8, false, decided_b, true), Filled)
+    ∷ (([], 8, false, decided_b, false), NotKnown)
+    ∷ ((break (record nothing_said { duration = Some 5 }) ∷ [], 8, false, record { entries = []; fallback = None }, false), NoStart)
+    ∷ ((break (record starting { scte35_out = Some (Returns None) }) ∷ [], 8, false, record { entries = []; fallback = None }, false), NotSignalled)
+    ∷ ((break starting ∷ [], 8, false, record { entries = []; fallback = None }, false), NotDecided)
+    ∷ ((break starting ∷ [], 7, false, decided_b, false), DoesNotFit)
+    ∷ ((break starting ∷ [], 8, true, decided_b, false), DoesNotFit)
+    ∷ ((break starting ∷ [], 8, false, decided_b, false), Waiting) ∷ [])

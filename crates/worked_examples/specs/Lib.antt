@@ -1,0 +1,10 @@
+pub mod Tables
+pub mod Texts
+pub mod Lines
+pub mod Playlists
+pub mod Splices
+pub mod Breaks
+pub mod Pods
+pub mod Stitched
+pub mod Written
+pub mod Channels

@@ -1,0 +1,269 @@
+-- What the bytes of a playlist denote, or their first fault; when segments begin, and which are the same.
+use Rattle.std.specs.Prelude.{ℕ, ◌+◌, Bool, true, false, ℤ, pos, negsuc, List, [], ◌∷◌, ◌++◌, codes, Option, Some, None, option_map, Result, Ok, Err}
+use Rattle.playlist_model.specs.declared.FaultKind.{FaultKind}
+use Rattle.playlist_model.specs.declared.FaultKind.TheVariants as fault
+use Rattle.playlist_model.specs.declared.PlaylistFault.{PlaylistFault}
+use Rattle.playlist_model.specs.declared.PlaylistKind.TheVariants.{Event}
+use Rattle.playlist_model.specs.declared.Playlist.{Playlist}
+use Rattle.playlist_model.specs.declared.Segment.{Segment}
+use Rattle.playlist_model.specs.declared.Key.{Key}
+use Rattle.playlist_model.specs.declared.InitSection.{InitSection}
+use Rattle.playlist_model.specs.declared.ByteRange.{ByteRange}
+use Rattle.playlist_model.specs.Said.{Said, Reader, key, no_keys, nothing}
+use Rattle.playlist_model.specs.EffectiveKeys.{effective_key}
+use Rattle.playlist_model.specs.FaultTexts.{fault_text}
+use Rattle.playlist_model.specs.Instants.{begins_at, ends_at}
+use Rattle.playlist_model.specs.LookBack.{keys_at}
+use Rattle.playlist_model.specs.Reading.{reading, limited, unlimited}
+use Rattle.playlist_model.specs.Same.{same_segment}
+use Rattle.playlist_model.specs.Uri.{base_of}
+use Rattle.worked_examples.specs.Tables.{Gives}
+
+-- each line with a line feed
+abbrev pub text : List (List ℕ) → List ℕ
+text [] = []
+text (line ∷ lines) = line ++ (10 ∷ text lines)
+
+abbrev pub Read : Type 0
+Read = Option (Result Playlist PlaylistFault)
+
+-- what these lines are read as by a reader, under the base http://h/
+abbrev pub read_by : Reader → List (List ℕ) → Read
+read_by reader lines = option_map (λ base. reading reader base (text lines)) (base_of (codes "http://h/"))
+
+abbrev pub refused_at : ℕ → FaultKind → Read
+refused_at line kind = Some (Err (record { kind = kind; line = line }))
+
+abbrev pub identity : List ℕ → Option ℕ → Key
+identity resource iv = record { format = codes "identity"; method = codes "AES-128"; uri = resource; iv = iv; other_attributes = [] }
+
+abbrev pub under_key_1 : InitSection
+under_key_1 = record { uri = codes "a:i"; byte_range = None; keys = identity (codes "a:1") (Some 1) ∷ [] }
+
+-- RFC 8216, 4.3: the tags of the whole playlist, and of three segments. The first number is the stated one (4.3.3.2), the
+-- discontinuity number goes up with each EXT-X-DISCONTINUITY (4.3.3.3), a byte range without an offset begins where the one
+-- before ended (4.3.2.2), a key is in force until another one or NONE (4.3.2.4) and has the segment's number as IV (5.2), and
+-- a section has the keys in force at its own line (4.3.2.5)
+abbrev pub WholePlaylistIsRead : Type 0
+WholePlaylistIsRead = Gives (read_by limited) ((
+  codes "#EXTM3U"
+      ∷ codes "#EXT-X-VERSION:6"
+      ∷ codes "#EXT-X-TARGETDURATION:10"
+      ∷ codes "#EXT-X-MEDIA-SEQUENCE:7"
+      ∷ codes "#EXT-X-DISCONTINUITY-SEQUENCE:3"
+      ∷ codes "#EXT-X-PLAYLIST-TYPE:EVENT"
+      ∷ codes "#EXT-X-INDEPENDENT-SEGMENTS"
+      ∷ codes "#EXT-X-DATERANGE:ID=\"b\""
+      ∷ codes "#EXT-X-KEY:METHOD=AES-128,URI=\"a:1\",IV=0x1"
+      ∷ codes "#EXT-X-MAP:URI=\"a:i\""
+      ∷ codes "#EXT-X-KEY:METHOD=AES-128,URI=\"a:2\""
+      ∷ codes "#EXT-X-PROGRAM-DATE-TIME:1970-01-01T00:00:01Z"
+      ∷ codes "#EXTINF:9.5,first"
+      ∷ codes "#EXT-X-BYTERANGE:100@5"
+      ∷ codes "a:s"
+      ∷ codes "#EXT-X-DISCONTINUITY"
+      ∷ codes "#EXT-X-DISCONTINUITY"
+      ∷ codes "#EXTINF:10,"
+      ∷ codes "#EXT-X-BYTERANGE:50"
+      ∷ codes "a:s"
+      ∷ codes "#EXT-X-KEY:METHOD=NONE"
+      ∷ codes "#EXTINF:10,"
+      ∷ codes "a:t"
+      ∷ codes "#EXT-X-ENDLIST" ∷ [],
+  Some (Ok (record {
+    version = 6;
+    target_duration = 10;
+    playlist_type = Some Event;
+    independent_segments = true;
+    end_list = true;
+    date_ranges = record { id = codes "b"; start = None; end = None; duration = None; planned_duration = None; scte35_out = None; scte35_in = None; attributes = codes "ID=\"b\"" } ∷ [];
+    segments =
+        record { media_sequence = 7; discontinuity_sequence = 3; discontinuities = 0; uri = codes "a:s"; byte_range = Some (record { length = 100; offset = 5 }); keys = identity (codes "a:2") (Some 7) ∷ []; init_section = Some under_key_1; duration = 9500000000; title = codes "first"; program_date_time = Some (pos 1000000000) }
+        ∷ record { media_sequence = 8; discontinuity_sequence = 5; discontinuities = 2; uri = codes "a:s"; byte_range = Some (record { length = 50; offset = 105 }); keys = identity (codes "a:2") (Some 8) ∷ []; init_section = Some under_key_1; duration = 10000000000; title = []; program_date_time = None }
+        ∷ record { media_sequence = 9; discontinuity_sequence = 5; discontinuities = 0; uri = codes "a:t"; byte_range = None; keys = []; init_section = Some under_key_1; duration = 10000000000; title = []; program_date_time = None }
+        ∷ [];
+  })),
+)
+    ∷ (
+      codes "#EXTM3U" ∷ codes "#EXT-X-TARGETDURATION:10" ∷ codes "#EXTINF:10," ∷ codes "a:s" ∷ [],
+      Some (Ok (record {
+        version = 1;
+        target_duration = 10;
+        playlist_type = None;
+        independent_segments = false;
+        end_list = false;
+        date_ranges = [];
+        segments = record { media_sequence = 0; discontinuity_sequence = 0; discontinuities = 0; uri = codes "a:s"; byte_range = None; keys = []; init_section = None; duration = 10000000000; title = []; program_date_time = None } ∷ [];
+      })),
+    )
+    ∷ [])
+
+-- what lines are read as after `#EXTM3U` and a target duration of 10 s
+abbrev pub read_on : List (List ℕ) → Read
+read_on lines = read_by limited (codes "#EXTM3U" ∷ codes "#EXT-X-TARGETDURATION:10" ∷ lines)
+
+-- a tag of the whole playlist stands once; the first numbers stand before the first segment, and the discontinuity's before any
+-- EXT-X-DISCONTINUITY (4.3.3.2, 4.3.3.3); a playlist of I-frames or a master playlist is none that is read
+abbrev pub TagsArePlaced : Type 0
+TagsArePlaced = Gives read_on (
+    (codes "#EXT-X-VERSION:3" ∷ codes "#EXT-X-VERSION:3" ∷ [], refused_at 4 fault.Repeated)
+    ∷ (codes "#EXT-X-TARGETDURATION:10" ∷ [], refused_at 3 fault.Repeated)
+    ∷ (codes "#EXT-X-MEDIA-SEQUENCE:1" ∷ codes "#EXT-X-MEDIA-SEQUENCE:1" ∷ [], refused_at 4 fault.Repeated)
+    ∷ (codes "#EXTINF:1," ∷ codes "a:s" ∷ codes "#EXT-X-MEDIA-SEQUENCE:1" ∷ [], refused_at 5 fault.Misplaced)
+    ∷ (codes "#EXT-X-DISCONTINUITY" ∷ codes "#EXT-X-MEDIA-SEQUENCE:1" ∷ [], refused_at 0 fault.NoSegments)
+    ∷ (codes "#EXT-X-DISCONTINUITY-SEQUENCE:1" ∷ codes "#EXT-X-DISCONTINUITY-SEQUENCE:1" ∷ [], refused_at 4 fault.Repeated)
+    ∷ (codes "#EXTINF:1," ∷ codes "a:s" ∷ codes "#EXT-X-DISCONTINUITY-SEQUENCE:1" ∷ [], refused_at 5 fault.Misplaced)
+    ∷ (codes "#EXT-X-DISCONTINUITY" ∷ codes "#EXT-X-DISCONTINUITY-SEQUENCE:1" ∷ [], refused_at 4 fault.Misplaced)
+    ∷ (codes "#EXT-X-PLAYLIST-TYPE:VOD" ∷ codes "#EXT-X-PLAYLIST-TYPE:VOD" ∷ [], refused_at 4 fault.Repeated)
+    ∷ (codes "#EXT-X-ENDLIST" ∷ codes "#EXT-X-ENDLIST" ∷ [], refused_at 4 fault.Repeated)
+    ∷ (codes "#EXT-X-INDEPENDENT-SEGMENTS" ∷ codes "#EXT-X-INDEPENDENT-SEGMENTS" ∷ [], refused_at 0 fault.NoSegments)
+    ∷ (codes "#EXT-X-I-FRAMES-ONLY" ∷ [], refused_at 3 fault.IFramesOnly)
+    ∷ (codes "#EXT-X-STREAM-INF:BANDWIDTH=1" ∷ [], refused_at 3 fault.MasterPlaylist)
+    ∷ (codes "#EXT-X-PROGRAM-DATE-TIME:now" ∷ [], refused_at 3 fault.BadTime)
+    ∷ ((97 ∷ 7 ∷ []) ∷ [], refused_at 3 fault.Control) ∷ [])
+
+-- a segment has an EXTINF of its own (4.3.2.1), numbers have 64 bits, a byte range without an offset follows one of the same
+-- resource (4.3.2.2), EXT-X-MAP under AES-128 needs an IV (4.3.2.5), and either all segments have a section or none has
+abbrev pub SegmentsAreChecked : Type 0
+SegmentsAreChecked = Gives read_on (
+    (codes "a:s" ∷ [], refused_at 3 fault.NoDuration)
+    ∷ (codes "#EXTINF:1," ∷ codes "a:s" ∷ codes "a:t" ∷ [], refused_at 5 fault.NoDuration)
+    ∷ (codes "#EXT-X-MEDIA-SEQUENCE:18446744073709551615" ∷ codes "#EXTINF:1," ∷ codes "a:s" ∷ codes "#EXTINF:1," ∷ codes "a:t" ∷ [], refused_at 7 fault.BadValue)
+    ∷ (codes "#EXT-X-DISCONTINUITY-SEQUENCE:18446744073709551615" ∷ codes "#EXT-X-DISCONTINUITY" ∷ [], refused_at 4 fault.BadValue)
+    ∷ (codes "#EXTINF:1," ∷ codes "#EXT-X-BYTERANGE:5" ∷ codes "a:s" ∷ [], refused_at 5 fault.RangeNoStart)
+    ∷ (codes "#EXTINF:1," ∷ codes "#EXT-X-BYTERANGE:5@0" ∷ codes "a:s" ∷ codes "#EXTINF:1," ∷ codes "#EXT-X-BYTERANGE:5" ∷ codes "a:t" ∷ [], refused_at 8 fault.RangeNoStart)
+    ∷ (codes "#EXTINF:1," ∷ codes "#EXT-X-BYTERANGE:1@18446744073709551614" ∷ codes "a:s" ∷ codes "#EXTINF:1," ∷ codes "#EXT-X-BYTERANGE:1" ∷ codes "a:s" ∷ [], refused_at 8 fault.BadRange)
+    ∷ (codes "#EXT-X-KEY:METHOD=AES-128,URI=\"a:k\"" ∷ codes "#EXT-X-MAP:URI=\"a:i\"" ∷ [], refused_at 4 fault.MapWithoutIv)
+    ∷ (codes "#EXT-X-KEY:METHOD=SAMPLE-AES,URI=\"a:k\"" ∷ codes "#EXT-X-MAP:URI=\"a:i\"" ∷ [], refused_at 0 fault.NoSegments)
+    ∷ (codes "#EXTINF:1," ∷ codes "a:s" ∷ codes "#EXT-X-MAP:URI=\"a:i\"" ∷ codes "#EXTINF:1," ∷ codes "a:t" ∷ [], refused_at 0 fault.MixedMaps) ∷ [])
+
+-- 4.3.1.1 and 4.3.3.1: EXTM3U is the first line, and EXT-X-TARGETDURATION is required; 4.1: a playlist is UTF-8
+abbrev pub HeadersAreChecked : Type 0
+HeadersAreChecked = Gives (read_by limited) (
+    ([], refused_at 1 fault.NoHeader)
+    ∷ (codes "#EXTM3U8" ∷ [], refused_at 1 fault.NoHeader)
+    ∷ (codes "" ∷ codes "#EXTM3U" ∷ [], refused_at 1 fault.NoHeader)
+    ∷ (codes "#EXTM3U" ∷ codes "#EXTINF:1," ∷ codes "a:s" ∷ [], refused_at 0 fault.NoTarget)
+    ∷ (codes "#EXTM3U" ∷ codes "#EXT-X-TARGETDURATION:1" ∷ [], refused_at 0 fault.NoSegments)
+    ∷ (codes "#EXTM3U" ∷ (128 ∷ []) ∷ [], refused_at 0 fault.NotUtf8) ∷ [])
+
+abbrev pub small : Reader
+small = record { bytes = Some 90; attributes = Some 3; formats = Some 1; segments = Some 1 }
+
+-- a reader's limits
+abbrev pub ReadersAreLimited : Type 0
+ReadersAreLimited = Gives (read_by small) (
+    (codes "#EXTM3U" ∷ codes "#EXTINF:1," ∷ codes "a:s" ∷ codes "#EXTINF:1," ∷ codes "a:t" ∷ [], refused_at 5 fault.TooMany)
+    ∷ (codes "#EXTM3U" ∷ codes "#EXT-X-DATERANGE:ID=\"b\",X=1,Y=2,Z=3" ∷ [], refused_at 2 fault.BadAttributes)
+    ∷ (codes "#EXTM3U" ∷ codes "#EXT-X-KEY:METHOD=A,URI=\"a:k\"" ∷ codes "#EXT-X-KEY:METHOD=A,URI=\"a:l\"" ∷ [], refused_at 0 fault.NoTarget)
+    ∷ (codes "#EXTM3U" ∷ codes "#EXT-X-KEY:METHOD=A,URI=\"a:k\"" ∷ codes "#EXT-X-KEY:METHOD=A,URI=\"a:l\",KEYFORMAT=\"f\"" ∷ [], refused_at 3 fault.TooMany)
+    ∷ (codes "#EXTM3U" ∷ codes "#        10        20        30        40        50        60        70        80" ∷ [], refused_at 0 fault.NoTarget)
+    ∷ (codes "#EXTM3U" ∷ codes "#        10        20        30        40        50        60        70        80" ∷ codes "#" ∷ [], refused_at 0 fault.TooLong) ∷ [])
+
+abbrev pub limits_of : Reader → Option ℕ × Option ℕ × Option ℕ × Option ℕ
+limits_of r = (r.bytes, r.attributes, r.formats, r.segments)
+
+-- docs/OPERATING.md: 4,194,304 bytes, 64 attributes, 16 key formats and 10,000 segments; the denotation keeps to nothing
+abbrev pub LimitsAreStated : Type 0
+LimitsAreStated = Gives limits_of (
+    (limited, (Some 4194304, Some 64, Some 16, Some 10000)) ∷ (unlimited, (None, None, None, None)) ∷ [])
+
+abbrev pub of_format : List ℕ → List ℕ → Key
+of_format format resource = record { format = format; method = codes "A"; uri = resource; iv = None; other_attributes = [] }
+
+-- 4.3.2.4: of each format the last one since NONE is in force; here sorted by format. The newest line stands first
+abbrev pub KeysAreInForce : Type 0
+KeysAreInForce = Gives keys_at ((
+  key (of_format (codes "b") (codes "a:3")) ∷ key (of_format (codes "a") (codes "a:2")) ∷ key (of_format (codes "b") (codes "a:1")) ∷ [],
+  of_format (codes "a") (codes "a:2") ∷ of_format (codes "b") (codes "a:3") ∷ [],
+)
+    ∷ (nothing ∷ key (of_format (codes "a") (codes "a:2")) ∷ no_keys ∷ key (of_format (codes "b") (codes "a:1")) ∷ [], of_format (codes "a") (codes "a:2") ∷ [])
+    ∷ (no_keys ∷ key (of_format (codes "a") (codes "a:2")) ∷ [], []) ∷ [])
+
+-- 5.2: the Media Sequence Number is the IV of a key that states none; of the format `identity` alone
+abbrev pub KeysHaveTheirIvs : Type 0
+KeysHaveTheirIvs = Gives (effective_key 7) (
+    (identity (codes "a:k") None, identity (codes "a:k") (Some 7))
+    ∷ (identity (codes "a:k") (Some 1), identity (codes "a:k") (Some 1))
+    ∷ (of_format (codes "f") (codes "a:k"), of_format (codes "f") (codes "a:k")) ∷ [])
+
+-- a segment that lasts so long, and states this time
+abbrev pub lasting : ℕ → Option ℤ → Segment
+lasting nanos time = record { media_sequence = 0; discontinuity_sequence = 0; discontinuities = 0; uri = codes "a:s"; byte_range = None; keys = []; init_section = None; duration = nanos; title = []; program_date_time = time }
+
+abbrev pub begins : Option ℤ × Segment × List Segment → Option ℤ
+begins it = begins_at it.0 it.1 it.2
+
+-- 4.3.2.6: a segment begins at the time that it states; else where the one before it ended; else back from the first time
+-- that is stated after it, as docs/CONFORMANCE.md says, within the years 1900 to 2199
+abbrev pub SegmentsBegin : Type 0
+SegmentsBegin = Gives begins (
+    ((Some (pos 50), lasting 10 (Some (pos 70)), lasting 10 (Some (pos 90)) ∷ []), Some (pos 70))
+    ∷ ((Some (pos 50), lasting 10 None, lasting 10 (Some (pos 90)) ∷ []), Some (pos 50))
+    ∷ ((None, lasting 10 None, lasting 20 None ∷ lasting 40 (Some (pos 90)) ∷ lasting 10 (Some (pos 500)) ∷ []), Some (pos 60))
+    ∷ ((None, lasting 10 None, lasting 20 None ∷ []), None)
+    ∷ ((Some (pos 7258118400000000000), lasting 10 None, []), None)
+    ∷ ((Some (pos 7258118399999999999), lasting 10 None, []), Some (pos 7258118399999999999)) ∷ [])
+
+abbrev pub SegmentsEnd : Type 0
+SegmentsEnd = Gives (λ (begun : Option ℤ). ends_at begun 30) ((Some (pos 50), Some (pos 80)) ∷ (None, None) ∷ [])
+
+abbrev pub sample : Segment
+sample = record { media_sequence = 7; discontinuity_sequence = 3; discontinuities = 0; uri = codes "a:s"; byte_range = Some (record { length = 100; offset = 5 }); keys = identity (codes "a:2") (Some 7) ∷ []; init_section = Some under_key_1; duration = 9500000000; title = codes "first"; program_date_time = Some (pos 1) }
+
+-- 6.2.1: a segment of one number doesn't change. What is looked at: numbers, resource, byte range, duration, keys and section
+abbrev pub SegmentsAreCompared : Type 0
+SegmentsAreCompared = Gives (same_segment sample) (
+    (sample, true)
+    ∷ (record sample { title = [] }, true)
+    ∷ (record sample { program_date_time = None }, true)
+    ∷ (record sample { discontinuities = 1 }, true)
+    ∷ (record sample { media_sequence = 8 }, false)
+    ∷ (record sample { discontinuity_sequence = 4 }, false)
+    ∷ (record sample { uri = codes "a:t" }, false)
+    ∷ (record sample { byte_range = None }, false)
+    ∷ (record sample { byte_range = Some (record { length = 101; offset = 5 }) }, false)
+    ∷ (record sample { byte_range = Some (record { length = 100; offset = 6 }) }, false)
+    ∷ (record sample { duration = 9500000001 }, false)
+    ∷ (record sample { keys = [] }, false)
+    ∷ (record sample { keys = identity (codes "a:2") (Some 8) ∷ [] }, false)
+    ∷ (record sample { keys = identity (codes "a:3") (Some 7) ∷ [] }, false)
+    ∷ (record sample { keys = record (identity (codes "a:2") (Some 7)) { method = codes "SAMPLE-AES" } ∷ [] }, false)
+    ∷ (record sample { keys = record (identity (codes "a:2") (Some 7)) { format = codes "f" } ∷ [] }, false)
+    ∷ (record sample { keys = record (identity (codes "a:2") (Some 7)) { other_attributes = codes ",X=1" } ∷ [] }, false)
+    ∷ (record sample { init_section = None }, false)
+    ∷ (record sample { init_section = Some (record under_key_1 { uri = codes "a:j" }) }, false)
+    ∷ (record sample { init_section = Some (record under_key_1 { byte_range = Some (record { length = 1; offset = 0 }) }) }, false)
+    ∷ (record sample { init_section = Some (record under_key_1 { keys = [] }) }, false) ∷ [])
+
+abbrev pub at_line : ℕ → FaultKind → PlaylistFault
+at_line line kind = record { kind = kind; line = line }
+
+-- docs/OPERATING.md, "Faults"
+abbrev pub FaultsAreTold : Type 0
+FaultsAreTold = Gives fault_text (
+    (at_line 0 fault.NotUtf8, codes "P1 NotUtf8")
+    ∷ (at_line 0 fault.TooLong, codes "P2 TooLong")
+    ∷ (at_line 1 fault.NoHeader, codes "P3 NoHeader line 1")
+    ∷ (at_line 12 fault.Control, codes "P4 Control line 12")
+    ∷ (at_line 2 fault.BadVersion, codes "P5 BadVersion line 2")
+    ∷ (at_line 2 fault.Version, codes "P6 Version line 2")
+    ∷ (at_line 2 fault.Repeated, codes "P7 Repeated line 2")
+    ∷ (at_line 2 fault.Misplaced, codes "P8 Misplaced line 2")
+    ∷ (at_line 2 fault.BadValue, codes "P9 BadValue line 2")
+    ∷ (at_line 2 fault.BadDuration, codes "P10 BadDuration line 2")
+    ∷ (at_line 2 fault.BadAttributes, codes "P11 BadAttributes line 2")
+    ∷ (at_line 2 fault.MissingAttribute, codes "P12 MissingAttribute line 2")
+    ∷ (at_line 2 fault.BadRange, codes "P13 BadRange line 2")
+    ∷ (at_line 2 fault.RangeNoStart, codes "P14 RangeNoStart line 2")
+    ∷ (at_line 2 fault.BadTime, codes "P15 BadTime line 2")
+    ∷ (at_line 2 fault.BadUri, codes "P16 BadUri line 2")
+    ∷ (at_line 2 fault.NoDuration, codes "P17 NoDuration line 2")
+    ∷ (at_line 0 fault.NoTarget, codes "P18 NoTarget")
+    ∷ (at_line 2 fault.MasterPlaylist, codes "P19 MasterPlaylist line 2")
+    ∷ (at_line 2 fault.IFramesOnly, codes "P20 IFramesOnly line 2")
+    ∷ (at_line 0 fault.NoSegments, codes "P21 NoSegments")
+    ∷ (at_line 0 fault.MixedMaps, codes "P22 MixedMaps")
+    ∷ (at_line 2 fault.MapWithoutIv, codes "P23 MapWithoutIv line 2")
+    ∷ (at_line 2 fault.TooMany, codes "P24 TooMany line 2")
+    ∷ (at_line 0 fault.OutOfMemory, codes "P25 OutOfMemory") ∷ [])

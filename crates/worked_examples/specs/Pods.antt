@@ -1,0 +1,278 @@
+-- Pods, the store of decided breaks, and decision files.
+use Rattle.std.specs.Prelude.{ℕ, zero, suc, ◌-◌, ◌^◌, ◌++◌, Bool, true, false, List, [], ◌∷◌, replicate, codes, Option, Some, None, Result, Ok, Err}
+use Rattle.playlist_model.specs.declared.ByteRange.{ByteRange}
+use Rattle.playlist_model.specs.declared.InitSection.{InitSection}
+use Rattle.playlist_model.specs.declared.Key.{Key}
+use Rattle.pod_store.specs.declared.Decisions.{Decisions}
+use Rattle.pod_store.specs.declared.Decisions.TheVariants.{Breaks, Withdraw, Fallback, NoFallback}
+use Rattle.pod_store.specs.declared.fault.DecisionFault.{DecisionFault}
+use Rattle.pod_store.specs.declared.fault.DecisionKind.{DecisionKind}
+use Rattle.pod_store.specs.declared.fault.DecisionKind.TheVariants as fault
+use Rattle.pod_store.specs.FaultTexts.{fault_text}
+use Rattle.pod_store.specs.declared.fault.Place.{Place}
+use Rattle.pod_store.specs.Outcome.{Outcome, ◌>>=◌}
+use Rattle.pod_store.specs.Pods.{PodSegment, Ad, Pod, Decision, is_id, is_uri, is_method, is_format, pod_fits, total}
+use Rattle.pod_store.specs.Rules.{ads_keep}
+use Rattle.pod_store.specs.Store.{Entry, Store, nothing_decided, decided, pod_for, fits, kept_in_use}
+use Rattle.decision_files.specs.Decided.{decisions_of, json_of, segments_said}
+use Rattle.worked_examples.specs.Tables.{Gives}
+
+-- ---- where a fault is
+
+abbrev pub nowhere : Place
+nowhere = record { pod = None; ad = None; segment = None }
+
+abbrev pub in_break : ℕ → Place
+in_break pod = record { pod = Some pod; ad = None; segment = None }
+
+abbrev pub in_ad : ℕ → ℕ → Place
+in_ad pod ad = record { pod = Some pod; ad = Some ad; segment = None }
+
+abbrev pub in_segment : ℕ → ℕ → ℕ → Place
+in_segment pod ad segment = record { pod = Some pod; ad = Some ad; segment = Some segment }
+
+abbrev pub fault_at : Place → DecisionKind → DecisionFault
+fault_at place kind = record { kind = kind; place = place }
+
+-- ---- pods
+
+-- docs/DECISION_FILES.md: an ID has 1 to 255 bytes, and neither a quote nor a control character
+abbrev pub IdsAreChecked : Type 0
+IdsAreChecked = Gives is_id (
+    (codes "b 1", true) ∷ ([], false) ∷ (replicate 255 97, true) ∷ (replicate 256 97, false) ∷ (codes "b\"", false) ∷ (7 ∷ [], false) ∷ (255 ∷ [], false) ∷ [])
+
+-- a URI is absolute, of http or https, and of printable ASCII without spaces and quotes
+abbrev pub UrisAreChecked : Type 0
+UrisAreChecked = Gives is_uri (
+    (codes "http://a", true)
+    ∷ (codes "https://a/~", true)
+    ∷ (codes "http://", false)
+    ∷ (codes "https://", false)
+    ∷ (codes "ftp://a", false)
+    ∷ (codes "a.ts", false)
+    ∷ (codes "http://a b", false)
+    ∷ (codes "http://a\"", false)
+    ∷ (codes "http://" ++ (127 ∷ []), false) ∷ [])
+
+-- RFC 8216, 4.3.2.4: METHOD is an enumerated-string; NONE is no key
+abbrev pub MethodsAreChecked : Type 0
+MethodsAreChecked = Gives is_method ((codes "AES-128", true) ∷ (codes "NONE", false) ∷ (codes "aes", false) ∷ ([], false) ∷ [])
+
+abbrev pub FormatsAreChecked : Type 0
+FormatsAreChecked = Gives is_format ((codes "a b", true) ∷ ([], false) ∷ (codes "a\"", false) ∷ [])
+
+abbrev pub key : Option ℕ → Key
+key iv = record { format = codes "f"; method = codes "AES-128"; uri = codes "http://a/k"; iv = iv; other_attributes = [] }
+
+abbrev pub init_section : List Key → InitSection
+init_section keys = record { uri = codes "http://a/i"; byte_range = Some (record { length = 9; offset = 1 }); keys = keys }
+
+abbrev pub segment : ℕ → PodSegment
+segment nanos = record { uri = codes "http://a/s"; byte_range = Some (record { length = 100; offset = 5 }); duration = nanos }
+
+-- an ad of these, with a section and a key
+abbrev pub ad : List PodSegment → Ad
+ad segments = record { init_section = Some (init_section (key (Some 31) ∷ [])); keys = key (Some 31) ∷ []; segments = segments }
+
+-- the same without
+abbrev pub clear : List PodSegment → Ad
+clear segments = record { init_section = None; keys = []; segments = segments }
+
+abbrev pub pod : List Ad → Pod
+pod ads = record { ads = ads }
+
+abbrev pub PodsAreSummed : Type 0
+PodsAreSummed = Gives total ((pod (clear (segment 1 ∷ segment 20 ∷ []) ∷ ad (segment 300 ∷ []) ∷ []), 321) ∷ (pod [], 0) ∷ [])
+
+-- 4.3.3.1: a segment, rounded to seconds, is at most the target duration; and an ad has a section where the origin's segments
+-- have one
+abbrev pub PodsFit : Type 0
+PodsFit = Gives (pod_fits 10 false) (
+    (pod (clear (segment 10499999999 ∷ []) ∷ []), true) ∷ (pod (clear (segment 1 ∷ []) ∷ clear (segment 10500000000 ∷ []) ∷ []), false) ∷ (pod (ad (segment 1 ∷ []) ∷ []), false) ∷ [])
+
+abbrev pub MappedPodsFit : Type 0
+MappedPodsFit = Gives (pod_fits 10 true) (
+    (pod (ad (segment 1 ∷ []) ∷ []), true) ∷ (pod (clear (segment 1 ∷ []) ∷ []), false) ∷ (pod (ad (segment 1 ∷ []) ∷ clear (segment 1 ∷ []) ∷ []), false) ∷ [])
+
+-- docs/DECISION_FILES.md: an ad has a segment, and at most one key, which has an IV of 128 bits; a byte range ends below 2^64,
+-- a segment lasts less than 1,000,000 s, and a pod has at most 500 segments
+abbrev pub RulesAreKept : Type 0
+RulesAreKept = Gives ads_keep (
+    (ad (segment 999999999999999 ∷ []) ∷ [], true)
+    ∷ ([], false)
+    ∷ (clear [] ∷ [], false)
+    ∷ (clear (replicate 500 (segment 1)) ∷ [], true)
+    ∷ (clear (replicate 500 (segment 1)) ∷ clear (segment 1 ∷ []) ∷ [], false)
+    ∷ (clear (segment 1000000000000000 ∷ []) ∷ [], false)
+    ∷ (clear (record (segment 1) { uri = codes "s" } ∷ []) ∷ [], false)
+    ∷ (clear (record (segment 1) { byte_range = Some (record { length = 1; offset = 2 ^ 64 - 2 }) } ∷ []) ∷ [], true)
+    ∷ (clear (record (segment 1) { byte_range = Some (record { length = 1; offset = 2 ^ 64 - 1 }) } ∷ []) ∷ [], false)
+    ∷ (record (clear (segment 1 ∷ [])) { keys = key (Some (2 ^ 128 - 1)) ∷ [] } ∷ [], true)
+    ∷ (record (clear (segment 1 ∷ [])) { keys = key (Some (2 ^ 128)) ∷ [] } ∷ [], false)
+    ∷ (record (clear (segment 1 ∷ [])) { keys = key None ∷ [] } ∷ [], false)
+    ∷ (record (clear (segment 1 ∷ [])) { keys = key (Some 1) ∷ key (Some 2) ∷ [] } ∷ [], false)
+    ∷ (record (clear (segment 1 ∷ [])) { keys = record (key (Some 1)) { method = codes "NONE" } ∷ [] } ∷ [], false)
+    ∷ (record (clear (segment 1 ∷ [])) { keys = record (key (Some 1)) { uri = codes "k" } ∷ [] } ∷ [], false)
+    ∷ (record (clear (segment 1 ∷ [])) { keys = record (key (Some 1)) { format = [] } ∷ [] } ∷ [], false)
+    ∷ (record (clear (segment 1 ∷ [])) { keys = record (key (Some 1)) { other_attributes = codes ",X=1" } ∷ [] } ∷ [], false)
+    ∷ (record (clear (segment 1 ∷ [])) { init_section = Some (record (init_section []) { uri = codes "i" }) } ∷ [], false)
+    ∷ (record (clear (segment 1 ∷ [])) { init_section = Some (init_section (key (Some 1) ∷ key (Some 2) ∷ [])) } ∷ [], false) ∷ [])
+
+-- ---- the store
+
+-- a pod that lasts so many nanoseconds
+abbrev pub short : ℕ → Pod
+short nanos = pod (clear (segment nanos ∷ []) ∷ [])
+
+abbrev pub unused : List ℕ → ℕ → Entry
+unused id nanos = record { id = id; pod = short nanos; used = false; copied = false }
+
+abbrev pub used : List ℕ → ℕ → Entry
+used id nanos = record { id = id; pod = short nanos; used = true; copied = false }
+
+abbrev pub copy : List ℕ → ℕ → Entry
+copy id nanos = record { id = id; pod = short nanos; used = true; copied = true }
+
+abbrev pub ab : Store
+ab = record { entries = unused (codes "a") 1 ∷ used (codes "b") 2 ∷ []; fallback = None }
+
+-- docs/DECISION_FILES.md: a break gets its pod, in the place of one that it had; a used break's pod is neither changed nor taken
+-- away (J9); a break without a pod can't be withdrawn (J11); a fallback takes the place of the one before
+abbrev pub DecisionsAreTaken : Type 0
+DecisionsAreTaken = Gives (decided ab) (
+    (Breaks ((codes "c", short 3) ∷ (codes "a", short 4) ∷ []), Ok (record { entries = unused (codes "a") 4 ∷ used (codes "b") 2 ∷ unused (codes "c") 3 ∷ []; fallback = None }))
+    ∷ (Breaks ((codes "c", short 3) ∷ (codes "b", short 4) ∷ []), Err (fault_at nowhere fault.Used))
+    ∷ (Withdraw (codes "a"), Ok (record { entries = used (codes "b") 2 ∷ []; fallback = None }))
+    ∷ (Withdraw (codes "b"), Err (fault_at nowhere fault.Used))
+    ∷ (Withdraw (codes "c"), Err (fault_at nowhere fault.Unknown))
+    ∷ (Fallback (short 5), Ok (record { entries = unused (codes "a") 1 ∷ used (codes "b") 2 ∷ []; fallback = Some (short 5) }))
+    ∷ (NoFallback, Ok (record { entries = unused (codes "a") 1 ∷ used (codes "b") 2 ∷ []; fallback = None })) ∷ [])
+
+-- so many decisions, for breaks of one byte or two each
+abbrev pub breaks : ℕ → List Decision
+breaks zero = []
+breaks (suc n) = (n ∷ [], short 1) ∷ breaks n
+
+abbrev pub fault_of : Outcome Store → Option DecisionKind
+fault_of (Ok store) = None
+fault_of (Err fault) = Some fault.kind
+
+abbrev pub fault_of_breaks : Store × ℕ → Option DecisionKind
+fault_of_breaks it = fault_of (decided it.0 (Breaks (breaks it.1)))
+
+-- at most 256 breaks have pods that decisions gave them (J10); one that had one counts once, and a copy of the fallback doesn't
+abbrev pub StoreIsLimited : Type 0
+StoreIsLimited = Gives fault_of_breaks (
+    ((nothing_decided, 256), None)
+    ∷ ((nothing_decided, 257), Some fault.Full)
+    ∷ ((record { entries = unused (codes "ab") 1 ∷ []; fallback = None }, 256), Some fault.Full)
+    ∷ ((record { entries = unused (0 ∷ []) 1 ∷ []; fallback = None }, 256), None)
+    ∷ ((record { entries = copy (codes "ab") 1 ∷ []; fallback = None }, 256), None) ∷ [])
+
+-- a break is filled with the pod of its own, else with the fallback
+abbrev pub PodsAreFound : Type 0
+PodsAreFound = Gives (pod_for (record ab { fallback = Some (short 9) })) (
+    (codes "a", Some (short 1)) ∷ (codes "b", Some (short 2)) ∷ (codes "c", Some (short 9)) ∷ [])
+
+-- a fallback that doesn't fit isn't another's place: the break's own pod counts
+abbrev pub OwnPodsFit : Type 0
+OwnPodsFit = Gives (λ (id : List ℕ). fits (record { entries = unused (codes "a") 10500000000 ∷ []; fallback = Some (short 1) }) id 10 false) (
+    (codes "a", false) ∷ (codes "b", true) ∷ [])
+
+-- of the used breaks those that aren't in use any more go, each break in use is used, and one without a pod of its own keeps a copy
+-- of the fallback
+abbrev pub UsedPodsStay : Type 0
+UsedPodsStay = Gives (λ (ids : List (List ℕ)). kept_in_use ids (record { entries = unused (codes "a") 1 ∷ used (codes "b") 2 ∷ copy (codes "c") 3 ∷ []; fallback = Some (short 9) })) (
+    ([], record { entries = unused (codes "a") 1 ∷ []; fallback = Some (short 9) })
+    ∷ (codes "a" ∷ codes "c" ∷ [], record { entries = used (codes "a") 1 ∷ copy (codes "c") 3 ∷ []; fallback = Some (short 9) })
+    ∷ (codes "b" ∷ codes "d" ∷ codes "d" ∷ [], record { entries = unused (codes "a") 1 ∷ used (codes "b") 2 ∷ copy (codes "d") 9 ∷ []; fallback = Some (short 9) }) ∷ [])
+
+-- ---- decision files
+
+abbrev pub refused : ℕ → ℕ → ℕ → DecisionKind → Outcome Decisions
+refused pod ad segment kind = Err (fault_at (in_segment pod ad segment) kind)
+
+-- docs/DECISION_FILES.md: one of `breaks`, `withdraw` and `fallback`, and each of their members
+abbrev pub FilesAreRead : Type 0
+FilesAreRead = Gives decisions_of ((
+  codes "{\"breaks\":[{\"id\":\"b\",\"ads\":[{\"map\":{\"uri\":\"http://a/i\",\"offset\":1,\"length\":9},\"key\":{\"method\":\"AES-128\",\"uri\":\"http://a/k\",\"iv\":\"0x1F\",\"format\":\"f\"},\"segments\":[{\"uri\":\"http://a/s\",\"duration\":\"9.5\",\"offset\":5,\"length\":100}]}]}]}",
+  Ok (Breaks ((codes "b", pod (ad (segment 9500000000 ∷ []) ∷ [])) ∷ [])),
+)
+    ∷ (
+      codes "{\"breaks\":[{\"id\":\"b\",\"ads\":[{\"key\":{\"method\":\"AES-128\",\"uri\":\"http://a/k\",\"iv\":\"0x1F\"},\"segments\":[{\"uri\":\"http://a/s\",\"duration\":\"1\"}]}]}]}",
+      Ok (Breaks ((codes "b", pod (record { init_section = None; keys = record (key (Some 31)) { format = codes "identity" } ∷ []; segments = record (segment 1000000000) { byte_range = None } ∷ [] } ∷ [])) ∷ [])),
+    )
+    ∷ (codes "{\"breaks\":[]}", Ok (Breaks []))
+    ∷ (codes "{\"withdraw\":\"b\"}", Ok (Withdraw (codes "b")))
+    ∷ (codes "{\"fallback\":null}", Ok NoFallback)
+    ∷ (codes "{\"fallback\":{\"ads\":[{\"segments\":[{\"uri\":\"http://a/s\",\"duration\":\"1\",\"offset\":5,\"length\":100}]}]}}", Ok (Fallback (short 1000000000)))
+    ∷ (codes "{", Err (fault_at nowhere fault.NotJson))
+    ∷ (34 ∷ 233 ∷ 34 ∷ [], Err (fault_at nowhere fault.NotJson))
+    ∷ (codes "[]", Err (fault_at nowhere fault.Shape))
+    ∷ (codes "{}", Err (fault_at nowhere fault.Shape))
+    ∷ (codes "{\"breaks\":[],\"withdraw\":\"b\"}", Err (fault_at nowhere fault.Shape))
+    ∷ (codes "{\"breaks\":7}", Err (fault_at nowhere fault.Shape))
+    ∷ (codes "{\"withdraw\":7}", Err (fault_at nowhere fault.Shape))
+    ∷ (codes "{\"withdraw\":\"\"}", Err (fault_at nowhere fault.Shape))
+    ∷ (codes "{\"fallback\":7}", Err (fault_at nowhere fault.Shape))
+    ∷ (codes "{\"fallback\":{\"ads\":[]}}", Err (fault_at nowhere fault.EmptyPod))
+    ∷ (codes "{\"fallback\":{\"ads\":[{\"segments\":[]}]}}", Err (fault_at (record { pod = None; ad = Some 0; segment = None }) fault.EmptyPod)) ∷ [])
+
+-- their first faults, with their places
+abbrev pub BreaksAreChecked : Type 0
+BreaksAreChecked = Gives decisions_of (
+    (codes "{\"breaks\":[{\"ads\":[]}]}", Err (fault_at (in_break 0) fault.Shape))
+    ∷ (codes "{\"breaks\":[{\"id\":\"\",\"ads\":[]}]}", Err (fault_at (in_break 0) fault.Shape))
+    ∷ (codes "{\"breaks\":[{\"id\":\"b\"}]}", Err (fault_at (in_break 0) fault.Shape))
+    ∷ (codes "{\"breaks\":[{\"id\":\"b\",\"ads\":[]}]}", Err (fault_at (in_break 0) fault.EmptyPod))
+    ∷ (codes "{\"breaks\":[{\"id\":\"b\",\"ads\":[{\"segments\":[{\"uri\":\"http://a\",\"duration\":\"1\"}]}]},{\"id\":\"b\",\"ads\":[]}]}", Err (fault_at (in_break 1) fault.Shape))
+    ∷ (codes "{\"breaks\":[{\"id\":\"b\",\"ads\":[{}]}]}", Err (fault_at (in_ad 0 0) fault.Shape))
+    ∷ (codes "{\"breaks\":[{\"id\":\"b\",\"ads\":[{\"segments\":[]}]}]}", Err (fault_at (in_ad 0 0) fault.EmptyPod)) ∷ [])
+
+-- a file of one ad
+abbrev pub with_ad : List ℕ → List ℕ
+with_ad text = codes "{\"breaks\":[{\"id\":\"b\",\"ads\":[" ++ (text ++ codes "]}]}")
+
+abbrev pub AdsAreChecked : Type 0
+AdsAreChecked = Gives (λ (text : List ℕ). decisions_of (with_ad text)) (
+    (codes "{\"map\":7}", Err (fault_at (in_ad 0 0) fault.Shape))
+    ∷ (codes "{\"map\":{\"uri\":\"i\"}}", Err (fault_at (in_ad 0 0) fault.BadUri))
+    ∷ (codes "{\"key\":7}", Err (fault_at (in_ad 0 0) fault.Shape))
+    ∷ (codes "{\"key\":{\"uri\":\"http://a/k\",\"iv\":\"0x1\"}}", Err (fault_at (in_ad 0 0) fault.BadKey))
+    ∷ (codes "{\"key\":{\"method\":\"NONE\",\"uri\":\"http://a/k\",\"iv\":\"0x1\"}}", Err (fault_at (in_ad 0 0) fault.BadKey))
+    ∷ (codes "{\"key\":{\"method\":\"AES-128\",\"iv\":\"0x1\"}}", Err (fault_at (in_ad 0 0) fault.BadKey))
+    ∷ (codes "{\"key\":{\"method\":\"AES-128\",\"uri\":\"k\",\"iv\":\"0x1\"}}", Err (fault_at (in_ad 0 0) fault.BadUri))
+    ∷ (codes "{\"key\":{\"method\":\"AES-128\",\"uri\":\"http://a/k\"}}", Err (fault_at (in_ad 0 0) fault.BadKey))
+    ∷ (codes "{\"key\":{\"method\":\"AES-128\",\"uri\":\"http://a/k\",\"iv\":\"1\"}}", Err (fault_at (in_ad 0 0) fault.BadKey))
+    ∷ (codes "{\"key\":{\"method\":\"AES-128\",\"uri\":\"http://a/k\",\"iv\":\"0x1\",\"format\":\"\"}}", Err (fault_at (in_ad 0 0) fault.BadKey))
+    ∷ (codes "{\"segments\":[{\"duration\":\"1\"}]}", refused 0 0 0 fault.Shape)
+    ∷ (codes "{\"segments\":[{\"uri\":\"http://a\"}]}", refused 0 0 0 fault.Shape)
+    ∷ (codes "{\"segments\":[{\"uri\":\"http://a\",\"duration\":1}]}", refused 0 0 0 fault.Shape)
+    ∷ (codes "{\"segments\":[{\"uri\":\"a\",\"duration\":\"x\"}]}", refused 0 0 0 fault.BadUri)
+    ∷ (codes "{\"segments\":[{\"uri\":\"http://a\",\"duration\":\"1\"},{\"uri\":\"http://a\",\"duration\":\"x\"}]}", refused 0 0 1 fault.BadDuration)
+    ∷ (codes "{\"segments\":[{\"uri\":\"http://a\",\"duration\":\"1\",\"offset\":1}]}", refused 0 0 0 fault.Shape)
+    ∷ (codes "{\"segments\":[{\"uri\":\"http://a\",\"duration\":\"1\",\"length\":1}]}", refused 0 0 0 fault.Shape)
+    ∷ (codes "{\"segments\":[{\"uri\":\"http://a\",\"duration\":\"1\",\"offset\":1.0,\"length\":1}]}", refused 0 0 0 fault.Shape)
+    ∷ (codes "{\"segments\":[{\"uri\":\"http://a\",\"duration\":\"1\",\"offset\":18446744073709551615,\"length\":1}]}", refused 0 0 0 fault.Shape) ∷ [])
+
+-- the segments of an ad, where so many stand in the ads before: 500 at most in a break (J7)
+abbrev pub said_after : ℕ → Outcome (List PodSegment)
+said_after before = json_of (codes "{\"segments\":[{\"uri\":\"http://a/s\",\"duration\":\"0.000000001\",\"offset\":5,\"length\":100}]}") >>= segments_said 0 1 before
+
+abbrev pub SegmentsAreCounted : Type 0
+SegmentsAreCounted = Gives said_after ((499, Ok (segment 1 ∷ [])) ∷ (500, Err (fault_at (in_segment 0 1 0) fault.TooMany)) ∷ [])
+
+-- docs/OPERATING.md, "Faults"
+abbrev pub FaultsOfFilesAreTold : Type 0
+FaultsOfFilesAreTold = Gives fault_text (
+    (fault_at nowhere fault.NotJson, codes "J1 NotJson")
+    ∷ (fault_at (in_break 1) fault.Shape, codes "J2 Shape break 1")
+    ∷ (fault_at (in_segment 1 2 3) fault.BadUri, codes "J3 BadUri break 1 ad 2 segment 3")
+    ∷ (fault_at nowhere fault.BadDuration, codes "J4 BadDuration")
+    ∷ (fault_at (in_ad 1 2) fault.BadKey, codes "J5 BadKey break 1 ad 2")
+    ∷ (fault_at nowhere fault.EmptyPod, codes "J6 EmptyPod")
+    ∷ (fault_at nowhere fault.TooMany, codes "J7 TooMany")
+    ∷ (fault_at nowhere fault.OutOfMemory, codes "J8 OutOfMemory")
+    ∷ (fault_at nowhere fault.Used, codes "J9 Used")
+    ∷ (fault_at nowhere fault.Full, codes "J10 Full")
+    ∷ (fault_at nowhere fault.Unknown, codes "J11 Unknown") ∷ [])

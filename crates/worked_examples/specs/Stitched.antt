@@ -1,0 +1,183 @@
+-- The stitched list: pods in place of runs, numbers, and the pace of a run.
+use Rattle.std.specs.Prelude.{ℕ, ◌+◌, Bool, true, false, List, [], ◌∷◌, ◌++◌, map, reverse, length, codes, ℤ, pos, Option, Some, None}
+use Rattle.playlist_model.specs.declared.Segment.{Segment}
+use Rattle.playlist_model.specs.declared.Key.{Key}
+use Rattle.playlist_model.specs.declared.KeyTag.{KeyTag}
+use Rattle.playlist_model.specs.declared.KeyTag.TheVariants.{End, Set}
+use Rattle.pod_store.specs.Pods.{Ad, Pod}
+use Rattle.pod_store.specs.Marks.{Mark, Marked}
+use Rattle.stitcher.specs.Stitched.{Piece, Item, pod_pieces, fits}
+use Rattle.stitcher.specs.Paced.{Rest, due, due_list, rest_pieces}
+use Rattle.stitcher.specs.StitchedSegments.{mark_in}
+use Rattle.stitcher.specs.Written.{written_item}
+use Rattle.stitcher.specs.KeyTags.{transition}
+use Rattle.stitcher.specs.declared.OutSegment.{OutSegment}
+use Rattle.worked_examples.specs.Pods as pods
+use Rattle.worked_examples.specs.Tables.{Gives}
+
+-- ---- what a pod is
+
+abbrev pub two_ads : Mark
+two_ads = record { id = codes "b"; pod = pods.pod (record (pods.ad (pods.segment 8 ∷ pods.segment 9 ∷ [])) { init_section = Some (pods.init_section []) } ∷ pods.clear (record (pods.segment 7) { byte_range = None } ∷ []) ∷ []) }
+
+-- a segment of the first ad, and that of the second
+abbrev pub of_first_ad : Bool → ℕ → Piece
+of_first_ad first nanos = record {
+  segment = record {
+    media_sequence = 0;
+    discontinuity_sequence = 0;
+    discontinuities = 0;
+    uri = codes "http://a/s";
+    byte_range = Some (record { length = 100; offset = 5 });
+    keys = pods.key (Some 31) ∷ [];
+    init_section = Some (record { uri = codes "http://a/i"; byte_range = Some (record { length = 9; offset = 1 }); keys = pods.key (Some 31) ∷ [] });
+    duration = nanos;
+    title = [];
+    program_date_time = None;
+  };
+  instant = None;
+  mark = Some two_ads;
+  first_of_ad = first;
+}
+
+abbrev pub of_second_ad : Piece
+of_second_ad = record {
+  segment = record { media_sequence = 0; discontinuity_sequence = 0; discontinuities = 0; uri = codes "http://a/s"; byte_range = None; keys = []; init_section = None; duration = 7; title = []; program_date_time = None };
+  instant = None;
+  mark = Some two_ads;
+  first_of_ad = true;
+}
+
+-- docs/DECISION_FILES.md: the segments of a pod stand in their order, each with its own byte range and its ad's keys and section,
+-- which has the ad's keys too (RFC 8216, 4.3.2.5)
+abbrev pub PodsStandInOrder : Type 0
+PodsStandInOrder = Gives pod_pieces ((two_ads, of_first_ad true 8 ∷ of_first_ad false 9 ∷ of_second_ad ∷ []) ∷ [])
+
+-- the rest of a pod from a place on, the newest first
+abbrev pub RestsAreLeft : Type 0
+RestsAreLeft = Gives (λ (place : ℕ). rest_pieces (Some (record { mark = two_ads; place = place }))) (
+    (0, of_second_ad ∷ of_first_ad false 9 ∷ of_first_ad true 8 ∷ []) ∷ (1, of_second_ad ∷ of_first_ad false 9 ∷ []) ∷ (3, []) ∷ [])
+
+-- ---- what stands in the list
+
+-- segment n of the origin, which has the URI n and lasts 10 ns, with a discontinuity number and steps
+abbrev pub stepped : ℕ → ℕ → ℕ → Segment
+stepped n discontinuity steps = record { media_sequence = n; discontinuity_sequence = discontinuity; discontinuities = steps; uri = n ∷ []; byte_range = None; keys = []; init_section = None; duration = 10; title = []; program_date_time = None }
+
+abbrev pub unmarked : Segment → Marked
+unmarked s = record { segment = s; instant = None; mark = None }
+
+abbrev pub marked : Mark → Segment → Marked
+marked mark s = record { segment = s; instant = None; mark = Some mark }
+
+-- a break of this ID with a pod of clear ads, each segment of which has this URI and lasts so long
+abbrev pub break : List ℕ → List (List (ℕ × ℕ)) → Mark
+break id ads = record { id = id; pod = record { ads = map (λ (segments : List (ℕ × ℕ)). record { init_section = None; keys = []; segments = map (λ (one : ℕ × ℕ). record { uri = one.0 ∷ []; byte_range = None; duration = one.1 }) segments }) ads } }
+
+abbrev pub b : Mark
+b = break (codes "b") (((1000, 10) ∷ (1001, 10) ∷ []) ∷ [])
+
+abbrev pub c : Mark
+c = break (codes "c") (((2000, 10) ∷ []) ∷ ((2001, 10) ∷ []) ∷ [])
+
+-- an item in short: URI, media number, discontinuity number, steps
+abbrev pub brief : Item → List ℕ
+brief item = item.piece.segment.uri ++ item.numbers.media_sequence ∷ item.numbers.discontinuity_sequence ∷ item.numbers.discontinuities ∷ []
+
+-- the list of a history, the oldest item first; whether the playlist has ended
+abbrev pub listed : Bool × List Marked → List (List ℕ)
+listed it = map brief (reverse (due_list it.0 it.1))
+
+-- each run is replaced by its pod, each other segment stands itself; media numbers rise by one (RFC 8216, 4.3.3.2); one
+-- discontinuity stands before each ad, and one where the origin comes back; else the origin's own (4.3.3.3). The newest
+-- segment of a history stands first
+abbrev pub RunsAreReplaced : Type 0
+RunsAreReplaced = Gives listed (
+    ((false, []), [])
+    ∷ (
+      (false, unmarked (stepped 2 0 0) ∷ marked b (stepped 1 0 0) ∷ unmarked (stepped 0 0 0) ∷ []),
+      (0 ∷ 0 ∷ 0 ∷ 0 ∷ []) ∷ (1000 ∷ 1 ∷ 1 ∷ 1 ∷ []) ∷ (1001 ∷ 2 ∷ 1 ∷ 0 ∷ []) ∷ (2 ∷ 3 ∷ 2 ∷ 1 ∷ []) ∷ [],
+    )
+    ∷ (
+      (false, unmarked (stepped 9 4 0) ∷ marked b (stepped 8 4 0) ∷ marked b (stepped 7 4 0) ∷ []),
+      (1000 ∷ 7 ∷ 5 ∷ 1 ∷ []) ∷ (1001 ∷ 8 ∷ 5 ∷ 0 ∷ []) ∷ (9 ∷ 9 ∷ 6 ∷ 1 ∷ []) ∷ [],
+    )
+    ∷ (
+      (false, unmarked (stepped 3 0 0) ∷ marked c (stepped 2 0 0) ∷ marked b (stepped 1 0 0) ∷ []),
+      (1000 ∷ 1 ∷ 1 ∷ 1 ∷ []) ∷ (1001 ∷ 2 ∷ 1 ∷ 0 ∷ []) ∷ (2000 ∷ 3 ∷ 2 ∷ 1 ∷ []) ∷ (2001 ∷ 4 ∷ 3 ∷ 1 ∷ []) ∷ (3 ∷ 5 ∷ 4 ∷ 1 ∷ []) ∷ [],
+    )
+    ∷ (
+      (false, unmarked (stepped 2 7 0) ∷ unmarked (stepped 1 7 2) ∷ unmarked (stepped 0 5 2) ∷ []),
+      (0 ∷ 0 ∷ 5 ∷ 2 ∷ []) ∷ (1 ∷ 1 ∷ 7 ∷ 2 ∷ []) ∷ (2 ∷ 2 ∷ 7 ∷ 0 ∷ []) ∷ [],
+    )
+    ∷ (
+      (false, unmarked (stepped 3 9 0) ∷ unmarked (stepped 2 9 3) ∷ marked b (stepped 1 6 1) ∷ unmarked (stepped 0 5 2) ∷ []),
+      (0 ∷ 0 ∷ 5 ∷ 2 ∷ []) ∷ (1000 ∷ 1 ∷ 6 ∷ 1 ∷ []) ∷ (1001 ∷ 2 ∷ 6 ∷ 0 ∷ []) ∷ (2 ∷ 3 ∷ 7 ∷ 1 ∷ []) ∷ (3 ∷ 4 ∷ 7 ∷ 0 ∷ []) ∷ [],
+    )
+    ∷ (
+      (false, marked b (stepped 2 0 0) ∷ unmarked (stepped 1 0 0) ∷ marked b (stepped 0 0 0) ∷ []),
+      (1000 ∷ 0 ∷ 1 ∷ 1 ∷ []) ∷ (1001 ∷ 1 ∷ 1 ∷ 0 ∷ []) ∷ (1 ∷ 2 ∷ 2 ∷ 1 ∷ []) ∷ (1000 ∷ 3 ∷ 3 ∷ 1 ∷ []) ∷ [],
+    )
+    ∷ ((false, marked b (stepped 1 0 0) ∷ marked b (stepped 0 0 0) ∷ []), (1000 ∷ 0 ∷ 1 ∷ 1 ∷ []) ∷ (1001 ∷ 1 ∷ 1 ∷ 0 ∷ []) ∷ [])
+    ∷ ((false, marked b (stepped 0 0 0) ∷ []), (1000 ∷ 0 ∷ 1 ∷ 1 ∷ []) ∷ [])
+    ∷ ((true, marked b (stepped 0 0 0) ∷ []), (1000 ∷ 0 ∷ 1 ∷ 1 ∷ []) ∷ (1001 ∷ 1 ∷ 1 ∷ 0 ∷ []) ∷ []) ∷ [])
+
+-- how many pieces of these durations are due after a run of this length
+abbrev pub due_of : ℕ × List ℕ → ℕ
+due_of it = length (due it.0 (map (λ (nanos : ℕ). record of_second_ad { segment = record (stepped 0 0 0) { duration = nanos } }) it.1))
+
+-- docs/CONFORMANCE.md: of an open run's pod the fewest segments, one at least, that last as long as the run
+abbrev pub PodsKeepPace : Type 0
+PodsKeepPace = Gives due_of (
+    ((0, 10 ∷ 20 ∷ 30 ∷ []), 1)
+    ∷ ((10, 10 ∷ 20 ∷ 30 ∷ []), 1)
+    ∷ ((11, 10 ∷ 20 ∷ 30 ∷ []), 2)
+    ∷ ((30, 10 ∷ 20 ∷ 30 ∷ []), 2)
+    ∷ ((31, 10 ∷ 20 ∷ 30 ∷ []), 3)
+    ∷ ((99, 10 ∷ 20 ∷ 30 ∷ []), 3)
+    ∷ ((5, []), 0) ∷ [])
+
+abbrev pub with_numbers : ℕ → ℕ → Item
+with_numbers media discontinuity = record { piece = of_second_ad; numbers = record { media_sequence = media; discontinuity_sequence = discontinuity; discontinuities = 1 } }
+
+-- 4.2: a playlist states numbers below 2^64
+abbrev pub NumbersFit : Type 0
+NumbersFit = Gives fits (
+    (with_numbers 18446744073709551615 18446744073709551615, true) ∷ (with_numbers 18446744073709551616 0, false) ∷ (with_numbers 0 18446744073709551616, false) ∷ [])
+
+-- an item is written with its own numbers and instant
+abbrev pub ItemsAreWritten : Type 0
+ItemsAreWritten = Gives written_item ((
+  record { piece = record { segment = stepped 5 3 0; instant = Some (pos 9); mark = None; first_of_ad = false }; numbers = record { media_sequence = 8; discontinuity_sequence = 6; discontinuities = 1 } },
+  record { segment = stepped 5 3 0; media_sequence = 8; discontinuity_sequence = 6; discontinuities = 1; program_date_time = Some (pos 9) },
+)
+    ∷ (
+      record { piece = of_second_ad; numbers = record { media_sequence = 8; discontinuity_sequence = 6; discontinuities = 1 } },
+      record { segment = record of_second_ad.segment { media_sequence = 8; discontinuity_sequence = 6; discontinuities = 1 }; media_sequence = 8; discontinuity_sequence = 6; discontinuities = 1; program_date_time = None },
+    ) ∷ [])
+
+-- the mark of a break is the break with the pod that it has in the store
+abbrev pub MarksAreFound : Type 0
+MarksAreFound = Gives (mark_in (record pods.ab { fallback = Some (pods.short 9) })) (
+    (None, None)
+    ∷ (Some (codes "a"), Some (record { id = codes "a"; pod = pods.short 1 }))
+    ∷ (Some (codes "z"), Some (record { id = codes "z"; pod = pods.short 9 })) ∷ [])
+
+-- ---- key tags
+
+abbrev pub of_format : List ℕ → ℕ → Key
+of_format format iv = record { format = format; method = codes "AES-128"; uri = codes "a:k"; iv = Some iv; other_attributes = [] }
+
+abbrev pub tags : List Key × List Key → List KeyTag
+tags it = transition it.0 it.1
+
+-- RFC 8216, 4.3.2.4: a key is in force until another one of its format, or NONE, which ends all
+abbrev pub KeysChange : Type 0
+KeysChange = Gives tags (
+    (([], []), [])
+    ∷ (([], of_format (codes "f") 1 ∷ []), Set (of_format (codes "f") 1) ∷ [])
+    ∷ ((of_format (codes "f") 1 ∷ [], of_format (codes "f") 1 ∷ []), [])
+    ∷ ((of_format (codes "f") 1 ∷ [], of_format (codes "f") 2 ∷ []), Set (of_format (codes "f") 2) ∷ [])
+    ∷ ((of_format (codes "f") 1 ∷ [], of_format (codes "f") 1 ∷ of_format (codes "g") 1 ∷ []), Set (of_format (codes "g") 1) ∷ [])
+    ∷ ((of_format (codes "f") 1 ∷ of_format (codes "g") 1 ∷ [], of_format (codes "g") 1 ∷ []), End ∷ Set (of_format (codes "g") 1) ∷ [])
+    ∷ ((of_format (codes "f") 1 ∷ [], []), End ∷ []) ∷ [])

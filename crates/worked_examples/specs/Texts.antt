@@ -1,0 +1,138 @@
+-- Durations, attribute lists, numbers and times.
+use Rattle.std.specs.Prelude.{ℕ, ◌+◌, ◌-◌, ◌^◌, ℤ, pos, negsuc, List, [], ◌∷◌, codes, Option, Some, None, Ok, Err, true, false}
+use Rattle.fixed_duration.specs.declared.DurationFault.TheVariants.{Empty, NotDigits, TooLarge}
+use Rattle.fixed_duration.specs.Duration.{duration_of, duration_text, rounded_seconds_of}
+use Rattle.attr_list.specs.declared.AttrFault.TheVariants.{BadName, NoEquals, BadValue, OpenQuote, Twice, TooMany}
+use Rattle.attr_list.specs.Attributes.{Pair, attributes_of, attributes_text}
+use Rattle.attr_list.specs.Numbers.{decimal_of, hex_of}
+use Rattle.date_times.specs.Instant.{instant_of}
+use Rattle.date_times.specs.Times.{time_text}
+use Rattle.worked_examples.specs.Tables.{Gives}
+
+-- RFC 8216, 4.2 and 4.3.2.1: a decimal-floating-point number of seconds, here in nanoseconds and below 1,000,000 s
+abbrev pub DurationsAreRead : Type 0
+DurationsAreRead = Gives duration_of (
+    (codes "10", Ok 10000000000)
+    ∷ (codes "9.5", Ok 9500000000)
+    ∷ (codes "0.000000001", Ok 1)
+    ∷ (codes "0.0000000019", Ok 1)
+    ∷ (codes "5.", Ok 5000000000)
+    ∷ (codes ".5", Ok 500000000)
+    ∷ (codes "999999.999999999", Ok 999999999999999)
+    ∷ (codes "1000000", Err TooLarge)
+    ∷ (codes "", Err Empty)
+    ∷ (codes ".", Err NotDigits)
+    ∷ (codes "1,5", Err NotDigits)
+    ∷ (codes "-1", Err NotDigits)
+    ∷ (codes "1.2.3", Err NotDigits) ∷ [])
+
+-- the same written, with no zero at the end of a fraction
+abbrev pub DurationsAreWritten : Type 0
+DurationsAreWritten = Gives duration_text (
+    (0, codes "0") ∷ (10000000000, codes "10") ∷ (9500000000, codes "9.5") ∷ (1, codes "0.000000001") ∷ (12000000120, codes "12.00000012") ∷ [])
+
+-- 4.3.3.1: EXTINF is rounded to the nearest integer
+abbrev pub DurationsAreRounded : Type 0
+DurationsAreRounded = Gives rounded_seconds_of (
+    (9499999999, 9) ∷ (9500000000, 10) ∷ (10499999999, 10) ∷ (0, 0) ∷ (499999999, 0) ∷ (500000000, 1) ∷ [])
+
+abbrev pub plain : List ℕ → List ℕ → Pair
+plain name value = record { name = name; value = value; quoted = false }
+
+abbrev pub in_quotes : List ℕ → List ℕ → Pair
+in_quotes name value = record { name = name; value = value; quoted = true }
+
+-- 4.2: pairs of AttributeName=AttributeValue, separated by commas and with no whitespace; a name stands once
+abbrev pub AttributesAreRead : Type 0
+AttributesAreRead = Gives (attributes_of None) (
+    (codes "A=1,B-2=\"x, y\",C=\"\"", Ok (plain (codes "A") (codes "1") ∷ in_quotes (codes "B-2") (codes "x, y") ∷ in_quotes (codes "C") [] ∷ []))
+    ∷ (codes "A=0x1F=", Ok (plain (codes "A") (codes "0x1F=") ∷ []))
+    ∷ (codes "", Err BadName)
+    ∷ (codes "a=1", Err BadName)
+    ∷ (codes "A=1,", Err BadName)
+    ∷ (codes "A=1, B=2", Err BadName)
+    ∷ (codes "A", Err NoEquals)
+    ∷ (codes "A=", Err BadValue)
+    ∷ (codes "A=1 2", Err BadValue)
+    ∷ (codes "A=1\"", Err BadValue)
+    ∷ (codes "A=\"1\"2", Err BadValue)
+    ∷ (codes "A=\"1", Err OpenQuote)
+    ∷ (codes "A=1,A=2", Err Twice) ∷ [])
+
+-- of at most so many
+abbrev pub AttributesAreLimited : Type 0
+AttributesAreLimited = Gives (attributes_of (Some 2)) (
+    (codes "A=1,B=2", Ok (plain (codes "A") (codes "1") ∷ plain (codes "B") (codes "2") ∷ [])) ∷ (codes "A=1,B=2,C=3", Err TooMany) ∷ [])
+
+abbrev pub AttributesAreWritten : Type 0
+AttributesAreWritten = Gives attributes_text (
+    ([], []) ∷ (plain (codes "A") (codes "1") ∷ in_quotes (codes "B") (codes "x, y") ∷ [], codes "A=1,B=\"x, y\"") ∷ [])
+
+-- 4.2: decimal-integer, from 0 to 2^64-1, of 1 to 20 digits
+abbrev pub DecimalsAreRead : Type 0
+DecimalsAreRead = Gives decimal_of (
+    (codes "0", Some 0)
+    ∷ (codes "00000000000000000012", Some 12)
+    ∷ (codes "000000000000000000012", None)
+    ∷ (codes "18446744073709551615", Some 18446744073709551615)
+    ∷ (codes "18446744073709551616", None)
+    ∷ (codes "", None)
+    ∷ (codes "-1", None)
+    ∷ (codes "1.0", None) ∷ [])
+
+-- 4.2: hexadecimal-sequence; an IV has 128 bits (4.3.2.4)
+abbrev pub SequencesAreRead : Type 0
+SequencesAreRead = Gives hex_of (
+    (codes "0x1F", Some 31)
+    ∷ (codes "0Xff", Some 255)
+    ∷ (codes "0xffffffffffffffffffffffffffffffff", Some (2 ^ 128 - 1))
+    ∷ (codes "0x000000000000000000000000000000001", None)
+    ∷ (codes "0x", None)
+    ∷ (codes "1F", None)
+    ∷ (codes "1x1F", None)
+    ∷ (codes "0xG", None) ∷ [])
+
+-- 4.3.2.6: a date and time of ISO 8601, here in nanoseconds from 1970 on, of the years 1900 to 2199
+abbrev pub InstantsAreRead : Type 0
+InstantsAreRead = Gives instant_of (
+    (codes "1970-01-01T00:00:00Z", Some (pos 0))
+    ∷ (codes "1969-12-31T23:59:59.5Z", Some (negsuc 499999999))
+    ∷ (codes "2024-05-01T12:00:00.000000001Z", Some (pos 1714564800000000001))
+    ∷ (codes "2024-05-01T14:00:00+02:00", Some (pos 1714564800000000000))
+    ∷ (codes "2024-05-01T10:30:00-0130", Some (pos 1714564800000000000))
+    ∷ (codes "2024-05-01T13:00:00+01", Some (pos 1714564800000000000))
+    ∷ (codes "2024-05-01T12:00:00", Some (pos 1714564800000000000))
+    ∷ (codes "2000-02-29T00:00:00Z", Some (pos 951782400000000000))
+    ∷ (codes "1904-02-29T00:00:00Z", Some (negsuc 2077747199999999999))
+    ∷ (codes "2100-02-29T00:00:00Z", None)
+    ∷ (codes "2023-03-01T00:00:00Z", Some (pos 1677628800000000000))
+    ∷ (codes "2023-12-31T00:00:00Z", Some (pos 1703980800000000000))
+    ∷ (codes "2024-11-31T00:00:00Z", None)
+    ∷ (codes "2024-13-01T00:00:00Z", None)
+    ∷ (codes "2024-00-01T00:00:00Z", None)
+    ∷ (codes "2024-05-00T00:00:00Z", None)
+    ∷ (codes "2024-05-01T24:00:00Z", None)
+    ∷ (codes "2024-05-01T12:60:00Z", None)
+    ∷ (codes "2024-12-31T23:59:60Z", None)
+    ∷ (codes "2024-05-01 12:00:00Z", None)
+    ∷ (codes "2024-05-01T12:00:00z", None)
+    ∷ (codes "2024-05-01T12:00:00.Z", None)
+    ∷ (codes "2024-05-01T12:00:00.0000000001Z", None)
+    ∷ (codes "2024-05-01T12:00:00+24:00", None)
+    ∷ (codes "2024-05-01T12:00:00+02:60", None)
+    ∷ (codes "2024-05-01T12:00:00+2", None)
+    ∷ (codes "1900-01-01T00:00:00Z", Some (negsuc 2208988799999999999))
+    ∷ (codes "1899-12-31T23:59:59Z", None)
+    ∷ (codes "2199-12-31T23:59:59.999999999Z", Some (pos 7258118399999999999))
+    ∷ (codes "2200-01-01T00:00:00Z", None) ∷ [])
+
+-- in UTC, with three decimals, or nine where three would lose something
+abbrev pub InstantsAreWritten : Type 0
+InstantsAreWritten = Gives time_text (
+    (pos 1714564800000000000, codes "2024-05-01T12:00:00.000Z")
+    ∷ (pos 1714564810250000000, codes "2024-05-01T12:00:10.250Z")
+    ∷ (pos 1714564810250000001, codes "2024-05-01T12:00:10.250000001Z")
+    ∷ (pos 951782400000000000, codes "2000-02-29T00:00:00.000Z")
+    ∷ (pos 1703980800000000000, codes "2023-12-31T00:00:00.000Z")
+    ∷ (negsuc 499999999, codes "1969-12-31T23:59:59.500Z")
+    ∷ (negsuc 2208988799999999999, codes "1900-01-01T00:00:00.000Z") ∷ [])

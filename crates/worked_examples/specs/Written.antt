@@ -1,0 +1,94 @@
+-- How a playlist is spelled.
+use Rattle.std.specs.Prelude.{ℕ, Bool, true, false, List, [], ◌∷◌, ◌++◌, codes, ℤ, pos, Option, Some, None}
+use Rattle.playlist_model.specs.declared.Segment.{Segment}
+use Rattle.playlist_model.specs.declared.Key.{Key}
+use Rattle.playlist_model.specs.declared.PlaylistKind.TheVariants.{Event, Vod}
+use Rattle.playlist_model.specs.Said.{nothing, version, target, sequence, discontinuity_sequence, playlist_type, ended, independent, duration, byte_range, discontinuity, no_keys, key, section, time, date_range, media}
+use Rattle.playlist_write.specs.Spelling.{spelled}
+use Rattle.playlist_write.specs.Owed.{playlist_text}
+use Rattle.playlist_write.specs.declared.OutPlaylist.{OutPlaylist}
+use Rattle.worked_examples.specs.Playlists.{text, identity}
+use Rattle.worked_examples.specs.Tables.{Gives}
+
+abbrev pub drm : Key
+drm = record { format = codes "f"; method = codes "SAMPLE-AES"; uri = codes "skd://k"; iv = None; other_attributes = codes ",KEYFORMATVERSIONS=\"1\"" }
+
+-- RFC 8216, 4.1 and 4.3: one line each
+abbrev pub LinesAreSpelled : Type 0
+LinesAreSpelled = Gives spelled (
+    (nothing, [])
+    ∷ (version 6, codes "#EXT-X-VERSION:6")
+    ∷ (target 10, codes "#EXT-X-TARGETDURATION:10")
+    ∷ (sequence 7, codes "#EXT-X-MEDIA-SEQUENCE:7")
+    ∷ (discontinuity_sequence 3, codes "#EXT-X-DISCONTINUITY-SEQUENCE:3")
+    ∷ (playlist_type Event, codes "#EXT-X-PLAYLIST-TYPE:EVENT")
+    ∷ (playlist_type Vod, codes "#EXT-X-PLAYLIST-TYPE:VOD")
+    ∷ (ended, codes "#EXT-X-ENDLIST")
+    ∷ (independent, codes "#EXT-X-INDEPENDENT-SEGMENTS")
+    ∷ (duration 9500000000 (codes "one, two"), codes "#EXTINF:9.5,one, two")
+    ∷ (byte_range 100 (Some 5), codes "#EXT-X-BYTERANGE:100@5")
+    ∷ (byte_range 100 None, codes "#EXT-X-BYTERANGE:100")
+    ∷ (discontinuity, codes "#EXT-X-DISCONTINUITY")
+    ∷ (no_keys, codes "#EXT-X-KEY:METHOD=NONE")
+    ∷ (key (identity (codes "a:k") (Some 31)), codes "#EXT-X-KEY:METHOD=AES-128,URI=\"a:k\",IV=0x0000000000000000000000000000001F")
+    ∷ (key drm, codes "#EXT-X-KEY:METHOD=SAMPLE-AES,URI=\"skd://k\",KEYFORMAT=\"f\",KEYFORMATVERSIONS=\"1\"")
+    ∷ (section (codes "a:i") None, codes "#EXT-X-MAP:URI=\"a:i\"")
+    ∷ (section (codes "a:i") (Some (record { length = 100; offset = 5 })), codes "#EXT-X-MAP:URI=\"a:i\",BYTERANGE=\"100@5\"")
+    ∷ (time (pos 1714564800000000000), codes "#EXT-X-PROGRAM-DATE-TIME:2024-05-01T12:00:00.000Z")
+    ∷ (date_range (record { id = codes "b"; start = None; end = None; duration = None; planned_duration = None; scte35_out = None; scte35_in = None; attributes = codes "ID=\"b\",X=1" }), codes "#EXT-X-DATERANGE:ID=\"b\",X=1")
+    ∷ (media (codes "a:s"), codes "a:s") ∷ [])
+
+abbrev pub first : Segment
+first = record { media_sequence = 0; discontinuity_sequence = 0; discontinuities = 0; uri = codes "a:s"; byte_range = Some (record { length = 100; offset = 5 }); keys = identity (codes "a:k") (Some 1) ∷ []; init_section = Some (record { uri = codes "a:i"; byte_range = None; keys = identity (codes "a:k") (Some 1) ∷ [] }); duration = 9500000000; title = codes "one"; program_date_time = None }
+
+abbrev pub second : Segment
+second = record first { uri = codes "a:t"; byte_range = None; keys = []; duration = 10000000000; title = [] }
+
+abbrev pub nobody : OutPlaylist
+nobody = record { version = 6; target_duration = 10; playlist_type = None; independent_segments = false; end_list = false; date_ranges = []; segments = [] }
+
+-- the header, the date ranges, the segments and the end. The first discontinuity number is the one before the first segment's
+-- own EXT-X-DISCONTINUITY (4.3.3.3), a section has a line where it changes, under its keys (4.3.2.5), and a key where it
+-- changes (4.3.2.4)
+abbrev pub PlaylistsAreWritten : Type 0
+PlaylistsAreWritten = Gives playlist_text ((
+  record {
+    version = 6;
+    target_duration = 10;
+    playlist_type = Some Vod;
+    independent_segments = true;
+    end_list = true;
+    date_ranges = codes "ID=\"b\"" ∷ [];
+    segments =
+        record { segment = first; media_sequence = 7; discontinuity_sequence = 3; discontinuities = 1; program_date_time = Some (pos 1714564800000000000) }
+        ∷ record { segment = second; media_sequence = 8; discontinuity_sequence = 3; discontinuities = 0; program_date_time = None }
+        ∷ record { segment = first; media_sequence = 9; discontinuity_sequence = 5; discontinuities = 2; program_date_time = None } ∷ [];
+  },
+  text (
+      codes "#EXTM3U"
+      ∷ codes "#EXT-X-VERSION:6"
+      ∷ codes "#EXT-X-TARGETDURATION:10"
+      ∷ codes "#EXT-X-MEDIA-SEQUENCE:7"
+      ∷ codes "#EXT-X-DISCONTINUITY-SEQUENCE:2"
+      ∷ codes "#EXT-X-PLAYLIST-TYPE:VOD"
+      ∷ codes "#EXT-X-INDEPENDENT-SEGMENTS"
+      ∷ codes "#EXT-X-DATERANGE:ID=\"b\""
+      ∷ codes "#EXT-X-DISCONTINUITY"
+      ∷ codes "#EXT-X-KEY:METHOD=AES-128,URI=\"a:k\",IV=0x00000000000000000000000000000001"
+      ∷ codes "#EXT-X-MAP:URI=\"a:i\""
+      ∷ codes "#EXT-X-PROGRAM-DATE-TIME:2024-05-01T12:00:00.000Z"
+      ∷ codes "#EXTINF:9.5,one"
+      ∷ codes "#EXT-X-BYTERANGE:100@5"
+      ∷ codes "a:s"
+      ∷ codes "#EXT-X-KEY:METHOD=NONE"
+      ∷ codes "#EXTINF:10,"
+      ∷ codes "a:t"
+      ∷ codes "#EXT-X-DISCONTINUITY"
+      ∷ codes "#EXT-X-DISCONTINUITY"
+      ∷ codes "#EXT-X-KEY:METHOD=AES-128,URI=\"a:k\",IV=0x00000000000000000000000000000001"
+      ∷ codes "#EXTINF:9.5,one"
+      ∷ codes "#EXT-X-BYTERANGE:100@5"
+      ∷ codes "a:s"
+      ∷ codes "#EXT-X-ENDLIST" ∷ []),
+)
+    ∷ (nobody, text (codes "#EXTM3U" ∷ codes "#EXT-X-VERSION:6" ∷ codes "#EXT-X-TARGETDURATION:10" ∷ codes "#EXT-X-MEDIA-SEQUENCE:0" ∷ codes "#EXT-X-DISCONTINUITY-SEQUENCE:0" ∷ [])) ∷ [])

@@ -1,0 +1,137 @@
+//! Worked values of the definitions, texts to what a channel owes. Each table in `specs/` has rows of an input and the value
+//! that was worked out by hand from the section of the standard, or the sentence of docs/CONFORMANCE.md, that stands above
+//! it; no code is named. Each function's contract is its tables; calling it does nothing.
+#![tactic(auto)]
+
+ghost use Rattle.worked_examples.specs.Texts.{DurationsAreRead, DurationsAreWritten, DurationsAreRounded, AttributesAreRead, AttributesAreLimited, AttributesAreWritten, DecimalsAreRead, SequencesAreRead, InstantsAreRead, InstantsAreWritten};
+ghost use Rattle.worked_examples.specs.Lines.{LinesHaveTheirKinds, TagsHaveTheirNames, SchemesAreSeen, VersionsAreRead, TypesAreRead, SegmentDurationsAreRead, ByteRangesAreRead, ReferencesAreResolved, BasesAreWebUrls, KeysAreRead, SectionsAreRead, DateRangesAreRead};
+ghost use Rattle.worked_examples.specs.Playlists.{WholePlaylistIsRead, TagsArePlaced, SegmentsAreChecked, HeadersAreChecked, ReadersAreLimited, LimitsAreStated, KeysAreInForce, KeysHaveTheirIvs, SegmentsBegin, SegmentsEnd, SegmentsAreCompared, FaultsAreTold};
+ghost use Rattle.worked_examples.specs.Splices.{SplicesAreRead};
+ghost use Rattle.worked_examples.specs.Breaks.{SignalsAreRead, TicksAreCounted, FirstValuesStand, BreaksEnd, BreaksAreSignalled, StartsAreNear, EndsAreNear, ClosedBreaksCanBeEntered, BreaksAreKnown, BreaksAreEntered, BreaksGoOn, ReasonsAreTold};
+ghost use Rattle.worked_examples.specs.Pods.{IdsAreChecked, UrisAreChecked, MethodsAreChecked, FormatsAreChecked, PodsAreSummed, PodsFit, MappedPodsFit, RulesAreKept, DecisionsAreTaken, StoreIsLimited, PodsAreFound, OwnPodsFit, UsedPodsStay, FilesAreRead, BreaksAreChecked, AdsAreChecked, SegmentsAreCounted, FaultsOfFilesAreTold};
+ghost use Rattle.worked_examples.specs.Stitched.{PodsStandInOrder, RestsAreLeft, RunsAreReplaced, PodsKeepPace, NumbersFit, ItemsAreWritten, MarksAreFound, KeysChange};
+ghost use Rattle.worked_examples.specs.Written.{LinesAreSpelled, PlaylistsAreWritten};
+ghost use Rattle.worked_examples.specs.Channels.{PlaylistsFollow, TypesStay, SegmentsStay, DiscontinuitiesFollow, EndedStays, TolerancesAreStated, BreaksAreFilled, WindowsGoOn, HeadersAreOwed, PodsAreKept, StatesAreKept, LastNumbersAreRefused};
+
+/// Durations, attribute lists, numbers and times.
+pub fn texts_have_their_values()
+    ensures durations_are_read { DurationsAreRead }
+    ensures durations_are_written { DurationsAreWritten }
+    ensures durations_are_rounded { DurationsAreRounded }
+    ensures attributes_are_read { AttributesAreRead }
+    ensures attributes_are_limited { AttributesAreLimited }
+    ensures attributes_are_written { AttributesAreWritten }
+    ensures decimals_are_read { DecimalsAreRead }
+    ensures sequences_are_read { SequencesAreRead }
+    ensures instants_are_read { InstantsAreRead }
+    ensures instants_are_written { InstantsAreWritten }
+{}
+
+/// What one line of a playlist says.
+pub fn lines_have_their_values()
+    ensures lines_have_their_kinds { LinesHaveTheirKinds }
+    ensures tags_have_their_names { TagsHaveTheirNames }
+    ensures schemes_are_seen { SchemesAreSeen }
+    ensures versions_are_read { VersionsAreRead }
+    ensures types_are_read { TypesAreRead }
+    ensures segment_durations_are_read { SegmentDurationsAreRead }
+    ensures byte_ranges_are_read { ByteRangesAreRead }
+    ensures references_are_resolved { ReferencesAreResolved }
+    ensures bases_are_web_urls { BasesAreWebUrls }
+    ensures keys_are_read { KeysAreRead }
+    ensures sections_are_read { SectionsAreRead }
+    ensures date_ranges_are_read { DateRangesAreRead }
+{}
+
+/// What the bytes of a playlist denote, or their first fault; when segments begin, and which are the same.
+pub fn playlists_have_their_values()
+    ensures whole_playlist_is_read { WholePlaylistIsRead }
+    ensures tags_are_placed { TagsArePlaced }
+    ensures segments_are_checked { SegmentsAreChecked }
+    ensures headers_are_checked { HeadersAreChecked }
+    ensures readers_are_limited { ReadersAreLimited }
+    ensures limits_are_stated { LimitsAreStated }
+    ensures keys_are_in_force { KeysAreInForce }
+    ensures keys_have_their_ivs { KeysHaveTheirIvs }
+    ensures segments_begin { SegmentsBegin }
+    ensures segments_end { SegmentsEnd }
+    ensures segments_are_compared { SegmentsAreCompared }
+    ensures faults_are_told { FaultsAreTold }
+{}
+
+/// What a splice section says, by the tables of ANSI/SCTE 35.
+pub fn splices_have_their_values()
+    ensures { SplicesAreRead }
+{}
+
+/// What date ranges say of breaks, which breaks are known, and which one a segment enters.
+pub fn breaks_have_their_values()
+    ensures signals_are_read { SignalsAreRead }
+    ensures ticks_are_counted { TicksAreCounted }
+    ensures first_values_stand { FirstValuesStand }
+    ensures breaks_end { BreaksEnd }
+    ensures breaks_are_signalled { BreaksAreSignalled }
+    ensures starts_are_near { StartsAreNear }
+    ensures ends_are_near { EndsAreNear }
+    ensures closed_breaks_can_be_entered { ClosedBreaksCanBeEntered }
+    ensures breaks_are_known { BreaksAreKnown }
+    ensures breaks_are_entered { BreaksAreEntered }
+    ensures breaks_go_on { BreaksGoOn }
+    ensures reasons_are_told { ReasonsAreTold }
+{}
+
+/// Pods, the store of decided breaks, and decision files.
+pub fn pods_have_their_values()
+    ensures ids_are_checked { IdsAreChecked }
+    ensures uris_are_checked { UrisAreChecked }
+    ensures methods_are_checked { MethodsAreChecked }
+    ensures formats_are_checked { FormatsAreChecked }
+    ensures pods_are_summed { PodsAreSummed }
+    ensures pods_fit { PodsFit }
+    ensures mapped_pods_fit { MappedPodsFit }
+    ensures rules_are_kept { RulesAreKept }
+    ensures decisions_are_taken { DecisionsAreTaken }
+    ensures store_is_limited { StoreIsLimited }
+    ensures pods_are_found { PodsAreFound }
+    ensures own_pods_fit { OwnPodsFit }
+    ensures used_pods_stay { UsedPodsStay }
+    ensures files_are_read { FilesAreRead }
+    ensures breaks_are_checked { BreaksAreChecked }
+    ensures ads_are_checked { AdsAreChecked }
+    ensures segments_are_counted { SegmentsAreCounted }
+    ensures faults_of_files_are_told { FaultsOfFilesAreTold }
+{}
+
+/// The stitched list: pods in place of runs, numbers, and the pace of a run.
+pub fn stitched_have_their_values()
+    ensures pods_stand_in_order { PodsStandInOrder }
+    ensures rests_are_left { RestsAreLeft }
+    ensures runs_are_replaced { RunsAreReplaced }
+    ensures pods_keep_pace { PodsKeepPace }
+    ensures numbers_fit { NumbersFit }
+    ensures items_are_written { ItemsAreWritten }
+    ensures marks_are_found { MarksAreFound }
+    ensures keys_change { KeysChange }
+{}
+
+/// How a playlist is spelled.
+pub fn written_have_their_values()
+    ensures lines_are_spelled { LinesAreSpelled }
+    ensures playlists_are_written { PlaylistsAreWritten }
+{}
+
+/// Which playlist may follow which, and what a channel owes after decisions and refreshes.
+pub fn channels_have_their_values()
+    ensures playlists_follow { PlaylistsFollow }
+    ensures types_stay { TypesStay }
+    ensures segments_stay { SegmentsStay }
+    ensures discontinuities_follow { DiscontinuitiesFollow }
+    ensures ended_stays { EndedStays }
+    ensures tolerances_are_stated { TolerancesAreStated }
+    ensures breaks_are_filled { BreaksAreFilled }
+    ensures windows_go_on { WindowsGoOn }
+    ensures headers_are_owed { HeadersAreOwed }
+    ensures pods_are_kept { PodsAreKept }
+    ensures states_are_kept { StatesAreKept }
+    ensures last_numbers_are_refused { LastNumbersAreRefused }
+{}
