@@ -1,7 +1,7 @@
 -- Each segment that the origin lists is shown as it is listed.
-use Rattle.std.proofs.Common.{◌≡◌, inl, inr, ◌⊎◌, ℕ, ◌+◌, ◌<◌, ◌≤◌, Bool, true, false, cond, List, [], ◌∷◌, length, refl, ap, sym, ◌∙◌, subst, arith}
+use Rattle.std.proofs.Common.{◌≡◌, inl, inr, ℕ, ◌+◌, ◌<◌, ◌≤◌, Bool, true, false, cond, List, [], ◌∷◌, length, refl, ap, sym, ◌∙◌, subst, arith}
 use Rattle.std.proofs.lemmas.Bool.{le-leb, ltb-true, ltb-false}
-use Rattle.std.specs.Prelude.{Option, Some, None, nat_le, nat_lt, filter, is_none}
+use Rattle.std.specs.Prelude.{Option, Some, None, nat_lt, filter, is_none}
 use Rattle.std.specs.List.{AllByRecursion}
 use Rattle.playlist_model.specs.declared.Segment.{Segment}
 use Rattle.playlist_model.specs.declared.Playlist.{Playlist}

@@ -38,7 +38,7 @@ pub fn owed_playlists_succeed()
     ensures { OwedPlaylistsSucceed }
 {}
 
-/// All that a channel was given makes sense: the laws of [`channel_spec`] take no other events.
+/// All that a channel was given makes sense: the laws of `channel_spec` take no other events.
 pub fn given_is_sound()
     ensures { GivenIsSound }
 {}

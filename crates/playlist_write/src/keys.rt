@@ -130,7 +130,6 @@ fn push_no_keys(out: &mut String) -> Result<(), AllocError>
     push_line(out, "#EXT-X-KEY:METHOD=NONE")
 }
 
-#[tactic(auto, using(crate::proofs::SameKeys::same_keys_owe_nothing))]
 // Appends the key tags that lead from any keys to others.
 fn push_any_tags(out: &mut String, old: &Keys, new: &Keys) -> Result<(), AllocError>
     ensures { Appends result out.old out.new (said_text (keys_owed old.now new.now)) }

@@ -1,5 +1,5 @@
 -- What each request on channels is answered: the lines of the table "Answers" in docs/OPERATING.md.
-use Rattle.std.specs.Prelude.{ℕ, zero, suc, ◌+◌, ◌++◌, Bool, true, false, List, [], ◌∷◌, codes, Option, Some, None, option_map}
+use Rattle.std.specs.Prelude.{ℕ, zero, suc, ◌++◌, List, [], ◌∷◌, codes, Option, Some, None, option_map}
 use Rattle.url.specs.Parts.{Parts}
 use Rattle.playlist_model.specs.Uri.{base_of}
 use Rattle.http_messages.specs.declared.message.Request.{Request}
@@ -8,7 +8,7 @@ use Rattle.http_messages.specs.declared.message.Allow.{Allow}
 use Rattle.http_messages.specs.declared.message.Allow.TheVariants as allow
 use Rattle.http_messages.specs.declared.message.ContentType.TheVariants.{Playlist}
 use Rattle.http_messages.specs.Replies.{bare, plain}
-use Rattle.http_edge.specs.Table.{Table, Turn, TableEntry, added, reply_to}
+use Rattle.http_edge.specs.Table.{Table, Turn, added, reply_to}
 use Rattle.http_edge.specs.Isolation.{replies_on}
 use Rattle.worked_examples.specs.Playlists.{text}
 use Rattle.worked_examples.specs.Tables.{Gives}

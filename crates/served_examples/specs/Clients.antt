@@ -1,13 +1,12 @@
 -- Many clients at once: who is given up for whom, what was said and taken, and the limits.
-use Rattle.std.specs.Prelude.{ℕ, List, [], ◌∷◌, codes, Option, Some, None}
+use Rattle.std.specs.Prelude.{ℕ, List, [], ◌∷◌, codes, Some, None}
 use Rattle.std.specs.declared.time.Instant.{Instant}
 use Rattle.connections.specs.declared.arrivals.Arrival.{Arrival}
-use Rattle.connections.specs.declared.conversation.Conversation.{Conversation}
 use Rattle.connections.specs.declared.conversation.Conversation.TheVariants.{Asking, Answering}
 use Rattle.connections.specs.Arrivals.{gives_place, gives_room}
 use Rattle.connections.specs.Limits.{most_held, place_count, serving_nanos, ending_nanos}
 use Rattle.connections.specs.Runs.{visits, said, taken}
-use Rattle.connections.specs.Table.{State, ClientEvent, came, gave, took, went, held_in, left_of, taken_of}
+use Rattle.connections.specs.Table.{State, ClientEvent, arrival, request_bytes, reply_bytes, departure, held_in, left_of, taken_of}
 use Rattle.connections.specs.Turns.{joined}
 use Rattle.worked_examples.specs.Tables.{Gives}
 
@@ -50,7 +49,7 @@ BytesAreTaken = Gives (taken_of 2) (
 -- what happened, the newest first: at place 1 a client went, and another one came
 abbrev pub events : List ClientEvent
 events =
-    took 1 2 ∷ took 1 3 ∷ gave 2 (codes "Q") ∷ gave 1 (codes "T /") ∷ gave 1 (codes "GE") ∷ came 1 ∷ came 2 ∷ went 1 ∷ took 1 9 ∷ gave 1 (codes "PUT") ∷ came 1 ∷ []
+    reply_bytes 1 2 ∷ reply_bytes 1 3 ∷ request_bytes 2 (codes "Q") ∷ request_bytes 1 (codes "T /") ∷ request_bytes 1 (codes "GE") ∷ arrival 1 ∷ arrival 2 ∷ departure 1 ∷ reply_bytes 1 9 ∷ request_bytes 1 (codes "PUT") ∷ arrival 1 ∷ []
 
 abbrev pub VisitsAreCounted : Type 0
 VisitsAreCounted = Gives (λ (place : ℕ). visits place events) ((1, 2) ∷ (2, 1) ∷ (3, 0) ∷ [])

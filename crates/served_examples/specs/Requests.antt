@@ -1,6 +1,5 @@
 -- What a request names, the length of its body, and how a reply is written.
-use Rattle.std.specs.Prelude.{ℕ, Bool, true, false, List, [], ◌∷◌, ◌++◌, replicate, codes, Option, Some, None}
-use Rattle.http_messages.specs.declared.message.Reply.{Reply}
+use Rattle.std.specs.Prelude.{ℕ, true, false, List, [], ◌∷◌, ◌++◌, replicate, codes, Some, None}
 use Rattle.http_messages.specs.declared.message.Allow.TheVariants as allow
 use Rattle.http_messages.specs.declared.message.ContentType.TheVariants.{Playlist}
 use Rattle.http_messages.specs.declared.refusal.Refusal.TheVariants.{BadRequest, LengthRequired, TooLarge}
@@ -9,7 +8,6 @@ use Rattle.http_messages.specs.declared.head.Framing.TheVariants.{Body, Refused}
 use Rattle.http_messages.specs.Limits.{head_limit, field_limit, body_limit, most_reads}
 use Rattle.http_messages.specs.Requests.{Field, framing_of}
 use Rattle.http_messages.specs.Replies.{bare, plain, refusal_reply, sends_body, text_sent}
-use Rattle.channel_api.specs.declared.routes.Resource.{Resource}
 use Rattle.channel_api.specs.declared.routes.Resource.TheVariants.{Channel, Origin, Decisions, Live, Why}
 use Rattle.channel_api.specs.Routes.{is_channel_name, path_of, route_of}
 use Rattle.worked_examples.specs.Tables.{Gives}

@@ -1,5 +1,5 @@
 -- A run over one playlist, and what a channel was given.
-use Rattle.std.specs.Prelude.{ℕ, ◌-◌, ◌^◌, Bool, true, false, List, [], ◌∷◌, codes, Option, Some, None, option_map, Result, Ok, Err}
+use Rattle.std.specs.Prelude.{ℕ, ◌-◌, ◌^◌, true, false, List, [], ◌∷◌, codes, Option, Some, None, option_map, Ok, Err}
 use Rattle.url.specs.Parts.{Parts}
 use Rattle.byte_streams.specs.Devices.{next_count}
 use Rattle.pod_store.specs.declared.Decisions.TheVariants.{Breaks, Withdraw}

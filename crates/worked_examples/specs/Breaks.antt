@@ -1,11 +1,9 @@
 -- What date ranges say of breaks, which breaks are known, and which one a segment enters.
 use Rattle.std.specs.Prelude.{ℕ, Bool, true, false, ℤ, pos, List, [], ◌∷◌, map, codes, Option, Some, None}
 use Rattle.playlist_model.specs.declared.DateRange.{DateRange}
-use Rattle.playlist_model.specs.declared.Playlist.{Playlist}
 use Rattle.pod_store.specs.Pods.{Pod}
 use Rattle.pod_store.specs.Store.{Store}
 use Rattle.break_finder.specs.declared.described.Described.{Described}
-use Rattle.break_finder.specs.declared.signal.Signal.{Signal}
 use Rattle.break_finder.specs.declared.signal.Signal.TheVariants.{Nothing, Leaves, Returns}
 use Rattle.break_finder.specs.declared.why.Why.{Why}
 use Rattle.break_finder.specs.declared.why.Why.TheVariants.{Filled, NotKnown, NoStart, NotSignalled, NotDecided, DoesNotFit, Waiting}

@@ -1,13 +1,12 @@
 -- What one line of a playlist says.
-use Rattle.std.specs.Prelude.{ℕ, Bool, true, false, ℤ, pos, List, [], ◌∷◌, codes, Option, Some, None, option_map, Result, Ok, Err}
+use Rattle.std.specs.Prelude.{ℕ, Bool, true, false, pos, List, [], ◌∷◌, codes, Option, Some, None, option_map, Ok, Err}
 use Rattle.url.specs.Parts.{Parts}
-use Rattle.playlist_model.specs.declared.FaultKind.{FaultKind}
 use Rattle.playlist_model.specs.declared.FaultKind.TheVariants.{BadVersion, Version, BadValue, BadDuration, BadAttributes, MissingAttribute, BadRange, BadTime, BadUri}
 use Rattle.playlist_model.specs.declared.PlaylistKind.TheVariants.{Event, Vod}
 use Rattle.playlist_model.specs.declared.Key.{Key}
-use Rattle.playlist_model.specs.Lines.{Kind, ignored, uri, tag, kind_of}
+use Rattle.playlist_model.specs.Lines.{ignored, uri, tag, kind_of}
 use Rattle.playlist_model.specs.Uri.{base_of, has_scheme, resolved}
-use Rattle.playlist_model.specs.Said.{Name, Said, Outcome, version_tag, target_tag, sequence_tag, discontinuity_sequence_tag, type_tag, ended_tag, independent_tag, frames_tag, master_tag, duration_tag, byte_range_tag, discontinuity_tag, key_tag, map_tag, time_tag, date_range_tag, unknown_tag, duration, no_keys, key, section, date_range, version_of, playlist_type_of, duration_said, byte_range_of, key_said, section_said, date_range_said}
+use Rattle.playlist_model.specs.Said.{Name, version_tag, target_tag, sequence_tag, discontinuity_sequence_tag, type_tag, ended_tag, independent_tag, frames_tag, master_tag, duration_tag, byte_range_tag, discontinuity_tag, key_tag, map_tag, time_tag, date_range_tag, unknown_tag, duration, no_keys, key, section, date_range, version_of, playlist_type_of, duration_said, byte_range_of, key_said, section_said, date_range_said}
 use Rattle.playlist_model.specs.Reading.{name_of, limited}
 use Rattle.worked_examples.specs.Tables.{Gives}
 

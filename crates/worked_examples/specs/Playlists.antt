@@ -1,5 +1,5 @@
 -- What the bytes of a playlist denote, or their first fault; when segments begin, and which are the same.
-use Rattle.std.specs.Prelude.{ℕ, ◌+◌, Bool, true, false, ℤ, pos, negsuc, List, [], ◌∷◌, ◌++◌, codes, Option, Some, None, option_map, Result, Ok, Err}
+use Rattle.std.specs.Prelude.{ℕ, true, false, ℤ, pos, List, [], ◌∷◌, ◌++◌, codes, Option, Some, None, option_map, Result, Ok, Err}
 use Rattle.playlist_model.specs.declared.FaultKind.{FaultKind}
 use Rattle.playlist_model.specs.declared.FaultKind.TheVariants as fault
 use Rattle.playlist_model.specs.declared.PlaylistFault.{PlaylistFault}
@@ -8,14 +8,13 @@ use Rattle.playlist_model.specs.declared.Playlist.{Playlist}
 use Rattle.playlist_model.specs.declared.Segment.{Segment}
 use Rattle.playlist_model.specs.declared.Key.{Key}
 use Rattle.playlist_model.specs.declared.InitSection.{InitSection}
-use Rattle.playlist_model.specs.declared.ByteRange.{ByteRange}
-use Rattle.playlist_model.specs.Said.{Said, Reader, key, no_keys, nothing}
+use Rattle.playlist_model.specs.Said.{Reader, key, no_keys, nothing}
 use Rattle.playlist_model.specs.EffectiveKeys.{effective_key}
 use Rattle.playlist_model.specs.FaultTexts.{fault_text}
 use Rattle.playlist_model.specs.Instants.{begins_at, ends_at}
 use Rattle.playlist_model.specs.LookBack.{keys_at}
 use Rattle.playlist_model.specs.Reading.{reading, limited, unlimited}
-use Rattle.playlist_model.specs.Same.{same_segment}
+use Rattle.playlist_model.specs.Same.{same_segment, kept_parts}
 use Rattle.playlist_model.specs.Uri.{base_of}
 use Rattle.worked_examples.specs.Tables.{Gives}
 
@@ -210,6 +209,14 @@ SegmentsEnd = Gives (λ (begun : Option ℤ). ends_at begun 30) ((Some (pos 50),
 
 abbrev pub sample : Segment
 sample = record { media_sequence = 7; discontinuity_sequence = 3; discontinuities = 0; uri = codes "a:s"; byte_range = Some (record { length = 100; offset = 5 }); keys = identity (codes "a:2") (Some 7) ∷ []; init_section = Some under_key_1; duration = 9500000000; title = codes "first"; program_date_time = Some (pos 1) }
+
+-- a segment but for its title, time and steps
+abbrev pub PartsAreKept : Type 0
+PartsAreKept = Gives kept_parts ((
+  sample,
+  record { media_sequence = 7; discontinuity_sequence = 3; discontinuities = 0; uri = codes "a:s"; byte_range = Some (record { length = 100; offset = 5 }); keys = identity (codes "a:2") (Some 7) ∷ []; init_section = Some under_key_1; duration = 9500000000; title = []; program_date_time = None },
+)
+    ∷ (record sample { discontinuities = 2 }, record sample { discontinuities = 0; title = []; program_date_time = None }) ∷ [])
 
 -- 6.2.1: a segment of one number doesn't change. What is looked at: numbers, resource, byte range, duration, keys and section
 abbrev pub SegmentsAreCompared : Type 0

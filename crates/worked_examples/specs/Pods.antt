@@ -1,6 +1,5 @@
 -- Pods, the store of decided breaks, and decision files.
-use Rattle.std.specs.Prelude.{ℕ, zero, suc, ◌-◌, ◌^◌, ◌++◌, Bool, true, false, List, [], ◌∷◌, replicate, codes, Option, Some, None, Result, Ok, Err}
-use Rattle.playlist_model.specs.declared.ByteRange.{ByteRange}
+use Rattle.std.specs.Prelude.{ℕ, zero, suc, ◌-◌, ◌^◌, ◌++◌, true, false, List, [], ◌∷◌, replicate, codes, Option, Some, None, Ok, Err}
 use Rattle.playlist_model.specs.declared.InitSection.{InitSection}
 use Rattle.playlist_model.specs.declared.Key.{Key}
 use Rattle.pod_store.specs.declared.Decisions.{Decisions}

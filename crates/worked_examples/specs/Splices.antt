@@ -1,5 +1,5 @@
 -- What a splice section says, by the tables of ANSI/SCTE 35.
-use Rattle.std.specs.Prelude.{ℕ, Bool, true, false, List, [], ◌∷◌, codes, Option, Some, None, Ok, Err}
+use Rattle.std.specs.Prelude.{true, false, [], ◌∷◌, codes, Some, None, Ok, Err}
 use Rattle.scte35_codec.specs.declared.fault.SpliceFault.TheVariants.{NotHex, TooShort, TableId, Length, Protocol, Encrypted, CommandLength}
 use Rattle.scte35_codec.specs.Section.{Program, Components, Insert, Other}
 use Rattle.scte35_codec.specs.Hexadecimal.{reading_hex}

@@ -1,17 +1,15 @@
 -- The stitched list: pods in place of runs, numbers, and the pace of a run.
-use Rattle.std.specs.Prelude.{ℕ, ◌+◌, Bool, true, false, List, [], ◌∷◌, ◌++◌, map, reverse, length, codes, ℤ, pos, Option, Some, None}
+use Rattle.std.specs.Prelude.{ℕ, Bool, true, false, List, [], ◌∷◌, ◌++◌, map, reverse, length, codes, pos, Some, None}
 use Rattle.playlist_model.specs.declared.Segment.{Segment}
 use Rattle.playlist_model.specs.declared.Key.{Key}
 use Rattle.playlist_model.specs.declared.KeyTag.{KeyTag}
 use Rattle.playlist_model.specs.declared.KeyTag.TheVariants.{End, Set}
-use Rattle.pod_store.specs.Pods.{Ad, Pod}
 use Rattle.pod_store.specs.Marks.{Mark, Marked}
 use Rattle.stitcher.specs.Stitched.{Piece, Item, pod_pieces, fits}
-use Rattle.stitcher.specs.Paced.{Rest, due, due_list, rest_pieces}
+use Rattle.stitcher.specs.Paced.{due, due_list, rest_pieces}
 use Rattle.stitcher.specs.StitchedSegments.{mark_in}
 use Rattle.stitcher.specs.Written.{written_item}
 use Rattle.stitcher.specs.KeyTags.{transition}
-use Rattle.stitcher.specs.declared.OutSegment.{OutSegment}
 use Rattle.worked_examples.specs.Pods as pods
 use Rattle.worked_examples.specs.Tables.{Gives}
 

@@ -1,5 +1,5 @@
 -- Durations, attribute lists, numbers and times.
-use Rattle.std.specs.Prelude.{ℕ, ◌+◌, ◌-◌, ◌^◌, ℤ, pos, negsuc, List, [], ◌∷◌, codes, Option, Some, None, Ok, Err, true, false}
+use Rattle.std.specs.Prelude.{ℕ, ◌-◌, ◌^◌, pos, negsuc, List, [], ◌∷◌, codes, Some, None, Ok, Err, true, false}
 use Rattle.fixed_duration.specs.declared.DurationFault.TheVariants.{Empty, NotDigits, TooLarge}
 use Rattle.fixed_duration.specs.Duration.{duration_of, duration_text, rounded_seconds_of}
 use Rattle.attr_list.specs.declared.AttrFault.TheVariants.{BadName, NoEquals, BadValue, OpenQuote, Twice, TooMany}

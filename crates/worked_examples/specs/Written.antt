@@ -1,5 +1,5 @@
 -- How a playlist is spelled.
-use Rattle.std.specs.Prelude.{ℕ, Bool, true, false, List, [], ◌∷◌, ◌++◌, codes, ℤ, pos, Option, Some, None}
+use Rattle.std.specs.Prelude.{true, false, [], ◌∷◌, codes, pos, Some, None}
 use Rattle.playlist_model.specs.declared.Segment.{Segment}
 use Rattle.playlist_model.specs.declared.Key.{Key}
 use Rattle.playlist_model.specs.declared.PlaylistKind.TheVariants.{Event, Vod}

@@ -5,7 +5,7 @@
 
 ghost use Rattle.worked_examples.specs.Texts.{DurationsAreRead, DurationsAreWritten, DurationsAreRounded, AttributesAreRead, AttributesAreLimited, AttributesAreWritten, DecimalsAreRead, SequencesAreRead, InstantsAreRead, InstantsAreWritten};
 ghost use Rattle.worked_examples.specs.Lines.{LinesHaveTheirKinds, TagsHaveTheirNames, SchemesAreSeen, VersionsAreRead, TypesAreRead, SegmentDurationsAreRead, ByteRangesAreRead, ReferencesAreResolved, BasesAreWebUrls, KeysAreRead, SectionsAreRead, DateRangesAreRead};
-ghost use Rattle.worked_examples.specs.Playlists.{WholePlaylistIsRead, TagsArePlaced, SegmentsAreChecked, HeadersAreChecked, ReadersAreLimited, LimitsAreStated, KeysAreInForce, KeysHaveTheirIvs, SegmentsBegin, SegmentsEnd, SegmentsAreCompared, FaultsAreTold};
+ghost use Rattle.worked_examples.specs.Playlists.{WholePlaylistIsRead, TagsArePlaced, SegmentsAreChecked, HeadersAreChecked, ReadersAreLimited, LimitsAreStated, KeysAreInForce, KeysHaveTheirIvs, SegmentsBegin, SegmentsEnd, PartsAreKept, SegmentsAreCompared, FaultsAreTold};
 ghost use Rattle.worked_examples.specs.Splices.{SplicesAreRead};
 ghost use Rattle.worked_examples.specs.Breaks.{SignalsAreRead, TicksAreCounted, FirstValuesStand, BreaksEnd, BreaksAreSignalled, StartsAreNear, EndsAreNear, ClosedBreaksCanBeEntered, BreaksAreKnown, BreaksAreEntered, BreaksGoOn, ReasonsAreTold};
 ghost use Rattle.worked_examples.specs.Pods.{IdsAreChecked, UrisAreChecked, MethodsAreChecked, FormatsAreChecked, PodsAreSummed, PodsFit, MappedPodsFit, RulesAreKept, DecisionsAreTaken, StoreIsLimited, PodsAreFound, OwnPodsFit, UsedPodsStay, FilesAreRead, BreaksAreChecked, AdsAreChecked, SegmentsAreCounted, FaultsOfFilesAreTold};
@@ -55,6 +55,7 @@ pub fn playlists_have_their_values()
     ensures keys_have_their_ivs { KeysHaveTheirIvs }
     ensures segments_begin { SegmentsBegin }
     ensures segments_end { SegmentsEnd }
+    ensures parts_are_kept { PartsAreKept }
     ensures segments_are_compared { SegmentsAreCompared }
     ensures faults_are_told { FaultsAreTold }
 {}

@@ -42,6 +42,10 @@ pub returns-clause-segments_end : goal.returns-clause-segments_end
 unfolding on_literals
 returns-clause-segments_end c = refl
 
+pub returns-clause-parts_are_kept : goal.returns-clause-parts_are_kept
+unfolding on_literals
+returns-clause-parts_are_kept c = refl
+
 pub returns-clause-segments_are_compared : goal.returns-clause-segments_are_compared
 unfolding on_literals
 returns-clause-segments_are_compared c = refl
