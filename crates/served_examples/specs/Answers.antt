@@ -1,5 +1,5 @@
 -- What each request on channels is answered: the lines of the table "Answers" in docs/OPERATING.md.
-use Rattle.std.specs.Prelude.{ℕ, zero, suc, ◌++◌, List, [], ◌∷◌, codes, Option, Some, None, option_map}
+use Rattle.std.specs.Prelude.{ℕ, zero, suc, true, false, ◌++◌, List, [], ◌∷◌, codes, Option, Some, None, option_map}
 use Rattle.url.specs.Parts.{Parts}
 use Rattle.playlist_model.specs.Uri.{base_of}
 use Rattle.http_messages.specs.declared.message.Request.{Request}
@@ -9,7 +9,7 @@ use Rattle.http_messages.specs.declared.message.Allow.TheVariants as allow
 use Rattle.http_messages.specs.declared.message.ContentType.TheVariants.{Playlist}
 use Rattle.http_messages.specs.Replies.{bare, plain}
 use Rattle.http_edge.specs.Table.{Table, Turn, added, reply_to}
-use Rattle.http_edge.specs.Isolation.{replies_on}
+use Rattle.http_edge.specs.Isolation.{Exchange, replies_on, is_served_on, asked_of, answered_of}
 use Rattle.worked_examples.specs.Playlists.{text}
 use Rattle.worked_examples.specs.Tables.{Gives}
 
@@ -150,3 +150,21 @@ abbrev pub ChannelsAreApart : Type 0
 ChannelsAreApart = Gives on_a (
     (live ∷ put (codes "/channels/b") (codes "{\"base\":\"http://h/\"}") ∷ get (codes "/") ∷ make ∷ [], not_found ∷ bare 201 ∷ [])
     ∷ (asks (codes "DELETE") (codes "/channels/b") [] ∷ make ∷ [], bare 201 ∷ []) ∷ [])
+
+abbrev pub exchange : Request → Reply → Exchange
+exchange request reply = record { request = request; reply = reply }
+
+-- a request on channel `a` that was answered, and not by 503
+abbrev pub RequestsAreServed : Type 0
+RequestsAreServed = Gives (is_served_on (codes "a")) (
+    (exchange make (bare 201), true)
+    ∷ (exchange live not_found, true)
+    ∷ (exchange make (bare 503), false)
+    ∷ (exchange (get (codes "/channels/b/live.m3u8")) not_found, false)
+    ∷ (exchange (get (codes "/")) not_found, false) ∷ [])
+
+abbrev pub RequestsWereAsked : Type 0
+RequestsWereAsked = Gives asked_of ((exchange live not_found ∷ exchange make (bare 201) ∷ [], live ∷ make ∷ []) ∷ [])
+
+abbrev pub RequestsWereAnswered : Type 0
+RequestsWereAnswered = Gives answered_of ((exchange live not_found ∷ exchange make (bare 201) ∷ [], not_found ∷ bare 201 ∷ []) ∷ [])

@@ -1,6 +1,9 @@
 -- Many clients at once: who is given up for whom, what was said and taken, and the limits.
-use Rattle.std.specs.Prelude.{ℕ, List, [], ◌∷◌, codes, Some, None}
+use Rattle.std.specs.Prelude.{ℕ, ◌-◌, ◌^◌, true, false, List, [], ◌∷◌, codes, Some, None}
 use Rattle.std.specs.declared.time.Instant.{Instant}
+use Rattle.byte_streams.specs.Devices.{one_more}
+use Rattle.connections.specs.Devices.{one_call}
+use Rattle.connections.specs.declared.devices.Passage.TheVariants.{WouldWait, HasFailed}
 use Rattle.connections.specs.declared.arrivals.Arrival.{Arrival}
 use Rattle.connections.specs.declared.conversation.Conversation.TheVariants.{Asking, Answering}
 use Rattle.connections.specs.Arrivals.{gives_place, gives_room}
@@ -63,3 +66,14 @@ TakenIsCounted = Gives (λ (place : ℕ). taken place events) ((1, 5) ∷ (2, 0)
 
 abbrev pub PiecesAreJoined : Type 0
 PiecesAreJoined = Gives joined ((codes "T /" ∷ codes "GE" ∷ [], codes "GET /") ∷ ([], []) ∷ [])
+
+-- a device's calls, and those that failed: one more each time. A count stays at 2^64 - 1
+abbrev pub CallsAreCounted : Type 0
+CallsAreCounted = Gives (one_call WouldWait) (
+    (record { count = 5; last = None }, record { count = 6; last = Some WouldWait })
+    ∷ (record { count = 2 ^ 64 - 1; last = Some HasFailed }, record { count = 2 ^ 64 - 1; last = Some WouldWait }) ∷ [])
+
+abbrev pub FailuresAreCounted : Type 0
+FailuresAreCounted = Gives one_more (
+    (record { count = 5; last = false }, record { count = 6; last = true })
+    ∷ (record { count = 2 ^ 64 - 1; last = true }, record { count = 2 ^ 64 - 1; last = true }) ∷ [])

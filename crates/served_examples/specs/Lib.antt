@@ -2,3 +2,4 @@ pub mod Requests
 pub mod Answers
 pub mod Clients
 pub mod Runs
+pub mod Kept

@@ -1,12 +1,13 @@
 -- What a request names, the length of its body, and how a reply is written.
 use Rattle.std.specs.Prelude.{ℕ, true, false, List, [], ◌∷◌, ◌++◌, replicate, codes, Some, None}
+use Rattle.httparse.specs.Grammar.{RequestHead, crlf}
 use Rattle.http_messages.specs.declared.message.Allow.TheVariants as allow
 use Rattle.http_messages.specs.declared.message.ContentType.TheVariants.{Playlist}
 use Rattle.http_messages.specs.declared.refusal.Refusal.TheVariants.{BadRequest, LengthRequired, TooLarge}
 use Rattle.http_messages.specs.declared.head.Framing.{Framing}
 use Rattle.http_messages.specs.declared.head.Framing.TheVariants.{Body, Refused}
 use Rattle.http_messages.specs.Limits.{head_limit, field_limit, body_limit, most_reads}
-use Rattle.http_messages.specs.Requests.{Field, framing_of}
+use Rattle.http_messages.specs.Requests.{Field, framing_of, framing_said}
 use Rattle.http_messages.specs.Replies.{bare, plain, refusal_reply, sends_body, text_sent}
 use Rattle.channel_api.specs.declared.routes.Resource.TheVariants.{Channel, Origin, Decisions, Live, Why}
 use Rattle.channel_api.specs.Routes.{is_channel_name, path_of, route_of}
@@ -98,3 +99,18 @@ HeadsAreSent = Gives sends_body ((codes "GET", true) ∷ (codes "PUT", true) ∷
 abbrev pub HeadRepliesAreWritten : Type 0
 HeadRepliesAreWritten = Gives (text_sent false) (
     (plain 405 (codes "no"), lines (codes "HTTP/1.1 405 Method Not Allowed" ∷ codes "Content-Type: text/plain; charset=utf-8" ∷ codes "Content-Length: 2" ∷ codes "Connection: close" ∷ [] ∷ [])) ∷ [])
+
+-- a head of this method, whose only field states this length
+abbrev pub head_with : List ℕ → List ℕ → RequestHead
+head_with method length = record { blank = []; method = method; target = codes "/"; minor = 1; line_end = crlf; fields = record { name = codes "Content-Length"; raw = length; end = crlf } ∷ []; last = crlf }
+
+abbrev pub head_of : List ℕ × List ℕ → Framing
+head_of it = framing_said (head_with it.0 it.1)
+
+-- RFC 9112, 5: white space around a field's value is none of it
+abbrev pub HeadsAreFramed : Type 0
+HeadsAreFramed = Gives head_of (
+    ((codes "PUT", codes " 5 "), Body 5)
+    ∷ ((codes "GET", codes " 5"), Body 0)
+    ∷ ((codes "PUT", codes " 5x"), Refused BadRequest)
+    ∷ ((codes "PUT", []), Refused BadRequest) ∷ [])

@@ -1,10 +1,14 @@
 -- A run over one playlist, and what a channel was given.
-use Rattle.std.specs.Prelude.{ℕ, ◌-◌, ◌^◌, true, false, List, [], ◌∷◌, codes, Option, Some, None, option_map, Ok, Err}
+use Rattle.std.specs.Prelude.{ℕ, ◌-◌, ◌^◌, true, false, List, [], ◌∷◌, map, codes, pos, Option, Some, None, option_map, Result, Ok, Err}
 use Rattle.url.specs.Parts.{Parts}
 use Rattle.byte_streams.specs.Devices.{next_count}
 use Rattle.pod_store.specs.declared.Decisions.TheVariants.{Breaks, Withdraw}
 use Rattle.pod_store.specs.declared.fault.DecisionKind.TheVariants as fault
 use Rattle.playlist_model.specs.Uri.{base_of}
+use Rattle.playlist_model.specs.Reading.{Fault}
+use Rattle.playlist_model.specs.declared.Playlist.{Playlist}
+use Rattle.playlist_model.specs.declared.DateRange.{DateRange}
+use Rattle.pod_store.specs.Marks.{Mark, Marked}
 use Rattle.channel_spec.specs.Live as live
 use Rattle.live_channel.specs.Channel.{Given, decided, withdrawn, refreshed, events_of}
 use Rattle.playlist_model.specs.declared.Segment.{Segment}
@@ -13,6 +17,9 @@ use Rattle.read_is_writable.specs.Read.{uris_are_text}
 use Rattle.vod_run.specs.Events as vod
 use Rattle.vod_run.specs.Given.{given_by}
 use Rattle.vod_run.specs.Runs.{most_reads}
+use Rattle.vod_run.specs.Vod.{read_under, told_with}
+use Rattle.worked_examples.specs.Channels.{b, decide_b, plays, segments}
+use Rattle.worked_examples.specs.Playlists.{text}
 use Rattle.worked_examples.specs.Pods.{fault_at, nowhere}
 use Rattle.worked_examples.specs.Tables.{Gives}
 
@@ -56,3 +63,35 @@ UrisAreText = Gives uris_are_text (
     ∷ (record segment { keys = key (codes "a:k") ∷ key (255 ∷ []) ∷ [] }, false)
     ∷ (record segment { init_section = Some (record { uri = 255 ∷ []; byte_range = None; keys = [] }) }, false)
     ∷ (record segment { init_section = Some (record { uri = codes "a:i"; byte_range = None; keys = key (255 ∷ []) ∷ [] }) }, false) ∷ [])
+
+abbrev pub uris_of : Result Playlist Fault → Option (List (List ℕ))
+uris_of (Ok p) = Some (map (λ (s : Segment). s.uri) p.segments)
+uris_of (Err fault) = None
+
+-- the URIs of what is read under a base; twice None: the base is none, once None: the bytes are refused
+abbrev pub uris_under : List ℕ × List ℕ → Option (Option (List (List ℕ)))
+uris_under it = option_map uris_of (read_under it.0 it.1)
+
+abbrev pub one_segment : List ℕ
+one_segment = text (codes "#EXTM3U" ∷ codes "#EXT-X-TARGETDURATION:10" ∷ codes "#EXTINF:10," ∷ codes "s" ∷ [])
+
+-- RFC 3986, 5.2: a reference is resolved against the base, which is of http or https
+abbrev pub InputsAreReadUnderBases : Type 0
+InputsAreReadUnderBases = Gives uris_under (
+    ((codes "http://h/a/b", one_segment), Some (Some (codes "http://h/a/s" ∷ [])))
+    ∷ ((codes "ftp://h/", one_segment), None)
+    ∷ ((codes "http://h/", []), Some None) ∷ [])
+
+abbrev pub marked_with : Marked → Option (List ℕ)
+marked_with s = option_map (λ (m : Mark). m.id) s.mark
+
+-- with which breaks two segments are marked, the newest first, where one date range is listed and b is decided
+abbrev pub marks_told : DateRange → List (Option (List ℕ))
+marks_told one = map marked_with (told_with (decide_b ∷ []) (plays (one ∷ []) (segments 0 2))).history
+
+-- docs/OPERATING.md: `vod` takes a segment that begins within 100 ms of a break's start
+abbrev pub RunsAreTold : Type 0
+RunsAreTold = Gives marks_told (
+    (b, Some (codes "b") ∷ None ∷ [])
+    ∷ (record b { start = Some (pos 1714564810100000000) }, Some (codes "b") ∷ None ∷ [])
+    ∷ (record b { start = Some (pos 1714564810100000001) }, None ∷ None ∷ []) ∷ [])

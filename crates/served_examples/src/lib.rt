@@ -3,10 +3,11 @@
 //! stands above it; no code is named. Each function's contract is its tables; calling it does nothing.
 #![tactic(auto)]
 
-ghost use Rattle.served_examples.specs.Requests.{NamesAreChecked, QueriesArePassedOver, RoutesAreFound, OtherPathsAreNone, BodiesAreFramed, MessagesAreLimited, RepliesAreWritten, HeadsAreSent, HeadRepliesAreWritten};
-ghost use Rattle.served_examples.specs.Answers.{ChannelsAreMade, RefreshesAreAnswered, PlaylistsAreRead, DecisionsAreAnswered, ReasonsAreAnswered, TablesAreLimited, ChannelsAreApart};
-ghost use Rattle.served_examples.specs.Clients.{ClientsAreLimited, PlacesAreGiven, RepliesAreGivenUpLast, RoomIsGiven, BytesAreHeld, RepliesAreLeft, BytesAreTaken, VisitsAreCounted, WordsAreSaid, TakenIsCounted, PiecesAreJoined};
-ghost use Rattle.served_examples.specs.Runs.{ReadsAreLimited, FilesAreTold, FilesAreGiven, BytesAreTold, UrisAreText};
+ghost use Rattle.served_examples.specs.Requests.{NamesAreChecked, QueriesArePassedOver, RoutesAreFound, OtherPathsAreNone, BodiesAreFramed, HeadsAreFramed, MessagesAreLimited, RepliesAreWritten, HeadsAreSent, HeadRepliesAreWritten};
+ghost use Rattle.served_examples.specs.Answers.{ChannelsAreMade, RefreshesAreAnswered, PlaylistsAreRead, DecisionsAreAnswered, ReasonsAreAnswered, TablesAreLimited, ChannelsAreApart, RequestsAreServed, RequestsWereAsked, RequestsWereAnswered};
+ghost use Rattle.served_examples.specs.Clients.{ClientsAreLimited, PlacesAreGiven, RepliesAreGivenUpLast, RoomIsGiven, BytesAreHeld, RepliesAreLeft, BytesAreTaken, VisitsAreCounted, WordsAreSaid, TakenIsCounted, PiecesAreJoined, CallsAreCounted, FailuresAreCounted};
+ghost use Rattle.served_examples.specs.Kept.{StatesAreMeant, StoresAreReplaced, TextsAreKept, RefreshesAreOwed, LackOfMemoryIsSeen, DecisionsAreStored};
+ghost use Rattle.served_examples.specs.Runs.{ReadsAreLimited, FilesAreTold, FilesAreGiven, BytesAreTold, UrisAreText, InputsAreReadUnderBases, RunsAreTold};
 
 /// What a request names, the length of its body, and how a reply is written.
 pub fn requests_have_their_values()
@@ -15,6 +16,7 @@ pub fn requests_have_their_values()
     ensures routes_are_found { RoutesAreFound }
     ensures other_paths_are_none { OtherPathsAreNone }
     ensures bodies_are_framed { BodiesAreFramed }
+    ensures heads_are_framed { HeadsAreFramed }
     ensures messages_are_limited { MessagesAreLimited }
     ensures replies_are_written { RepliesAreWritten }
     ensures heads_are_sent { HeadsAreSent }
@@ -30,6 +32,9 @@ pub fn answers_have_their_values()
     ensures reasons_are_answered { ReasonsAreAnswered }
     ensures tables_are_limited { TablesAreLimited }
     ensures channels_are_apart { ChannelsAreApart }
+    ensures requests_are_served { RequestsAreServed }
+    ensures requests_were_asked { RequestsWereAsked }
+    ensures requests_were_answered { RequestsWereAnswered }
 {}
 
 /// Many clients at once: who is given up for whom, what was said and taken, and the limits.
@@ -45,6 +50,8 @@ pub fn clients_have_their_values()
     ensures words_are_said { WordsAreSaid }
     ensures taken_is_counted { TakenIsCounted }
     ensures pieces_are_joined { PiecesAreJoined }
+    ensures calls_are_counted { CallsAreCounted }
+    ensures failures_are_counted { FailuresAreCounted }
 {}
 
 /// A run over one playlist, and what a channel was given.
@@ -54,4 +61,16 @@ pub fn runs_have_their_values()
     ensures files_are_given { FilesAreGiven }
     ensures bytes_are_told { BytesAreTold }
     ensures uris_are_text { UrisAreText }
+    ensures inputs_are_read_under_bases { InputsAreReadUnderBases }
+    ensures runs_are_told { RunsAreTold }
+{}
+
+/// What a channel keeps, is owed and answers, by what it was given.
+pub fn kept_have_their_values()
+    ensures states_are_meant { StatesAreMeant }
+    ensures stores_are_replaced { StoresAreReplaced }
+    ensures texts_are_kept { TextsAreKept }
+    ensures refreshes_are_owed { RefreshesAreOwed }
+    ensures lack_of_memory_is_seen { LackOfMemoryIsSeen }
+    ensures decisions_are_stored { DecisionsAreStored }
 {}

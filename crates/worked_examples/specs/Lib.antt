@@ -8,3 +8,4 @@ pub mod Pods
 pub mod Stitched
 pub mod Written
 pub mod Channels
+pub mod Windows

@@ -8,11 +8,12 @@ use Rattle.playlist_model.specs.declared.Playlist.{Playlist}
 use Rattle.playlist_model.specs.declared.Segment.{Segment}
 use Rattle.playlist_model.specs.declared.Key.{Key}
 use Rattle.playlist_model.specs.declared.InitSection.{InitSection}
+use Rattle.playlist_model.specs.Said as said
 use Rattle.playlist_model.specs.Said.{Reader, key, no_keys, nothing}
 use Rattle.playlist_model.specs.EffectiveKeys.{effective_key}
 use Rattle.playlist_model.specs.FaultTexts.{fault_text}
 use Rattle.playlist_model.specs.Instants.{begins_at, ends_at}
-use Rattle.playlist_model.specs.LookBack.{keys_at}
+use Rattle.playlist_model.specs.LookBack.{keys_at, standing_at}
 use Rattle.playlist_model.specs.Reading.{reading, limited, unlimited}
 use Rattle.playlist_model.specs.Same.{same_segment, kept_parts}
 use Rattle.playlist_model.specs.Uri.{base_of}
@@ -178,6 +179,30 @@ KeysAreInForce = Gives keys_at ((
 )
     ∷ (nothing ∷ key (of_format (codes "a") (codes "a:2")) ∷ no_keys ∷ key (of_format (codes "b") (codes "a:1")) ∷ [], of_format (codes "a") (codes "a:2") ∷ [])
     ∷ (no_keys ∷ key (of_format (codes "a") (codes "a:2")) ∷ [], []) ∷ [])
+
+-- what stands at a line after these lines, the last of which stands first: the stated numbers and what was counted since, what
+-- the next segment has of its own, and what is in force (4.3.2, 4.3.3.2, 4.3.3.3)
+abbrev pub LinesStand : Type 0
+LinesStand = Gives standing_at ((
+  [],
+  record { media_sequence = 0; discontinuity_sequence = 0; media_count = 0; discontinuity_count = 0; discontinuities = 0; duration = None; byte_range = None; program_date_time = None; keys = []; init_section = None; extent = None },
+)
+    ∷ (
+      said.time (pos 9) ∷ said.byte_range 50 None ∷ said.duration 6 [] ∷ said.discontinuity ∷ said.media (codes "a:s") ∷ said.byte_range 100 (Some 5) ∷ said.duration 5 (codes "t") ∷ said.discontinuity ∷ said.section (codes "a:i") None ∷ key (identity (codes "a:1") (Some 1)) ∷ said.discontinuity_sequence 3 ∷ said.sequence 7 ∷ [],
+      record {
+        media_sequence = 7;
+        discontinuity_sequence = 3;
+        media_count = 1;
+        discontinuity_count = 2;
+        discontinuities = 1;
+        duration = Some (6, []);
+        byte_range = Some (50, None);
+        program_date_time = Some (pos 9);
+        keys = identity (codes "a:1") (Some 1) ∷ [];
+        init_section = Some under_key_1;
+        extent = Some (record { uri = codes "a:s"; byte_range = record { length = 100; offset = 5 } });
+      },
+    ) ∷ [])
 
 -- 5.2: the Media Sequence Number is the IV of a key that states none; of the format `identity` alone
 abbrev pub KeysHaveTheirIvs : Type 0

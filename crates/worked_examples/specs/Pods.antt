@@ -9,7 +9,7 @@ use Rattle.pod_store.specs.declared.fault.DecisionKind.{DecisionKind}
 use Rattle.pod_store.specs.declared.fault.DecisionKind.TheVariants as fault
 use Rattle.pod_store.specs.FaultTexts.{fault_text}
 use Rattle.pod_store.specs.declared.fault.Place.{Place}
-use Rattle.pod_store.specs.Outcome.{Outcome, ◌>>=◌}
+use Rattle.pod_store.specs.Outcome.{Outcome, ◌>>=◌, no_memory}
 use Rattle.pod_store.specs.Pods.{PodSegment, Ad, Pod, Decision, is_id, is_uri, is_method, is_format, pod_fits, total}
 use Rattle.pod_store.specs.Rules.{ads_keep}
 use Rattle.pod_store.specs.Store.{Entry, Store, nothing_decided, decided, pod_for, fits, kept_in_use}
@@ -275,3 +275,7 @@ FaultsOfFilesAreTold = Gives fault_text (
     ∷ (fault_at nowhere fault.Used, codes "J9 Used")
     ∷ (fault_at nowhere fault.Full, codes "J10 Full")
     ∷ (fault_at nowhere fault.Unknown, codes "J11 Unknown") ∷ [])
+
+-- memory that ran out is no fault of a place in the file
+abbrev pub LackOfMemoryHasNoPlace : Type 0
+LackOfMemoryHasNoPlace = Gives (λ (fault : DecisionFault). fault) ((no_memory, fault_at nowhere fault.OutOfMemory) ∷ [])

@@ -5,7 +5,9 @@ use Rattle.playlist_model.specs.declared.Key.{Key}
 use Rattle.playlist_model.specs.declared.PlaylistKind.TheVariants.{Event, Vod}
 use Rattle.playlist_model.specs.Said.{nothing, version, target, sequence, discontinuity_sequence, playlist_type, ended, independent, duration, byte_range, discontinuity, no_keys, key, section, time, date_range, media}
 use Rattle.playlist_write.specs.Spelling.{spelled}
-use Rattle.playlist_write.specs.Owed.{playlist_text}
+use Rattle.stitcher.specs.declared.OutSegment.{OutSegment}
+use Rattle.playlist_write.specs.Owed.{none_yet, playlist_text}
+use Rattle.playlist_write.specs.Laid.{after_segments, current_of}
 use Rattle.playlist_write.specs.declared.OutPlaylist.{OutPlaylist}
 use Rattle.worked_examples.specs.Playlists.{text, identity}
 use Rattle.worked_examples.specs.Tables.{Gives}
@@ -92,3 +94,21 @@ PlaylistsAreWritten = Gives playlist_text ((
       ∷ codes "#EXT-X-ENDLIST" ∷ []),
 )
     ∷ (nobody, text (codes "#EXTM3U" ∷ codes "#EXT-X-VERSION:6" ∷ codes "#EXT-X-TARGETDURATION:10" ∷ codes "#EXT-X-MEDIA-SEQUENCE:0" ∷ codes "#EXT-X-DISCONTINUITY-SEQUENCE:0" ∷ [])) ∷ [])
+
+-- ---- what is in force
+
+abbrev pub out : Segment → OutSegment
+out s = record { segment = s; media_sequence = 5; discontinuity_sequence = 6; discontinuities = 7; program_date_time = None }
+
+-- 4.3.2.4 and 4.3.2.5: the keys of the last segment, and the last section that a segment has
+abbrev pub WrittenLinesAreInForce : Type 0
+WrittenLinesAreInForce = Gives (after_segments none_yet) (
+    ([], record { keys = []; init_section = None })
+    ∷ (out first ∷ [], record { keys = first.keys; init_section = first.init_section })
+    ∷ (out first ∷ out (record first { keys = []; init_section = None }) ∷ [], record { keys = []; init_section = first.init_section }) ∷ [])
+
+abbrev pub WrittenTextsTellWhatIsInForce : Type 0
+WrittenTextsTellWhatIsInForce = Gives current_of ((
+  record { text = codes "x"; from = 0; till = 1; keys = first.keys; section = first.init_section },
+  record { keys = first.keys; init_section = first.init_section },
+) ∷ [])

@@ -5,12 +5,13 @@
 
 ghost use Rattle.worked_examples.specs.Texts.{DurationsAreRead, DurationsAreWritten, DurationsAreRounded, AttributesAreRead, AttributesAreLimited, AttributesAreWritten, DecimalsAreRead, SequencesAreRead, InstantsAreRead, InstantsAreWritten};
 ghost use Rattle.worked_examples.specs.Lines.{LinesHaveTheirKinds, TagsHaveTheirNames, SchemesAreSeen, VersionsAreRead, TypesAreRead, SegmentDurationsAreRead, ByteRangesAreRead, ReferencesAreResolved, BasesAreWebUrls, KeysAreRead, SectionsAreRead, DateRangesAreRead};
-ghost use Rattle.worked_examples.specs.Playlists.{WholePlaylistIsRead, TagsArePlaced, SegmentsAreChecked, HeadersAreChecked, ReadersAreLimited, LimitsAreStated, KeysAreInForce, KeysHaveTheirIvs, SegmentsBegin, SegmentsEnd, PartsAreKept, SegmentsAreCompared, FaultsAreTold};
+ghost use Rattle.worked_examples.specs.Playlists.{WholePlaylistIsRead, TagsArePlaced, SegmentsAreChecked, HeadersAreChecked, ReadersAreLimited, LimitsAreStated, KeysAreInForce, KeysHaveTheirIvs, LinesStand, SegmentsBegin, SegmentsEnd, PartsAreKept, SegmentsAreCompared, FaultsAreTold};
 ghost use Rattle.worked_examples.specs.Splices.{SplicesAreRead};
 ghost use Rattle.worked_examples.specs.Breaks.{SignalsAreRead, TicksAreCounted, FirstValuesStand, BreaksEnd, BreaksAreSignalled, StartsAreNear, EndsAreNear, ClosedBreaksCanBeEntered, BreaksAreKnown, BreaksAreEntered, BreaksGoOn, ReasonsAreTold};
-ghost use Rattle.worked_examples.specs.Pods.{IdsAreChecked, UrisAreChecked, MethodsAreChecked, FormatsAreChecked, PodsAreSummed, PodsFit, MappedPodsFit, RulesAreKept, DecisionsAreTaken, StoreIsLimited, PodsAreFound, OwnPodsFit, UsedPodsStay, FilesAreRead, BreaksAreChecked, AdsAreChecked, SegmentsAreCounted, FaultsOfFilesAreTold};
+ghost use Rattle.worked_examples.specs.Pods.{IdsAreChecked, UrisAreChecked, MethodsAreChecked, FormatsAreChecked, PodsAreSummed, PodsFit, MappedPodsFit, RulesAreKept, DecisionsAreTaken, StoreIsLimited, PodsAreFound, OwnPodsFit, UsedPodsStay, FilesAreRead, BreaksAreChecked, AdsAreChecked, SegmentsAreCounted, FaultsOfFilesAreTold, LackOfMemoryHasNoPlace};
 ghost use Rattle.worked_examples.specs.Stitched.{PodsStandInOrder, RestsAreLeft, RunsAreReplaced, PodsKeepPace, NumbersFit, ItemsAreWritten, MarksAreFound, KeysChange};
-ghost use Rattle.worked_examples.specs.Written.{LinesAreSpelled, PlaylistsAreWritten};
+ghost use Rattle.worked_examples.specs.Written.{LinesAreSpelled, PlaylistsAreWritten, WrittenLinesAreInForce, WrittenTextsTellWhatIsInForce};
+ghost use Rattle.worked_examples.specs.Windows.{ItemsAreOfPods, ItemsHavePieces, PiecesHaveSegments, PiecesLast, MarkedAreTheOrigins, UnmarkedAreSeen, TimesAreStated, MarksAreMeant, RestsAreMeant, LastWindowsStand, BreaksArePlayed};
 ghost use Rattle.worked_examples.specs.Channels.{PlaylistsFollow, TypesStay, SegmentsStay, DiscontinuitiesFollow, EndedStays, TolerancesAreStated, BreaksAreFilled, WindowsGoOn, HeadersAreOwed, PodsAreKept, StatesAreKept, LastNumbersAreRefused};
 
 /// Durations, attribute lists, numbers and times.
@@ -53,6 +54,7 @@ pub fn playlists_have_their_values()
     ensures limits_are_stated { LimitsAreStated }
     ensures keys_are_in_force { KeysAreInForce }
     ensures keys_have_their_ivs { KeysHaveTheirIvs }
+    ensures lines_stand { LinesStand }
     ensures segments_begin { SegmentsBegin }
     ensures segments_end { SegmentsEnd }
     ensures parts_are_kept { PartsAreKept }
@@ -101,6 +103,7 @@ pub fn pods_have_their_values()
     ensures ads_are_checked { AdsAreChecked }
     ensures segments_are_counted { SegmentsAreCounted }
     ensures faults_of_files_are_told { FaultsOfFilesAreTold }
+    ensures lack_of_memory_has_no_place { LackOfMemoryHasNoPlace }
 {}
 
 /// The stitched list: pods in place of runs, numbers, and the pace of a run.
@@ -119,6 +122,8 @@ pub fn stitched_have_their_values()
 pub fn written_have_their_values()
     ensures lines_are_spelled { LinesAreSpelled }
     ensures playlists_are_written { PlaylistsAreWritten }
+    ensures written_lines_are_in_force { WrittenLinesAreInForce }
+    ensures written_texts_tell_what_is_in_force { WrittenTextsTellWhatIsInForce }
 {}
 
 /// Which playlist may follow which, and what a channel owes after decisions and refreshes.
@@ -135,4 +140,19 @@ pub fn channels_have_their_values()
     ensures pods_are_kept { PodsAreKept }
     ensures states_are_kept { StatesAreKept }
     ensures last_numbers_are_refused { LastNumbersAreRefused }
+{}
+
+/// What stands in a window: its items and pieces, the breaks that are played in it, and the pods that its marks mean.
+pub fn windows_have_their_values()
+    ensures items_are_of_pods { ItemsAreOfPods }
+    ensures items_have_pieces { ItemsHavePieces }
+    ensures pieces_have_segments { PiecesHaveSegments }
+    ensures pieces_last { PiecesLast }
+    ensures marked_are_the_origins { MarkedAreTheOrigins }
+    ensures unmarked_are_seen { UnmarkedAreSeen }
+    ensures times_are_stated { TimesAreStated }
+    ensures marks_are_meant { MarksAreMeant }
+    ensures rests_are_meant { RestsAreMeant }
+    ensures last_windows_stand { LastWindowsStand }
+    ensures breaks_are_played { BreaksArePlayed }
 {}

@@ -29,3 +29,15 @@ returns-clause-tables_are_limited c = refl
 pub returns-clause-channels_are_apart : goal.returns-clause-channels_are_apart
 unfolding on_literals
 returns-clause-channels_are_apart c = refl
+
+pub returns-clause-requests_are_served : goal.returns-clause-requests_are_served
+unfolding on_literals
+returns-clause-requests_are_served c = refl
+
+pub returns-clause-requests_were_asked : goal.returns-clause-requests_were_asked
+unfolding on_literals
+returns-clause-requests_were_asked c = refl
+
+pub returns-clause-requests_were_answered : goal.returns-clause-requests_were_answered
+unfolding on_literals
+returns-clause-requests_were_answered c = refl

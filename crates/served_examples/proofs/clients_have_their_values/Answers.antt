@@ -45,3 +45,11 @@ returns-clause-taken_is_counted c = refl
 pub returns-clause-pieces_are_joined : goal.returns-clause-pieces_are_joined
 unfolding on_literals
 returns-clause-pieces_are_joined c = refl
+
+pub returns-clause-calls_are_counted : goal.returns-clause-calls_are_counted
+unfolding on_literals
+returns-clause-calls_are_counted c = refl
+
+pub returns-clause-failures_are_counted : goal.returns-clause-failures_are_counted
+unfolding on_literals
+returns-clause-failures_are_counted c = refl

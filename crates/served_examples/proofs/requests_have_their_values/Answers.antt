@@ -37,3 +37,7 @@ returns-clause-heads_are_sent c = refl
 pub returns-clause-head_replies_are_written : goal.returns-clause-head_replies_are_written
 unfolding on_literals
 returns-clause-head_replies_are_written c = refl
+
+pub returns-clause-heads_are_framed : goal.returns-clause-heads_are_framed
+unfolding on_literals
+returns-clause-heads_are_framed c = refl

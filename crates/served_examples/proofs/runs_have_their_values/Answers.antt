@@ -21,3 +21,11 @@ returns-clause-bytes_are_told c = refl
 pub returns-clause-uris_are_text : goal.returns-clause-uris_are_text
 unfolding on_literals
 returns-clause-uris_are_text c = refl
+
+pub returns-clause-inputs_are_read_under_bases : goal.returns-clause-inputs_are_read_under_bases
+unfolding on_literals
+returns-clause-inputs_are_read_under_bases c = refl
+
+pub returns-clause-runs_are_told : goal.returns-clause-runs_are_told
+unfolding on_literals
+returns-clause-runs_are_told c = refl

@@ -53,3 +53,7 @@ returns-clause-segments_are_compared c = refl
 pub returns-clause-faults_are_told : goal.returns-clause-faults_are_told
 unfolding on_literals
 returns-clause-faults_are_told c = refl
+
+pub returns-clause-lines_stand : goal.returns-clause-lines_stand
+unfolding on_literals
+returns-clause-lines_stand c = refl

@@ -73,3 +73,7 @@ returns-clause-segments_are_counted c = refl
 pub returns-clause-faults_of_files_are_told : goal.returns-clause-faults_of_files_are_told
 unfolding on_literals
 returns-clause-faults_of_files_are_told c = refl
+
+pub returns-clause-lack_of_memory_has_no_place : goal.returns-clause-lack_of_memory_has_no_place
+unfolding on_literals
+returns-clause-lack_of_memory_has_no_place c = refl

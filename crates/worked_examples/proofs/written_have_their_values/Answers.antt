@@ -9,3 +9,11 @@ returns-clause-lines_are_spelled c = refl
 pub returns-clause-playlists_are_written : goal.returns-clause-playlists_are_written
 unfolding on_literals
 returns-clause-playlists_are_written c = refl
+
+pub returns-clause-written_lines_are_in_force : goal.returns-clause-written_lines_are_in_force
+unfolding on_literals
+returns-clause-written_lines_are_in_force c = refl
+
+pub returns-clause-written_texts_tell_what_is_in_force : goal.returns-clause-written_texts_tell_what_is_in_force
+unfolding on_literals
+returns-clause-written_texts_tell_what_is_in_force c = refl

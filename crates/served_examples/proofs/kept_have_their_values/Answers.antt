@@ -1,0 +1,27 @@
+use Rattle.std.proofs.Common.{refl}
+use Rattle.served_examples.proofs.OnLiterals.{on_literals}
+use Rattle.served_examples.proofs.kept_have_their_values.Goals as goal
+
+pub returns-clause-states_are_meant : goal.returns-clause-states_are_meant
+unfolding on_literals
+returns-clause-states_are_meant c = λ base. refl
+
+pub returns-clause-stores_are_replaced : goal.returns-clause-stores_are_replaced
+unfolding on_literals
+returns-clause-stores_are_replaced c = λ base. refl
+
+pub returns-clause-texts_are_kept : goal.returns-clause-texts_are_kept
+unfolding on_literals
+returns-clause-texts_are_kept c = refl
+
+pub returns-clause-refreshes_are_owed : goal.returns-clause-refreshes_are_owed
+unfolding on_literals
+returns-clause-refreshes_are_owed c = refl
+
+pub returns-clause-lack_of_memory_is_seen : goal.returns-clause-lack_of_memory_is_seen
+unfolding on_literals
+returns-clause-lack_of_memory_is_seen c = refl
+
+pub returns-clause-decisions_are_stored : goal.returns-clause-decisions_are_stored
+unfolding on_literals
+returns-clause-decisions_are_stored c = refl
