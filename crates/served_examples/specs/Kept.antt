@@ -1,5 +1,5 @@
 -- What a channel keeps, is owed and answers, by what it was given.
-use Rattle.std.specs.Prelude.{ℕ, true, false, List, [], ◌∷◌, map, codes, pos, Option, Some, None, option_map, Result, Ok, Err}
+use Rattle.std.specs.Prelude.{ℕ, true, false, List, [], ◌∷◌, map, codes, Option, Some, None, option_map, Result, Ok, Err}
 use Rattle.url.specs.Parts.{Parts}
 use Rattle.playlist_model.specs.Uri.{base_of}
 use Rattle.playlist_model.specs.declared.FaultKind.TheVariants.{NoHeader}
