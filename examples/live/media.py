@@ -89,11 +89,11 @@ def make_ads(folder, renditions=1):
         subprocess.run(words, check=True, stdin=subprocess.DEVNULL)
 
 
-def master(addresses):
-    """The master playlist of a ladder whose renditions' playlists have these addresses (RFC 8216, 4.3.4)."""
+def master(addresses, bandwidths=tuple(it[3] for it in SIZES)):
+    """The master playlist of a ladder whose renditions' playlists have these addresses, and say these bandwidths (RFC 8216, 4.3.4)."""
     lines = ["#EXTM3U", "#EXT-X-VERSION:6", "#EXT-X-INDEPENDENT-SEGMENTS"]
-    for (width, height, _, most), address in zip(SIZES, addresses):
-        lines += [f'#EXT-X-STREAM-INF:BANDWIDTH={most},RESOLUTION={width}x{height},FRAME-RATE={RATE}.000,CODECS="avc1.42c01f,mp4a.40.2"', address]
+    for (width, height, *_), bandwidth, address in zip(SIZES, bandwidths, addresses):
+        lines += [f'#EXT-X-STREAM-INF:BANDWIDTH={bandwidth},RESOLUTION={width}x{height},FRAME-RATE={RATE}.000,CODECS="avc1.42c01f,mp4a.40.2"', address]
     return "\n".join([*lines, ""])
 
 
