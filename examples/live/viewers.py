@@ -68,7 +68,8 @@ class Vlc(Pipe):
         self.is_going = True
         words = ["/usr/bin/vlc", "-I", "dummy", "--no-audio", "--no-osd", "--no-video-title-show", "--no-drop-late-frames", "--no-skip-frames",
                  "--avcodec-hw=none", "--vout=yuv", f"--yuv-file={self.room}/frames", "--yuv-chroma=GREY", url]
-        super().__init__(name, ["env", f"HOME={self.room}", *words], True, 65534 if os.getuid() == 0 else None)
+        # (VLC makes the folder of its sound, too, which it doesn't play)
+        super().__init__(name, ["env", f"HOME={self.room}", f"PULSE_RUNTIME_PATH={self.room}/pulse", *words], True, 65534 if os.getuid() == 0 else None)
 
     def read(self, size):
         """So many bytes of the file, once they are there; none at the end, and where VLC has begun the file anew."""
