@@ -12,13 +12,20 @@ ALL = 2**64 - 1
 WAYS = {"from it on": ALL, "it alone": 1}  # how many calls are refused, by the name of the way
 
 
-def build(folder):
-    """Compiles the library into a folder, and returns its path."""
+def build(folder, name="refuse"):
+    """Compiles a library of this folder into another one, and returns its path."""
     if not shutil.which("gcc"):
-        sys.exit("memory: gcc isn't there, and tests/memory/refuse.c has to be compiled")
-    made = os.path.join(folder, "refuse.so")
-    subprocess.run(["gcc", "-shared", "-fPIC", "-O2", "-Wall", "-o", made, os.path.join(HERE, "refuse.c")], check=True)
+        sys.exit(f"memory: gcc isn't there, and tests/memory/{name}.c has to be compiled")
+    made = os.path.join(folder, f"{name}.so")
+    subprocess.run(["gcc", "-shared", "-fPIC", "-O2", "-Wall", "-o", made, os.path.join(HERE, f"{name}.c")], check=True)
     return made
+
+
+def without_random(program, folder):
+    """What the program says and writes, and its status, where the system gives it no random bytes."""
+    words = [program, "vod", "http://origin.example/i.m3u8"]
+    ran = subprocess.run(words, env={"LD_PRELOAD": build(folder, "no_random")}, input=b"", capture_output=True, timeout=60)
+    return ran.stderr, ran.stdout, ran.returncode
 
 
 class Control:
