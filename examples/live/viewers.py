@@ -119,10 +119,12 @@ class Page:
         self.browser.take_picture(path)
 
     def end(self):
-        """Ends the browser, and answers what it showed; `missed` is how many frames it says that it dropped, or didn't tell of."""
+        """Ends the browser, and answers what it showed; `missed` is how many frames it says that it dropped, or didn't tell of, and
+        `seen` is what the page tells of each frame."""
         with self.browser as it:
             self.missed = it.value("missed.dropped + missed.unseen") or 0
-            frames = [(kind, number, milliseconds / 1000) for kind, number, milliseconds, _ in it.value("seen") or []]
+            self.seen = it.value("seen") or []
+            frames = [(kind, number, milliseconds / 1000) for kind, number, milliseconds, _ in self.seen]
             # (a frame that is told of twice in a row stood still for so long, which is looked at by its time)
             return frames[:1] + [b for a, b in zip(frames, frames[1:]) if b[:2] != a[:2]]
 
