@@ -31,9 +31,10 @@ class Browser:
         words = ["chromium", "--headless=new", "--no-sandbox", "--disable-gpu", "--mute-audio", "--no-first-run", "--disable-extensions",
                  "--autoplay-policy=no-user-gesture-required", f"--window-size={size[0]},{size[1]}", f"--user-data-dir={self.room}",
                  "--remote-debugging-pipe", "about:blank"]
-        # (the pipe's ends have to be 3 and 4 in the browser)
+        # (the pipe's ends have to be 3 and 4 in the browser; its sound's folder goes with its own)
         self.process = subprocess.Popen(["bash", "-c", f'exec "$@" 3<&{to_browser} 4>&{from_browser}', "bash", *words], pass_fds=(to_browser, from_browser),
-                                        stdin=subprocess.DEVNULL, stdout=subprocess.DEVNULL, stderr=subprocess.DEVNULL, start_new_session=True)
+                                        stdin=subprocess.DEVNULL, stdout=subprocess.DEVNULL, stderr=subprocess.DEVNULL, start_new_session=True,
+                                        env={**os.environ, "PULSE_RUNTIME_PATH": f"{self.room}/pulse"})
         os.close(to_browser)
         os.close(from_browser)
 

@@ -15,6 +15,7 @@ FILES = {"ad a": "a", "ad b": "b", "fallback": "f"}
 CLIP = 5  # segments of an advertisement's file
 # The renditions' pictures: width, height, the encoder's bits a second, and the most that a segment has with sound (BANDWIDTH)
 SIZES = ((320, 180, "200k", 400_000), (640, 360, "600k", 1_000_000), (960, 540, "1200k", 1_800_000), (1280, 720, "2500k", 3_500_000))
+BANDWIDTHS = tuple(most for *_, most in SIZES)
 LIST_SIZE = 30  # segments that the packager's playlist has: a minute, which is longer than any viewer is behind
 
 
@@ -89,11 +90,11 @@ def make_ads(folder, renditions=1):
         subprocess.run(words, check=True, stdin=subprocess.DEVNULL)
 
 
-def master(addresses):
-    """The master playlist of a ladder whose renditions' playlists have these addresses (RFC 8216, 4.3.4)."""
+def master(addresses, bandwidths=BANDWIDTHS):
+    """The master playlist of a ladder whose renditions' playlists have these addresses, and say these bandwidths (RFC 8216, 4.3.4)."""
     lines = ["#EXTM3U", "#EXT-X-VERSION:6", "#EXT-X-INDEPENDENT-SEGMENTS"]
-    for (width, height, _, most), address in zip(SIZES, addresses):
-        lines += [f'#EXT-X-STREAM-INF:BANDWIDTH={most},RESOLUTION={width}x{height},FRAME-RATE={RATE}.000,CODECS="avc1.42c01f,mp4a.40.2"', address]
+    for (width, height, *_), bandwidth, address in zip(SIZES, bandwidths, addresses):
+        lines += [f'#EXT-X-STREAM-INF:BANDWIDTH={bandwidth},RESOLUTION={width}x{height},FRAME-RATE={RATE}.000,CODECS="avc1.42c01f,mp4a.40.2"', address]
     return "\n".join([*lines, ""])
 
 

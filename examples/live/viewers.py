@@ -68,7 +68,8 @@ class Vlc(Pipe):
         self.is_going = True
         words = ["/usr/bin/vlc", "-I", "dummy", "--no-audio", "--no-osd", "--no-video-title-show", "--no-drop-late-frames", "--no-skip-frames",
                  "--avcodec-hw=none", "--vout=yuv", f"--yuv-file={self.room}/frames", "--yuv-chroma=GREY", url]
-        super().__init__(name, ["env", f"HOME={self.room}", *words], True, 65534 if os.getuid() == 0 else None)
+        # (VLC makes the folder of its sound, too, which it doesn't play)
+        super().__init__(name, ["env", f"HOME={self.room}", f"PULSE_RUNTIME_PATH={self.room}/pulse", *words], True, 65534 if os.getuid() == 0 else None)
 
     def read(self, size):
         """So many bytes of the file, once they are there; none at the end, and where VLC has begun the file anew."""
@@ -118,10 +119,12 @@ class Page:
         self.browser.take_picture(path)
 
     def end(self):
-        """Ends the browser, and answers what it showed; `missed` is how many frames it says that it dropped, or didn't tell of."""
+        """Ends the browser, and answers what it showed; `missed` is how many frames it says that it dropped, or didn't tell of, and
+        `seen` is what the page tells of each frame."""
         with self.browser as it:
             self.missed = it.value("missed.dropped + missed.unseen") or 0
-            frames = [(kind, number, milliseconds / 1000) for kind, number, milliseconds, _ in it.value("seen") or []]
+            self.seen = it.value("seen") or []
+            frames = [(kind, number, milliseconds / 1000) for kind, number, milliseconds, _ in self.seen]
             # (a frame that is told of twice in a row stood still for so long, which is looked at by its time)
             return frames[:1] + [b for a, b in zip(frames, frames[1:]) if b[:2] != a[:2]]
 

@@ -3,7 +3,8 @@
 bounded. tests/run_live runs these one after the other.
 
   tests/live/crowds.py PORT PATH     the good client: it reads PATH again and again until its standard input ends, and prints
-                                     as JSON how often, how many other replies than the first it got, and the longest time
+                                     as JSON how often, how many other replies than the first it got, how many requests
+                                     were sent late and given up, and the longest time
 """
 import json
 import os
@@ -16,33 +17,41 @@ import threading
 import time
 
 MAX_SECONDS = 1.0  # that a good client waits, on a busy machine
+# Seconds until a request was sent. A client that the machine holds up for longer is silent meanwhile: where no place is left, the
+# server gives it up for those that came after it, without a reply.
+LATE = 0.001
 WHY = b"/channels/a/why"
 EVERYBODY = "4294967295"
 
 
 def reply_to_get(port, path):
+    """What is answered, and the seconds until the request was sent."""
+    begun = time.monotonic()
     with socket.create_connection(("127.0.0.1", port), 60) as it:
         it.sendall(b"GET %s HTTP/1.1\r\n\r\n" % path)
-        found = b""
+        sent, found = time.monotonic() - begun, b""
         while some := it.recv(1 << 16):
             found += some
-        return found
+        return found, sent
 
 
 def be_good(port, path):
     ended = threading.Event()
     threading.Thread(target=lambda: (sys.stdin.read(), ended.set()), daemon=True).start()
-    first, count, others, longest = None, 0, 0, 0.0
+    first, count, others, late, longest = None, 0, 0, 0, 0.0
     while not ended.is_set():
         begun = time.monotonic()
         try:
-            found = reply_to_get(port, path)
+            found, sent = reply_to_get(port, path)
         except OSError:
-            found = b"(no reply)"
+            found, sent = b"(no reply)", 0.0
         longest = max(longest, time.monotonic() - begun)
+        if not found and sent > LATE:
+            late += 1
+            continue
         first = found if first is None else first
         count, others = count + 1, others + (found != first or not found.startswith(b"HTTP/1.1 200 OK\r\n"))
-    print(json.dumps({"count": count, "others": others, "longest": longest}))
+    print(json.dumps({"count": count, "others": others, "late": late, "longest": longest}))
 
 
 class Beside:
@@ -60,11 +69,12 @@ class Beside:
     def __exit__(self, *_):
         time.sleep(max(0.0, 0.7 - (time.monotonic() - self.begun)))
         said = json.loads(self.running.communicate(timeout=60)[0])
-        self.count, self.others, self.longest = said["count"], said["others"], said["longest"]
+        self.count, self.others, self.late, self.longest = said["count"], said["others"], said["late"], said["longest"]
 
     def differences(self, crowd):
         """What is wrong with what it got. Prints how long it waited."""
-        print(f"beside {crowd}: {self.count} good requests, the longest {self.longest:.3f} s")
+        held_up = f"; {self.late} that the machine held up for over {LATE} s before they were sent were given up" if self.late else ""
+        print(f"beside {crowd}: {self.count} good requests, the longest {self.longest:.3f} s{held_up}")
         found = [f"{self.others} of {self.count} good requests had another reply"] if self.others or not self.count else []
         return found + ([f"a good client waited {self.longest:.3f} s"] if self.longest > MAX_SECONDS else [])
 
