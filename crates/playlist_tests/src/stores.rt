@@ -75,12 +75,13 @@ fn a_copy_of_the_fallback_is_kept(rt: HostRuntime) {
     assert!(rt; matches!(is_lent_and_kept(rt.alloc(), hashing), Ok(true)));
 }
 
-fn is_own_adopted(alloc: Global) -> Result<bool, DecisionFault> {
+fn is_own_adopted(alloc: Global, hashing: RandomState) -> Result<bool, DecisionFault> {
     let mut store = store_of(alloc, hashing, POD)?;
     Ok(store.adopt("b1")? && store.is_used("b1") && !store.adopt("b2")?)
 }
 
 #[test]
 fn a_pod_of_its_own_is_adopted(rt: HostRuntime) {
-    assert!(rt; matches!(is_own_adopted(rt.alloc()), Ok(true)));
+    let hashing = RandomState::new(&rt).expect(&rt, "random bytes");
+    assert!(rt; matches!(is_own_adopted(rt.alloc(), hashing), Ok(true)));
 }
