@@ -17,15 +17,15 @@ class Part:
     """Segments that play one after the other under one key and one initialisation section: an ad of a decision file."""
 
     key: dict[str, str] | None
-    map: dict[str, Any] | None
+    init_section: dict[str, Any] | None
     segments: list[dict[str, Any]] = field(default_factory=list)
     begins_by: str = ""  # what it was cut off from the part before it by: `discontinuity`, `key` or `map`
 
     def member(self) -> dict[str, Any]:
         """The ad as a decision file has it."""
         found: dict[str, Any] = {}
-        if self.map is not None:
-            found["map"] = self.map
+        if self.init_section is not None:
+            found["map"] = self.init_section
         if self.key is not None:
             found["key"] = self.key
         return found | {"segments": self.segments}
@@ -45,8 +45,8 @@ class AdReader:
         self.name = name
         self.parts: list[Part] = []
         self.keys: dict[str, dict[str, str]] = {}
-        self.map: dict[str, Any] | None = None
-        self.map_keys: dict[str, dict[str, str]] = {}
+        self.init_section: dict[str, Any] | None = None
+        self.init_section_keys: dict[str, dict[str, str]] = {}
         self.duration, self.range, self.is_cut = "", "", False
         self.dropped: set[str] = set()
 
@@ -58,8 +58,8 @@ class AdReader:
                 self.key(playlist.attributes_of(rest))
             elif name == "#EXT-X-MAP":
                 said = playlist.attributes_of(rest)
-                self.map = {"uri": said["URI"]} | range_member(said.get("BYTERANGE", ""))
-                self.map_keys = dict(self.keys)
+                self.init_section = {"uri": said["URI"]} | range_member(said.get("BYTERANGE", ""))
+                self.init_section_keys = dict(self.keys)
             elif name == "#EXTINF":
                 self.duration = rest.partition(",")[0]
             elif name == "#EXT-X-BYTERANGE":
@@ -88,12 +88,12 @@ class AdReader:
         key = next(iter(self.keys.values()), None)
         if key is not None and not key["iv"]:
             raise Fault(f"{self.name}: segment {number}: its key of the format {key.get('format')} states no IV, which a decision file needs")
-        if self.map is not None and self.map_keys != self.keys:
+        if self.init_section is not None and self.init_section_keys != self.keys:
             raise Fault(f"{self.name}: segment {number} and its initialisation section are under different keys; a decision file has one for both")
         last = self.parts[-1] if self.parts else None
-        by = "discontinuity" if self.is_cut else "key" if last and last.key != key else "map" if last and last.map != self.map else ""
+        by = "discontinuity" if self.is_cut else "key" if last and last.key != key else "map" if last and last.init_section != self.init_section else ""
         if last is None or by:
-            self.parts.append(Part(key, self.map, begins_by=by if last else ""))
+            self.parts.append(Part(key, self.init_section, begins_by=by if last else ""))
         self.parts[-1].segments.append({"uri": uri, "duration": self.duration} | range_member(self.range))
         self.range, self.is_cut = "", False
 

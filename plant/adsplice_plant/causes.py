@@ -150,7 +150,7 @@ class Explainer:
         """Which segment is too long, or which ad has a map where the programme has none."""
         pod, step = self.pod(name), self.history.lists()[-1]
         assert pod is not None and step.listed is not None
-        target, has_map = step.listed.target or 0, step.listed.segments[-1].has_map
+        target, has_init_section = step.listed.target or 0, step.listed.segments[-1].has_init_section
         for number, ad in enumerate(pod.ads):
             for place, it in enumerate(ad["segments"]):
                 whole = ((playlist.read_duration(it["duration"]) or 0) + playlist.SECOND // 2) // playlist.SECOND
@@ -158,8 +158,8 @@ class Explainer:
                     return (f"ad {number}, segment {place} of its pod lasts {it['duration']} s, which is {whole} s rounded, "
                             f"over the target duration of {target} s")
         for number, ad in enumerate(pod.ads):
-            if ("map" in ad) != has_map:
-                return f"ad {number} of its pod has {'an' if 'map' in ad else 'no'} initialisation section (map), and the programme has {'one' if has_map else 'none'}"
+            if ("map" in ad) != has_init_section:
+                return f"ad {number} of its pod has {'an' if 'map' in ad else 'no'} initialisation section (map), and the programme has {'one' if has_init_section else 'none'}"
         return "its pod doesn't fit"
 
     # ---- instants

@@ -83,7 +83,7 @@ class History:
                 begins = it.begins
                 if begins is None and before is not None and before[0].begins is not None:
                     begins = before[0].begins + before[0].duration
-                self.shown[it.number] = Segment(it.number, it.uri, it.duration, begins, it.is_stated, it.has_map, it.line), len(self.steps)
+                self.shown[it.number] = Segment(it.number, it.uri, it.duration, begins, it.is_stated, it.has_init_section, it.line), len(self.steps)
 
     def lists(self) -> list[Step]:
         """The steps of the lists that were taken."""

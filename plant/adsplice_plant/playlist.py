@@ -19,7 +19,7 @@ class Segment:
     duration: int
     begins: int | None
     is_stated: bool
-    has_map: bool
+    has_init_section: bool
     line: int
 
 
@@ -135,7 +135,7 @@ class Reader:
         self.duration: int | None = None
         self.stated: int | None = None
         self.next: int | None = None
-        self.has_map = False
+        self.has_init_section = False
 
     def line(self, found: Listed, line: str, place: int) -> None:
         """Takes in the line `line`, the list's line number `place`, to what was `found` so far."""
@@ -145,7 +145,7 @@ class Reader:
         elif name == "#EXT-X-PROGRAM-DATE-TIME":
             self.stated = read_instant(rest)
         elif name == "#EXT-X-MAP":
-            self.has_map = True
+            self.has_init_section = True
         elif name == "#EXT-X-TARGETDURATION":
             found.target = int(rest) if rest.isascii() and rest.isdigit() else None
         elif name == "#EXT-X-MEDIA-SEQUENCE":
@@ -163,7 +163,7 @@ class Reader:
         """Adds the segment of the URI line `uri` at line `place` to what was `found`."""
         begins = self.stated if self.stated is not None else self.next
         duration = self.duration or 0
-        found.segments.append(Segment(found.first + len(found.segments), uri, duration, begins, self.stated is not None, self.has_map, place))
+        found.segments.append(Segment(found.first + len(found.segments), uri, duration, begins, self.stated is not None, self.has_init_section, place))
         self.next = None if begins is None else begins + duration
         self.duration = self.stated = None
 
@@ -174,4 +174,4 @@ def fill_back(segments: list[Segment]) -> None:
     for n in range(first - 1, -1, -1):
         after, it = segments[n + 1], segments[n]
         begins = None if after.begins is None else after.begins - it.duration
-        segments[n] = Segment(it.number, it.uri, it.duration, begins, False, it.has_map, it.line)
+        segments[n] = Segment(it.number, it.uri, it.duration, begins, False, it.has_init_section, it.line)

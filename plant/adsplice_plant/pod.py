@@ -83,10 +83,10 @@ def warnings_of(ads: list[Advertisement], target: int | None, length: float | No
             if target is not None and whole > target:
                 found.append(f"{ad.name}: segment {number} lasts {it['duration']} s, which is {whole} s rounded, over the target of {target} s: "
                              "its break stays empty (DoesNotFit)")
-    mapped = {ad.name for ad in ads if any(part.map is not None for part in ad.parts)}
-    if mapped and len(mapped) < len({ad.name for ad in ads}):
-        bare = next(ad.name for ad in ads if ad.name not in mapped)
-        found.append(f"{min(mapped)} has an initialisation section (EXT-X-MAP) and {bare} has none: such a pod fits no channel (DoesNotFit)")
+    with_init_section = {ad.name for ad in ads if any(part.init_section is not None for part in ad.parts)}
+    if with_init_section and len(with_init_section) < len({ad.name for ad in ads}):
+        bare = next(ad.name for ad in ads if ad.name not in with_init_section)
+        found.append(f"{min(with_init_section)} has an initialisation section (EXT-X-MAP) and {bare} has none: such a pod fits no channel (DoesNotFit)")
     if length is not None:
         by = sum(it.duration() for it in ads) - round(length * playlist.SECOND)
         if abs(by) > NEAR:

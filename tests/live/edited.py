@@ -25,7 +25,7 @@ class Origin:
     """An origin's list: what stands before and at each segment, by its number, is settled once."""
 
     draw: random.Random
-    mapped: bool
+    has_init_sections: bool
     first: int = 0
     end: int = 5
     lines: dict[int, list[str]] = field(default_factory=dict)
@@ -38,7 +38,7 @@ class Origin:
             return "#EXT-X-KEY:METHOD=NONE"
         iv = self.draw.choice(("", f",IV=0x{self.draw.randrange(1 << 64):X}"))
         kind = self.draw.choice(("", ',KEYFORMAT="identity"', ',KEYFORMAT="com.apple"'))
-        if self.mapped and method == "AES-128" and not iv:
+        if self.has_init_sections and method == "AES-128" and not iv:
             iv = ",IV=0x1"
         return f'#EXT-X-KEY:METHOD={method},URI="k{self.draw.randrange(3)}"{iv}{kind}'
 
@@ -50,7 +50,7 @@ class Origin:
                 made.append("#EXT-X-DISCONTINUITY")
             if draw.random() < 0.15:
                 made.append(self.key_tag())
-            if self.mapped and draw.random() < 0.15:
+            if self.has_init_sections and draw.random() < 0.15:
                 made.append(f'#EXT-X-MAP:URI="init{draw.randrange(3)}.mp4"')
             if draw.random() < 0.5:
                 made.append(f"#EXT-X-PROGRAM-DATE-TIME:{instant(number)}")
@@ -74,7 +74,7 @@ class Origin:
         return sum(self.segment(number).count("#EXT-X-DISCONTINUITY") for number in range(self.first))
 
     def state_before(self) -> list[str]:
-        """The key and map tags that are in force before the first segment: a packager states them again."""
+        """The tags of keys and of an initialisation section that are in force before the first segment: a packager states them again."""
         found: dict[str, str] = {}
         for number in range(self.first):
             for line in self.segment(number):
@@ -86,7 +86,7 @@ class Origin:
                 if line.startswith("#EXT-X-MAP"):
                     found["map"] = line
         tags = [tag for name, tag in found.items() if name != "map"]
-        if self.mapped:
+        if self.has_init_sections:
             tags = ['#EXT-X-MAP:URI="init0.mp4"'] + tags if "map" not in found else [found["map"], *tags]
         return tags
 
@@ -154,7 +154,7 @@ def decision(draw: random.Random, place: int) -> str:
 def lists_of(seed: int, number: int, refreshes: int = 12) -> list[str]:
     """The events of a list: decisions, and refreshes with `refresh` for their word."""
     draw = random.Random(f"{seed}/{number}")
-    origin = Origin(draw, mapped=draw.random() < 0.4)
+    origin = Origin(draw, has_init_sections=draw.random() < 0.4)
     events, decided = [], 0
     for _ in range(refreshes):
         place = origin.end // 6

@@ -72,9 +72,9 @@ def file_for(rng: Random, origin: Origin) -> dict[str, Any]:
     """A decision file for the breaks of an origin, or a fallback."""
     if is_lucky(rng, 0.25):
         length = rng.choice([length for _, length in origin.breaks] or [10**10])
-        return {"fallback": {"ads": pod_ads(rng, origin.mapped, origin.target, length)}}
+        return {"fallback": {"ads": pod_ads(rng, origin.has_init_sections, origin.target, length)}}
     breaks = origin.breaks + ([("q", 10**10)] if is_lucky(rng, 0.2) else [])
-    made = [{"id": name, "ads": pod_ads(rng, origin.mapped, origin.target, length)} for name, length in breaks if not is_lucky(rng, 0.1)]
+    made = [{"id": name, "ads": pod_ads(rng, origin.has_init_sections, origin.target, length)} for name, length in breaks if not is_lucky(rng, 0.1)]
     return {"breaks": made} | ({"unknown": [1, {"x": None}]} if is_lucky(rng, 0.1) else {})
 
 

@@ -127,7 +127,7 @@ def decisions_body(packager: Packager) -> bytes:
         return withdrawal(rng.choice(origin.breaks)[0])
     if origin.breaks and is_lucky(rng, 0.5):
         name, length = origin.breaks[-1]
-        return json_text(rng, {"breaks": [{"id": name, "ads": pod_ads(rng, origin.mapped, origin.target, length)}]})
+        return json_text(rng, {"breaks": [{"id": name, "ads": pod_ads(rng, origin.has_init_sections, origin.target, length)}]})
     if is_lucky(rng, 0.02):
         file: dict[str, object] = {}
         of_many_breaks(rng, file)

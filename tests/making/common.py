@@ -85,7 +85,7 @@ def pod_segment(rng: Random, name: str, nanos: int) -> dict[str, object]:
     return made
 
 
-def pod_ads(rng: Random, mapped: bool, target: int, length: int) -> list[dict[str, object]]:
+def pod_ads(rng: Random, with_init_sections: bool, target: int, length: int) -> list[dict[str, object]]:
     """Ads that last about so long: as long as that, a nanosecond off, shorter or longer; each segment within the target, but at
     times."""
     total = max(0, length + rng.choice((0, 0, 0, 1, -1, -SECOND, SECOND, -length // 2, length // 2)))
@@ -105,7 +105,7 @@ def pod_ads(rng: Random, mapped: bool, target: int, length: int) -> list[dict[st
     while sizes:
         count = rng.choice((1, 2, len(sizes)))
         ad: dict[str, object] = {}
-        if mapped != is_lucky(rng, 0.04):
+        if with_init_sections != is_lucky(rng, 0.04):
             ad["map"] = {"uri": "http://ads.example/i.mp4"}
             if is_lucky(rng, 0.2):
                 ad["map"] = {"uri": "http://ads.example/i.mp4", "offset": 0, "length": 9}
@@ -140,7 +140,7 @@ class Piece:
     part: str = ""
     steps: int = 0
     keys: list[str] = field(default_factory=list)
-    section: str = ""
+    init_section: str = ""
 
 
 class Origin:
@@ -153,7 +153,7 @@ class Origin:
         self.version: int | None = rng.choice((None, 1, 3, 6, 7, 7))
         self.kind = rng.choice((None, None, None, "EVENT", "VOD"))
         self.independent = is_lucky(rng, 0.2)
-        self.mapped = self.is_rich and is_lucky(rng, 0.35)
+        self.has_init_sections = self.is_rich and is_lucky(rng, 0.35)
         self.first = rng.choice((7, 2**32)) if is_lucky(rng, 0.3) else rng.choice((0,) * 20 + (2**64 - 9, 2**64 - 30))
         self.discontinuity = rng.choice((5, 2**64 - 9, 2**64 - 3, 2**64 - 2)) if is_lucky(rng, 0.15) else 0
         self.times = rng.choice(("first", "first", "all", "some", "late", "none") if is_lucky(rng, 0.4) else ("first",))
@@ -180,7 +180,7 @@ class Origin:
             again = ['#EXT-X-KEY:METHOD=X,URI="k",IV=0x1,KEYFORMAT="f"', '#EXT-X-KEY:METHOD=X,URI="k",KEYFORMAT="g"']
             return ["#EXT-X-KEY:METHOD=NONE", *rng.sample(again, rng.choice((0, 1, 1, 2)))]
         name = rng.choice(FORMATS[:4])
-        iv = f",IV=0x{rng.getrandbits(16):X}" if self.mapped or is_lucky(rng, 0.4) else ""
+        iv = f",IV=0x{rng.getrandbits(16):X}" if self.has_init_sections or is_lucky(rng, 0.4) else ""
         return [f'#EXT-X-KEY:METHOD={rng.choice(("AES-128", "SAMPLE-AES"))},URI="k{rng.randrange(4)}"{iv}'
                 + (f',KEYFORMAT="{name}"' if name != "identity" else "")]
 
@@ -199,8 +199,8 @@ class Origin:
                 made.part = rng.choice(("", "", f"{rng.randrange(1, 99)}@{rng.randrange(99)}"))
                 made.steps = rng.choice((0, 0, 0, 0, 1, 2))
                 made.keys = self.key_lines()
-            if self.mapped and (place == 0 or is_lucky(rng, 0.15)):
-                made.section = f'#EXT-X-MAP:URI="i{rng.randrange(3)}.mp4"' + rng.choice(("", ',BYTERANGE="9@4"'))
+            if self.has_init_sections and (place == 0 or is_lucky(rng, 0.15)):
+                made.init_section = f'#EXT-X-MAP:URI="i{rng.randrange(3)}.mp4"' + rng.choice(("", ',BYTERANGE="9@4"'))
             self.pieces.append(made)
 
     def ticks(self, length: int) -> int | None:
@@ -250,7 +250,7 @@ class Origin:
         """The keys and the section in force where a window begins, with the keys that this section was read under."""
         lines: list[str] = []
         for piece in self.pieces[:first]:
-            lines += piece.keys + ([piece.section] if piece.section else [])
+            lines += piece.keys + ([piece.init_section] if piece.init_section else [])
         return lines
 
     def segment(self, place: int) -> list[str]:
@@ -258,7 +258,7 @@ class Origin:
         piece = self.pieces[place]
         time = [f"#EXT-X-PROGRAM-DATE-TIME:{instant_text(piece.start)}"] if piece.states_time else []
         part = [f"#EXT-X-BYTERANGE:{piece.part}"] if piece.part else []
-        return ["#EXT-X-DISCONTINUITY"] * piece.steps + piece.keys + ([piece.section] if piece.section else []) + time + [
+        return ["#EXT-X-DISCONTINUITY"] * piece.steps + piece.keys + ([piece.init_section] if piece.init_section else []) + time + [
             f"#EXTINF:{duration_text(piece.nanos)},{piece.title}", *part, piece.uri]
 
     def window(self, first: int, last: int, ended: bool) -> list[str]:

@@ -129,11 +129,11 @@ def is_inside(one: Break | None, pod: Pod, instant: int | None, tolerance: int) 
 
 @dataclass(frozen=True)
 class Moment:
-    """What decides at a refresh: the known breaks, the store, the target duration, whether segments are mapped."""
+    """What decides at a refresh: the known breaks, the store, the target duration, whether segments have initialisation sections."""
 
     tolerance: int
     target: int
-    mapped: bool
+    with_init_sections: bool
     breaks: list[Break]
     store: Store
 
@@ -153,7 +153,7 @@ def obstacle(moment: Moment, one: Break, last: str | None, instant: int | None) 
         return "not signalled"
     if pod is None:
         return "not decided"
-    if not pod.fits(moment.target, moment.mapped):
+    if not pod.fits(moment.target, moment.with_init_sections):
         return "does not fit"
     end = end_of(one, pod.total())
     if isinstance(end, int) and instant + moment.tolerance >= end:
@@ -200,4 +200,4 @@ def why(moment: Moment, name: str, in_use: list[str]) -> str:
     pod = pod_for(moment.store, name)
     if pod is None:
         return "NotDecided"
-    return "Waiting" if pod.fits(moment.target, moment.mapped) else "DoesNotFit"
+    return "Waiting" if pod.fits(moment.target, moment.with_init_sections) else "DoesNotFit"

@@ -71,7 +71,7 @@ def refreshed(channel: Channel, given: bytes) -> Channel:
         raise fault
     newest = channel.history[-1].mark if channel.history else None
     accepted = [*channel.accepted, Accepted(playlist, newest.id if newest else None)]
-    moment = Moment(channel.tolerance, playlist.target, playlist.is_mapped(), known(accepted), channel.store)
+    moment = Moment(channel.tolerance, playlist.target, playlist.has_init_sections(), known(accepted), channel.store)
     history = shown_after(moment, channel.history, playlist)
     fresh = len(history) - len(channel.history)
     after = replace(channel, accepted=accepted, history=history, shown_by=channel.shown_by + [len(channel.accepted)] * fresh,

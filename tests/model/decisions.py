@@ -9,7 +9,7 @@ from typing import Any
 from .attributes import decimal_of, hexadecimal_of, is_name
 from .lines import has_control
 from .times import duration_of, rounded_seconds
-from .values import PAST, Fault, Key, Keys, Range, Section
+from .values import PAST, Fault, InitSection, Key, Keys, Range
 
 MOST_DECIDED = 256
 MOST_POD_SEGMENTS = 500
@@ -84,7 +84,7 @@ class PodSegment:
 class Ad:
     """An advertisement: its segments have one initialisation section and one set of keys."""
 
-    section: Section | None
+    init_section: InitSection | None
     keys: Keys
     segments: tuple[PodSegment, ...]
 
@@ -99,10 +99,10 @@ class Pod:
         """How many nanoseconds it lasts."""
         return sum(one.nanos for ad in self.ads for one in ad.segments)
 
-    def fits(self, target: int, mapped: bool) -> bool:
+    def fits(self, target: int, with_init_sections: bool) -> bool:
         """Each ad has an initialisation section exactly where the programme has one, and no segment, rounded to seconds, is
         longer than the target duration (RFC 8216, 4.3.3.1)."""
-        return all((ad.section is not None) == mapped and all(rounded_seconds(one.nanos) <= target for one in ad.segments)
+        return all((ad.init_section is not None) == with_init_sections and all(rounded_seconds(one.nanos) <= target for one in ad.segments)
                    for ad in self.ads)
 
 
@@ -192,7 +192,7 @@ def pod_said(ads: list[Any], place: Place) -> Pod:
         part = part_said(value["map"], here) if member(value, "map") is not ... else None
         keys = key_said(member(value, "key"), here)
         segments = segments_said(value, sum(len(ad.segments) for ad in found), here)
-        found.append(Ad(Section(part[0], part[1], keys) if part else None, keys, segments))
+        found.append(Ad(InitSection(part[0], part[1], keys) if part else None, keys, segments))
     return Pod(tuple(found))
 
 

@@ -5,7 +5,7 @@ from dataclasses import replace
 
 from .attributes import Attribute, attributes_of, byte_range_of, hexadecimal_of, named, required, value_as
 from .uris import Url, resolved
-from .values import Key, Keys, Range, Section, or_fault
+from .values import InitSection, Key, Keys, Range, or_fault
 
 OWN = ("METHOD", "URI", "IV", "KEYFORMAT")
 MOST_FORMATS = 16  # a limit of the reader (CONFORMANCE, 4.3.2.4)
@@ -77,7 +77,7 @@ def transition(old: Keys, new: Keys) -> list[str]:
     return [f"#EXT-X-KEY:{text}" for text in tags + [key_text(key) for key in new if ends or key not in old]]
 
 
-def section_text(section: Section) -> str:
+def init_section_text(init_section: InitSection) -> str:
     """4.3.2.5: the EXT-X-MAP of an initialisation section."""
-    part = f',BYTERANGE="{section.range[0]}@{section.range[1]}"' if section.range else ""
-    return f'#EXT-X-MAP:URI="{section.uri}"{part}'
+    part = f',BYTERANGE="{init_section.range[0]}@{init_section.range[1]}"' if init_section.range else ""
+    return f'#EXT-X-MAP:URI="{init_section.uri}"{part}'

@@ -9,7 +9,7 @@ from .keys import MOST_FORMATS, effective_keys, key_of, keys_after, lacks_iv, ma
 from .lines import has_control, kind_of, lines_of, name_of, rest_of
 from .times import duration_of, instant_of
 from .uris import Url, resolved
-from .values import PAST, DateRange, Fault, Playlist, Range, Section, Segment, or_fault
+from .values import PAST, DateRange, Fault, InitSection, Playlist, Range, Segment, or_fault
 
 MOST_BYTES = 4_194_304  # limits of the reader (CONFORMANCE, 7)
 MOST_SEGMENTS = 10_000
@@ -129,13 +129,13 @@ def key_said(said: Said, base: Url, rest: str) -> Any:
     return key
 
 
-def map_said(said: Said, base: Url, rest: str) -> Section:
+def init_section_said(said: Said, base: Url, rest: str) -> InitSection:
     """4.3.2.5: the initialisation section, with the keys in force at its own line; P23 where one of them lacks its IV."""
     uri, part = map_of(base, rest)
     keys = keys_after(all_said(said, "EXT-X-KEY"))
     if lacks_iv(keys):
         raise Fault("P23")
-    return Section(uri, part, keys)
+    return InitSection(uri, part, keys)
 
 
 def placed(said: Said, name: str) -> None:
@@ -171,7 +171,7 @@ def said_by_tag(said: Said, base: Url, name: str, rest: str) -> Any:
     if name == "EXT-X-KEY":
         return key_said(said, base, rest)
     if name == "EXT-X-MAP":
-        return map_said(said, base, rest)
+        return init_section_said(said, base, rest)
     return ALONE[name](rest)
 
 
@@ -227,7 +227,7 @@ def whole_fault(said: Said) -> str | None:
         return "P18"
     if not said.get("URI"):
         return "P21"
-    return "P22" if len({segment.section is None for segment in all_said(said, "URI")}) == 2 else None
+    return "P22" if len({segment.init_section is None for segment in all_said(said, "URI")}) == 2 else None
 
 
 def first_line_is_right(lines: list[str]) -> bool:

@@ -32,8 +32,8 @@ def runs_of(history: list[Shown]) -> list[list[Shown]]:
 
 def ad_segment(ad: Ad, one: PodSegment) -> Segment:
     """A pod's segment: it has its ad's initialisation section and keys, no title and no time, and no number of the origin."""
-    section = replace(ad.section, keys=ad.keys) if ad.section else None
-    return Segment(0, 0, 0, one.uri, one.range, ad.keys, section, one.nanos, "", None)
+    init_section = replace(ad.init_section, keys=ad.keys) if ad.init_section else None
+    return Segment(0, 0, 0, one.uri, one.range, ad.keys, init_section, one.nanos, "", None)
 
 
 def pod_pieces(mark: Mark) -> list[Piece]:

@@ -9,7 +9,7 @@ MOST_STEPS = 1000  # between two windows that touch (CONFORMANCE, 6.2.1)
 def kept_parts(one: Segment) -> tuple[object, ...]:
     """6.2.2: what a segment keeps while it is listed: all but its title, its stated time, and where its discontinuities are
     counted."""
-    return one.number, one.discontinuity, one.uri, one.range, one.keys, one.section, one.nanos
+    return one.number, one.discontinuity, one.uri, one.range, one.keys, one.init_section, one.nanos
 
 
 def same_segment(one: Segment, other: Segment) -> bool:
@@ -45,7 +45,7 @@ def succession_fault(old: Playlist, new: Playlist) -> Fault | None:
         ("N1", new.version != old.version),
         ("N2", new.target != old.target),
         ("N3", new.kind != old.kind),
-        ("N4", new.is_mapped() != old.is_mapped()),
+        ("N4", new.has_init_sections() != old.has_init_sections()),
         ("N5", new.segments[0].number < old.segments[0].number),
         ("N6", new.segments[0].number > old.segments[-1].number + 1),
         ("N7", new.segments[-1].number < old.segments[-1].number),

@@ -1,10 +1,10 @@
 """The written text of a playlist (RFC 8216, 4.3)."""
 from __future__ import annotations
 
-from .keys import section_text, transition
+from .keys import init_section_text, transition
 from .numbers import Item
 from .times import duration_text, instant_text
-from .values import DateRange, Keys, Playlist, Section, Segment
+from .values import DateRange, InitSection, Keys, Playlist, Segment
 
 LEAST_VERSION = 6  # what the written tags need (7)
 
@@ -15,18 +15,18 @@ def media_lines(segment: Segment) -> list[str]:
     return [f"#EXTINF:{duration_text(segment.nanos)},{segment.title}", *part, segment.uri]
 
 
-def changed_section(current: Section | None, segment: Segment) -> Section | None:
+def changed_init_section(current: InitSection | None, segment: Segment) -> InitSection | None:
     """4.3.2.5: the initialisation section of a segment, where it is another than the one in force."""
-    return segment.section if segment.section != current else None
+    return segment.init_section if segment.init_section != current else None
 
 
-def segment_lines(keys: Keys, section: Section | None, item: Item) -> list[str]:
-    """4.3.2: the lines of a segment where these keys and this section are in force: its discontinuities, a changed section under
+def segment_lines(keys: Keys, init_section: InitSection | None, item: Item) -> list[str]:
+    """4.3.2: the lines of a segment where these keys and this initialisation section are in force: its discontinuities, a changed one under
     its own keys, changed keys, its time, and what it is."""
     segment, lines = item.piece.segment, ["#EXT-X-DISCONTINUITY"] * item.steps
-    changed = changed_section(section, segment)
+    changed = changed_init_section(init_section, segment)
     if changed is not None:
-        lines += [*transition(keys, changed.keys), section_text(changed)]
+        lines += [*transition(keys, changed.keys), init_section_text(changed)]
         keys = changed.keys
     lines += transition(keys, segment.keys)
     if item.piece.instant is not None:
@@ -60,8 +60,8 @@ def text_of(playlist: Playlist, window: list[Item], in_use: list[str]) -> str:
     lines = header_lines(playlist, window)
     lines += [f"#EXT-X-DATERANGE:{one.text}" for one in date_ranges_left(playlist, window, in_use)]
     keys: Keys = ()
-    section: Section | None = None
+    init_section: InitSection | None = None
     for item in window:
-        lines += segment_lines(keys, section, item)
-        keys, section = item.piece.segment.keys, item.piece.segment.section or section
+        lines += segment_lines(keys, init_section, item)
+        keys, init_section = item.piece.segment.keys, item.piece.segment.init_section or init_section
     return "".join(f"{line}\n" for line in [*lines, *(["#EXT-X-ENDLIST"] if playlist.ended else [])])

@@ -65,7 +65,7 @@ Keys = tuple[Key, ...]  # one for each format, in the order of the formats' byte
 
 
 @dataclass(frozen=True)
-class Section:
+class InitSection:
     """An initialisation section (RFC 8216, 4.3.2.5), with the keys under which it is read."""
 
     uri: str
@@ -83,7 +83,7 @@ class Segment:
     uri: str
     range: Range | None
     keys: Keys
-    section: Section | None
+    init_section: InitSection | None
     nanos: int
     title: str
     time: int | None
@@ -115,6 +115,6 @@ class Playlist:
     ranges: tuple[DateRange, ...]
     segments: tuple[Segment, ...]
 
-    def is_mapped(self) -> bool:
+    def has_init_sections(self) -> bool:
         """Whether its segments have initialisation sections: all have, or none (docs/CONFORMANCE.md, 4.3.2.5)."""
-        return self.segments[0].section is not None
+        return self.segments[0].init_section is not None

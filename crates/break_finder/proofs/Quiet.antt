@@ -16,7 +16,7 @@ pub none_taken : (tolerance : ℕ) (found : List Entrance) (span : TimeSpan) (in
 none_taken tolerance found span instant last tells inside closed = tells instant last inside ∙ none_but span.first span.second last closed
 
 pub none_entered : (m : EntryLimits) (tolerance : ℕ) (found : List Entrance) (store : Store) (breaks : List Break) (instant : ℤ)
-    → ((last : Option (List ℕ)) → taken tolerance last instant found ≡ None) → m.tolerance ≡ tolerance → found ≡ entrances_in m.target_duration m.mapped store breaks
+    → ((last : Option (List ℕ)) → taken tolerance last instant found ≡ None) → m.tolerance ≡ tolerance → found ≡ entrances_in m.target_duration m.with_init_sections store breaks
     → entered m store breaks (Some instant) ≡ None
 none_entered m tolerance found store breaks instant none same these =
     sym (first_entered m store breaks instant)

@@ -23,12 +23,12 @@ is_inside breaks id instant tolerance pod = is_inside_said instant tolerance pod
 
 -- ---- entering
 
--- what breaks are entered by: the tolerance, the target, whether the origin's segments have sections, and
+-- what breaks are entered by: the tolerance, the target, whether the origin's segments have initialisation sections, and
 -- the last break entered
 pub record EntryLimits : Type 0 where
   pub tolerance : ℕ
   pub target_duration : ℕ
-  pub mapped : Bool
+  pub with_init_sections : Bool
   pub last : Option (List ℕ)
 
 -- the break is signalled, and the instant is near its start
@@ -41,7 +41,7 @@ is_at m instant said length = starts_at m instant said && is_not_past instant m.
 
 -- a segment at this instant enters the break, if it has this pod
 abbrev pub can_enter : EntryLimits → ℤ → Break → Pod → Bool
-can_enter m instant b pod = is_at m instant b.said (total pod) && pod_fits m.target_duration m.mapped pod && not (is_this b.id m.last)
+can_enter m instant b pod = is_at m instant b.said (total pod) && pod_fits m.target_duration m.with_init_sections pod && not (is_this b.id m.last)
 
 abbrev pub enters_with : EntryLimits → ℤ → Break → Option Pod → Bool
 enters_with m instant b None = false
@@ -74,16 +74,16 @@ mark_of store (Some id) = mark_with id (pod_for store id)
 
 -- why a known break that isn't filled isn't
 abbrev pub why_said : Described → List ℕ → ℕ → Bool → Store → Why
-why_said said id target mapped store =
+why_said said id target with_init_sections store =
     if is_none said.start then NoStart
     else (if not (is_leaving said.scte35_out) then NotSignalled
     else (if is_none (pod_for store id) then NotDecided
-    else (if not (fits store id target mapped) then DoesNotFit else Waiting)))
+    else (if not (fits store id target with_init_sections) then DoesNotFit else Waiting)))
 
 abbrev pub why_known : Option Described → List ℕ → ℕ → Bool → Store → Why
-why_known None id target mapped store = NotKnown
-why_known (Some said) id target mapped store = why_said said id target mapped store
+why_known None id target with_init_sections store = NotKnown
+why_known (Some said) id target with_init_sections store = why_said said id target with_init_sections store
 
 -- the first word that holds
 abbrev pub why : List Break → List ℕ → ℕ → Bool → Store → Bool → Why
-why breaks id target mapped store filled = if filled then Filled else why_known (said_of breaks id) id target mapped store
+why breaks id target with_init_sections store filled = if filled then Filled else why_known (said_of breaks id) id target with_init_sections store

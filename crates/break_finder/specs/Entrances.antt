@@ -1,4 +1,4 @@
--- The breaks that can be entered while the store, the target and the sections of segments stay as they are.
+-- The breaks that can be entered while the store, the target and the initialisation sections of segments stay as they are.
 use Rattle.std.specs.Prelude.{◌≡◌, ℕ, Bool, true, false, not, ◌&&◌, List, [], ◌∷◌, find, ℤ, int_le, int_lt, Option, Some, None, option_map, if◌then◌else◌}
 use Rattle.pod_store.specs.Pods.{Pod, total, pod_fits}
 use Rattle.pod_store.specs.Store.{Store, pod_for}
@@ -17,18 +17,18 @@ entrance_id e = e.id
 
 -- of a break that starts at this instant and has this pod
 abbrev pub entrance_at : ℕ → Bool → Break → ℤ → Pod → Option Entrance
-entrance_at target mapped b start pod =
-    if is_leaving b.said.scte35_out && pod_fits target mapped pod
+entrance_at target with_init_sections b start pod =
+    if is_leaving b.said.scte35_out && pod_fits target with_init_sections pod
     then Some (record { id = b.id; start = start; end = end_of b.said (total pod) })
     else None
 
 abbrev pub entrance_with : ℕ → Bool → Break → Option ℤ → Option Pod → Option Entrance
-entrance_with target mapped b None pod = None
-entrance_with target mapped b (Some start) None = None
-entrance_with target mapped b (Some start) (Some pod) = entrance_at target mapped b start pod
+entrance_with target with_init_sections b None pod = None
+entrance_with target with_init_sections b (Some start) None = None
+entrance_with target with_init_sections b (Some start) (Some pod) = entrance_at target with_init_sections b start pod
 
 abbrev pub entrance_of : ℕ → Bool → Break → Option Pod → Option Entrance
-entrance_of target mapped b pod = entrance_with target mapped b b.said.start pod
+entrance_of target with_init_sections b pod = entrance_with target with_init_sections b b.said.start pod
 
 abbrev pub and_later : Option Entrance → List Entrance → List Entrance
 and_later None later = later
@@ -36,9 +36,9 @@ and_later (Some e) later = e ∷ later
 
 -- those of these breaks, in their order
 abbrev pub entrances_in : ℕ → Bool → Store → List Break → List Entrance
-entrances_in target mapped store [] = []
-entrances_in target mapped store (b ∷ later) =
-    and_later (entrance_of target mapped b (pod_for store b.id)) (entrances_in target mapped store later)
+entrances_in target with_init_sections store [] = []
+entrances_in target with_init_sections store (b ∷ later) =
+    and_later (entrance_of target with_init_sections b (pod_for store b.id)) (entrances_in target with_init_sections store later)
 
 -- a segment at this instant enters the break, after this last one entered
 abbrev pub is_entered : ℕ → Option (List ℕ) → ℤ → Entrance → Bool

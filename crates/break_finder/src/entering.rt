@@ -20,7 +20,7 @@ use std::marker::Model;
 // For fewer segments than this the breaks are looked through for each.
 const FEW_SEGMENTS: usize = 64;
 
-/// The breaks that can be entered as long as the store, the target and the sections of segments stay as they are: each is
+/// The breaks that can be entered as long as the store, the target and the initialisation sections of segments stay as they are: each is
 /// signalled and decided, and its pod fits. For many segments time is cut into spans in which the same break is entered,
 /// so that what one of them enters is found by a search among the spans, however many breaks start near it.
 #[derive(Drop)]
@@ -62,15 +62,15 @@ fn spans_for<'a>(
 fn listed<'a>(
     alloc: Global,
     target: u64,
-    mapped: bool,
+    with_init_sections: bool,
     store: &PodStore,
     breaks: &'a Breaks,
 ) -> Result<Vec<Entrance<'a>>, AllocError>
-    ensures { IfOk result (λ v. v.items ≡ entrances_in target mapped store.now (map break_at breaks.now.entries)) }
+    ensures { IfOk result (λ v. v.items ≡ entrances_in target with_init_sections store.now (map break_at breaks.now.entries)) }
 {
     let mut list = Vec::new(alloc);
     for (id, said) in breaks {
-        if let Some(entrance) = entrance_of(target, mapped, store, id.as_str(), said) {
+        if let Some(entrance) = entrance_of(target, with_init_sections, store, id.as_str(), said) {
             list.push(entrance)?;
         }
     }
@@ -78,21 +78,21 @@ fn listed<'a>(
 }
 
 /// The entrances of those `breaks` that can be entered by `tolerance`: each is signalled, has a pod in `store`, and
-/// the pod fits the target duration `target`, in seconds, and segments that are `mapped` (have initialisation
+/// the pod fits the target duration `target`, in seconds, and segments that are `with_init_sections` (have initialisation
 /// sections) or aren't. They are made for about `segments` segments, which changes what they take and nothing else.
 /// Fails only if an allocation fails.
 pub fn entrances_of<'a>(
     alloc: Global,
     tolerance: Nanos,
     target: u64,
-    mapped: bool,
+    with_init_sections: bool,
     store: &PodStore,
     breaks: &'a Breaks,
     segments: usize,
 ) -> Result<Entrances<'a>, AllocError>
-    ensures { IfOk result (λ found. found ≡ record { tolerance = tolerance; found = entrances_in target mapped store.now (map break_at breaks.now.entries) }) }
+    ensures { IfOk result (λ found. found ≡ record { tolerance = tolerance; found = entrances_in target with_init_sections store.now (map break_at breaks.now.entries) }) }
 {
-    let list = listed(alloc, target, mapped, store, breaks)?;
+    let list = listed(alloc, target, with_init_sections, store, breaks)?;
     let spans = spans_for(alloc, tolerance, list.as_slice(), segments)?;
     Ok(Entrances {
         tolerance,
@@ -134,7 +134,7 @@ impl<'a> Entrances<'a> {
     #[inline(always)]
     pub fn is_quiet(&self, instant: Option<Instant>) -> bool
         ensures { result ≡ true → (m : EntryLimits) → (store : Store) → (breaks : List Break)
-            → m.tolerance ≡ self.now.tolerance → self.now.found ≡ entrances_in m.target_duration m.mapped store breaks
+            → m.tolerance ≡ self.now.tolerance → self.now.found ≡ entrances_in m.target_duration m.with_init_sections store breaks
             → entered m store breaks instant ≡ None }
     {
         match instant {
@@ -147,9 +147,9 @@ impl<'a> Entrances<'a> {
     /// instant differs from the break's start by at most the tolerance, and is more than the tolerance before its
     /// end; and the break isn't `last`, the one that was entered last. Takes no memory.
     pub fn entered(&mut self, instant: Option<Instant>, last: Option<&str>) -> Option<&'a str>
-        ensures entered { (target : ℕ) → (mapped : Bool) → (store : Store) → (breaks : List Break)
-            → self.old.found ≡ entrances_in target mapped store breaks
-            → option_map (λ id. id.now) result ≡ entered (record { tolerance = self.old.tolerance; target_duration = target; mapped = mapped; last = option_copied last.entry }) store breaks instant }
+        ensures entered { (target : ℕ) → (with_init_sections : Bool) → (store : Store) → (breaks : List Break)
+            → self.old.found ≡ entrances_in target with_init_sections store breaks
+            → option_map (λ id. id.now) result ≡ entered (record { tolerance = self.old.tolerance; target_duration = target; with_init_sections = with_init_sections; last = option_copied last.entry }) store breaks instant }
         ensures kept { self.new ≡ self.old }
     {
         match instant {

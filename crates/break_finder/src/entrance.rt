@@ -57,23 +57,23 @@ fn is_entered(
 }
 
 /// How the break `id`, of which this is `said`, can be entered. `None` if it has no start, isn't signalled, has no
-/// pod in `store`, or its pod doesn't fit the target duration `target`, in seconds, and segments that are `mapped`
+/// pod in `store`, or its pod doesn't fit the target duration `target`, in seconds, and segments that are `with_init_sections`
 /// (have initialisation sections) or aren't.
 pub fn entrance_of<'a>(
     target: u64,
-    mapped: bool,
+    with_init_sections: bool,
     store: &PodStore,
     id: &'a str,
     said: &Described,
 ) -> Option<Entrance<'a>>
-    ensures { result ≡ entrance_of target mapped (record { id = id.now; said = said.now }) (pod_for store.now id.now) }
+    ensures { result ≡ entrance_of target with_init_sections (record { id = id.now; said = said.now }) (pod_for store.now id.now) }
 {
     let start = said.start?;
     if !is_leaving(said.scte35_out) {
         return None;
     }
     let pod = store.pod_for(id)?;
-    if !pod.fits(target, mapped) {
+    if !pod.fits(target, with_init_sections) {
         return None;
     }
     let end = end_of(said, pod.total());

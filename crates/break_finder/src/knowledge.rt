@@ -60,8 +60,14 @@ fn stay_of(said: Option<Described>, tolerance: Nanos, pod: &Pod) -> Stay
     }
 }
 
-fn why_said(said: &Described, id: &str, target: u64, mapped: bool, store: &PodStore) -> Why
-    ensures { result ≡ why_said said.now id.now target mapped store.now }
+fn why_said(
+    said: &Described,
+    id: &str,
+    target: u64,
+    with_init_sections: bool,
+    store: &PodStore,
+) -> Why
+    ensures { result ≡ why_said said.now id.now target with_init_sections store.now }
 {
     if said.start.is_none() {
         return Why::NoStart;
@@ -72,7 +78,7 @@ fn why_said(said: &Described, id: &str, target: u64, mapped: bool, store: &PodSt
     if store.pod_for(id).is_none() {
         return Why::NotDecided;
     }
-    if !store.fits(id, target, mapped) {
+    if !store.fits(id, target, with_init_sections) {
         return Why::DoesNotFit;
     }
     Why::Waiting
@@ -120,16 +126,23 @@ impl Knowledge {
     }
 
     /// Why the break `id` is filled or not: `Filled` if it is in use, which `filled` says. Else it is judged by the
-    /// pods of `store`, the target duration `target`, in seconds, and whether the origin's segments are `mapped`
+    /// pods of `store`, the target duration `target`, in seconds, and whether the origin's segments are `with_init_sections`
     /// (have initialisation sections). Takes no memory.
-    pub fn why(&self, id: &str, target: u64, mapped: bool, store: &PodStore, filled: bool) -> Why
-        ensures { result ≡ why self.now id.now target mapped store.now filled }
+    pub fn why(
+        &self,
+        id: &str,
+        target: u64,
+        with_init_sections: bool,
+        store: &PodStore,
+        filled: bool,
+    ) -> Why
+        ensures { result ≡ why self.now id.now target with_init_sections store.now filled }
     {
         if filled {
             return Why::Filled;
         }
         match self.said(id) {
-            Some(said) => why_said(&said, id, target, mapped, store),
+            Some(said) => why_said(&said, id, target, with_init_sections, store),
             None => Why::NotKnown,
         }
     }
@@ -145,7 +158,7 @@ impl Knowledge {
     }
 
     /// The breaks that can be entered, in the order of the IDs, by `tolerance`: each is signalled and has a pod in
-    /// `store`, which fits the target duration `target`, in seconds, and segments that are `mapped` (have
+    /// `store`, which fits the target duration `target`, in seconds, and segments that are `with_init_sections` (have
     /// initialisation sections) or aren't. They are made for about `segments` segments, which changes what they take
     /// and nothing else. Fails only if an allocation fails.
     pub fn entrances(
@@ -153,17 +166,17 @@ impl Knowledge {
         alloc: Global,
         tolerance: Nanos,
         target: u64,
-        mapped: bool,
+        with_init_sections: bool,
         store: &PodStore,
         segments: usize,
     ) -> Result<Entrances<'_>, AllocError>
-        ensures { IfOk result (λ entrances. entrances ≡ record { tolerance = tolerance; found = entrances_in target mapped store.now self.now }) }
+        ensures { IfOk result (λ entrances. entrances ≡ record { tolerance = tolerance; found = entrances_in target with_init_sections store.now self.now }) }
     {
         entrances_of(
             alloc,
             tolerance,
             target,
-            mapped,
+            with_init_sections,
             store,
             &self.breaks,
             segments,

@@ -75,7 +75,7 @@ fn end_pair_examples()
 
 /// Why a break isn't filled.
 fn why_examples()
-    ensures mapped { why_of (lasting 10 b1 ∷ []) true ≡ Why.DoesNotFit }
+    ensures with_init_sections { why_of (lasting 10 b1 ∷ []) true ≡ Why.DoesNotFit }
     ensures unfilled { entered_at true (lasting 10 b1 ∷ []) 10000000000 ≡ None }
     ensures returns { why_of (tag (codes "b1") 10 (Some back_in) ∷ []) false ≡ Why.NotSignalled }
     ensures waiting { why_of (b1 ∷ []) false ≡ Why.Waiting }
@@ -86,7 +86,7 @@ fn why_examples()
 fn fallback_examples()
     ensures near { falls_at fallback false (b1 ∷ []) 10000000000 ≡ Some (codes "b1") }
     ensures waiting { why_falls fallback false ≡ Why.Waiting }
-    ensures mapped { why_falls fallback true ≡ Why.DoesNotFit }
+    ensures with_init_sections { why_falls fallback true ≡ Why.DoesNotFit }
     ensures own { falls_at own_beside true (b1 ∷ []) 10000000000 ≡ None }
     ensures own_fits_not { why_falls own_beside true ≡ Why.DoesNotFit }
 {}

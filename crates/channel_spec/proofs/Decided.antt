@@ -13,7 +13,7 @@ use Rattle.playlist_model.proofs.SameSegments.{same_segment_decides}
 use Rattle.channel_spec.specs.declared.fault.RefreshFault.{RefreshFault}
 use Rattle.channel_spec.specs.declared.fault.RefreshFault.TheVariants.{VersionChanged, TargetChanged, TypeChanged, MapsChanged, Back, Gap, Shrunk, Changed, Ended}
 use Rattle.channel_spec.specs.Sound.{RiseFrom, IsSoundPlaylist}
-use Rattle.channel_spec.specs.Successor.{AgreesWith, Succeeds, fault_if, first_number, end_number, first_discontinuity, last_discontinuity, is_mapped, kind_eq, are_different, difference, first_changed, discontinuity_out_of_range, is_same_window, successor_fault}
+use Rattle.channel_spec.specs.Successor.{AgreesWith, Succeeds, fault_if, first_number, end_number, first_discontinuity, last_discontinuity, has_init_sections, kind_eq, are_different, difference, first_changed, discontinuity_out_of_range, is_same_window, successor_fault}
 use Rattle.channel_spec.specs.LiveLaws.{NoFaultSucceeds}
 use Rattle.channel_spec.proofs.Windows.{In, all_from}
 use Rattle.channel_spec.proofs.Passed.{passed}
@@ -160,7 +160,7 @@ no_fault_succeeds_to old new r e =
       version = p.version;
       target_duration = p.target_duration;
       playlist_type = p.playlist_type;
-      mapped = p.mapped;
+      with_init_sections = p.with_init_sections;
       not_back = p.not_back;
       no_gap = p.no_gap;
       not_shrunk = p.not_shrunk;
@@ -174,7 +174,7 @@ succeeds_no_fault old new s =
     none_of _ _ (no_fault _ VersionChanged (turned _ (eq-eqb new.version old.version s.version)))
     (none_of _ _ (no_fault _ TargetChanged (turned _ (eq-eqb new.target_duration old.target_duration s.target_duration)))
     (none_of _ _ (no_fault _ TypeChanged (turned _ (ap (λ k. kind_eq k old.playlist_type) s.playlist_type ∙ kind_same old.playlist_type)))
-    (none_of _ _ (no_fault _ MapsChanged (ap (λ b. are_different b (is_mapped old.segments)) s.mapped ∙ not_unlike (is_mapped old.segments)))
+    (none_of _ _ (no_fault _ MapsChanged (ap (λ b. are_different b (has_init_sections old.segments)) s.with_init_sections ∙ not_unlike (has_init_sections old.segments)))
     (none_of _ _ (no_fault _ Back (at_most (first_number new.segments) (first_number old.segments) s.not_back))
     (none_of _ _ (no_fault _ Gap (at_most (end_number old.segments) (first_number new.segments) s.no_gap))
     (none_of _ _ (no_fault _ Shrunk (at_most (end_number new.segments) (end_number old.segments) s.not_shrunk))

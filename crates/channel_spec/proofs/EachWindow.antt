@@ -11,7 +11,7 @@ use Rattle.break_finder.specs.Known.{Accepted}
 use Rattle.pod_store.specs.Marks.{Mark, Marked, continues}
 use Rattle.channel_spec.specs.Marking.{Moment, history_after, is_new, next_shown, show_all}
 use Rattle.stitcher.specs.Stitched.{Piece, Numbers, is_kept, pod_pieces, run_pieces, stitched, newest_place, first_numbers, numbered, steps_between, up_to}
-use Rattle.channel_spec.specs.Successor.{first_number, end_number, first_discontinuity, is_mapped, Succeeds}
+use Rattle.channel_spec.specs.Successor.{first_number, end_number, first_discontinuity, has_init_sections, Succeeds}
 use Rattle.channel_spec.specs.Live.{Event, decided, refreshed, succession_fault, last_playlist, moment, list_of, Told, start_after, place_of, breaks_in_use, after_refresh, refusal, happens, told, owed_for, owed, has_ended}
 use Rattle.channel_spec.specs.Sound.{IsSoundPlaylist, IsSoundEvent}
 use Rattle.stitcher.specs.Paced.{first_of_run, run_length, older, due, newest_pieces, due_stitched, due_list}
@@ -19,7 +19,7 @@ use Rattle.channel_spec.specs.LiveLaws.{GoesOn, OnlyGrows, EachSucceeds}
 use Rattle.channel_spec.proofs.Numbered.{map-window}
 use Rattle.channel_spec.proofs.Growth.{goes_nowhere, goes_on_through, numbered_grows, history_grows, first_numbers_stay}
 use Rattle.channel_spec.proofs.Windows.{In, in_after, in_front, in_reverse, split_at, length-reverse, reverse-cons}
-use Rattle.channel_spec.proofs.Fills.{IsGood, IsAlike, IsPodOrNone, HavePods, IsStore, Mapped, stitched_mapped}
+use Rattle.channel_spec.proofs.Fills.{IsGood, IsAlike, IsPodOrNone, HavePods, IsStore, HaveInitSections, stitched_have_init_sections}
 use Rattle.channel_spec.proofs.Risen.{FallFrom, newest_discontinuity, past, all_past, are_past}
 use Rattle.channel_spec.proofs.Places.{length_grows, place_grows, up_to_within, up_to_grows, up_to_some, Begins, stays, next, begins}
 use Rattle.channel_spec.proofs.Succession.{cut, cut_is, Above, Follows, follows}
@@ -202,7 +202,7 @@ some_up_to last history s = up_to_some (first_number last.segments) (end_number 
 
 pub start_inside : (last : Playlist) (history : List Marked) (start : ℕ) → WindowStanding last history start → (ended : Bool) → start < length (due_stitched ended history)
 start_inside last history start s ended =
-    omega (arith, s.begins_by, within_due (is_mapped last.segments) ended (first_number last.segments) history s.standing.alike (some_up_to last history s.standing))
+    omega (arith, s.begins_by, within_due (has_init_sections last.segments) ended (first_number last.segments) history s.standing.alike (some_up_to last history s.standing))
 
 pub due_on : (m : Moment) (last playlist : Playlist) (history : List Marked) → Standing last history → Passed last playlist → IsSoundPlaylist playlist
     → GoesOn (due_stitched last.end_list history) (due_stitched playlist.end_list (history_after m history playlist))
@@ -217,11 +217,11 @@ due_on m last playlist history s p r = step last.end_list refl
         let g = history_grows m history (filter (is_new history) playlist.segments) in
         subst (λ h. GoesOn (due_stitched false history) (due_stitched playlist.end_list h)) (sym g.1) (due_grows playlist.end_list g.0 history)
 
-pub due_mapped : (m ended : Bool) (history : List Marked) → AllByRecursion (IsAlike m) history → Mapped m (due_stitched ended history)
-unfolding Mapped
-due_mapped m ended history a p h =
+pub due_have_init_sections : (m ended : Bool) (history : List Marked) → AllByRecursion (IsAlike m) history → HaveInitSections m (due_stitched ended history)
+unfolding HaveInitSections
+due_have_init_sections m ended history a p h =
     let r = list_rest ended history in
-    stitched_mapped m history a p (subst (λ xs. In p xs) (sym r.is) (in_after p r.rest (due_stitched ended history) h))
+    stitched_have_init_sections m history a p (subst (λ xs. In p xs) (sym r.is) (in_after p r.rest (due_stitched ended history) h))
 
 -- what holds of the place where the next window begins
 record Begun (start later place : ℕ) (old new : List Piece) : Type 0 where
@@ -248,9 +248,9 @@ begun m last playlist (newest ∷ before) start s p t =
     let k = first_number playlist.segments in
     let new = past newest.segment.media_sequence playlist.segments in
     let g = history_grows m history new in
-    let b = is_mapped last.segments in
+    let b = has_init_sections last.segments in
     let end : newest.segment.media_sequence + 1 ≡ end_number last.segments = s.standing.falls.0 in
-    let whole : AllByRecursion (IsAlike b) (g.0 ++ history) = subst (λ h. AllByRecursion (IsAlike b) h) g.1 (subst (λ x. AllByRecursion (IsAlike x) (history_after m history playlist)) p.mapped t.alike) in
+    let whole : AllByRecursion (IsAlike b) (g.0 ++ history) = subst (λ h. AllByRecursion (IsAlike b) h) g.1 (subst (λ x. AllByRecursion (IsAlike x) (history_after m history playlist)) p.with_init_sections t.alike) in
     let falls : FallFrom (end_number playlist.segments) (g.0 ++ history) = subst (λ h. FallFrom (end_number playlist.segments) h) g.1 t.falls in
     let near : (later : List Marked) (x : Marked) → g.0 ≡ later ++ (x ∷ []) → k ≡ newest.segment.media_sequence + 1 → x.segment.discontinuity_sequence ≤ newest_discontinuity history + 1000 =
     λ later x e c.
@@ -276,12 +276,12 @@ window_follows : (m : Moment) (last playlist : Playlist) (history : List Marked)
     (cut (first_numbers history) start (due_stitched last.end_list history))
 window_follows m last playlist history start s p t =
     let new = history_after m history playlist in
-    let b = is_mapped last.segments in
+    let b = has_init_sections last.segments in
     let later = start_after (Some last) start history playlist new in
     let k = begun m last playlist history start s p t in
-    let alike : AllByRecursion (IsAlike b) new = subst (λ x. AllByRecursion (IsAlike x) new) p.mapped t.alike in
+    let alike : AllByRecursion (IsAlike b) new = subst (λ x. AllByRecursion (IsAlike x) new) p.with_init_sections t.alike in
     let done = follows b (first_numbers history) (due_stitched last.end_list history) (due_stitched playlist.end_list new) start later
-    (due_on m last playlist history s.standing p t.read) (due_mapped b last.end_list history s.standing.alike) (due_mapped b playlist.end_list new alike)
+    (due_on m last playlist history s.standing p t.read) (due_have_init_sections b last.end_list history s.standing.alike) (due_have_init_sections b playlist.end_list new alike)
     (start_inside last history start s last.end_list) k.on k.within k.some k.above in
     subst (λ f. Follows (cut f later (due_stitched playlist.end_list new)) (cut (first_numbers history) start (due_stitched last.end_list history))) (sym (first_stays m last playlist history s.standing)) done
 
@@ -366,7 +366,7 @@ succeeds tolerance p a earlier playlist e s q r t =
       version = ap (λ v. max v 6) q.version;
       target_duration = q.target_duration;
       playlist_type = q.playlist_type;
-      mapped = g.mapped;
+      with_init_sections = g.with_init_sections;
       not_back = g.not_back;
       no_gap = g.no_gap;
       not_shrunk = g.not_shrunk;

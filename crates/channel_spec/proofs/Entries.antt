@@ -14,7 +14,7 @@ use Rattle.channel_spec.specs.Marking.{Moment, limits, entered}
 pub record IsEntry (m : Moment) (last : Option (List ℕ)) (f : Mark) : Type 0 where
   pub known : IsSome (break_of m.breaks f.id)
   pub decided : pod_for m.store f.id ≡ Some f.pod
-  pub fits : pod_fits m.target_duration m.mapped f.pod ≡ true
+  pub fits : pod_fits m.target_duration m.with_init_sections f.pod ≡ true
   pub other : is_this f.id last ≡ false
 
 unfoldable pub IsEntered : Moment → Option (List ℕ) → Option Mark → Type 0
@@ -56,8 +56,8 @@ pod_step : (m : Moment) (instant : ℤ) (last : Option (List ℕ)) (b : Break) �
 unfolding IsEntered
 pod_step m instant last b k None e t = tt
 pod_step m instant last b k (Some pod) e t =
-    let p = and_parts (is_at (limits m last) instant b.said (total pod) && pod_fits m.target_duration m.mapped pod) (not (is_this b.id last)) t in
-    record { known = k; decided = e; fits = (and_parts (is_at (limits m last) instant b.said (total pod)) (pod_fits m.target_duration m.mapped pod) p.0).1; other = turned (is_this b.id last) p.1 }
+    let p = and_parts (is_at (limits m last) instant b.said (total pod) && pod_fits m.target_duration m.with_init_sections pod) (not (is_this b.id last)) t in
+    record { known = k; decided = e; fits = (and_parts (is_at (limits m last) instant b.said (total pod)) (pod_fits m.target_duration m.with_init_sections pod) p.0).1; other = turned (is_this b.id last) p.1 }
 
 break_step : (m : Moment) (instant : ℤ) (last : Option (List ℕ)) (o : Option Break) → find (enters_break (limits m last) m.store instant) m.breaks ≡ o
     → IsEntered m last (mark_of m.store (option_map id_of o))

@@ -14,45 +14,45 @@ use Rattle.channel_spec.proofs.Windows.{In, in_either, in_reverse, length-revers
 use Rattle.channel_spec.proofs.Entries.{IsEntered, entered_is}
 
 -- all pieces have a section, or none has
-unfoldable pub Mapped : Bool → List Piece → Type 0
-Mapped m pieces = (p : Piece) → In p pieces → is_some p.segment.init_section ≡ m
+unfoldable pub HaveInitSections : Bool → List Piece → Type 0
+HaveInitSections m pieces = (p : Piece) → In p pieces → is_some p.segment.init_section ≡ m
 
-pub mapped-append : (m : Bool) (xs ys : List Piece) → Mapped m xs → Mapped m ys → Mapped m (xs ++ ys)
-unfolding Mapped
-mapped-append m xs ys f g p h = elim (in_either p xs ys h) [ inl a ↦ f p a | inr b ↦ g p b ]
+pub init_sections-append : (m : Bool) (xs ys : List Piece) → HaveInitSections m xs → HaveInitSections m ys → HaveInitSections m (xs ++ ys)
+unfolding HaveInitSections
+init_sections-append m xs ys f g p h = elim (in_either p xs ys h) [ inl a ↦ f p a | inr b ↦ g p b ]
 
-mapped-nil : (m : Bool) → Mapped m []
-unfolding Mapped In
-mapped-nil m p h = absurd h
+init_sections-nil : (m : Bool) → HaveInitSections m []
+unfolding HaveInitSections In
+init_sections-nil m p h = absurd h
 
-mapped-one : (m : Bool) (p : Piece) → is_some p.segment.init_section ≡ m → Mapped m (p ∷ [])
-unfolding Mapped In
-mapped-one m p e q (inl h) = subst (λ (x : Piece). is_some x.segment.init_section ≡ m) (sym h) e
-mapped-one m p e q (inr h) = absurd h
+init_sections-one : (m : Bool) (p : Piece) → is_some p.segment.init_section ≡ m → HaveInitSections m (p ∷ [])
+unfolding HaveInitSections In
+init_sections-one m p e q (inl h) = subst (λ (x : Piece). is_some x.segment.init_section ≡ m) (sym h) e
+init_sections-one m p e q (inr h) = absurd h
 
-mapped-reverse : (m : Bool) (xs : List Piece) → Mapped m xs → Mapped m (reverse xs)
-unfolding Mapped
-mapped-reverse m xs f p h = f p (in_reverse p xs h)
+init_sections-reverse : (m : Bool) (xs : List Piece) → HaveInitSections m xs → HaveInitSections m (reverse xs)
+unfolding HaveInitSections
+init_sections-reverse m xs f p h = f p (in_reverse p xs h)
 
-same_some : (ad : Ad) (section : Option InitSection) → is_some (option_map (with_keys ad.keys) section) ≡ is_some section
+same_some : (ad : Ad) (init_section : Option InitSection) → is_some (option_map (with_keys ad.keys) init_section) ≡ is_some init_section
 same_some ad None = refl
 same_some ad (Some x) = refl
 
-later_mapped : (m : Bool) (mark : Mark) (ad : Ad) → is_some ad.init_section ≡ m → (segments : List PodSegment) → Mapped m (map (ad_piece mark false ad) segments)
-unfolding Mapped In
-later_mapped m mark ad e [] p h = absurd h
-later_mapped m mark ad e (s ∷ segments) p (inl h) = ap (λ (x : Piece). is_some x.segment.init_section) h ∙ same_some ad ad.init_section ∙ e
-later_mapped m mark ad e (s ∷ segments) p (inr h) = later_mapped m mark ad e segments p h
+later_have_init_sections : (m : Bool) (mark : Mark) (ad : Ad) → is_some ad.init_section ≡ m → (segments : List PodSegment) → HaveInitSections m (map (ad_piece mark false ad) segments)
+unfolding HaveInitSections In
+later_have_init_sections m mark ad e [] p h = absurd h
+later_have_init_sections m mark ad e (s ∷ segments) p (inl h) = ap (λ (x : Piece). is_some x.segment.init_section) h ∙ same_some ad ad.init_section ∙ e
+later_have_init_sections m mark ad e (s ∷ segments) p (inr h) = later_have_init_sections m mark ad e segments p h
 
-ad_mapped : (m : Bool) (mark : Mark) (ad : Ad) → is_some ad.init_section ≡ m → (segments : List PodSegment) → Mapped m (ad_pieces mark ad segments)
-ad_mapped m mark ad e [] = mapped-nil m
-ad_mapped m mark ad e (s ∷ segments) =
-    mapped-append m (ad_piece mark true ad s ∷ []) (map (ad_piece mark false ad) segments) (mapped-one m (ad_piece mark true ad s) (same_some ad ad.init_section ∙ e)) (later_mapped m mark ad e segments)
+ad_has_init_section : (m : Bool) (mark : Mark) (ad : Ad) → is_some ad.init_section ≡ m → (segments : List PodSegment) → HaveInitSections m (ad_pieces mark ad segments)
+ad_has_init_section m mark ad e [] = init_sections-nil m
+ad_has_init_section m mark ad e (s ∷ segments) =
+    init_sections-append m (ad_piece mark true ad s ∷ []) (map (ad_piece mark false ad) segments) (init_sections-one m (ad_piece mark true ad s) (same_some ad ad.init_section ∙ e)) (later_have_init_sections m mark ad e segments)
 
-section_fits : (m : Bool) (section : Option InitSection) → cond m (is_some section) (is_none section) ≡ true → is_some section ≡ m
-section_fits true section e = e
-section_fits false None e = refl
-section_fits false (Some x) e = sym e
+init_section_fits : (m : Bool) (init_section : Option InitSection) → cond m (is_some init_section) (is_none init_section) ≡ true → is_some init_section ≡ m
+init_section_fits true init_section e = e
+init_section_fits false None e = refl
+init_section_fits false (Some x) e = sym e
 
 and_left : (a b : Bool) → (a && b) ≡ true → a ≡ true
 and_left true b e = refl
@@ -62,13 +62,13 @@ and_right : (a b : Bool) → (a && b) ≡ true → b ≡ true
 and_right true b e = e
 and_right false b e = absurd (cc)
 
-ads_mapped : (target : ℕ) (m : Bool) (mark : Mark) (ads : List Ad) → list_all (ad_fits target m) ads ≡ true → Mapped m (pieces_of_ads mark ads)
-ads_mapped target m mark [] e = mapped-nil m
-ads_mapped target m mark (ad ∷ ads) e =
+ads_have_init_sections : (target : ℕ) (m : Bool) (mark : Mark) (ads : List Ad) → list_all (ad_fits target m) ads ≡ true → HaveInitSections m (pieces_of_ads mark ads)
+ads_have_init_sections target m mark [] e = init_sections-nil m
+ads_have_init_sections target m mark (ad ∷ ads) e =
     let here = and_left (ad_fits target m ad) (list_all (ad_fits target m) ads) e in
-    mapped-append m (ad_pieces mark ad ad.segments) (pieces_of_ads mark ads)
-    (ad_mapped m mark ad (section_fits m ad.init_section (and_left _ (list_all (segment_fits target) ad.segments) here)) ad.segments)
-    (ads_mapped target m mark ads (and_right (ad_fits target m ad) (list_all (ad_fits target m) ads) e))
+    init_sections-append m (ad_pieces mark ad ad.segments) (pieces_of_ads mark ads)
+    (ad_has_init_section m mark ad (init_section_fits m ad.init_section (and_left _ (list_all (segment_fits target) ad.segments) here)) ad.segments)
+    (ads_have_init_sections target m mark ads (and_right (ad_fits target m ad) (list_all (ad_fits target m) ads) e))
 
 some_pieces : (mark : Mark) (ads : List Ad) → 0 < length ads → AllByRecursion (λ (ad : Ad). 0 < length ad.segments) ads → 0 < length (pieces_of_ads mark ads)
 some_pieces mark [] h a = absurd (omega (arith, h))
@@ -81,23 +81,23 @@ some_pieces mark (ad ∷ ads) h a = more ad.segments a.0
 -- a pod has pieces, and they have sections as the origin's segments have
 pub record Stand (m : Bool) (pieces : List Piece) : Type 0 where
   pub some : 0 < length pieces
-  pub mapped : Mapped m pieces
+  pub with_init_sections : HaveInitSections m pieces
 
 unfoldable pub IsGood : Bool → Option Mark → Type 0
 IsGood m None = Unit {0}
 IsGood m (Some f) = Stand m (pod_pieces f)
 
 good_pod : (target : ℕ) (m : Bool) (mark : Mark) → IsSoundPod mark.pod → pod_fits target m mark.pod ≡ true → Stand m (pod_pieces mark)
-good_pod target m mark h e = record { some = some_pieces mark mark.pod.ads h.some h.filled; mapped = ads_mapped target m mark mark.pod.ads e }
+good_pod target m mark h e = record { some = some_pieces mark mark.pod.ads h.some h.filled; with_init_sections = ads_have_init_sections target m mark mark.pod.ads e }
 
 -- ---- marks
 
-continued_good : (m : Moment) (instant : Option ℤ) (fill : Option Mark) → IsGood m.mapped fill → IsGood m.mapped (continued m instant fill)
+continued_good : (m : Moment) (instant : Option ℤ) (fill : Option Mark) → IsGood m.with_init_sections fill → IsGood m.with_init_sections (continued m instant fill)
 unfolding IsGood
 continued_good m instant None h = tt
 continued_good m instant (Some f) h = step (is_inside m instant f)
   where
-    step : (b : Bool) → IsGood m.mapped (cond b (Some f) None)
+    step : (b : Bool) → IsGood m.with_init_sections (cond b (Some f) None)
     step true = h
     step false = tt
 
@@ -133,17 +133,17 @@ or_good : (m : Bool) (a b : Option Mark) → IsGood m a → IsGood m b → IsGoo
 or_good m None b f g = g
 or_good m (Some x) b f g = f
 
-entry_good : (m : Moment) (last : Option (List ℕ)) (o : Option Mark) → IsStore m.store → IsEntered m last o → IsGood m.mapped o
+entry_good : (m : Moment) (last : Option (List ℕ)) (o : Option Mark) → IsStore m.store → IsEntered m last o → IsGood m.with_init_sections o
 unfolding IsGood IsEntered IsPodOrNone
 entry_good m last None h k = tt
-entry_good m last (Some f) h k = good_pod m.target_duration m.mapped f (subst IsPodOrNone k.decided (found f.id m.store h)) k.fits
+entry_good m last (Some f) h k = good_pod m.target_duration m.with_init_sections f (subst IsPodOrNone k.decided (found f.id m.store h)) k.fits
 
-entered_good : (m : Moment) (instant : Option ℤ) (last : Option (List ℕ)) → IsStore m.store → IsGood m.mapped (entered m instant last)
+entered_good : (m : Moment) (instant : Option ℤ) (last : Option (List ℕ)) → IsStore m.store → IsGood m.with_init_sections (entered m instant last)
 entered_good m instant last h = entry_good m last (entered m instant last) h (entered_is m instant last)
 
-pub fill_good : (m : Moment) (before : List Marked) (instant : Option ℤ) → IsStore m.store → IsGood m.mapped (newest_mark before) → IsGood m.mapped (mark_of m before instant)
+pub fill_good : (m : Moment) (before : List Marked) (instant : Option ℤ) → IsStore m.store → IsGood m.with_init_sections (newest_mark before) → IsGood m.with_init_sections (mark_of m before instant)
 fill_good m before instant h g =
-    or_good m.mapped (continued m instant (newest_mark before)) (entered m instant (last_entered before))
+    or_good m.with_init_sections (continued m instant (newest_mark before)) (entered m instant (last_entered before))
     (continued_good m instant (newest_mark before) g) (entered_good m instant (last_entered before) h)
 
 -- ---- the history
@@ -155,16 +155,16 @@ pub record IsAlike (m : Bool) (s : Marked) : Type 0 where
 
 pub run_stands : (m : Bool) (s : Marked) (fill : Option Mark) → is_some s.segment.init_section ≡ m → IsGood m fill → Stand m (run_pieces s fill)
 unfolding IsGood
-run_stands m s None e g = record { some = omega arith; mapped = mapped-one m (kept_piece s) e }
-run_stands m s (Some f) e g = record { some = omega (arith, length-reverse (pod_pieces f), g.some); mapped = mapped-reverse m (pod_pieces f) g.mapped }
+run_stands m s None e g = record { some = omega arith; with_init_sections = init_sections-one m (kept_piece s) e }
+run_stands m s (Some f) e g = record { some = omega (arith, length-reverse (pod_pieces f), g.some); with_init_sections = init_sections-reverse m (pod_pieces f) g.with_init_sections }
 
-pub item_mapped : (m : Bool) (b : Bool) (pieces : List Piece) → Mapped m pieces → Mapped m (cond b [] pieces)
-item_mapped m true pieces h = mapped-nil m
-item_mapped m false pieces h = h
+pub item_has_init_section : (m : Bool) (b : Bool) (pieces : List Piece) → HaveInitSections m pieces → HaveInitSections m (cond b [] pieces)
+item_has_init_section m true pieces h = init_sections-nil m
+item_has_init_section m false pieces h = h
 
-pub stitched_mapped : (m : Bool) (history : List Marked) → AllByRecursion (IsAlike m) history → Mapped m (stitched history)
-stitched_mapped m [] h = mapped-nil m
-stitched_mapped m (s ∷ before) h =
+pub stitched_have_init_sections : (m : Bool) (history : List Marked) → AllByRecursion (IsAlike m) history → HaveInitSections m (stitched history)
+stitched_have_init_sections m [] h = init_sections-nil m
+stitched_have_init_sections m (s ∷ before) h =
     let here = run_stands m s s.mark h.0.init_section h.0.mark in
-    mapped-append m (cond (continues s before) [] (run_pieces s s.mark)) (stitched before)
-    (item_mapped m (continues s before) (run_pieces s s.mark) here.mapped) (stitched_mapped m before h.1)
+    init_sections-append m (cond (continues s before) [] (run_pieces s s.mark)) (stitched before)
+    (item_has_init_section m (continues s before) (run_pieces s s.mark) here.with_init_sections) (stitched_have_init_sections m before h.1)

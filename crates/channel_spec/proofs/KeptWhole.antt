@@ -15,7 +15,7 @@ use Rattle.channel_spec.specs.declared.fault.RefreshFault.TheVariants.{NumberRan
 use Rattle.break_finder.specs.Known.{Accepted, known, carry}
 use Rattle.break_finder.specs.Breaks.{Break}
 use Rattle.channel_spec.specs.Marking.{mark_id, last_entered, is_new, history_after}
-use Rattle.channel_spec.specs.Successor.{first_number, end_number, is_mapped, fault_if}
+use Rattle.channel_spec.specs.Successor.{first_number, end_number, has_init_sections, fault_if}
 use Rattle.channel_spec.specs.Live.{Told, told, refusal, succession_fault, acceptance, moment, after_refresh, breaks_in_use, item_segment, states_instant, owed_for, window_after, last_playlist, written_date_ranges, place_of, gone_before, rest_over, rest_id, ids_in, marks_from, in_use_with, date_ranges_left, start_after}
 use Rattle.break_finder.specs.Laws.{CarriesKnown}
 use Rattle.channel_spec.specs.LiveLaws.{Linked, GoesOn}
@@ -221,10 +221,10 @@ follow_first tolerance p store start =
     let breaks : carry (kept_acceptance kept p) [] ≡ known (acceptance t p ∷ []) = sym (knowledge_is_carried (acceptance t p) [] tt) in
     let same : history ≡ list =
     show_first m new
-    ∙ ap (λ (b : List Break). show_on (record { tolerance = tolerance; target_duration = p.target_duration; mapped = is_mapped p.segments; breaks = b; store = store }) [] None new) (sym breaks) in
+    ∙ ap (λ (b : List Break). show_on (record { tolerance = tolerance; target_duration = p.target_duration; with_init_sections = has_init_sections p.segments; breaks = b; store = store }) [] None new) (sym breaks) in
     let lengths : length_of history ≡ kept_length tolerance kept p =
     length_first m new
-    ∙ ap (λ (b : List Break). length_on (record { tolerance = tolerance; target_duration = p.target_duration; mapped = is_mapped p.segments; breaks = b; store = store }) [] None 0 new) (sym breaks) in
+    ∙ ap (λ (b : List Break). length_on (record { tolerance = tolerance; target_duration = p.target_duration; with_init_sections = has_init_sections p.segments; breaks = b; store = store }) [] None 0 new) (sym breaks) in
     let links : Linked history = link_all m [] new tt in
     let pieces : stitched_on p.end_list (kept_length tolerance kept p) list None ≡ due_stitched p.end_list history =
     append-nil (due_with p.end_list (kept_length tolerance kept p) list)
@@ -344,7 +344,7 @@ module _ (tolerance : ℕ) (p : Playlist) (a : Accepted) (earlier : List Accepte
         let same : history ≡ list ++ gone =
         show_after m newer s gone (filter (is_new whole) p.segments)
         ∙ (ap (λ ss. show_on m shown entered ss ++ gone) (new_same newer s gone p.segments)
-        ∙ ap (λ (b : List Break). show_on (record { tolerance = tolerance; target_duration = p.target_duration; mapped = is_mapped p.segments; breaks = b; store = store }) shown entered (filter (is_new shown) p.segments) ++ gone) (sym breaks)) in
+        ∙ ap (λ (b : List Break). show_on (record { tolerance = tolerance; target_duration = p.target_duration; with_init_sections = has_init_sections p.segments; breaks = b; store = store }) shown entered (filter (is_new shown) p.segments) ++ gone) (sym breaks)) in
         let g = show_grows (kept_moment tolerance k p) shown entered (filter (is_new shown) p.segments) in
         let more = g.0 ++ newer in
         let list_is : list ≡ more ++ (s ∷ []) = g.1 ∙ sym (append_assoc g.0 newer (s ∷ [])) in
@@ -353,7 +353,7 @@ module _ (tolerance : ℕ) (p : Playlist) (a : Accepted) (earlier : List Accepte
         let lengths : length_of history ≡ kept_length tolerance k p =
         length_behind m newer s gone (filter (is_new whole) p.segments) linked
         ∙ (ap (λ ss. length_on m shown entered (length_of whole) ss) (new_same newer s gone p.segments)
-        ∙ ap (λ (b : List Break). length_on (record { tolerance = tolerance; target_duration = p.target_duration; mapped = is_mapped p.segments; breaks = b; store = store }) shown entered (length_of whole) (filter (is_new shown) p.segments)) (sym breaks)) in
+        ∙ ap (λ (b : List Break). length_on (record { tolerance = tolerance; target_duration = p.target_duration; with_init_sections = has_init_sections p.segments; breaks = b; store = store }) shown entered (length_of whole) (filter (is_new shown) p.segments)) (sym breaks)) in
         let stands = stitched_on p.end_list (kept_length tolerance k p) list there in
         let new_is : new ≡ stands ++ b.below =
         ap (due_stitched p.end_list) history_is

@@ -17,7 +17,7 @@ use Rattle.channel_spec.specs.Marking.{Moment, next_shown, show_all, is_new, ins
 use Rattle.channel_spec.specs.Live.{succession_fault, last_playlist, taken, decide}
 use Rattle.channel_spec.proofs.StoreAfter.{entries_after}
 use Rattle.break_finder.specs.Known.{Accepted}
-use Rattle.channel_spec.specs.Successor.{first_number, end_number, last_discontinuity, is_mapped}
+use Rattle.channel_spec.specs.Successor.{first_number, end_number, last_discontinuity, has_init_sections}
 use Rattle.channel_spec.specs.Sound.{IsSoundPlaylist, IsSoundPod, AllPods}
 use Rattle.channel_spec.proofs.Fills.{IsGood, IsPodOrNone, HavePods, IsStore, IsAlike, fill_good}
 use Rattle.channel_spec.proofs.Risen.{FallFrom, newest_discontinuity, fall_on, length_on, newest_on, past, are_past, last_same}
@@ -30,13 +30,13 @@ unfolding IsGood
 newest_good m [] h = tt
 newest_good m (s ∷ before) h = h.0.mark
 
-pub show_alike : (m : Moment) (history : List Marked) (segments : List Segment) → IsStore m.store → AllByRecursion (IsAlike m.mapped) history
-    → AllByRecursion (λ (s : Segment). is_some s.init_section ≡ m.mapped) segments → AllByRecursion (IsAlike m.mapped) (show_all m history segments)
+pub show_alike : (m : Moment) (history : List Marked) (segments : List Segment) → IsStore m.store → AllByRecursion (IsAlike m.with_init_sections) history
+    → AllByRecursion (λ (s : Segment). is_some s.init_section ≡ m.with_init_sections) segments → AllByRecursion (IsAlike m.with_init_sections) (show_all m history segments)
 show_alike m history [] k h a = h
 show_alike m history (s ∷ later) k h a =
-    let here : IsAlike m.mapped (next_shown m history s later) = record {
+    let here : IsAlike m.with_init_sections (next_shown m history s later) = record {
       init_section = a.0;
-      mark = fill_good m history (instant_of history s later) k (newest_good m.mapped history h);
+      mark = fill_good m history (instant_of history s later) k (newest_good m.with_init_sections history h);
     } in
     show_alike m (next_shown m history s later ∷ history) later k (here, h) a.1
 
@@ -59,10 +59,10 @@ pub record Standing (last : Playlist) (history : List Marked) : Type 0 where
   pub some : 0 < length history
   pub falls : FallFrom (end_number last.segments) history
   pub discontinuity_sequence : newest_discontinuity history ≡ last_discontinuity last.segments
-  pub alike : AllByRecursion (IsAlike (is_mapped last.segments)) history
+  pub alike : AllByRecursion (IsAlike (has_init_sections last.segments)) history
   pub long : length last.segments ≤ length history
 
-pub first_standing : (m : Moment) (playlist : Playlist) → IsSoundPlaylist playlist → m.mapped ≡ is_mapped playlist.segments → IsStore m.store → Standing playlist (history_after m [] playlist)
+pub first_standing : (m : Moment) (playlist : Playlist) → IsSoundPlaylist playlist → m.with_init_sections ≡ has_init_sections playlist.segments → IsStore m.store → Standing playlist (history_after m [] playlist)
 first_standing m playlist r e k =
     let segments = playlist.segments in
     let all = all_new segments in
@@ -73,9 +73,9 @@ first_standing m playlist r e k =
       some = omega (arith, size, r.some);
       falls = subst (λ h. FallFrom (end_number segments) h) (sym same) (fall_on m (first_number segments) [] segments tt r.numbers);
       discontinuity_sequence = ap newest_discontinuity same ∙ newest_on m [] segments r.some;
-      alike = subst (λ h. AllByRecursion (IsAlike (is_mapped segments)) h) (sym same)
+      alike = subst (λ h. AllByRecursion (IsAlike (has_init_sections segments)) h) (sym same)
           (subst (λ b. AllByRecursion (IsAlike b) (show_all m [] segments)) e
-          (show_alike m [] segments k tt (subst (λ b. AllByRecursion (λ (s : Segment). is_some s.init_section ≡ b) segments) (sym e) r.mapped)));
+          (show_alike m [] segments k tt (subst (λ b. AllByRecursion (λ (s : Segment). is_some s.init_section ≡ b) segments) (sym e) r.with_init_sections)));
       long = omega (arith, size);
     }
 
@@ -86,7 +86,7 @@ later_discontinuity m history [] segments last e f g = e ∙ sym (g refl)
 later_discontinuity m history (s ∷ new) segments last e f g = newest_on m history (s ∷ new) (omega arith) ∙ f (omega arith)
 
 pub later_standing : (m : Moment) (last playlist : Playlist) (history : List Marked) → Standing last history → Passed last playlist → IsSoundPlaylist playlist
-    → m.mapped ≡ is_mapped playlist.segments → IsStore m.store → Standing playlist (history_after m history playlist)
+    → m.with_init_sections ≡ has_init_sections playlist.segments → IsStore m.store → Standing playlist (history_after m history playlist)
 later_standing m last playlist [] s p r e k = absurd (omega (arith, s.some))
 later_standing m last playlist (newest ∷ before) s p r e k =
     let segments = playlist.segments in
@@ -96,7 +96,7 @@ later_standing m last playlist (newest ∷ before) s p r e k =
     let a = are_past newest.segment.media_sequence (first_number segments) segments (omega (arith, end, p.no_gap)) r.numbers in
     let count = a.count (omega (arith, end, p.not_shrunk)) in
     let size = length_on m history new in
-    let was : m.mapped ≡ is_mapped last.segments = e ∙ p.mapped in
+    let was : m.with_init_sections ≡ has_init_sections last.segments = e ∙ p.with_init_sections in
     let none : length new ≡ 0 → last_discontinuity segments ≡ last_discontinuity last.segments = λ z.
     last_same last.segments segments (first_number last.segments) (first_number segments) p.same s.read.numbers r.numbers (omega (arith, z, count, end)) s.read.some r.some in
     record {
@@ -106,8 +106,8 @@ later_standing m last playlist (newest ∷ before) s p r e k =
       discontinuity_sequence = later_discontinuity m history new segments (last_discontinuity last.segments) s.discontinuity_sequence a.last none;
       alike = subst (λ b. AllByRecursion (IsAlike b) (show_all m history new)) e
           (show_alike m history new k (subst (λ b. AllByRecursion (IsAlike b) history) (sym was) s.alike)
-          (all_filter (λ (x : Segment). is_some x.init_section ≡ m.mapped) (λ (x : Segment). nat_lt newest.segment.media_sequence x.media_sequence) segments
-          (subst (λ b. AllByRecursion (λ (x : Segment). is_some x.init_section ≡ b) segments) (sym e) r.mapped)));
+          (all_filter (λ (x : Segment). is_some x.init_section ≡ m.with_init_sections) (λ (x : Segment). nat_lt newest.segment.media_sequence x.media_sequence) segments
+          (subst (λ b. AllByRecursion (λ (x : Segment). is_some x.init_section ≡ b) segments) (sym e) r.with_init_sections)));
       long = omega (arith, size, count, end, s.long, p.not_back);
     }
 
@@ -194,7 +194,7 @@ StandingOf [] history = history ≡ []
 StandingOf (r ∷ before) history = Standing r.playlist history
 
 pub new_standing : (m : Moment) (accepted : List Accepted) (history : List Marked) (playlist : Playlist) → StandingOf accepted history → IsSoundPlaylist playlist
-    → m.mapped ≡ is_mapped playlist.segments → IsStore m.store → succession_fault (last_playlist accepted) playlist ≡ None → Standing playlist (history_after m history playlist)
+    → m.with_init_sections ≡ has_init_sections playlist.segments → IsStore m.store → succession_fault (last_playlist accepted) playlist ≡ None → Standing playlist (history_after m history playlist)
 unfolding StandingOf
 new_standing m [] history playlist s r e k f = subst (λ h. Standing playlist (history_after m h playlist)) (sym s) (first_standing m playlist r e k)
 new_standing m (a ∷ before) history playlist s r e k f = later_standing m a.playlist playlist history s (passed a.playlist playlist f) r e k

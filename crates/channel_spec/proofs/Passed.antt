@@ -8,14 +8,14 @@ use Rattle.playlist_model.specs.declared.PlaylistKind.TheVariants.{Event, Vod}
 use Rattle.playlist_model.specs.LookBack.{or_earlier}
 use Rattle.channel_spec.specs.declared.fault.RefreshFault.{RefreshFault}
 use Rattle.channel_spec.specs.declared.fault.RefreshFault.TheVariants.{VersionChanged, TargetChanged, TypeChanged, MapsChanged, Back, Gap, Shrunk, Changed, Ended}
-use Rattle.channel_spec.specs.Successor.{fault_if, first_number, end_number, first_discontinuity, last_discontinuity, is_mapped, kind_eq, are_different, first_changed, discontinuity_out_of_range, successor_fault}
+use Rattle.channel_spec.specs.Successor.{fault_if, first_number, end_number, first_discontinuity, last_discontinuity, has_init_sections, kind_eq, are_different, first_changed, discontinuity_out_of_range, successor_fault}
 
 -- what a playlist that may follow another keeps
 pub record Passed (old new : Playlist) : Type 0 where
   pub version : new.version ≡ old.version
   pub target_duration : new.target_duration ≡ old.target_duration
   pub playlist_type : new.playlist_type ≡ old.playlist_type
-  pub mapped : is_mapped new.segments ≡ is_mapped old.segments
+  pub with_init_sections : has_init_sections new.segments ≡ has_init_sections old.segments
   pub not_back : first_number old.segments ≤ first_number new.segments
   pub no_gap : first_number new.segments ≤ end_number old.segments
   pub not_shrunk : end_number old.segments ≤ end_number new.segments
@@ -79,7 +79,7 @@ passed old new e =
     let a = or_none (fault_if (not (new.version == old.version)) VersionChanged) _ e in
     let b = or_none (fault_if (not (new.target_duration == old.target_duration)) TargetChanged) _ a.1 in
     let c = or_none (fault_if (not (kind_eq new.playlist_type old.playlist_type)) TypeChanged) _ b.1 in
-    let d = or_none (fault_if (are_different (is_mapped new.segments) (is_mapped old.segments)) MapsChanged) _ c.1 in
+    let d = or_none (fault_if (are_different (has_init_sections new.segments) (has_init_sections old.segments)) MapsChanged) _ c.1 in
     let f = or_none (fault_if (nat_lt (first_number new.segments) (first_number old.segments)) Back) _ d.1 in
     let g = or_none (fault_if (nat_lt (end_number old.segments) (first_number new.segments)) Gap) _ f.1 in
     let h = or_none (fault_if (nat_lt (end_number new.segments) (end_number old.segments)) Shrunk) _ g.1 in
@@ -89,7 +89,7 @@ passed old new e =
       version = eqb-true new.version old.version (negated _ (unless _ VersionChanged a.0));
       target_duration = eqb-true new.target_duration old.target_duration (negated _ (unless _ TargetChanged b.0));
       playlist_type = same_kind new.playlist_type old.playlist_type (negated _ (unless _ TypeChanged c.0));
-      mapped = same_bool _ _ (unless _ MapsChanged d.0);
+      with_init_sections = same_bool _ _ (unless _ MapsChanged d.0);
       not_back = ltb-false (first_number new.segments) (first_number old.segments) (unless _ Back f.0);
       no_gap = ltb-false (end_number old.segments) (first_number new.segments) (unless _ Gap g.0);
       not_shrunk = ltb-false (end_number new.segments) (end_number old.segments) (unless _ Shrunk h.0);

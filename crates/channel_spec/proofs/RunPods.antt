@@ -15,7 +15,7 @@ use Rattle.break_finder.specs.Entering.{enters_break, enters_with, id_of, mark_w
 use Rattle.break_finder.specs.Entering as entering
 use Rattle.break_finder.specs.Known.{Accepted, is_this}
 use Rattle.channel_spec.specs.Marking.{limits, entered, next_mark, next_shown, last_entered, is_new}
-use Rattle.channel_spec.specs.Successor.{is_mapped}
+use Rattle.channel_spec.specs.Successor.{has_init_sections}
 use Rattle.channel_spec.specs.declared.fault.RefreshFault.{RefreshFault}
 use Rattle.channel_spec.specs.Live.{Event, decided, refreshed, Told, told, happens, refusal, after_refresh, moment}
 use Rattle.channel_spec.specs.LiveLaws.{GoesOn, Linked}
@@ -118,7 +118,7 @@ ends_near m (x ∷ before) mark l a e =
 open_end : (accepted : List Accepted) (history : List Marked) (start : ℕ) (mark : Mark) → WindowOf accepted history start → Linked history → newest_mark history ≡ Some mark → EndsNear history mark
 unfolding WindowOf
 open_end [] history start mark w l e = let none : newest_mark history ≡ None = ap newest_mark w in absurd (cc)
-open_end (a ∷ earlier) history start mark w l e = ends_near (is_mapped a.playlist.segments) history mark l w.standing.alike e
+open_end (a ∷ earlier) history start mark w l e = ends_near (has_init_sections a.playlist.segments) history mark l w.standing.alike e
 
 pub written_end_is_near : WrittenEndIsNear
 written_end_is_near tolerance events mark sound goes_on e =

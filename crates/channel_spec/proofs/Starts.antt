@@ -11,7 +11,7 @@ use Rattle.pod_store.specs.Marks.{Mark, Marked, newest_mark, continues}
 use Rattle.stitcher.specs.Stitched.{Piece, pod_pieces, run_pieces, stitched, newest_place, up_to}
 use Rattle.break_finder.specs.Known.{Accepted}
 use Rattle.channel_spec.specs.Marking.{Moment, history_after}
-use Rattle.channel_spec.specs.Successor.{first_number, end_number, is_mapped}
+use Rattle.channel_spec.specs.Successor.{first_number, end_number, has_init_sections}
 use Rattle.channel_spec.specs.Live.{Event, decided, refreshed, succession_fault, last_playlist, moment}
 use Rattle.channel_spec.specs.LiveLaws.{Linked}
 use Rattle.channel_spec.specs.Sound.{IsSoundPlaylist, IsSoundEvent}
@@ -156,9 +156,9 @@ starts m last playlist (newest ∷ before) start s at p t =
     let n = first_number last.segments in
     let k = first_number playlist.segments in
     let g = history_grows m history (past newest.segment.media_sequence playlist.segments) in
-    let b = is_mapped last.segments in
+    let b = has_init_sections last.segments in
     let end : newest.segment.media_sequence + 1 ≡ end_number last.segments = s.falls.0 in
-    let whole : AllByRecursion (IsAlike b) (g.0 ++ history) = subst (λ h. AllByRecursion (IsAlike b) h) g.1 (subst (λ x. AllByRecursion (IsAlike x) (history_after m history playlist)) p.mapped t.alike) in
+    let whole : AllByRecursion (IsAlike b) (g.0 ++ history) = subst (λ h. AllByRecursion (IsAlike b) h) g.1 (subst (λ x. AllByRecursion (IsAlike x) (history_after m history playlist)) p.with_init_sections t.alike) in
     let falls : FallFrom (end_number playlist.segments) (g.0 ++ history) = subst (λ h. FallFrom (end_number playlist.segments) h) g.1 t.falls in
     let some = up_to_some k (end_number playlist.segments) (g.0 ++ history) falls (omega (arith, t.read.some)) (omega (arith, t.long, ap length g.1)) in
     let same = same_first n (end_number last.segments) (end_number playlist.segments) history g.0 s.falls falls (omega (arith, s.read.some)) (omega (arith, s.long)) start at in

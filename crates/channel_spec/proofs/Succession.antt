@@ -4,10 +4,10 @@ use Rattle.std.specs.List.{AllByRecursion}
 use Rattle.playlist_model.specs.declared.Segment.{Segment}
 use Rattle.stitcher.specs.Stitched.{Piece, Numbers, numbers_at, steps_between, from_place}
 use Rattle.channel_spec.proofs.Numbered.{numbered, numbered_segment}
-use Rattle.channel_spec.specs.Successor.{first_number, end_number, first_discontinuity, last_discontinuity, is_mapped, AgreesWith}
+use Rattle.channel_spec.specs.Successor.{first_number, end_number, first_discontinuity, last_discontinuity, has_init_sections, AgreesWith}
 use Rattle.channel_spec.specs.LiveLaws.{GoesOn}
 use Rattle.channel_spec.proofs.Windows.{In, in_after, Split, split_at, window_of, window_is, onto, reverse-cons, first_of_window, end_of_window, windows_agree}
-use Rattle.channel_spec.proofs.Fills.{Mapped}
+use Rattle.channel_spec.proofs.Fills.{HaveInitSections}
 
 -- a window of the pieces
 pub cut : Numbers → ℕ → List Piece → List Segment
@@ -32,7 +32,7 @@ pub record Above (pieces old : List Piece) : Type 0 where
 
 -- what a window owes to the one before
 pub record Follows (new old : List Segment) : Type 0 where
-  pub mapped : is_mapped new ≡ is_mapped old
+  pub with_init_sections : has_init_sections new ≡ has_init_sections old
   pub not_back : first_number old ≤ first_number new
   pub no_gap : first_number new ≤ end_number old
   pub not_shrunk : end_number old ≤ end_number new
@@ -58,16 +58,16 @@ last_of_window first (r ∷ front) q after p before e =
     let n : numbers_at first r (front ++ (q ∷ after)) ≡ numbers_at first p before = cc in
     ap last_discontinuity turned ∙ last_append (here ∷ reverse (onto first (q ∷ after) front)) top ∙ ap (λ (n : Numbers). n.discontinuity_sequence) n
 
-mapped_window : (m : Bool) (first : Numbers) (front : List Piece) (q : Piece) (after : List Piece) → Mapped m (front ++ (q ∷ after)) → is_mapped (window_of first front q after) ≡ m
-unfolding window_of Mapped In
-mapped_window m first front q after h = h q (in_after q front (q ∷ after) (inl refl))
+window_has_init_sections : (m : Bool) (first : Numbers) (front : List Piece) (q : Piece) (after : List Piece) → HaveInitSections m (front ++ (q ∷ after)) → has_init_sections (window_of first front q after) ≡ m
+unfolding window_of HaveInitSections In
+window_has_init_sections m first front q after h = h q (in_after q front (q ∷ after) (inl refl))
 
 first_of : (first : Numbers) (front : List Piece) (q p : Piece) (before : List Piece)
     → first_discontinuity (window_of first front q (p ∷ before)) ≡ (numbers_at first p before).discontinuity_sequence + steps_between p q
 unfolding window_of
 first_of first front q p before = refl
 
-pub follows : (m : Bool) (first : Numbers) (old new : List Piece) (place later : ℕ) → GoesOn old new → Mapped m old → Mapped m new
+pub follows : (m : Bool) (first : Numbers) (old new : List Piece) (place later : ℕ) → GoesOn old new → HaveInitSections m old → HaveInitSections m new
     → place < length old → place ≤ later → later ≤ length old → later < length new → (later ≡ length old → Above new old)
     → Follows (cut first later new) (cut first place old)
 follows m first old new place later grown om nm inside on within some above =
@@ -83,8 +83,8 @@ follows m first old new place later grown om nm inside on within some above =
     let list : b.front ++ (b.here ∷ b.after) ≡ grown.0 ++ (a.front ++ (a.here ∷ a.after)) = sym b.is ∙ grown.1 ∙ ap (λ ps. grown.0 ++ ps) a.is in
     let agree = windows_agree first a.front a.here a.after b.front b.here b.after grown.0 list in
     record {
-      mapped = ap is_mapped is ∙ mapped_window m first b.front b.here b.after (subst (λ ps. Mapped m ps) b.is nm)
-          ∙ sym (ap is_mapped was ∙ mapped_window m first a.front a.here a.after (subst (λ ps. Mapped m ps) a.is om));
+      with_init_sections = ap has_init_sections is ∙ window_has_init_sections m first b.front b.here b.after (subst (λ ps. HaveInitSections m ps) b.is nm)
+          ∙ sym (ap has_init_sections was ∙ window_has_init_sections m first a.front a.here a.after (subst (λ ps. HaveInitSections m ps) a.is om));
       not_back = omega (arith, start, start2, a.at, b.at, on);
       no_gap = omega (arith, start2, end, b.at, within);
       not_shrunk = omega (arith, end, end2, longer);

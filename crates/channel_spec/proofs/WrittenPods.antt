@@ -11,7 +11,7 @@ use Rattle.stitcher.specs.Stitched.{Piece, Numbers, ad_piece, ad_pieces, pieces_
 use Rattle.stitcher.specs.Paced.{Rest, older, due, newest_pieces, due_with, due_stitched, rest_pieces}
 use Rattle.break_finder.specs.Known.{Accepted, is_this}
 use Rattle.channel_spec.specs.Marking.{last_entered}
-use Rattle.channel_spec.specs.Successor.{first_number, end_number, is_mapped}
+use Rattle.channel_spec.specs.Successor.{first_number, end_number, has_init_sections}
 use Rattle.channel_spec.specs.Live.{told, is_marked, in_use, rest_before, rest_id, rest_over, last_playlist, window_from}
 use Rattle.channel_spec.specs.LiveLaws.{Linked}
 use Rattle.channel_spec.specs.BreakLaws.{is_of_pod, InUseIsWritten}
@@ -254,7 +254,7 @@ in_window id p newer s gone start w at linked number =
     let history = newer ++ (s ∷ gone) in
     let first = first_number p.segments in
     let end = end_number p.segments in
-    let m = is_mapped p.segments in
+    let m = has_init_sections p.segments in
     let falls = w.standing.falls in
     let there = rest_with 0 start (length (stitched (rest_of s gone))) gone in
     let b = below_start end start newer s gone falls (linked_behind newer (s ∷ gone) linked).1 at in

@@ -60,7 +60,7 @@ pub record BeginsBreak (m : Moment) (before : List Marked) (s : Segment) (later 
 -- such a break is filled with the fallback, where it has no pod of its own and the fallback fits
 abbrev pub FallbackFills : Type 0
 FallbackFills = (m : Moment) (before : List Marked) (s : Segment) (later : List Segment) (b : Break) (pod : Pod) → BeginsBreak m before s later b pod →
-    own_pod m.store b.id ≡ None → m.store.fallback ≡ Some pod → pod_fits m.target_duration m.mapped pod ≡ true →
+    own_pod m.store b.id ≡ None → m.store.fallback ≡ Some pod → pod_fits m.target_duration m.with_init_sections pod ≡ true →
     ((next_shown m before s later).mark ≡ Some (record { id = b.id; pod = pod }))
     × (due_stitched false (next_shown m before s later ∷ before) ≡ reverse (due s.duration (pod_pieces (record { id = b.id; pod = pod }))) ++ stitched before)
 

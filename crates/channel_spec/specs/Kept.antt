@@ -15,7 +15,7 @@ use Rattle.channel_spec.specs.declared.fault.RefreshFault.TheVariants.{NumberRan
 use Rattle.break_finder.specs.Known.{Accepted, known}
 use Rattle.break_finder.specs.Breaks.{Break}
 use Rattle.channel_spec.specs.Marking.{Moment, mark_id, last_entered, next_mark, instant_of, is_new}
-use Rattle.channel_spec.specs.Successor.{first_number, is_mapped, fault_if}
+use Rattle.channel_spec.specs.Successor.{first_number, has_init_sections, fault_if}
 use Rattle.channel_spec.specs.Live.{Told, last_playlist, succession_fault, place_of, rest_over, rest_by, in_use_with, date_ranges_left, window_from, item_segment, states_instant, playlist_with}
 use Rattle.break_finder.specs.Known.{carry}
 
@@ -78,7 +78,7 @@ abbrev pub kept_moment : ℕ → Kept → Playlist → Moment
 kept_moment tolerance kept playlist = record {
   tolerance = tolerance;
   target_duration = playlist.target_duration;
-  mapped = is_mapped playlist.segments;
+  with_init_sections = has_init_sections playlist.segments;
   breaks = carry (kept_acceptance kept playlist) kept.breaks;
   store = kept.store;
 }

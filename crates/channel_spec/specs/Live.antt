@@ -15,7 +15,7 @@ use Rattle.channel_spec.specs.Marking.{Moment, mark_id, last_entered, history_af
 use Rattle.stitcher.specs.Stitched.{Item, fits, newest_place, up_to, from_place}
 use Rattle.stitcher.specs.Paced.{Rest, due_stitched, due_list}
 use Rattle.break_finder.specs.Known.{Accepted, known, is_this}
-use Rattle.channel_spec.specs.Successor.{successor_fault, first_number, is_mapped, fault_if}
+use Rattle.channel_spec.specs.Successor.{successor_fault, first_number, has_init_sections, fault_if}
 use Rattle.channel_spec.specs.declared.fault.RefreshFault.{RefreshFault}
 use Rattle.channel_spec.specs.declared.fault.RefreshFault.TheVariants.{NumberRange}
 
@@ -106,7 +106,7 @@ abbrev pub moment : ℕ → Told → Playlist → Moment
 moment tolerance told playlist = record {
   tolerance = tolerance;
   target_duration = playlist.target_duration;
-  mapped = is_mapped playlist.segments;
+  with_init_sections = has_init_sections playlist.segments;
   breaks = known (acceptance told playlist ∷ told.accepted);
   store = told.store;
 }

@@ -26,7 +26,7 @@ instant_of before s later = begins_at (newest_end before) s later
 pub record Moment : Type 0 where
   pub tolerance : ℕ
   pub target_duration : ℕ
-  pub mapped : Bool
+  pub with_init_sections : Bool
   pub breaks : List Break
   pub store : Store
 
@@ -51,7 +51,7 @@ continued m instant (Some f) = if is_inside m instant f then Some f else None
 
 -- what breaks are entered by, after this last break entered
 abbrev pub limits : Moment → Option (List ℕ) → entering.EntryLimits
-limits m last = record { tolerance = m.tolerance; target_duration = m.target_duration; mapped = m.mapped; last = last }
+limits m last = record { tolerance = m.tolerance; target_duration = m.target_duration; with_init_sections = m.with_init_sections; last = last }
 
 -- the first known, signalled, decided, fitting break that is entered here and isn't the last one entered
 abbrev pub entered : Moment → Option ℤ → Option (List ℕ) → Option Mark

@@ -7,7 +7,7 @@ use Rattle.pod_store.specs.Pods.{Pod, Ad}
 use Rattle.pod_store.specs.declared.Decisions.{Decisions}
 use Rattle.pod_store.specs.declared.Decisions.TheVariants.{Breaks, Withdraw, Fallback, NoFallback}
 use Rattle.channel_spec.specs.Live.{Event, decided, refreshed}
-use Rattle.channel_spec.specs.Successor.{first_number, is_mapped}
+use Rattle.channel_spec.specs.Successor.{first_number, has_init_sections}
 
 -- the media numbers rise by one, from this number on (RFC 8216, 4.3.3.2)
 abbrev pub RiseFrom : ℕ → List Segment → Type 0
@@ -19,7 +19,7 @@ RiseFrom number (s ∷ later) = (s.media_sequence ≡ number) × RiseFrom (numbe
 pub record IsSoundPlaylist (playlist : Playlist) : Type 0 where
   pub some : 0 < length playlist.segments
   pub numbers : RiseFrom (first_number playlist.segments) playlist.segments
-  pub mapped : AllByRecursion (λ (s : Segment). is_some s.init_section ≡ is_mapped playlist.segments) playlist.segments
+  pub with_init_sections : AllByRecursion (λ (s : Segment). is_some s.init_section ≡ has_init_sections playlist.segments) playlist.segments
 
 -- what every pod that is decided keeps: an ad or more, with a segment or more each
 pub record IsSoundPod (pod : Pod) : Type 0 where

@@ -27,9 +27,9 @@ last_discontinuity [] = 0
 last_discontinuity (s ∷ []) = s.discontinuity_sequence
 last_discontinuity (s ∷ t ∷ later) = last_discontinuity (t ∷ later)
 
-abbrev pub is_mapped : List Segment → Bool
-is_mapped [] = false
-is_mapped (s ∷ later) = is_some s.init_section
+abbrev pub has_init_sections : List Segment → Bool
+has_init_sections [] = false
+has_init_sections (s ∷ later) = is_some s.init_section
 
 -- a segment is the same in all but title, time and steps as those of its number
 abbrev pub AgreesWith : List Segment → Segment → Type 0
@@ -40,7 +40,7 @@ pub record Succeeds (Q P : Playlist) : Type 0 where
   pub version : Q.version ≡ P.version
   pub target_duration : Q.target_duration ≡ P.target_duration
   pub playlist_type : Q.playlist_type ≡ P.playlist_type
-  pub mapped : is_mapped Q.segments ≡ is_mapped P.segments
+  pub with_init_sections : has_init_sections Q.segments ≡ has_init_sections P.segments
   pub not_back : first_number P.segments ≤ first_number Q.segments
   pub no_gap : first_number Q.segments ≤ end_number P.segments
   pub not_shrunk : end_number P.segments ≤ end_number Q.segments
@@ -89,7 +89,7 @@ successor_fault old new =
     or_earlier (fault_if (not (new.version == old.version)) VersionChanged)
     (or_earlier (fault_if (not (new.target_duration == old.target_duration)) TargetChanged)
     (or_earlier (fault_if (not (kind_eq new.playlist_type old.playlist_type)) TypeChanged)
-    (or_earlier (fault_if (are_different (is_mapped new.segments) (is_mapped old.segments)) MapsChanged)
+    (or_earlier (fault_if (are_different (has_init_sections new.segments) (has_init_sections old.segments)) MapsChanged)
     (or_earlier (fault_if (nat_lt (first_number new.segments) (first_number old.segments)) Back)
     (or_earlier (fault_if (nat_lt (end_number old.segments) (first_number new.segments)) Gap)
     (or_earlier (fault_if (nat_lt (end_number new.segments) (end_number old.segments)) Shrunk)

@@ -11,7 +11,7 @@ use Rattle.pod_store.specs.Store.{Store, pod_for}
 use Rattle.stitcher.specs.declared.marked.MarkedSegment.{MarkedSegment as Held}
 use Rattle.stitcher.specs.StitchedSegments.{mark_in, mark_with, IsDecided, AreDecided}
 use Rattle.break_finder.specs.Known.{is_this, carry}
-use Rattle.channel_spec.specs.Successor.{is_mapped}
+use Rattle.channel_spec.specs.Successor.{has_init_sections}
 use Rattle.channel_spec.specs.Marking.{Moment, mark_id, is_new, newest_end}
 use Rattle.channel_spec.specs.Live.{is_marked}
 use Rattle.channel_spec.specs.Kept.{show_on, length_on, kept_acceptance}
@@ -41,13 +41,13 @@ module _ (tolerance : ℕ) (state : ChannelState) (p : Playlist) (shown : List H
     (before : AreDecided state.store state.shown) (same : shown ≡ state.shown) (mark_is : newest_mark (so_far state.store shown) ≡ mark_in state.store newest) (newest_is : AreDecided state.store shown → IsDecided state.store newest)
     (breaks_are : a.knowledge ≡ carry (record { playlist = p; carried = newest }) state.knowledge) (fresh_is : fresh ≡ filter (is_new (so_far state.store shown)) p.segments)
     (ended_is : ended ≡ newest_end (so_far state.store shown)) (begun_is : begun ≡ instants_after ended fresh)
-    (marked_is : marked ≡ mark_on (record { tolerance = tolerance; target_duration = p.target_duration; mapped = is_mapped p.segments; breaks = a.knowledge; store = state.store }) newest state.entered fresh begun)
+    (marked_is : marked ≡ mark_on (record { tolerance = tolerance; target_duration = p.target_duration; with_init_sections = has_init_sections p.segments; breaks = a.knowledge; store = state.store }) newest state.entered fresh begun)
     (list_is : a.list.items ≡ shown ++ marked) where
   abbrev store : Store
   store = state.store
 
   abbrev moment : List Break → Moment
-  moment breaks = record { tolerance = tolerance; target_duration = p.target_duration; mapped = is_mapped p.segments; breaks = breaks; store = store }
+  moment breaks = record { tolerance = tolerance; target_duration = p.target_duration; with_init_sections = has_init_sections p.segments; breaks = breaks; store = store }
 
   decided : AreDecided store shown
   decided = subst (AreDecided store) (sym same) before

@@ -16,5 +16,5 @@ pub use marking::{Limits, mark_on, text_in};
 pub use placing::{place_of, rest_count, run_count};
 pub use showing::{Showing, shown_with};
 pub use state::ChannelState;
-pub use successor::{check_successor, first_number, is_mapped};
+pub use successor::{check_successor, first_number, has_init_sections};
 pub use writing::{PlacedList, date_ranges_left, head_of, placed_of};

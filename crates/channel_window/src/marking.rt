@@ -25,7 +25,7 @@ pub struct Limits {
     /// The target duration, in seconds.
     pub target_duration: u64,
     /// Whether the origin's segments have initialisation sections.
-    pub mapped: bool,
+    pub with_init_sections: bool,
 }
 
 /// The characters of `text`, if there is one.
@@ -76,9 +76,9 @@ impl<'a> Model for Marker<'a> {
 
     ghost Value = { Moment };
 
-    ghost view = { λ a. record { tolerance = a.limits.tolerance; target_duration = a.limits.target_duration; mapped = a.limits.mapped; breaks = a.knowledge.now; store = a.store.now } };
+    ghost view = { λ a. record { tolerance = a.limits.tolerance; target_duration = a.limits.target_duration; with_init_sections = a.limits.with_init_sections; breaks = a.knowledge.now; store = a.store.now } };
 
-    ghost invariant = { λ a. (a.entrances ≡ record { tolerance = a.limits.tolerance; found = entrances_in a.limits.target_duration a.limits.mapped a.store.now a.knowledge.now }) × (a.unmarked ≡ None) × IsStaying a.knowledge.now a.store.now a.limits.tolerance a.staying };
+    ghost invariant = { λ a. (a.entrances ≡ record { tolerance = a.limits.tolerance; found = entrances_in a.limits.target_duration a.limits.with_init_sections a.store.now a.knowledge.now }) × (a.unmarked ≡ None) × IsStaying a.knowledge.now a.store.now a.limits.tolerance a.staying };
 }
 
 // What decides them for about so many segments.
@@ -89,7 +89,7 @@ fn marker_of<'a>(
     store: &'a PodStore,
     segments: usize,
 ) -> Result<Marker<'a>, AllocError>
-    ensures { IfOk result (λ marker. marker ≡ record { tolerance = limits.now.tolerance; target_duration = limits.now.target_duration; mapped = limits.now.mapped; breaks = knowledge.now; store = store.now }) }
+    ensures { IfOk result (λ marker. marker ≡ record { tolerance = limits.now.tolerance; target_duration = limits.now.target_duration; with_init_sections = limits.now.with_init_sections; breaks = knowledge.now; store = store.now }) }
 {
     Ok(Marker {
         limits: *limits,
@@ -99,7 +99,7 @@ fn marker_of<'a>(
             alloc,
             limits.tolerance,
             limits.target_duration,
-            limits.mapped,
+            limits.with_init_sections,
             store,
             segments,
         )?,
@@ -428,7 +428,7 @@ pub fn mark_on(
     segments: Members<'_, Segment>,
     instants: Beginnings<'_>,
 ) -> Result<Vec<MarkedSegment>, AllocError>
-    ensures { IfOk result (λ v. v.items ≡ mark_on (record { tolerance = limits.now.tolerance; target_duration = limits.now.target_duration; mapped = limits.now.mapped; breaks = knowledge.now; store = store.now }) newest.now last.now segments.entry instants.entry) }
+    ensures { IfOk result (λ v. v.items ≡ mark_on (record { tolerance = limits.now.tolerance; target_duration = limits.now.target_duration; with_init_sections = limits.now.with_init_sections; breaks = knowledge.now; store = store.now }) newest.now last.now segments.entry instants.entry) }
 {
     let mut marker = marker_of(alloc, limits, knowledge, store, segments.len())?;
     let mut run = run_of(newest, last)?;

@@ -1,7 +1,7 @@
 //! The breaks that are known after a refresh, and the segments that are shown then.
 ghost use Rattle.std.specs.Prelude.{◌≡◌, IfOk};
 ghost use Rattle.stitcher.specs.StitchedSegments.{AreDecided};
-ghost use Rattle.channel_spec.specs.Successor.{is_mapped};
+ghost use Rattle.channel_spec.specs.Successor.{has_init_sections};
 ghost use Rattle.channel_window.specs.Checked.{AreContiguous};
 ghost use Rattle.channel_window.specs.Showing.{kept_in};
 ghost use Rattle.channel_window.specs.Showing.{IsShown};
@@ -11,7 +11,7 @@ use crate::listing::{
 };
 use crate::marking::{Limits, mark_on, text_in};
 use crate::state::ChannelState;
-use crate::successor::is_mapped;
+use crate::successor::has_init_sections;
 use break_finder::Knowledge;
 use fixed_duration::Nanos;
 use playlist_model::Playlist;
@@ -33,12 +33,12 @@ pub struct Showing {
 }
 
 fn limits_of(tolerance: Nanos, playlist: &Playlist) -> Limits
-    ensures { result ≡ record { tolerance = tolerance; target_duration = playlist.now.target_duration; mapped = is_mapped playlist.now.segments } }
+    ensures { result ≡ record { tolerance = tolerance; target_duration = playlist.now.target_duration; with_init_sections = has_init_sections playlist.now.segments } }
 {
     Limits {
         tolerance,
         target_duration: playlist.target_duration,
-        mapped: is_mapped(playlist.segments.as_slice()),
+        with_init_sections: has_init_sections(playlist.segments.as_slice()),
     }
 }
 

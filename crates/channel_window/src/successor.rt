@@ -1,7 +1,7 @@
 //! Which playlist may follow which (RFC 8216, sections 6.2.1 and 6.2.2).
 ghost use Rattle.std.specs.Prelude.{◌≡◌, Bool, true, false, not, ◌&&◌, option_map, is_none};
 ghost use Rattle.channel_spec.specs.declared.fault.RefreshFault.TheVariants.{Changed};
-ghost use Rattle.channel_spec.specs.Successor.{are_different, end_number, first_changed, first_discontinuity, first_number, discontinuity_out_of_range, is_mapped, is_same_window, kind_eq, last_discontinuity, answer_of, successor_fault};
+ghost use Rattle.channel_spec.specs.Successor.{are_different, end_number, first_changed, first_discontinuity, first_number, discontinuity_out_of_range, has_init_sections, is_same_window, kind_eq, last_discontinuity, answer_of, successor_fault};
 ghost use Rattle.channel_window.specs.Checked.{AreContiguous, AreTaken};
 ghost use Rattle.channel_window.specs.Inner.Checked.{is_as_before};
 
@@ -46,8 +46,8 @@ fn last_discontinuity(segments: &[Segment]) -> u64
 }
 
 /// Whether `segments` have initialisation sections (RFC 8216, section 4.3.2.5): whether the first one has.
-pub fn is_mapped(segments: &[Segment]) -> bool
-    ensures { result ≡ is_mapped segments.now }
+pub fn has_init_sections(segments: &[Segment]) -> bool
+    ensures { result ≡ has_init_sections segments.now }
 {
     match segments.first() {
         Some(segment) => segment.init_section.is_some(),
@@ -155,7 +155,7 @@ pub fn check_successor(
     if !is_same_kind(new.playlist_type, old.playlist_type) {
         return Err(RefreshFault::TypeChanged);
     }
-    if is_mapped(after) != is_mapped(before) {
+    if has_init_sections(after) != has_init_sections(before) {
         return Err(RefreshFault::MapsChanged);
     }
     if first_number(after) < first_number(before) {

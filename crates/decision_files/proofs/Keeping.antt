@@ -185,8 +185,8 @@ members_keep place d =
 key_is : (place : Place) (d : Data) (k : Key) → said.key_said place d ≡ Ok k → KeyKeeps k
 key_is place d = after KeyKeeps (or_fault (fault_at place Shape) (as_object d)) (λ members. said.key_members place d) (λ members was. members_keep place d)
 
-map_is : (place : Place) (d : Data) (part : said.Part) → said.map_said place d ≡ Ok part → PartKeeps part
-map_is place d = after PartKeeps (or_fault (fault_at place Shape) (text_at (codes "uri") d)) (λ uri. said.part_said place uri d) (λ uri was. part_keeps place uri d)
+init_section_is : (place : Place) (d : Data) (part : said.Part) → said.init_section_said place d ≡ Ok part → PartKeeps part
+init_section_is place d = after PartKeeps (or_fault (fault_at place Shape) (text_at (codes "uri") d)) (λ uri. said.part_said place uri d) (λ uri was. part_keeps place uri d)
 
 -- ---- ads
 
@@ -240,12 +240,12 @@ ad_is (Some part) (Some key) segments p k s = and_from _ _ (and_from _ _ (and_fr
 
 ad_said_keeps : (pod ad before : ℕ) (d : Data) (a : Ad) → said.ad_said pod ad before d ≡ Ok a → AdKeeps a
 ad_said_keeps pod ad before d =
-    after AdKeeps (optional (said.map_said (in_ad pod ad)) (get (codes "map") d))
+    after AdKeeps (optional (said.init_section_said (in_ad pod ad)) (get (codes "map") d))
     (λ part. optional (said.key_said (in_ad pod ad)) (get (codes "key") d) >>= λ key. said.segments_said pod ad before d >>= λ segments. Ok (said.ad_of part key segments))
     (λ part p. after AdKeeps (optional (said.key_said (in_ad pod ad)) (get (codes "key") d)) (λ key. said.segments_said pod ad before d >>= λ segments. Ok (said.ad_of part key segments))
     (λ key k. after AdKeeps (said.segments_said pod ad before d) (λ segments. Ok (said.ad_of part key segments))
     (λ segments s. answers AdKeeps (said.ad_of part key segments)
-    (ad_is part key segments (optional_is OptionalPart (said.map_said (in_ad pod ad)) (get (codes "map") d) tt (λ a x e. map_is (in_ad pod ad) a x e) part p)
+    (ad_is part key segments (optional_is OptionalPart (said.init_section_said (in_ad pod ad)) (get (codes "map") d) tt (λ a x e. init_section_is (in_ad pod ad) a x e) part p)
     (optional_is OptionalKey (said.key_said (in_ad pod ad)) (get (codes "key") d) tt (λ a x e. key_is (in_ad pod ad) a x e) key k)
     (segments_keep pod ad before d segments s)))))
 

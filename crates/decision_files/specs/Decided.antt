@@ -46,8 +46,8 @@ Part = List ℕ × Option ByteRange
 abbrev pub part_said : Place → List ℕ → Data → Outcome Part
 part_said place uri d = refuse_if (not (is_uri uri)) (fault_at place BadUri) (byte_range_said place d >>= λ byte_range. Ok (uri, byte_range))
 
-abbrev pub map_said : Place → Data → Outcome Part
-map_said place d = or_fault (fault_at place Shape) (text_at (codes "uri") d) >>= λ uri. part_said place uri d
+abbrev pub init_section_said : Place → Data → Outcome Part
+init_section_said place d = or_fault (fault_at place Shape) (text_at (codes "uri") d) >>= λ uri. part_said place uri d
 
 abbrev pub text_of : Place → Data → Outcome (List ℕ)
 text_of place d = or_fault (fault_at place BadKey) (as_str d)
@@ -85,9 +85,9 @@ abbrev pub keys_of : Option Key → List Key
 keys_of None = []
 keys_of (Some key) = key ∷ []
 
--- the section has the ad's keys
-abbrev pub section_with : List Key → Part → InitSection
-section_with keys part = record { uri = part.0; byte_range = part.1; keys = keys }
+-- the initialisation section has the ad's keys
+abbrev pub init_section_with : List Key → Part → InitSection
+init_section_with keys part = record { uri = part.0; byte_range = part.1; keys = keys }
 
 -- ---- segments
 
@@ -118,7 +118,7 @@ segments_said pod ad before d =
 
 abbrev pub ad_of : Option Part → Option Key → List PodSegment → Ad
 ad_of part key segments = record {
-  init_section = option_map (section_with (keys_of key)) part;
+  init_section = option_map (init_section_with (keys_of key)) part;
   keys = keys_of key;
   segments = segments;
 }
@@ -126,7 +126,7 @@ ad_of part key segments = record {
 -- an ad of a break, which has so many segments in the ads before
 abbrev pub ad_said : ℕ → ℕ → ℕ → Data → Outcome Ad
 ad_said pod ad before d =
-    optional (map_said (in_ad pod ad)) (get (codes "map") d) >>= λ part.
+    optional (init_section_said (in_ad pod ad)) (get (codes "map") d) >>= λ part.
     optional (key_said (in_ad pod ad)) (get (codes "key") d) >>= λ key.
     segments_said pod ad before d >>= λ segments.
     Ok (ad_of part key segments)

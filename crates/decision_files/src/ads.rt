@@ -4,21 +4,25 @@ ghost use Rattle.serde_json.specs.View.{view};
 ghost use Rattle.serde_json.specs.Find.{get};
 ghost use Rattle.pod_store.specs.Outcome.{Gives, each_after, optional};
 ghost use Rattle.pod_store.specs.Pods.{segment_count};
-ghost use Rattle.decision_files.specs.Decided.{map_said, key_said, ad_said, next_ad, pod_said, ad_of};
+ghost use Rattle.decision_files.specs.Decided.{init_section_said, key_said, ad_said, next_ad, pod_said, ad_of};
 ghost use Rattle.decision_files.specs.Inner.Views.{part_of};
 
-use crate::keys::{Part, key_said, keys_of, map_said, section_with};
+use crate::keys::{Part, init_section_said, init_section_with, key_said, keys_of};
 use crate::segments::{MAX_SEGMENTS, segments_said};
 use playlist_model::{Items, Key};
 use pod_store::{Ad, DecisionFault, DecisionKind, Place, Pod, PodSegment};
 use serde_json::Value;
 use std::alloc::{AllocError, Global};
 
-fn stated_map(alloc: Global, place: Place, value: &Value) -> Result<Option<Part>, DecisionFault>
-    ensures { Gives (option_map part_of) result (optional (map_said place) (get (codes "map") (view value.now))) }
+fn stated_init_section(
+    alloc: Global,
+    place: Place,
+    value: &Value,
+) -> Result<Option<Part>, DecisionFault>
+    ensures { Gives (option_map part_of) result (optional (init_section_said place) (get (codes "map") (view value.now))) }
 {
     match value.get("map") {
-        Some(map) => Ok(Some(map_said(alloc, place, map)?)),
+        Some(map) => Ok(Some(init_section_said(alloc, place, map)?)),
         None => Ok(None),
     }
 }
@@ -41,12 +45,12 @@ fn ad_of(
     ensures { IfOk result (λ ad. ad ≡ ad_of (option_map part_of part) key segments.items) }
 {
     let keys = keys_of(alloc, key)?;
-    let map = match part {
-        Some(part) => Some(section_with(&keys, part)?),
+    let init_section = match part {
+        Some(part) => Some(init_section_with(&keys, part)?),
         None => None,
     };
     Ok(Ad {
-        init_section: map,
+        init_section,
         keys,
         segments: Items::from_vec(segments),
     })
@@ -65,7 +69,7 @@ fn ad_said(
     ensures most { IfOk result (λ a. before + segment_count a ≤ MAX_SEGMENTS) }
 {
     let place = Place::in_ad(pod, ad);
-    let part = stated_map(alloc, place, value)?;
+    let part = stated_init_section(alloc, place, value)?;
     let key = stated_key(alloc, place, value)?;
     let segments = segments_said(alloc, pod, ad, before, value)?;
     Ok(ad_of(alloc, part, key, segments)?)

@@ -5,7 +5,7 @@ ghost use Rattle.serde_json.specs.View.{view};
 ghost use Rattle.serde_json.specs.Find.{as_str, get};
 ghost use Rattle.pod_store.specs.Outcome.{Gives, optional, or_fault};
 ghost use Rattle.pod_store.specs.Inner.Outcome.{GivesExactly};
-ghost use Rattle.decision_files.specs.Decided.{part_said, map_said, format_said, text_of, method_said, key_uri_said, iv_said, key_said, key_members, keys_of, section_with};
+ghost use Rattle.decision_files.specs.Decided.{part_said, init_section_said, format_said, text_of, method_said, key_uri_said, iv_said, key_said, key_members, keys_of, init_section_with};
 ghost use Rattle.decision_files.specs.Inner.Views.{part_of};
 
 use crate::members::{byte_range_said, text_at};
@@ -49,8 +49,8 @@ pub fn part_said(
 
 /// The resource and the part of it that `value`, the initialisation section of an ad, states (RFC 8216, section
 /// 4.3.2.5). `Shape`, at `place`, if it is no object with a URI; then the faults of `part_said`.
-pub fn map_said(alloc: Global, place: Place, value: &Value) -> Result<Part, DecisionFault>
-    ensures { Gives part_of result (map_said place (view value.now)) }
+pub fn init_section_said(alloc: Global, place: Place, value: &Value) -> Result<Part, DecisionFault>
+    ensures { Gives part_of result (init_section_said place (view value.now)) }
 {
     let uri = text_at(value, "uri").ok_or(place.fault(DecisionKind::Shape))?;
     part_said(alloc, place, uri, value)
@@ -151,8 +151,8 @@ pub fn keys_of(alloc: Global, key: Option<Key>) -> Result<Keys, AllocError>
 
 /// The initialisation section of `part`, under copies of `keys` (RFC 8216, section 4.3.2.5). Fails only if an
 /// allocation fails.
-pub fn section_with(keys: &Keys, part: Part) -> Result<InitSection, AllocError>
-    ensures { IfOk result (λ section. section ≡ section_with keys.now (part_of part)) }
+pub fn init_section_with(keys: &Keys, part: Part) -> Result<InitSection, AllocError>
+    ensures { IfOk result (λ init_section. init_section ≡ init_section_with keys.now (part_of part)) }
 {
     Ok(InitSection {
         uri: part.uri,

@@ -40,7 +40,7 @@ fn ad_examples()
     ensures past { decisions_of (with_ad (codes "{\"segments\":[{\"uri\":\"http://a/b\",\"duration\":\"1\",\"offset\":18446744073709551615,\"length\":1}]}")) ≡ Err (fault_at (in_segment 0 0 0) DecisionKind.Shape) }
     ensures uri { decisions_of (with_ad (codes "{\"segments\":[{\"uri\":\"http://\",\"duration\":\"x\"}]}")) ≡ Err (fault_at (in_segment 0 0 0) DecisionKind.BadUri) }
     ensures duration { decisions_of (with_ad (codes "{\"segments\":[{\"uri\":\"http://a\",\"duration\":\"x\"}]}")) ≡ Err (fault_at (in_segment 0 0 0) DecisionKind.BadDuration) }
-    ensures no_map { decisions_of (with_ad (codes "{\"map\":null}")) ≡ Err (fault_at (in_ad 0 0) DecisionKind.Shape) }
+    ensures no_init_section { decisions_of (with_ad (codes "{\"map\":null}")) ≡ Err (fault_at (in_ad 0 0) DecisionKind.Shape) }
     ensures no_format { decisions_of (with_ad (codes "{\"key\":{\"method\":\"AES-128\",\"uri\":\"http://a/k\",\"iv\":\"0x1\",\"format\":null}}")) ≡ Err (fault_at (in_ad 0 0) DecisionKind.BadKey) }
     ensures key_uri { decisions_of (with_ad (codes "{\"key\":{\"method\":\"AES-128\",\"uri\":\"k\",\"iv\":\"1\"}}")) ≡ Err (fault_at (in_ad 0 0) DecisionKind.BadUri) }
     ensures segments { decisions_of (with_ad (codes "{\"segments\":[]}")) ≡ Err (fault_at (in_ad 0 0) DecisionKind.EmptyPod) }

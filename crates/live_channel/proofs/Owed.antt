@@ -22,7 +22,7 @@ use Rattle.break_finder.specs.declared.why.Why.{Why}
 use Rattle.channel_spec.specs.declared.fault.RefreshFault.{RefreshFault}
 use Rattle.channel_spec.specs.declared.fault.RefreshFault.TheVariants.{NumberRange}
 use Rattle.channel_spec.specs.Sound.{IsSoundPlaylist, IsSoundEvent}
-use Rattle.channel_spec.specs.Successor.{Succeeds, first_number, is_mapped, fault_if}
+use Rattle.channel_spec.specs.Successor.{Succeeds, first_number, has_init_sections, fault_if}
 use Rattle.channel_spec.specs.Live.{Event, Told, told, refusal, number_range_fault, succession_fault, last_playlist, list_of, in_use, after_refresh, window_after, owed, owed_for}
 use Rattle.channel_spec.specs.Live as live
 use Rattle.channel_spec.specs.LiveLaws.{GoesOn, first_shown}
@@ -75,7 +75,7 @@ explain_step : (tolerance : ℕ) (events : List Event) (id : List ℕ) → AllBy
 explain_step tolerance events id sound None e = refl
 explain_step tolerance events id sound (Some last) e =
     let t = told tolerance events in
-    ap (λ b. why (known t.accepted) id last.target_duration (is_mapped last.segments) t.store b)
+    ap (λ b. why (known t.accepted) id last.target_duration (has_init_sections last.segments) t.store b)
     (used_are_in_use tolerance events id sound ∙ ap (λ n. in_use t.start n t.history id) (first_is t.accepted last e))
 
 pub explains : (c : Channel) (id : List ℕ) (result : Why) → result ≡ explained c.kept id → Explains c id result

@@ -27,7 +27,7 @@ use Rattle.break_finder.specs.Entering.{id_of, why}
 use Rattle.break_finder.specs.Known.{known}
 use Rattle.break_finder.specs.declared.why.Why.{Why}
 use Rattle.break_finder.specs.declared.why.Why.TheVariants.{NotKnown}
-use Rattle.channel_spec.specs.Successor.{first_number, is_mapped}
+use Rattle.channel_spec.specs.Successor.{first_number, has_init_sections}
 use Rattle.channel_spec.specs.Marking.{is_new}
 use Rattle.channel_spec.specs.Live.{Event, Told, told, refusal, last_playlist, in_use, after_refresh, window_after, owed_for, date_range_text}
 use Rattle.channel_spec.specs.Live as live
@@ -238,7 +238,7 @@ Writes c = (given : List Given) → Represents c given → WritesOwed (told_by c
 -- by the last playlist, what is known since, and the store now; before the first refresh nothing is known
 abbrev pub why_by : Option Playlist → Kept → List ℕ → Why
 why_by None kept id = NotKnown
-why_by (Some last) kept id = why kept.breaks id last.target_duration (is_mapped last.segments) kept.store (is_used kept.store id)
+why_by (Some last) kept id = why kept.breaks id last.target_duration (has_init_sections last.segments) kept.store (is_used kept.store id)
 
 abbrev pub explained : Kept → List ℕ → Why
 explained kept id = why_by kept.last kept id
@@ -246,7 +246,7 @@ explained kept id = why_by kept.last kept id
 -- the same of all that was told: a break is filled where it is in use
 abbrev pub owed_why_by : Told → Option Playlist → List ℕ → Why
 owed_why_by t None id = NotKnown
-owed_why_by t (Some last) id = why (known t.accepted) id last.target_duration (is_mapped last.segments) t.store (in_use t.start (first_number last.segments) t.history id)
+owed_why_by t (Some last) id = why (known t.accepted) id last.target_duration (has_init_sections last.segments) t.store (in_use t.start (first_number last.segments) t.history id)
 
 abbrev pub owed_why : Told → List ℕ → Why
 owed_why t id = owed_why_by t (last_playlist t.accepted) id

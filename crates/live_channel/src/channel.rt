@@ -8,14 +8,14 @@ ghost use Rattle.playlist_parse.specs.Kept.{AreTaken, IsSource, last_segments};
 ghost use Rattle.pod_store.specs.Store.{withdrawn as without_break};
 ghost use Rattle.pod_store.specs.Store.{is_used};
 ghost use Rattle.break_finder.specs.Entering.{id_of, why};
-ghost use Rattle.channel_spec.specs.Successor.{is_mapped};
+ghost use Rattle.channel_spec.specs.Successor.{has_init_sections};
 ghost use Rattle.channel_spec.specs.Limits.{max_tolerance};
 
 use crate::refresh::{accept, next_after, playlist_after, playlist_of};
 use crate::type_facts::know_pods;
 use break_finder::{Knowledge, Why};
 use channel_spec::{MAX_TOLERANCE, RefreshFault};
-use channel_window::{ChannelState, is_mapped};
+use channel_window::{ChannelState, has_init_sections};
 use decision_files::read_decisions;
 use fixed_duration::Nanos;
 use playlist_model::{Items, Playlist, Shared, Text};
@@ -79,10 +79,16 @@ pub enum ChannelFault {
 
 // Why a break is filled or not, where this playlist was accepted last.
 fn why_after(knowledge: &Knowledge, store: &PodStore, last: &Playlist, id: &str) -> Why
-    ensures { result ≡ why knowledge.now id.now last.now.target_duration (is_mapped last.now.segments) store.now (is_used store.now id.now) }
+    ensures { result ≡ why knowledge.now id.now last.now.target_duration (has_init_sections last.now.segments) store.now (is_used store.now id.now) }
 {
-    let mapped = is_mapped(last.segments.as_slice());
-    knowledge.why(id, last.target_duration, mapped, store, store.is_used(id))
+    let with_init_sections = has_init_sections(last.segments.as_slice());
+    knowledge.why(
+        id,
+        last.target_duration,
+        with_init_sections,
+        store,
+        store.is_used(id),
+    )
 }
 
 impl Channel {

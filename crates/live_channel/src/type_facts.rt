@@ -6,7 +6,7 @@ ghost use Rattle.writable.specs.Fitting.{if_some};
 ghost use Rattle.channel_spec.specs.Sound.{AllPods};
 ghost use Rattle.owed_is_denoted.specs.Laws.{KeepsRules};
 ghost use Rattle.live_channel.specs.Inner.Typed.{keeps_rules};
-ghost use Rattle.read_is_writable.specs.Read.{key_is_text, section_is_text, uris_are_text};
+ghost use Rattle.read_is_writable.specs.Read.{key_is_text, init_section_is_text, uris_are_text};
 
 use playlist_model::{InitSection, Keys, Segment, Shared};
 use pod_store::{Decision, Decisions};
@@ -19,12 +19,12 @@ fn know_keys(keys: &Keys)
     }
 }
 
-fn know_section(section: &Option<Shared<InitSection>>)
-    ensures { if_some section_is_text section.now ≡ true }
+fn know_init_section(init_section: &Option<Shared<InitSection>>)
+    ensures { if_some init_section_is_text init_section.now ≡ true }
 {
-    if let Some(section) = section {
-        let _uri = section.uri.as_str();
-        know_keys(&section.keys);
+    if let Some(init_section) = init_section {
+        let _uri = init_section.uri.as_str();
+        know_keys(&init_section.keys);
     }
 }
 
@@ -33,7 +33,7 @@ fn know_segment(segment: &Segment)
 {
     let _uri = segment.uri.as_str();
     know_keys(&segment.keys);
-    know_section(&segment.init_section);
+    know_init_section(&segment.init_section);
 }
 
 /// Knows that the URIs of `segments`, of their keys and of their initialisation sections are UTF-8.

@@ -6,10 +6,10 @@ use Rattle.std.proofs.lemmas.Bool.{and_parts, or_parts, eqb-true}
 use Rattle.playlist_model.specs.declared.Segment.{Segment}
 use Rattle.playlist_model.specs.declared.Playlist.{Playlist}
 use Rattle.pod_store.specs.Pods.{Pod}
-use Rattle.playlist_model.specs.Reading.{limited, has_section}
+use Rattle.playlist_model.specs.Reading.{limited, has_init_section}
 use Rattle.playlist_model.specs.Numbering.{segment_numbers, follows, all_follow}
-use Rattle.read_is_writable.specs.Read.{numbers_read, sections_agree, AreRead}
-use Rattle.channel_spec.specs.Successor.{first_number, is_mapped}
+use Rattle.read_is_writable.specs.Read.{numbers_read, init_sections_agree, AreRead}
+use Rattle.channel_spec.specs.Successor.{first_number, has_init_sections}
 use Rattle.channel_spec.specs.Sound.{RiseFrom, IsSoundPlaylist, IsSoundPod, AllPods, IsSoundEvent}
 use Rattle.pod_store.specs.declared.Decisions.{Decisions}
 use Rattle.pod_store.specs.declared.Decisions.TheVariants.{Breaks, Withdraw, Fallback, NoFallback}
@@ -32,23 +32,23 @@ numbers_rise : (segments : List Segment) → numbers_read segments ≡ true → 
 numbers_rise [] h = absurd (cc)
 numbers_rise (s ∷ later) h = (omega arith, (refl, rise s later (and_parts _ _ h).1))
 
-all_have : (segments : List Segment) → list_all has_section segments ≡ true → AllByRecursion (λ (s : Segment). is_some s.init_section ≡ true) segments
+all_have : (segments : List Segment) → list_all has_init_section segments ≡ true → AllByRecursion (λ (s : Segment). is_some s.init_section ≡ true) segments
 all_have [] h = tt
 all_have (s ∷ later) h = let a = and_parts _ _ h in (a.0, all_have later a.1)
 
-none_have : (segments : List Segment) → list_any has_section segments ≡ false → AllByRecursion (λ (s : Segment). is_some s.init_section ≡ false) segments
+none_have : (segments : List Segment) → list_any has_init_section segments ≡ false → AllByRecursion (λ (s : Segment). is_some s.init_section ≡ false) segments
 none_have [] h = tt
-none_have (s ∷ later) h = let a = or_parts (has_section s) (list_any has_section later) h in (a.0, none_have later a.1)
+none_have (s ∷ later) h = let a = or_parts (has_init_section s) (list_any has_init_section later) h in (a.0, none_have later a.1)
 
-as_first : (b : Bool) (segments : List Segment) → AllByRecursion (λ (s : Segment). is_some s.init_section ≡ b) segments → AllByRecursion (λ (s : Segment). is_some s.init_section ≡ is_mapped segments) segments
+as_first : (b : Bool) (segments : List Segment) → AllByRecursion (λ (s : Segment). is_some s.init_section ≡ b) segments → AllByRecursion (λ (s : Segment). is_some s.init_section ≡ has_init_sections segments) segments
 as_first b [] h = tt
 as_first b (s ∷ later) h = all_more (λ (t : Segment). is_some t.init_section ≡ b) (λ (t : Segment). is_some t.init_section ≡ is_some s.init_section) (s ∷ later) (λ t e. e ∙ sym h.0) h
 
-sections_alike : (segments : List Segment) → sections_agree segments ≡ true → AllByRecursion (λ (s : Segment). is_some s.init_section ≡ is_mapped segments) segments
-sections_alike segments h = step (list_all has_section segments) refl (list_any has_section segments) refl h
+init_sections_alike : (segments : List Segment) → init_sections_agree segments ≡ true → AllByRecursion (λ (s : Segment). is_some s.init_section ≡ has_init_sections segments) segments
+init_sections_alike segments h = step (list_all has_init_section segments) refl (list_any has_init_section segments) refl h
   where
-    step : (a : Bool) → list_all has_section segments ≡ a → (b : Bool) → list_any has_section segments ≡ b → (a || not b) ≡ true
-        → AllByRecursion (λ (s : Segment). is_some s.init_section ≡ is_mapped segments) segments
+    step : (a : Bool) → list_all has_init_section segments ≡ a → (b : Bool) → list_any has_init_section segments ≡ b → (a || not b) ≡ true
+        → AllByRecursion (λ (s : Segment). is_some s.init_section ≡ has_init_sections segments) segments
     step true e b f h = as_first true segments (all_have segments e)
     step false e true f h = absurd (cc)
     step false e false f h = as_first false segments (none_have segments f)
@@ -56,7 +56,7 @@ sections_alike segments h = step (list_all has_section segments) refl (list_any 
 pub is_read : (p : Playlist) → AreRead limited p → IsSoundPlaylist p
 is_read p r =
     let n = numbers_rise p.segments r.numbers in
-    record { some = n.0; numbers = n.1; mapped = sections_alike p.segments r.sections }
+    record { some = n.0; numbers = n.1; with_init_sections = init_sections_alike p.segments r.init_sections }
 
 pub all_of : (P Q : Pod → Type 0) (ds : Decisions) → ((x : Pod) → P x → Q x) → AllPods P ds → AllPods Q ds
 all_of P Q (Breaks ds) f h = all_more (λ (d : List ℕ × Pod). P d.1) (λ (d : List ℕ × Pod). Q d.1) ds (λ d k. f d.1 k) h

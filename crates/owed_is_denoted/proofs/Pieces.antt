@@ -15,9 +15,9 @@ use Rattle.pod_store.specs.Marks.{Mark, Marked, continues}
 use Rattle.stitcher.specs.Stitched.{Piece, is_kept, with_keys, ad_piece, ad_pieces, pieces_of_ads, pod_pieces, run_pieces, stitched, Numbers, steps_between, numbers_at, Item, numbered, fits}
 use Rattle.stitcher.specs.declared.OutSegment.{OutSegment}
 use Rattle.stitcher.specs.Written.{written_item}
-use Rattle.writable.specs.Fitting.{if_some, is_clean, uri_fits, byte_range_fits, effective_keys_fit, section_fits}
+use Rattle.writable.specs.Fitting.{if_some, is_clean, uri_fits, byte_range_fits, effective_keys_fit, init_section_fits}
 use Rattle.playlist_model.specs.Numbering.{follows, all_follow}
-use Rattle.playlist_write.specs.WellFormed.{resource_fits, duration_fits, segment_fits, out_numbers, numbers_fit, is_mapped, sections_agree}
+use Rattle.playlist_write.specs.WellFormed.{resource_fits, duration_fits, segment_fits, out_numbers, numbers_fit, has_init_section, init_sections_agree}
 use Rattle.pod_store.specs.Laws.{segment_can_be_written, ad_can_be_written}
 use Rattle.channel_spec.proofs.Reversed.{list_all-reverse}
 use Rattle.owed_is_denoted.proofs.Writable.{stitched_ad, stitched_ads, pod_can_be_written}
@@ -27,7 +27,7 @@ use Rattle.owed_is_denoted.proofs.AllPods.{OfMark}
 
 abbrev fits_with : Bool → Segment → Option ℤ → Bool
 fits_with words s time =
-    words && resource_fits s && effective_keys_fit s.keys && if_some section_fits s.init_section && duration_fits s.duration && is_clean s.title
+    words && resource_fits s && effective_keys_fit s.keys && if_some init_section_fits s.init_section && duration_fits s.duration && is_clean s.title
     && if_some in_range time
 
 abbrev pub can_stand : Segment → Option ℤ → Bool
@@ -41,18 +41,18 @@ piece_stands p = can_stand p.segment p.instant
 empty_is_clean : is_clean [] ≡ true
 empty_is_clean = and_from _ _ (is_utf8-from_IsUtf8 [] IsUtf8-nil) (ap (λ cs. not (list_any is_control cs)) chars-nil)
 
-segment_stands : (mark : Mark) (first : Bool) (ad : Ad) (s : PodSegment) → effective_keys_fit ad.keys ≡ true → if_some section_fits (option_map (with_keys ad.keys) ad.init_section) ≡ true
+segment_stands : (mark : Mark) (first : Bool) (ad : Ad) (s : PodSegment) → effective_keys_fit ad.keys ≡ true → if_some init_section_fits (option_map (with_keys ad.keys) ad.init_section) ≡ true
     → segment_can_be_written s ≡ true → piece_stands (ad_piece mark first ad s) ≡ true
 segment_stands mark first ad s k m h =
     let a : ((uri_fits s.uri && if_some byte_range_fits s.byte_range) ≡ true) × (duration_fits s.duration ≡ true) = and_parts _ _ h in
     and_from _ _ (and_from _ _ (and_from _ _ (and_from _ _ (and_from _ _ a.0 k) m) a.1) empty_is_clean) refl
 
-later_stand : (mark : Mark) (ad : Ad) (segments : List PodSegment) → effective_keys_fit ad.keys ≡ true → if_some section_fits (option_map (with_keys ad.keys) ad.init_section) ≡ true
+later_stand : (mark : Mark) (ad : Ad) (segments : List PodSegment) → effective_keys_fit ad.keys ≡ true → if_some init_section_fits (option_map (with_keys ad.keys) ad.init_section) ≡ true
     → list_all segment_can_be_written segments ≡ true → list_all piece_stands (map (ad_piece mark false ad) segments) ≡ true
 later_stand mark ad [] k m h = refl
 later_stand mark ad (s ∷ later) k m h = let a = and_parts _ _ h in and_from _ _ (segment_stands mark false ad s k m a.0) (later_stand mark ad later k m a.1)
 
-ad_stands : (mark : Mark) (ad : Ad) (segments : List PodSegment) → effective_keys_fit ad.keys ≡ true → if_some section_fits (option_map (with_keys ad.keys) ad.init_section) ≡ true
+ad_stands : (mark : Mark) (ad : Ad) (segments : List PodSegment) → effective_keys_fit ad.keys ≡ true → if_some init_section_fits (option_map (with_keys ad.keys) ad.init_section) ≡ true
     → list_all segment_can_be_written segments ≡ true → list_all piece_stands (ad_pieces mark ad segments) ≡ true
 ad_stands mark ad [] k m h = refl
 ad_stands mark ad (s ∷ later) k m h = let a = and_parts _ _ h in and_from _ _ (segment_stands mark true ad s k m a.0) (later_stand mark ad later k m a.1)
@@ -61,8 +61,8 @@ ads_stand : (mark : Mark) (ads : List Ad) → list_all ad_can_be_written (stitch
 ads_stand mark [] h = refl
 ads_stand mark (ad ∷ ads) h =
     let a = and_parts (ad_can_be_written (stitched_ad ad)) (list_all ad_can_be_written (stitched_ads ads)) h in
-    let b : ((effective_keys_fit ad.keys && if_some section_fits (option_map (with_keys ad.keys) ad.init_section)) ≡ true) × (list_all segment_can_be_written ad.segments ≡ true) = and_parts _ _ a.0 in
-    let c = and_parts (effective_keys_fit ad.keys) (if_some section_fits (option_map (with_keys ad.keys) ad.init_section)) b.0 in
+    let b : ((effective_keys_fit ad.keys && if_some init_section_fits (option_map (with_keys ad.keys) ad.init_section)) ≡ true) × (list_all segment_can_be_written ad.segments ≡ true) = and_parts _ _ a.0 in
+    let c = and_parts (effective_keys_fit ad.keys) (if_some init_section_fits (option_map (with_keys ad.keys) ad.init_section)) b.0 in
     list_all-append piece_stands (ad_pieces mark ad ad.segments) (pieces_of_ads mark ads) ∙ and_from _ _ (ad_stands mark ad ad.segments c.0 c.1 b.1) (ads_stand mark ads a.1)
 
 -- ---- list tests
@@ -160,20 +160,20 @@ window_numbers first h (suc n) (p ∷ before) k l =
 
 -- ---- sections
 
-mapped_kept : (kept : Bool) (s : Segment) (n : Numbers) → is_some (cond kept s (record s { media_sequence = n.media_sequence; discontinuity_sequence = n.discontinuity_sequence; discontinuities = n.discontinuities })).init_section ≡ is_some s.init_section
-mapped_kept true s n = refl
-mapped_kept false s n = refl
+has_init_section_kept : (kept : Bool) (s : Segment) (n : Numbers) → is_some (cond kept s (record s { media_sequence = n.media_sequence; discontinuity_sequence = n.discontinuity_sequence; discontinuities = n.discontinuities })).init_section ≡ is_some s.init_section
+has_init_section_kept true s n = refl
+has_init_section_kept false s n = refl
 
-pub is_mapped_item : (item : Item) → is_mapped (written_item item) ≡ is_some item.piece.segment.init_section
-is_mapped_item item = mapped_kept (is_kept item.piece) item.piece.segment item.numbers
+pub has_init_section_item : (item : Item) → has_init_section (written_item item) ≡ is_some item.piece.segment.init_section
+has_init_section_item item = has_init_section_kept (is_kept item.piece) item.piece.segment item.numbers
 
-all_mapped : (outs : List OutSegment) → AllByRecursion (λ (o : OutSegment). is_mapped o ≡ true) outs → list_all is_mapped outs ≡ true
-all_mapped [] h = refl
-all_mapped (o ∷ outs) h = and_from _ _ h.0 (all_mapped outs h.1)
+all_with_init_section : (outs : List OutSegment) → AllByRecursion (λ (o : OutSegment). has_init_section o ≡ true) outs → list_all has_init_section outs ≡ true
+all_with_init_section [] h = refl
+all_with_init_section (o ∷ outs) h = and_from _ _ h.0 (all_with_init_section outs h.1)
 
-none_mapped : (outs : List OutSegment) → AllByRecursion (λ (o : OutSegment). is_mapped o ≡ false) outs → list_any is_mapped outs ≡ false
-none_mapped [] h = refl
-none_mapped (o ∷ outs) h = ap (λ b. b || list_any is_mapped outs) h.0 ∙ none_mapped outs h.1
+none_with_init_section : (outs : List OutSegment) → AllByRecursion (λ (o : OutSegment). has_init_section o ≡ false) outs → list_any has_init_section outs ≡ false
+none_with_init_section [] h = refl
+none_with_init_section (o ∷ outs) h = ap (λ b. b || list_any has_init_section outs) h.0 ∙ none_with_init_section outs h.1
 
 front : (a b : Bool) → a ≡ true → (a || b) ≡ true
 front true b h = refl
@@ -184,6 +184,6 @@ back true b h = refl
 back false true h = absurd (cc)
 back false false h = refl
 
-pub agree : (m : Bool) (outs : List OutSegment) → AllByRecursion (λ (o : OutSegment). is_mapped o ≡ m) outs → sections_agree outs ≡ true
-agree true outs h = front _ _ (all_mapped outs h)
-agree false outs h = back (list_all is_mapped outs) (list_any is_mapped outs) (none_mapped outs h)
+pub agree : (m : Bool) (outs : List OutSegment) → AllByRecursion (λ (o : OutSegment). has_init_section o ≡ m) outs → init_sections_agree outs ≡ true
+agree true outs h = front _ _ (all_with_init_section outs h)
+agree false outs h = back (list_all has_init_section outs) (list_any has_init_section outs) (none_with_init_section outs h)

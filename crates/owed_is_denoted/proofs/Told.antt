@@ -12,7 +12,7 @@ use Rattle.pod_store.specs.Pods.{Pod}
 use Rattle.pod_store.specs.Marks.{Mark, Marked, newest_mark}
 use Rattle.stitcher.specs.Stitched.{Numbers, numbers_from, first_numbers}
 use Rattle.timeline.proofs.RangeLaws.{found_in_range}
-use Rattle.writable.specs.Fitting.{if_some, is_clean, effective_keys_fit, section_fits}
+use Rattle.writable.specs.Fitting.{if_some, is_clean, effective_keys_fit, init_section_fits}
 use Rattle.playlist_write.specs.WellFormed.{resource_fits, duration_fits}
 use Rattle.read_is_writable.specs.Read.{segment_reads, uris_are_text, segment_can_be_written, numbers_are_words, numbers_read}
 use Rattle.read_is_writable.proofs.Texts.{segment_is_written}
@@ -33,7 +33,7 @@ IsWritten pod = pod_can_be_written pod ≡ true
 
 abbrev stands_with : Bool → Segment → Option ℤ → Bool
 stands_with words s time =
-    words && resource_fits s && effective_keys_fit s.keys && if_some section_fits s.init_section && duration_fits s.duration && is_clean s.title
+    words && resource_fits s && effective_keys_fit s.keys && if_some init_section_fits s.init_section && duration_fits s.duration && is_clean s.title
     && if_some in_range time
 
 other_time : (words : Bool) (s : Segment) (before time : Option ℤ) → stands_with words s before ≡ true → if_some in_range time ≡ true → can_stand s time ≡ true

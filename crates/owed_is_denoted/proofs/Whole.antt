@@ -17,7 +17,7 @@ use Rattle.std.proofs.lemmas.List.Folds.{list_all-append}
 use Rattle.stitcher.specs.declared.OutSegment.{OutSegment}
 use Rattle.stitcher.specs.Written.{written_item}
 use Rattle.writable.specs.Fitting.{date_range_fits, says_date_range}
-use Rattle.playlist_write.specs.WellFormed.{version_fits, segment_fits, is_mapped, well_formed}
+use Rattle.playlist_write.specs.WellFormed.{version_fits, segment_fits, has_init_section, well_formed}
 use Rattle.playlist_write.specs.Denoted.{denoted, denoted_segment, denoted_date_range, date_range_told}
 use Rattle.playlist_write.proofs.Whole.{text_denotes}
 use Rattle.read_is_writable.specs.Read.{version_reads, IsSaid, text_is_clean}
@@ -26,16 +26,16 @@ use Rattle.channel_spec.specs.Successor.{first_number, fault_if}
 use Rattle.channel_spec.specs.Successor as successor
 use Rattle.channel_spec.specs.Live.{refreshed, Told, told, refusal, succession_fault, last_playlist, after_refresh, breaks_in_use, item_segment, states_instant, window_after, written_date_ranges, owed_for}
 use Rattle.channel_spec.proofs.Windows.{In}
-use Rattle.channel_spec.proofs.Fills.{Mapped}
+use Rattle.channel_spec.proofs.Fills.{HaveInitSections}
 use Rattle.channel_spec.proofs.Due.{list_rest}
-use Rattle.channel_spec.proofs.EachWindow.{WindowStanding, WindowOf, start_inside, due_mapped, refresh_holds, holds}
+use Rattle.channel_spec.proofs.EachWindow.{WindowStanding, WindowOf, start_inside, due_have_init_sections, refresh_holds, holds}
 use Rattle.owed_is_denoted.specs.Owed.{owed_playlist}
 use Rattle.channel_spec.specs.Live.{date_range_text}
 use Rattle.channel_spec.proofs.Reversed.{list_all-reverse}
 use Rattle.owed_is_denoted.specs.Laws.{CanBeRead, OwedIsWellFormed, OwedIsDenoted, TextDenotesOwed}
 use Rattle.pod_store.specs.Store.{is_one_of}
 use Rattle.owed_is_denoted.proofs.AllPods.{all_filter}
-use Rattle.owed_is_denoted.proofs.Pieces.{all_taken, piece_stands, pieces_stand, item_fits, items_fit, all_written, window_numbers, is_mapped_item, agree}
+use Rattle.owed_is_denoted.proofs.Pieces.{all_taken, piece_stands, pieces_stand, item_fits, items_fit, all_written, window_numbers, has_init_section_item, agree}
 use Rattle.owed_is_denoted.proofs.Told.{Good, refresh_good, good_told}
 use Rattle.owed_is_denoted.proofs.Given.{is_read, all_given}
 
@@ -64,14 +64,14 @@ list_filter test keep (x ∷ xs) h = let a = and_parts _ _ h in step (keep x) a.
 
 -- ---- sections
 
-items_mapped : (m : Bool) (first : Numbers) (pieces : List Piece) → Mapped m pieces → AllByRecursion (λ (item : Item). is_some item.piece.segment.init_section ≡ m) (numbered first pieces)
-unfolding Mapped In
-items_mapped m first [] h = tt
-items_mapped m first (p ∷ before) h = (h p (inl refl), items_mapped m first before (λ q k. h q (inr k)))
+items_have_init_sections : (m : Bool) (first : Numbers) (pieces : List Piece) → HaveInitSections m pieces → AllByRecursion (λ (item : Item). is_some item.piece.segment.init_section ≡ m) (numbered first pieces)
+unfolding HaveInitSections In
+items_have_init_sections m first [] h = tt
+items_have_init_sections m first (p ∷ before) h = (h p (inl refl), items_have_init_sections m first before (λ q k. h q (inr k)))
 
-outs_mapped : (m : Bool) (items : List Item) → AllByRecursion (λ (item : Item). is_some item.piece.segment.init_section ≡ m) items → AllByRecursion (λ (o : OutSegment). is_mapped o ≡ m) (map written_item items)
-outs_mapped m [] h = tt
-outs_mapped m (item ∷ items) h = (is_mapped_item item ∙ h.0, outs_mapped m items h.1)
+outs_have_init_sections : (m : Bool) (items : List Item) → AllByRecursion (λ (item : Item). is_some item.piece.segment.init_section ≡ m) items → AllByRecursion (λ (o : OutSegment). has_init_section o ≡ m) (map written_item items)
+outs_have_init_sections m [] h = tt
+outs_have_init_sections m (item ∷ items) h = (has_init_section_item item ∙ h.0, outs_have_init_sections m items h.1)
 
 -- ---- date ranges
 
@@ -124,16 +124,16 @@ well t p g s r f =
     let n = length list - t.start in
     let inside = start_inside p t.history t.start s p.end_list in
     let size = length-numbered first pieces in
-    let m = successor.is_mapped p.segments in
+    let m = successor.has_init_section p.segments in
     let items = items_fit first pieces (due_stands p.end_list t.history (pieces_stand t.history g.stands)) f in
     let segments : list_all segment_fits (map written_item (window_after t p)) ≡ true =
     all_written (window_after t p) ∙ (list_all-reverse item_fits (take n list) ∙ all_taken item_fits n list items) in
     let numbers = window_numbers first g.first n pieces (omega (arith, inside, size)) (omega (arith, inside)) in
-    let mapped = outs_mapped m (window_after t p)
+    let with_init_sections = outs_have_init_sections m (window_after t p)
     (all_turned (λ (item : Item). is_some item.piece.segment.init_section ≡ m) (take n list) []
-    (all_first (λ (item : Item). is_some item.piece.segment.init_section ≡ m) n list (items_mapped m first pieces (due_mapped m p.end_list t.history s.standing.alike))) tt) in
+    (all_first (λ (item : Item). is_some item.piece.segment.init_section ≡ m) n list (items_have_init_sections m first pieces (due_have_init_sections m p.end_list t.history s.standing.alike))) tt) in
     and_from _ _
-    (and_from _ _ (and_from _ _ (and_from _ _ (and_from _ _ (version_owed p.version r.limits.version) r.limits.target_duration) numbers) segments) (agree m (map written_item (window_after t p)) mapped))
+    (and_from _ _ (and_from _ _ (and_from _ _ (and_from _ _ (version_owed p.version r.limits.version) r.limits.target_duration) numbers) segments) (agree m (map written_item (window_after t p)) with_init_sections))
     (date_ranges_fit (written_date_ranges t p) (written_said t p limited r.limits.date_ranges) (written_clean t p r.limits.date_range_texts))
 
 or_none : {A : Type 0} (a b : Option A) → or_earlier a b ≡ None → (a ≡ None) × (b ≡ None)

@@ -8,7 +8,7 @@ use Rattle.playlist_model.specs.declared.Key.{Key}
 use Rattle.pod_store.specs.Pods.{Ad, Pod, segment_count}
 use Rattle.stitcher.specs.Stitched.{with_keys}
 use Rattle.pod_store.specs.Laws.{ad_can_be_written}
-use Rattle.pod_store.specs.Rules.{key_keeps, section_keeps, ad_keeps, ads_keep}
+use Rattle.pod_store.specs.Rules.{key_keeps, init_section_keeps, ad_keeps, ads_keep}
 use Rattle.pod_store.proofs.Written.{pods_can_be_written}
 
 -- an ad whose section has the ad's keys, as its segments stand in a stitched list
@@ -21,10 +21,10 @@ stitched_ads ads = map stitched_ad ads
 abbrev pub pod_can_be_written : Pod → Bool
 pod_can_be_written pod = list_all ad_can_be_written (stitched_ads pod.ads)
 
-section_kept : (keys : List Key) (section : Option InitSection) → nat_le (length keys) 1 ≡ true → list_all key_keeps keys ≡ true
-    → section_keeps section ≡ true → section_keeps (option_map (with_keys keys) section) ≡ true
-section_kept keys None n k h = refl
-section_kept keys (Some s) n k h = let p = and_parts _ _ h in let q = and_parts _ _ p.0 in and_from _ _ (and_from _ _ q.0 n) k
+init_section_kept : (keys : List Key) (init_section : Option InitSection) → nat_le (length keys) 1 ≡ true → list_all key_keeps keys ≡ true
+    → init_section_keeps init_section ≡ true → init_section_keeps (option_map (with_keys keys) init_section) ≡ true
+init_section_kept keys None n k h = refl
+init_section_kept keys (Some s) n k h = let p = and_parts _ _ h in let q = and_parts _ _ p.0 in and_from _ _ (and_from _ _ q.0 n) k
 
 ad_kept : (ad : Ad) → ad_keeps ad ≡ true → ad_keeps (stitched_ad ad) ≡ true
 ad_kept ad h =
@@ -32,7 +32,7 @@ ad_kept ad h =
     let q = and_parts _ _ p.0 in
     let r = and_parts _ _ q.0 in
     let s = and_parts _ _ r.0 in
-    and_from _ _ (and_from _ _ (and_from _ _ (and_from _ _ (section_kept ad.keys ad.init_section s.1 r.1 s.0) s.1) r.1) q.1) p.1
+    and_from _ _ (and_from _ _ (and_from _ _ (and_from _ _ (init_section_kept ad.keys ad.init_section s.1 r.1 s.0) s.1) r.1) q.1) p.1
 
 all_kept : (ads : List Ad) → list_all ad_keeps ads ≡ true → list_all ad_keeps (stitched_ads ads) ≡ true
 all_kept [] h = refl

@@ -12,7 +12,7 @@ use Rattle.attr_list.specs.declared.AttrFault.{AttrFault}
 use Rattle.attr_list.specs.declared.AttrFault.TheVariants.{TooMany as TooManyAttributes}
 use Rattle.attr_list.specs.Attributes.{Pair, pieces, is_full, pair_of, add_pair, pairs_from}
 use Rattle.playlist_model.specs.LookBack.{keys_at, count, is_media}
-use Rattle.playlist_model.specs.Said.{Name, key_tag, map_tag, date_range_tag, Said, nothing, over, Outcome, ◌>>=◌, refuse_if, Reader, attributes, mended, key_said, section_said, date_range_said}
+use Rattle.playlist_model.specs.Said.{Name, key_tag, init_section_tag, date_range_tag, Said, nothing, over, Outcome, ◌>>=◌, refuse_if, Reader, attributes, mended, key_said, init_section_said, date_range_said}
 use Rattle.playlist_model.specs.Reading.{name_of, said_by_tag, said_by_uri, said_by_kind, said_by, said_from, at_line, Fault, and_whole, of_lines, reading, unlimited, within_formats, Denotes}
 
 -- what the one answers, the other answers too
@@ -74,8 +74,8 @@ more_formats reader before said = refused (over reader.formats (length (keys_at 
 more_keys : (reader : Reader) (base : Parts) (rest : List ℕ) → Grants (key_said reader base rest) (key_said unlimited base rest)
 more_keys reader base rest = bound _ _ _ _ (more_attributes reader rest) (λ pairs. itself _)
 
-more_sections : (reader : Reader) (base : Parts) (rest : List ℕ) → Grants (section_said reader base rest) (section_said unlimited base rest)
-more_sections reader base rest = bound _ _ _ _ (more_attributes reader rest) (λ pairs. itself _)
+more_init_sections : (reader : Reader) (base : Parts) (rest : List ℕ) → Grants (init_section_said reader base rest) (init_section_said unlimited base rest)
+more_init_sections reader base rest = bound _ _ _ _ (more_attributes reader rest) (λ pairs. itself _)
 
 more_date_ranges : (reader : Reader) (rest : List ℕ) → Grants (date_range_said reader rest) (date_range_said unlimited rest)
 more_date_ranges reader rest = bound _ _ _ _ (more_attributes reader rest) (λ pairs. itself _)
@@ -83,7 +83,7 @@ more_date_ranges reader rest = bound _ _ _ _ (more_attributes reader rest) (λ p
 by_tag : (reader : Reader) (base : Parts) (before : List Said) (name : Name) (rest : List ℕ)
     → Grants (said_by_tag reader base before name rest) (said_by_tag unlimited base before name rest)
 by_tag reader base before key_tag rest = bound _ _ _ _ (more_keys reader base rest) (more_formats reader before)
-by_tag reader base before map_tag rest = bound _ _ _ _ (more_sections reader base rest) (λ said. itself _)
+by_tag reader base before init_section_tag rest = bound _ _ _ _ (more_init_sections reader base rest) (λ said. itself _)
 by_tag reader base before date_range_tag rest = more_date_ranges reader rest
 by_tag reader base before _ rest = itself _
 

@@ -7,7 +7,7 @@ use Rattle.std.proofs.lemmas.Slice.Eq.{bytes_eq-Decides, slice_eq-Decides}
 use Rattle.playlist_model.specs.declared.Key.{Key}
 use Rattle.playlist_model.specs.declared.ByteRange.{ByteRange}
 use Rattle.playlist_model.specs.declared.InitSection.{InitSection}
-use Rattle.playlist_model.specs.Same.{same_key, same_option, same_number, same_byte_range, same_section}
+use Rattle.playlist_model.specs.Same.{same_key, same_option, same_number, same_byte_range, same_init_section}
 
 -- ---- whether two keys are the same is decided
 
@@ -58,14 +58,14 @@ byte_range_is (Some a) (Some b) h = let p : ((a.length == b.length) ≡ true) ×
     ext : (l m o p : ℕ) → l ≡ m → o ≡ p → ◌≡◌ {A = Option ByteRange} (Some (record { length = l; offset = o })) (Some (record { length = m; offset = p }))
     ext l m o p e g = cc
 
-section_ext : (u v : List ℕ) (r s : Option ByteRange) (k l : List Key) → u ≡ v → r ≡ s → k ≡ l → ◌≡◌ {A = InitSection} (record { uri = u; byte_range = r; keys = k }) (record { uri = v; byte_range = s; keys = l })
-section_ext u v r s k l a b c = cc
+init_section_ext : (u v : List ℕ) (r s : Option ByteRange) (k l : List Key) → u ≡ v → r ≡ s → k ≡ l → ◌≡◌ {A = InitSection} (record { uri = u; byte_range = r; keys = k }) (record { uri = v; byte_range = s; keys = l })
+init_section_ext u v r s k l a b c = cc
 
-pub section_is : (new : InitSection) (old : Option InitSection) → same_option same_section (Some new) old ≡ true → old ≡ Some new
-section_is new None h = cc
-section_is new (Some old) h =
+pub init_section_is : (new : InitSection) (old : Option InitSection) → same_option same_init_section (Some new) old ≡ true → old ≡ Some new
+init_section_is new None h = cc
+init_section_is new (Some old) h =
     let a = and_parts _ _ h in let b : (bytes_eq new.uri old.uri ≡ true) × (same_option same_byte_range new.byte_range old.byte_range ≡ true) = and_parts _ _ a.0 in
-    ap Some (sym (section_ext _ _ _ _ _ _ ((bytes_eq-Decides new.uri old.uri).0 b.0) (byte_range_is new.byte_range old.byte_range b.1) (keys_are new.keys old.keys a.1)))
+    ap Some (sym (init_section_ext _ _ _ _ _ _ ((bytes_eq-Decides new.uri old.uri).0 b.0) (byte_range_is new.byte_range old.byte_range b.1) (keys_are new.keys old.keys a.1)))
 
 none_of : (format method uri other : Bool) → (format && method && uri && false && other) ≡ false
 none_of false m u o = refl

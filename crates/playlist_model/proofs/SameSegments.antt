@@ -8,8 +8,8 @@ use Rattle.playlist_model.specs.declared.Key.{Key}
 use Rattle.playlist_model.specs.declared.ByteRange.{ByteRange}
 use Rattle.playlist_model.specs.declared.InitSection.{InitSection}
 use Rattle.playlist_model.specs.declared.Segment.{Segment}
-use Rattle.playlist_model.specs.Same.{same_key, same_option, same_byte_range, same_section, same_numbers, same_media, same_segment, kept_parts}
-use Rattle.playlist_model.proofs.SameParts.{keys_are, keys_same, byte_range_is, section_is}
+use Rattle.playlist_model.specs.Same.{same_key, same_option, same_byte_range, same_init_section, same_numbers, same_media, same_segment, kept_parts}
+use Rattle.playlist_model.proofs.SameParts.{keys_are, keys_same, byte_range_is, init_section_is}
 
 some_is : {A : Type 0} {a b : A} → ◌≡◌ {A = Option A} (Some a) (Some b) → a ≡ b
 some_is h = cc h
@@ -21,19 +21,19 @@ byte_range_same (Some a) None h = cc
 byte_range_same (Some a) (Some b) h =
     let e = some_is h in and_from _ _ (eq-eqb _ _ (ap (λ (r : ByteRange). r.length) e)) (eq-eqb _ _ (ap (λ (r : ByteRange). r.offset) e))
 
-section_same : (a b : Option InitSection) → a ≡ b → same_option same_section a b ≡ true
-section_same None None h = refl
-section_same None (Some b) h = cc
-section_same (Some a) None h = cc
-section_same (Some a) (Some b) h =
+init_section_same : (a b : Option InitSection) → a ≡ b → same_option same_init_section a b ≡ true
+init_section_same None None h = refl
+init_section_same None (Some b) h = cc
+init_section_same (Some a) None h = cc
+init_section_same (Some a) (Some b) h =
     let e = some_is h in
     and_from _ _ (and_from _ _ ((bytes_eq-Decides a.uri b.uri).1 (ap (λ (s : InitSection). s.uri) e)) (byte_range_same a.byte_range b.byte_range (ap (λ (s : InitSection). s.byte_range) e)))
     (keys_same a.keys b.keys (ap (λ (s : InitSection). s.keys) e))
 
-sections_are : (a b : Option InitSection) → same_option same_section a b ≡ true → a ≡ b
-sections_are None None h = refl
-sections_are None (Some b) h = cc
-sections_are (Some a) b h = sym (section_is a b h)
+init_sections_are : (a b : Option InitSection) → same_option same_init_section a b ≡ true → a ≡ b
+init_sections_are None None h = refl
+init_sections_are None (Some b) h = cc
+init_sections_are (Some a) b h = sym (init_section_is a b h)
 
 parts_ext : (n m d e : ℕ) (u v : List ℕ) (r s : Option ByteRange) (k l : List Key) (i j : Option InitSection) (t w : ℕ) → n ≡ m → d ≡ e → u ≡ v → r ≡ s → k ≡ l → i ≡ j → t ≡ w
     → ◌≡◌ {A = Segment} (record { media_sequence = n; discontinuity_sequence = d; discontinuities = 0; uri = u; byte_range = r; keys = k; init_section = i; duration = t; title = []; program_date_time = None })
@@ -45,9 +45,9 @@ parts_are a b h =
     let p = and_parts _ _ h in let q : (same_numbers a b ≡ true) × (same_media a b ≡ true) = and_parts _ _ p.0 in
     let n : ((a.media_sequence == b.media_sequence) ≡ true) × ((a.discontinuity_sequence == b.discontinuity_sequence) ≡ true) = and_parts _ _ q.0 in
     let m = and_parts _ _ q.1 in let u : (bytes_eq a.uri b.uri ≡ true) × (same_option same_byte_range a.byte_range b.byte_range ≡ true) = and_parts _ _ m.0 in
-    let k : (pointwise same_key a.keys b.keys ≡ true) × (same_option same_section a.init_section b.init_section ≡ true) = and_parts _ _ p.1 in
+    let k : (pointwise same_key a.keys b.keys ≡ true) × (same_option same_init_section a.init_section b.init_section ≡ true) = and_parts _ _ p.1 in
     parts_ext _ _ _ _ _ _ _ _ _ _ _ _ _ _ (eqb-true _ _ n.0) (eqb-true _ _ n.1) ((bytes_eq-Decides a.uri b.uri).0 u.0) (byte_range_is a.byte_range b.byte_range u.1)
-    (keys_are a.keys b.keys k.0) (sections_are a.init_section b.init_section k.1) (eqb-true _ _ m.1)
+    (keys_are a.keys b.keys k.0) (init_sections_are a.init_section b.init_section k.1) (eqb-true _ _ m.1)
 
 parts_same : (a b : Segment) → kept_parts a ≡ kept_parts b → same_segment a b ≡ true
 parts_same a b e =
@@ -55,7 +55,7 @@ parts_same a b e =
     (and_from _ _ (and_from _ _ (eq-eqb _ _ (ap (λ (s : Segment). s.media_sequence) e)) (eq-eqb _ _ (ap (λ (s : Segment). s.discontinuity_sequence) e)))
     (and_from _ _ (and_from _ _ ((bytes_eq-Decides a.uri b.uri).1 (ap (λ (s : Segment). s.uri) e)) (byte_range_same a.byte_range b.byte_range (ap (λ (s : Segment). s.byte_range) e)))
     (eq-eqb _ _ (ap (λ (s : Segment). s.duration) e))))
-    (and_from _ _ (keys_same a.keys b.keys (ap (λ (s : Segment). s.keys) e)) (section_same a.init_section b.init_section (ap (λ (s : Segment). s.init_section) e)))
+    (and_from _ _ (keys_same a.keys b.keys (ap (λ (s : Segment). s.keys) e)) (init_section_same a.init_section b.init_section (ap (λ (s : Segment). s.init_section) e)))
 
 pub same_segment_decides : (a b : Segment) → (same_segment a b ≡ true) ↔ (kept_parts a ≡ kept_parts b)
 same_segment_decides a b = (parts_are a b, parts_same a b)

@@ -13,7 +13,7 @@ use Rattle.playlist_model.specs.declared.InitSection.{InitSection}
 use Rattle.playlist_model.specs.declared.Segment.{Segment}
 use Rattle.playlist_model.specs.declared.DateRange.{DateRange}
 use Rattle.playlist_model.specs.EffectiveKeys.{effective_key}
-use Rattle.playlist_model.specs.Said.{Said, version, target, sequence, discontinuity_sequence, playlist_type, ended, independent, duration, byte_range, discontinuity, no_keys, key, section, time, date_range, media, Outcome, refuse_if, byte_range_end_fits}
+use Rattle.playlist_model.specs.Said.{Said, version, target, sequence, discontinuity_sequence, playlist_type, ended, independent, duration, byte_range, discontinuity, no_keys, key, init_section, time, date_range, media, Outcome, refuse_if, byte_range_end_fits}
 
 -- ---- the last line that says something (RFC 8216, 4.3)
 
@@ -171,10 +171,10 @@ has_format format k = bytes_eq format k.format
 -- ---- the initialisation section (4.3.2.5)
 
 -- the last one, with the keys in force at its own line
-abbrev pub section_at : List Said → Option InitSection
-section_at [] = None
-section_at (section uri part ∷ before) = Some (record { uri = uri; byte_range = part; keys = keys_at before })
-section_at (_ ∷ before) = section_at before
+abbrev pub init_section_at : List Said → Option InitSection
+init_section_at [] = None
+init_section_at (init_section uri part ∷ before) = Some (record { uri = uri; byte_range = part; keys = keys_at before })
+init_section_at (_ ∷ before) = init_section_at before
 
 -- ---- the byte range (4.3.2.2)
 
@@ -223,7 +223,7 @@ segment_at before uri = record {
   uri = uri;
   byte_range = result_unwrap_or (byte_range_at before uri) None;
   keys = map (effective_key (media_sequence_at before)) (keys_at before);
-  init_section = section_at before;
+  init_section = init_section_at before;
   duration = (unwrap_or (own_duration before) (0, [])).0;
   title = (unwrap_or (own_duration before) (0, [])).1;
   program_date_time = own_time before;
@@ -268,7 +268,7 @@ standing_at before = record {
   byte_range = own_byte_range before;
   program_date_time = own_time before;
   keys = keys_at before;
-  init_section = section_at before;
+  init_section = init_section_at before;
   extent = last_extent before;
 }
 

@@ -12,7 +12,7 @@ use Rattle.playlist_model.specs.declared.Segment.{Segment}
 use Rattle.playlist_model.specs.declared.Playlist.{Playlist}
 use Rattle.playlist_model.specs.Lines.{Kind, ignored, uri, tag, kind_of, has_control}
 use Rattle.date_times.specs.Instant.{instant_of}
-use Rattle.playlist_model.specs.Said.{Name, version_tag, target_tag, sequence_tag, discontinuity_sequence_tag, type_tag, ended_tag, independent_tag, frames_tag, master_tag, duration_tag, byte_range_tag, discontinuity_tag, key_tag, map_tag, time_tag, date_range_tag, unknown_tag, Said, nothing, version, target, sequence, discontinuity_sequence, playlist_type, ended, independent, byte_range, discontinuity, time, media, Outcome, ◌>>=◌, or_fault, refuse_if, over, Reader, number, version_of, playlist_type_of, duration_said, byte_range_of, key_said, section_said, date_range_said, uri_of}
+use Rattle.playlist_model.specs.Said.{Name, version_tag, target_tag, sequence_tag, discontinuity_sequence_tag, type_tag, ended_tag, independent_tag, frames_tag, master_tag, duration_tag, byte_range_tag, discontinuity_tag, key_tag, init_section_tag, time_tag, date_range_tag, unknown_tag, Said, nothing, version, target, sequence, discontinuity_sequence, playlist_type, ended, independent, byte_range, discontinuity, time, media, Outcome, ◌>>=◌, or_fault, refuse_if, over, Reader, number, version_of, playlist_type_of, duration_said, byte_range_of, key_said, init_section_said, date_range_said, uri_of}
 use Rattle.playlist_model.specs.LookBack.{latest, the_version, the_target, the_sequence, the_discontinuity_sequence, the_type, is_media, is_discontinuity, is_ended, is_independent, count, own_duration, media_sequence_at, discontinuity_at, keys_at, byte_range_at, segments_of, date_ranges_of}
 
 -- ---- the tags by name (RFC 8216, 4.3)
@@ -24,7 +24,7 @@ names =
     ∷ (codes "EXT-X-BYTERANGE", false, byte_range_tag)
     ∷ (codes "EXT-X-DISCONTINUITY", true, discontinuity_tag)
     ∷ (codes "EXT-X-KEY", false, key_tag)
-    ∷ (codes "EXT-X-MAP", false, map_tag)
+    ∷ (codes "EXT-X-MAP", false, init_section_tag)
     ∷ (codes "EXT-X-PROGRAM-DATE-TIME", false, time_tag)
     ∷ (codes "EXT-X-DATERANGE", false, date_range_tag)
     ∷ (codes "EXT-X-VERSION", false, version_tag)
@@ -95,7 +95,7 @@ said_by_tag reader base before byte_range_tag rest = byte_range_of rest >>= λ r
 said_by_tag reader base before discontinuity_tag rest =
     refuse_if (passes (discontinuity_at before + 1)) fault.BadValue (Ok discontinuity)
 said_by_tag reader base before key_tag rest = key_said reader base rest >>= within_formats reader before
-said_by_tag reader base before map_tag rest = section_said reader base rest >>= with_ivs before
+said_by_tag reader base before init_section_tag rest = init_section_said reader base rest >>= with_ivs before
 said_by_tag reader base before time_tag rest = or_fault fault.BadTime (instant_of rest) >>= λ t. Ok (time t)
 said_by_tag reader base before date_range_tag rest = date_range_said reader rest
 said_by_tag reader base before unknown_tag rest = Ok nothing
@@ -133,12 +133,12 @@ said_from read before [] = Ok before
 said_from read before (line ∷ later) =
     at_line (length before + 1) (read before line) (λ said. said_from read (said ∷ before) later)
 
-abbrev pub has_section : Segment → Bool
-has_section s = is_some s.init_section
+abbrev pub has_init_section : Segment → Bool
+has_init_section s = is_some s.init_section
 
 -- some segments have an initialisation section, and others have none: a rule of this project
 abbrev pub are_mixed : List Segment → Bool
-are_mixed segments = list_any has_section segments && not (list_all has_section segments)
+are_mixed segments = list_any has_init_section segments && not (list_all has_init_section segments)
 
 -- the first fault of the text as a whole: EXT-X-TARGETDURATION is required (4.3.3.1)
 abbrev pub whole_fault : List Said → Option FaultKind

@@ -35,7 +35,7 @@ pub data Name : Type 0 where
   byte_range_tag : Name
   discontinuity_tag : Name
   key_tag : Name
-  map_tag : Name
+  init_section_tag : Name
   time_tag : Name
   date_range_tag : Name
   unknown_tag : Name
@@ -63,7 +63,7 @@ pub data Said : Type 0 where
   discontinuity : Said
   no_keys : Said
   key : Key → Said
-  section : List ℕ → Option ByteRange → Said
+  init_section : List ℕ → Option ByteRange → Said
   time : ℤ → Said
   date_range : DateRange → Said
   media : List ℕ → Said
@@ -193,20 +193,20 @@ key_said reader base rest =
     if bytes_eq method (codes "NONE") then Ok no_keys else set_key base pairs method
 
 -- the BYTERANGE of EXT-X-MAP (4.3.2.5), which begins at 0 where it states no offset
-abbrev pub section_byte_range : Pair → Outcome ByteRange
-section_byte_range pair =
+abbrev pub init_section_byte_range : Pair → Outcome ByteRange
+init_section_byte_range pair =
     quoted_of pair >>= λ value. byte_range_of value >>= λ byte_range.
     refuse_if (not (byte_range_end_fits byte_range.0 (unwrap_or byte_range.1 0))) fault.BadRange
     (Ok (record { length = byte_range.0; offset = unwrap_or byte_range.1 0 }))
 
 -- EXT-X-MAP (4.3.2.5)
-abbrev pub section_said : Reader → Parts → List ℕ → Outcome Said
-section_said reader base rest =
+abbrev pub init_section_said : Reader → Parts → List ℕ → Outcome Said
+init_section_said reader base rest =
     attributes reader rest >>= λ pairs.
     required true (attribute pairs (codes "URI")) >>= λ reference.
-    optional section_byte_range (attribute pairs (codes "BYTERANGE")) >>= λ byte_range.
+    optional init_section_byte_range (attribute pairs (codes "BYTERANGE")) >>= λ byte_range.
     uri_of base reference >>= λ resource.
-    Ok (section resource byte_range)
+    Ok (init_section resource byte_range)
 
 abbrev pub time_of : Pair → Outcome ℤ
 time_of pair = or_fault fault.BadTime (instant_of pair.value)

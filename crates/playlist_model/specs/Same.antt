@@ -22,8 +22,8 @@ same_key j k =
 abbrev pub same_byte_range : ByteRange → ByteRange → Bool
 same_byte_range a b = a.length == b.length && a.offset == b.offset
 
-abbrev pub same_section : InitSection → InitSection → Bool
-same_section a b = bytes_eq a.uri b.uri && same_option same_byte_range a.byte_range b.byte_range && pointwise same_key a.keys b.keys
+abbrev pub same_init_section : InitSection → InitSection → Bool
+same_init_section a b = bytes_eq a.uri b.uri && same_option same_byte_range a.byte_range b.byte_range && pointwise same_key a.keys b.keys
 
 -- a segment without its title, its time and its steps
 abbrev pub kept_parts : Segment → Segment
@@ -36,7 +36,7 @@ abbrev pub same_media : Segment → Segment → Bool
 same_media a b = bytes_eq a.uri b.uri && same_option same_byte_range a.byte_range b.byte_range && a.duration == b.duration
 
 abbrev pub same_protection : Segment → Segment → Bool
-same_protection a b = pointwise same_key a.keys b.keys && same_option same_section a.init_section b.init_section
+same_protection a b = pointwise same_key a.keys b.keys && same_option same_init_section a.init_section b.init_section
 
 -- the same in all but title, time and steps
 abbrev pub same_segment : Segment → Segment → Bool

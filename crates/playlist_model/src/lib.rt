@@ -30,7 +30,7 @@ pub use items::{Items, Shared, Text};
 pub use limits::{MAX_BYTES, MAX_FORMATS, MAX_SEGMENTS};
 pub use member::{Member, Members};
 pub use other_attributes::OtherAttributes;
-pub use same::{are_same_keys, is_same_key, is_same_section, same_segment};
+pub use same::{are_same_keys, is_same_init_section, is_same_key, same_segment};
 pub use short_text::ShortText;
 pub use uri::{has_quote, has_scheme, same_resource};
 

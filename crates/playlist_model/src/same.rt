@@ -1,7 +1,7 @@
 //! Whether keys, initialisation sections and segments are the same.
 ghost use Rattle.std.specs.Prelude.{◌≡◌, true, ◌↔◌};
 ghost use Rattle.std.specs.Cmp.Lexicographic.{pointwise};
-ghost use Rattle.playlist_model.specs.Same.{kept_parts, same_key, same_media, same_number, same_numbers, same_option, same_protection, same_section, same_segment};
+ghost use Rattle.playlist_model.specs.Same.{kept_parts, same_key, same_media, same_number, same_numbers, same_option, same_protection, same_init_section, same_segment};
 
 use crate::{InitSection, KeyRef, Keys, Segment, Shared};
 
@@ -43,17 +43,20 @@ pub fn are_same_keys(one: &Keys, other: &Keys) -> bool
 }
 
 /// Whether the initialisation sections `a` and `b` are the same, with the same keys (RFC 8216, section 4.3.2.5).
-pub fn is_same_section(a: &InitSection, b: &InitSection) -> bool
-    ensures { result ≡ same_section a.now b.now }
+pub fn is_same_init_section(a: &InitSection, b: &InitSection) -> bool
+    ensures { result ≡ same_init_section a.now b.now }
 {
     a.uri == b.uri && a.byte_range == b.byte_range && are_same_keys(&a.keys, &b.keys)
 }
 
-fn are_same_sections(one: &Option<Shared<InitSection>>, other: &Option<Shared<InitSection>>) -> bool
-    ensures { result ≡ same_option same_section one.now other.now }
+fn are_same_init_sections(
+    one: &Option<Shared<InitSection>>,
+    other: &Option<Shared<InitSection>>,
+) -> bool
+    ensures { result ≡ same_option same_init_section one.now other.now }
 {
     match (one, other) {
-        (Some(one), Some(other)) => is_same_section(one, other),
+        (Some(one), Some(other)) => is_same_init_section(one, other),
         (None, None) => true,
         _ => false,
     }
@@ -74,7 +77,7 @@ fn same_media(a: &Segment, b: &Segment) -> bool
 fn same_protection(a: &Segment, b: &Segment) -> bool
     ensures { result ≡ same_protection a.now b.now }
 {
-    are_same_keys(&a.keys, &b.keys) && are_same_sections(&a.init_section, &b.init_section)
+    are_same_keys(&a.keys, &b.keys) && are_same_init_sections(&a.init_section, &b.init_section)
 }
 
 fn are_same_segments(a: &Segment, b: &Segment) -> bool

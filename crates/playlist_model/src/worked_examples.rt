@@ -4,7 +4,7 @@ ghost use Rattle.std.specs.Prelude.{◌≡◌, [], ◌∷◌, ◌++◌, codes, O
 ghost use Rattle.playlist_model.specs.Instants.{instants_of};
 ghost use Rattle.playlist_model.specs.Lines.{placed_lines};
 ghost use Rattle.playlist_model.specs.Uri.{base_of};
-ghost use Rattle.playlist_model.specs.Inner.WorkedExamples.{read_lines, read_text, read_after_target, segments_read, keys_and_section, resolved_here};
+ghost use Rattle.playlist_model.specs.Inner.WorkedExamples.{read_lines, read_text, read_after_target, segments_read, keys_and_init_section, resolved_here};
 
 use crate::FaultKind;
 
@@ -62,14 +62,14 @@ fn byte_range_examples()
         })) }
 {}
 
-/// Keys and sections.
+/// Keys and initialisation sections.
 fn key_examples()
     ensures no_method { read_after_target (codes "#EXT-X-KEY:URI=\"k\"" ∷ []) ≡ Some (Err (record { kind = FaultKind.MissingAttribute; line = 3 })) }
     ensures quoted_method { read_after_target (codes "#EXT-X-KEY:METHOD=\"AES-128\",URI=\"k\"" ∷ []) ≡ Some (Err (record { kind = FaultKind.BadAttributes; line = 3 })) }
     ensures no_uri { read_after_target (codes "#EXT-X-KEY:METHOD=AES-128" ∷ []) ≡ Some (Err (record { kind = FaultKind.MissingAttribute; line = 3 })) }
     ensures bad_iv { read_after_target (codes "#EXT-X-KEY:METHOD=AES-128,URI=\"k\",IV=5" ∷ []) ≡ Some (Err (record { kind = FaultKind.BadAttributes; line = 3 })) }
-    ensures map_without_uri { read_after_target (codes "#EXT-X-MAP:BYTERANGE=\"5\"" ∷ []) ≡ Some (Err (record { kind = FaultKind.MissingAttribute; line = 3 })) }
-    ensures map_without_iv { read_after_target (codes "#EXT-X-KEY:METHOD=AES-128,URI=\"k\"" ∷ codes "#EXT-X-MAP:URI=\"i\"" ∷ []) ≡ Some (Err (record { kind = FaultKind.MapWithoutIv; line = 4 })) }
+    ensures init_section_without_uri { read_after_target (codes "#EXT-X-MAP:BYTERANGE=\"5\"" ∷ []) ≡ Some (Err (record { kind = FaultKind.MissingAttribute; line = 3 })) }
+    ensures init_section_without_iv { read_after_target (codes "#EXT-X-KEY:METHOD=AES-128,URI=\"k\"" ∷ codes "#EXT-X-MAP:URI=\"i\"" ∷ []) ≡ Some (Err (record { kind = FaultKind.MapWithoutIv; line = 4 })) }
     ensures none_with_iv { read_after_target (codes "#EXT-X-KEY:METHOD=NONE,IV=5" ∷ []) ≡ Some (Err (record { kind = FaultKind.NoSegments; line = 0 })) }
     ensures mixed { read_after_target (codes "#EXTINF:1," ∷ codes "a.ts" ∷ codes "#EXT-X-MAP:URI=\"i\"" ∷ codes "#EXTINF:1," ∷ codes "b.ts" ∷ []) ≡ Some (Err (record { kind = FaultKind.MixedMaps; line = 0 })) }
     ensures formats { read_after_target (codes "#EXT-X-KEY:METHOD=A,URI=\"http:\",KEYFORMAT=\"a\"" ∷ codes "#EXT-X-KEY:METHOD=A,URI=\"http:\",KEYFORMAT=\"b\"" ∷ codes "#EXT-X-KEY:METHOD=A,URI=\"http:\",KEYFORMAT=\"c\"" ∷ codes "#EXT-X-KEY:METHOD=A,URI=\"http:\",KEYFORMAT=\"d\"" ∷ codes "#EXT-X-KEY:METHOD=A,URI=\"http:\",KEYFORMAT=\"e\"" ∷ codes "#EXT-X-KEY:METHOD=A,URI=\"http:\",KEYFORMAT=\"f\"" ∷ codes "#EXT-X-KEY:METHOD=A,URI=\"http:\",KEYFORMAT=\"g\"" ∷ codes "#EXT-X-KEY:METHOD=A,URI=\"http:\",KEYFORMAT=\"h\"" ∷ codes "#EXT-X-KEY:METHOD=A,URI=\"http:\",KEYFORMAT=\"i\"" ∷ codes "#EXT-X-KEY:METHOD=A,URI=\"http:\",KEYFORMAT=\"j\"" ∷ codes "#EXT-X-KEY:METHOD=A,URI=\"http:\",KEYFORMAT=\"k\"" ∷ codes "#EXT-X-KEY:METHOD=A,URI=\"http:\",KEYFORMAT=\"l\"" ∷ codes "#EXT-X-KEY:METHOD=A,URI=\"http:\",KEYFORMAT=\"m\"" ∷ codes "#EXT-X-KEY:METHOD=A,URI=\"http:\",KEYFORMAT=\"n\"" ∷ codes "#EXT-X-KEY:METHOD=A,URI=\"http:\",KEYFORMAT=\"o\"" ∷ codes "#EXT-X-KEY:METHOD=A,URI=\"http:\",KEYFORMAT=\"p\"" ∷ codes "#EXT-X-KEY:METHOD=A,URI=\"http:\",KEYFORMAT=\"q\"" ∷ []) ≡ Some (Err (record { kind = FaultKind.TooMany; line = 19 })) }
@@ -129,9 +129,9 @@ fn line_examples()
     ensures other_return { read_text (codes "#EXTM3U" ++ (13 ∷ 10 ∷ codes "#EXT-X-VERSION:9" ++ (13 ∷ 10 ∷ []))) ≡ Some (Err (record { kind = FaultKind.Version; line = 2 })) }
 {}
 
-/// A section under one key, and segments under another.
-fn section_example()
-    ensures { map keys_and_section (segments_read (read_lines (codes "#EXTM3U"
+/// An initialisation section under one key, and segments under another.
+fn init_section_example()
+    ensures { map keys_and_init_section (segments_read (read_lines (codes "#EXTM3U"
         ∷ codes "#EXT-X-VERSION:7"
         ∷ codes "#EXT-X-TARGETDURATION:10"
         ∷ codes "#EXT-X-DATERANGE:ID=\"b1\",START-DATE=\"2024-05-01T12:00:10Z\",DURATION=10,SCTE35-OUT=0xFC302000000000000000FFF00F05000000017FFFFE002932E000010000000000000000"

@@ -58,14 +58,14 @@ scene_of heading stop = record {
   byte_range = None;
   time = None;
   keys = stop.keys;
-  section = stop.init_section;
+  init_section = stop.init_section;
   extent = stop.extent;
 }
 
 scene_ext : (g h : Heading) (n m d e s t : ℕ) (u v : Option (ℕ × List ℕ)) (a b : Option (ℕ × Option ℕ)) (i j : Option ℤ) (k l : List Key) (o p : Option InitSection) (x y : Option Extent)
     → g ≡ h → n ≡ m → d ≡ e → s ≡ t → u ≡ v → a ≡ b → i ≡ j → k ≡ l → o ≡ p → x ≡ y
-    → ◌≡◌ {A = Scene} (record { heading = g; number = n; discontinuity = d; steps = s; duration = u; byte_range = a; time = i; keys = k; section = o; extent = x })
-    (record { heading = h; number = m; discontinuity = e; steps = t; duration = v; byte_range = b; time = j; keys = l; section = p; extent = y })
+    → ◌≡◌ {A = Scene} (record { heading = g; number = n; discontinuity = d; steps = s; duration = u; byte_range = a; time = i; keys = k; init_section = o; extent = x })
+    (record { heading = h; number = m; discontinuity = e; steps = t; duration = v; byte_range = b; time = j; keys = l; init_section = p; extent = y })
 scene_ext g h n m d e s t u v a b i j k l o p x y e1 e2 e3 e4 e5 e6 e7 e8 e9 e10 = cc
 
 scene_is : (before : List Said) (heading : Heading) (stop : Stop) → heading_at before ≡ heading → IsStop (standing_at before) stop → scene_at before ≡ scene_of heading stop
@@ -117,7 +117,7 @@ stopped_is s stop heading said first step e =
     (counted s.media_sequence (unwrap_or (latest the_sequence said) 0) (count is_media said) stop.number first (ap (λ (x : Scene). x.number) e))
     (counted s.discontinuity_sequence (unwrap_or (latest the_discontinuity_sequence said) 0) (count is_discontinuity said) stop.discontinuity step (ap (λ (x : Scene). x.discontinuity) e))
     (sym (ap (λ (x : Scene). x.steps) e)) (sym (ap (λ (x : Scene). x.duration) e)) (sym (ap (λ (x : Scene). x.byte_range) e)) (sym (ap (λ (x : Scene). x.time) e))
-    (sym (ap (λ (x : Scene). x.keys) e)) (sym (ap (λ (x : Scene). x.section) e)) (sym (ap (λ (x : Scene). x.extent) e))
+    (sym (ap (λ (x : Scene). x.keys) e)) (sym (ap (λ (x : Scene). x.init_section) e)) (sym (ap (λ (x : Scene). x.extent) e))
 
 progress_ext : (a b : Parts) (g h : Heading) (s t : Standing) (d e : List DateRange) (x y : List Segment) → a ≡ b → g ≡ h → s ≡ t → d ≡ e → x ≡ y
     → ◌≡◌ {A = Progress} (record { base = a; heading = g; standing = s; date_ranges = d; segments = x }) (record { base = b; heading = h; standing = t; date_ranges = e; segments = y })

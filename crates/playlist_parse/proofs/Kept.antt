@@ -4,7 +4,7 @@ use Rattle.std.specs.Prelude.{Result, Ok, Err, IsOk, MatchResult, codes, bytes_e
 use Rattle.url.specs.Parts.{Parts}
 use Rattle.attr_list.specs.Attributes.{Pair, attribute}
 use Rattle.playlist_model.specs.declared.FaultKind.{FaultKind}
-use Rattle.playlist_model.specs.Said.{Reader, key_tag, map_tag, time_tag, Said, no_keys, Outcome, ◌>>=◌, refuse_if, attributes, required, optional, set_key, key_said, section_said, section_byte_range, iv_of, quoted_of, uri_of, or_fault}
+use Rattle.playlist_model.specs.Said.{Reader, key_tag, init_section_tag, time_tag, Said, no_keys, Outcome, ◌>>=◌, refuse_if, attributes, required, optional, set_key, key_said, init_section_said, init_section_byte_range, iv_of, quoted_of, uri_of, or_fault}
 use Rattle.date_times.specs.Instant.{instant_of}
 use Rattle.playlist_model.specs.declared.FaultKind.TheVariants as fault
 use Rattle.playlist_model.specs.LookBack.{Standing, standing_at, with_said}
@@ -52,20 +52,20 @@ says_key reader base rest =
     says_then (required false (attribute pairs (codes "METHOD"))) _ (λ method.
     says_either (bytes_eq method (codes "NONE")) (Ok no_keys) (set_key base pairs method) (λ b before. refl) (says_set base pairs method)))
 
-says_section : (reader : Reader) (base : Parts) (rest : List ℕ) → Says (section_said reader base rest)
-says_section reader base rest =
+says_init_section : (reader : Reader) (base : Parts) (rest : List ℕ) → Says (init_section_said reader base rest)
+says_init_section reader base rest =
     says_then (attributes reader rest) _ (λ pairs.
     says_then (required true (attribute pairs (codes "URI"))) _ (λ reference.
-    says_then (optional section_byte_range (attribute pairs (codes "BYTERANGE"))) _ (λ byte_range.
+    says_then (optional init_section_byte_range (attribute pairs (codes "BYTERANGE"))) _ (λ byte_range.
     says_then (uri_of base reference) _ (λ resource. λ b before. refl))))
 
 pub key_tag_says : (reader : Reader) (base : Parts) (before : List Said) (rest : List ℕ) → Says (said_by_tag reader base before key_tag rest)
 key_tag_says reader base before rest =
     says_after (key_said reader base rest) (within_formats reader before) (says_key reader base rest) (λ said h. says_unless _ _ (Ok said) h)
 
-pub map_tag_says : (reader : Reader) (base : Parts) (before : List Said) (rest : List ℕ) → Says (said_by_tag reader base before map_tag rest)
-map_tag_says reader base before rest =
-    says_after (section_said reader base rest) (with_ivs before) (says_section reader base rest) (λ said h. says_unless _ _ (Ok said) h)
+pub init_section_tag_says : (reader : Reader) (base : Parts) (before : List Said) (rest : List ℕ) → Says (said_by_tag reader base before init_section_tag rest)
+init_section_tag_says reader base before rest =
+    says_after (init_section_said reader base rest) (with_ivs before) (says_init_section reader base rest) (λ said h. says_unless _ _ (Ok said) h)
 
 pub time_tag_says : (reader : Reader) (base : Parts) (before : List Said) (rest : List ℕ) → Says (said_by_tag reader base before time_tag rest)
 time_tag_says reader base before rest = says_then (or_fault fault.BadTime (instant_of rest)) _ (λ t. λ b lines. refl)

@@ -9,7 +9,7 @@ use Rattle.date_times.specs.Instant.{instant_of}
 use Rattle.playlist_model.specs.declared.FaultKind.{FaultKind}
 use Rattle.playlist_model.specs.declared.FaultKind.TheVariants as fault
 use Rattle.playlist_model.specs.Lines.{Kind, ignored, uri, tag, kind_of, has_control}
-use Rattle.playlist_model.specs.Said.{Name, sequence_tag, version_tag, target_tag, discontinuity_sequence_tag, type_tag, ended_tag, independent_tag, frames_tag, master_tag, duration_tag, byte_range_tag, discontinuity_tag, key_tag, map_tag, time_tag, date_range_tag, unknown_tag, Said, sequence, discontinuity_sequence, or_fault, mended, Reader, over, number, version_of, playlist_type_of, byte_range_of, attributes, required, optional, iv_of, quoted_of, uri_of, section_byte_range, time_of, length_of, set_key, key_said, section_said, date_range_said, Outcome, ◌>>=◌, refuse_if}
+use Rattle.playlist_model.specs.Said.{Name, sequence_tag, version_tag, target_tag, discontinuity_sequence_tag, type_tag, ended_tag, independent_tag, frames_tag, master_tag, duration_tag, byte_range_tag, discontinuity_tag, key_tag, init_section_tag, time_tag, date_range_tag, unknown_tag, Said, sequence, discontinuity_sequence, or_fault, mended, Reader, over, number, version_of, playlist_type_of, byte_range_of, attributes, required, optional, iv_of, quoted_of, uri_of, init_section_byte_range, time_of, length_of, set_key, key_said, init_section_said, date_range_said, Outcome, ◌>>=◌, refuse_if}
 use Rattle.playlist_model.specs.LookBack.{the_version, the_target, the_sequence, the_discontinuity_sequence, the_type, is_media, is_discontinuity, is_ended, count, own_duration, byte_range_at, keys_at, discontinuity_at, media_sequence_at}
 use Rattle.playlist_model.specs.Reading.{has, is_set, passes, needs_iv, name_of, within_formats, with_ivs, said_by_tag, said_by_uri, said_by_kind, said_by}
 
@@ -57,10 +57,10 @@ module _ (reader : Reader) (base : Parts) where
       after (attributes reader rest) _ (λ pairs. after (required false (attribute pairs (codes "METHOD"))) _ (λ method.
       chosen (bytes_eq method (codes "NONE")) _ _ refl (set_other pairs method)))
 
-  section_other : (rest : List ℕ) → Other (section_said reader base rest)
-  section_other rest =
+  init_section_other : (rest : List ℕ) → Other (init_section_said reader base rest)
+  init_section_other rest =
       after (attributes reader rest) _ (λ pairs. after (required true (attribute pairs (codes "URI"))) _ (λ reference.
-      after (optional section_byte_range (attribute pairs (codes "BYTERANGE"))) _ (λ part. after (uri_of base reference) _ (λ resource. refl))))
+      after (optional init_section_byte_range (attribute pairs (codes "BYTERANGE"))) _ (λ part. after (uri_of base reference) _ (λ resource. refl))))
 
   date_range_other : (rest : List ℕ) → Other (date_range_said reader rest)
   date_range_other rest =
@@ -84,8 +84,8 @@ module _ (reader : Reader) (base : Parts) where
   tag_other before discontinuity_tag rest h = refused (passes (discontinuity_at before + 1)) _ _ refl
   tag_other before key_tag rest h =
       bound (key_said reader base rest) (within_formats reader before) (key_other rest) (λ x is. refused (over reader.formats (length (keys_at (x ∷ before)))) _ (Ok x) is)
-  tag_other before map_tag rest h =
-      bound (section_said reader base rest) (with_ivs before) (section_other rest) (λ x is. refused (list_any needs_iv (keys_at before)) _ (Ok x) is)
+  tag_other before init_section_tag rest h =
+      bound (init_section_said reader base rest) (with_ivs before) (init_section_other rest) (λ x is. refused (list_any needs_iv (keys_at before)) _ (Ok x) is)
   tag_other before time_tag rest h = after (or_fault fault.BadTime (instant_of rest)) _ (λ t. refl)
   tag_other before date_range_tag rest h = date_range_other rest
   tag_other before unknown_tag rest h = refl

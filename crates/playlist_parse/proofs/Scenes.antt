@@ -5,7 +5,7 @@ use Rattle.std.specs.Result.{result_unwrap_or}
 use Rattle.playlist_model.specs.declared.Segment.{Segment}
 use Rattle.playlist_model.specs.declared.DateRange.{DateRange}
 use Rattle.playlist_model.specs.EffectiveKeys.{effective_key}
-use Rattle.playlist_model.specs.Said.{Said, nothing, version, target, sequence, discontinuity_sequence, playlist_type, ended, independent, duration, byte_range, discontinuity, no_keys, key, section, time, date_range, media}
+use Rattle.playlist_model.specs.Said.{Said, nothing, version, target, sequence, discontinuity_sequence, playlist_type, ended, independent, duration, byte_range, discontinuity, no_keys, key, init_section, time, date_range, media}
 use Rattle.playlist_model.specs.LookBack.{latest, the_sequence, the_discontinuity_sequence, is_media, is_discontinuity, count, byte_range_from, extent_with, put_key, segments_of, date_ranges_of}
 use Rattle.playlist_model.specs.Inner.Heading.{Heading}
 use Rattle.playlist_model.specs.Reading.{has}
@@ -30,7 +30,7 @@ stepped (byte_range size offset) s = record s { byte_range = Some (size, offset)
 stepped discontinuity s = record s { discontinuity = s.discontinuity + 1; steps = s.steps + 1 }
 stepped no_keys s = record s { keys = [] }
 stepped (key k) s = record s { keys = put_key k s.keys }
-stepped (section resource part) s = record s { section = Some (record { uri = resource; byte_range = part; keys = s.keys }) }
+stepped (init_section resource part) s = record s { init_section = Some (record { uri = resource; byte_range = part; keys = s.keys }) }
 stepped (time instant) s = record s { time = Some instant }
 stepped (date_range r) s = s
 stepped (media resource) s = record s {
@@ -62,7 +62,7 @@ scene_step discontinuity before h =
     (one_more (unwrap_or (latest the_discontinuity_sequence before) 0) (count is_discontinuity before))
 scene_step no_keys before h = refl
 scene_step (key k) before h = refl
-scene_step (section resource part) before h = refl
+scene_step (init_section resource part) before h = refl
 scene_step (time instant) before h = refl
 scene_step (date_range r) before h = refl
 scene_step (media resource) before h =
@@ -78,7 +78,7 @@ segment_of s resource = record {
   uri = resource;
   byte_range = result_unwrap_or (byte_range_from s.byte_range resource s.extent) None;
   keys = map (effective_key s.number) s.keys;
-  init_section = s.section;
+  init_section = s.init_section;
   duration = (unwrap_or s.duration (0, [])).0;
   title = (unwrap_or s.duration (0, [])).1;
   program_date_time = s.time;

@@ -1,7 +1,7 @@
 //! A playlist as far as it has been read, and what each tag adds to it.
 ghost use Rattle.std.specs.Prelude.{◌≡◌, [], ◌∷◌, ◌++◌, true, false, not, length, Some, None, Ok, Err, IfOk, OnOk, MatchOption, is_none, unwrap_or};
 ghost use Rattle.std.specs.List.{list_any, list_all};
-ghost use Rattle.playlist_model.specs.Reading.{said_by, said_by_kind, said_by_tag, said_by_uri, has_section, are_mixed};
+ghost use Rattle.playlist_model.specs.Reading.{said_by, said_by_kind, said_by_tag, said_by_uri, has_init_section, are_mixed};
 ghost use Rattle.playlist_model.specs.Lines as kinds;
 ghost use Rattle.playlist_model.specs.Lines.{has_control};
 ghost use Rattle.playlist_model.specs.Said as said;
@@ -268,7 +268,7 @@ impl<'a> Progress<'a> {
             Tag::Master => Err(FaultKind::MasterPlaylist),
             Tag::ByteRange => self.byte_range(rest),
             Tag::Key => self.key(rest),
-            Tag::Map => self.section(rest),
+            Tag::InitSection => self.init_section(rest),
             Tag::ProgramDateTime => self.time(rest),
             Tag::DateRange => self.date_range(rest),
             Tag::Unknown => Ok(()),
@@ -302,10 +302,10 @@ impl<'a> Progress<'a> {
     }
 
     // EXT-X-MAP (4.3.2.5)
-    fn section(&mut self, rest: &str) -> Result<(), FaultKind>
-        ensures { TakesLine (λ base before. said_by_tag limited base before said.map_tag rest.now) self.old self.new result }
+    fn init_section(&mut self, rest: &str) -> Result<(), FaultKind>
+        ensures { TakesLine (λ base before. said_by_tag limited base before said.init_section_tag rest.now) self.old self.new result }
     {
-        self.state.map_tag(rest)
+        self.state.init_section_tag(rest)
     }
 
     // EXT-X-PROGRAM-DATE-TIME (4.3.2.6)
@@ -562,14 +562,14 @@ fn playlist_type_of(rest: &str) -> Result<PlaylistKind, FaultKind>
     }
 }
 
-fn is_any_mapped(segments: &[Segment]) -> bool
-    ensures { result ≡ list_any has_section segments.now }
+fn some_have_init_sections(segments: &[Segment]) -> bool
+    ensures { result ≡ list_any has_init_section segments.now }
 {
     segments.iter().any(|s: &Segment| s.init_section.is_some())
 }
 
-fn are_all_mapped(segments: &[Segment]) -> bool
-    ensures { result ≡ list_all has_section segments.now }
+fn all_have_init_sections(segments: &[Segment]) -> bool
+    ensures { result ≡ list_all has_init_section segments.now }
 {
     segments.iter().all(|s: &Segment| s.init_section.is_some())
 }
@@ -578,5 +578,5 @@ fn are_all_mapped(segments: &[Segment]) -> bool
 fn are_mixed(segments: &[Segment]) -> bool
     ensures { result ≡ are_mixed segments.now }
 {
-    is_any_mapped(segments) && !are_all_mapped(segments)
+    some_have_init_sections(segments) && !all_have_init_sections(segments)
 }

@@ -33,7 +33,7 @@ pub enum Tag {
     /// EXT-X-KEY (section 4.3.2.4).
     Key,
     /// EXT-X-MAP (section 4.3.2.5).
-    Map,
+    InitSection,
     /// EXT-X-PROGRAM-DATE-TIME (section 4.3.2.6).
     ProgramDateTime,
     /// EXT-X-DATERANGE (section 4.3.2.7).
@@ -59,7 +59,7 @@ pub fn tag_of(name: &str, colon: bool) -> Tag
         "EXT-X-BYTERANGE" => Tag::ByteRange,
         "EXT-X-DISCONTINUITY" => flag(Tag::Discontinuity, colon),
         "EXT-X-KEY" => Tag::Key,
-        "EXT-X-MAP" => Tag::Map,
+        "EXT-X-MAP" => Tag::InitSection,
         "EXT-X-PROGRAM-DATE-TIME" => Tag::ProgramDateTime,
         "EXT-X-DATERANGE" => Tag::DateRange,
         "EXT-X-VERSION" => Tag::Version,

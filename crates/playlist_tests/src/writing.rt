@@ -42,19 +42,19 @@ fn keys(alloc: Global, uri: &str, iv: u128) -> Result<Keys, AllocError> {
     Keys::from_vec(alloc, vec![in alloc; key]?)
 }
 
-fn section(alloc: Global) -> Result<Shared<InitSection>, AllocError> {
-    let section = InitSection {
+fn init_section(alloc: Global) -> Result<Shared<InitSection>, AllocError> {
+    let init_section = InitSection {
         uri: Shared::copy_of(alloc, "http://origin.example/ch/init.mp4")?,
         byte_range: None,
         keys: keys(alloc, "http://origin.example/ch/ka", 10)?,
     };
-    Ok(Shared::new(alloc, section)?)
+    Ok(Shared::new(alloc, init_section)?)
 }
 
 // A part of a file, encrypted, with a section under another key.
 fn encrypted(alloc: Global) -> Result<Segment, AllocError> {
     let mut segment = segment(alloc, Nanos(9_500_000_000), "one")?;
-    segment.init_section = Some(section(alloc)?);
+    segment.init_section = Some(init_section(alloc)?);
     segment.keys = keys(alloc, "http://origin.example/ch/kb", 2)?;
     segment.byte_range = Some(ByteRange {
         length: 30,

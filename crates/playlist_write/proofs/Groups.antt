@@ -17,12 +17,12 @@ use Rattle.playlist_model.proofs.ListTests.{all_filter}
 use Rattle.playlist_model.specs.declared.KeyTag.{KeyTag}
 use Rattle.playlist_model.specs.declared.KeyTag.TheVariants.{End, Set}
 use Rattle.stitcher.specs.declared.OutSegment.{OutSegment}
-use Rattle.playlist_model.specs.Same.{same_section, same_option}
+use Rattle.playlist_model.specs.Same.{same_init_section, same_option}
 use Rattle.stitcher.specs.KeyTags.{transition, is_new_key, keeps_formats, after_tags}
-use Rattle.playlist_model.proofs.SameParts.{section_is}
+use Rattle.playlist_model.proofs.SameParts.{init_section_is}
 use Rattle.stitcher.proofs.TagLaws.{transition_leads}
-use Rattle.playlist_write.specs.Owed.{Current, keys_owed, changed_section, section_owed, keys_then, time_owed, byte_range_owed, segment_owed, after_segment, segments_owed}
-use Rattle.writable.specs.Fitting.{is_clean, uri_fits, quoted_uri_fits, byte_range_fits, if_some, key_fits, keys_fit, states_iv, section_fits}
+use Rattle.playlist_write.specs.Owed.{Current, keys_owed, changed_init_section, init_section_owed, keys_then, time_owed, byte_range_owed, segment_owed, after_segment, segments_owed}
+use Rattle.writable.specs.Fitting.{is_clean, uri_fits, quoted_uri_fits, byte_range_fits, if_some, key_fits, keys_fit, states_iv, init_section_fits}
 use Rattle.playlist_write.specs.WellFormed.{is_word, numbers_are_words, resource_fits, segment_fits}
 use Rattle.playlist_write.specs.Denoted.{denoted_segment}
 use Rattle.playlist_write.proofs.Machine.{Known, step, run, Allowed, number_known, discontinuity_known}
@@ -34,9 +34,9 @@ numbers_go_on number steps (out ∷ later) =
     out.media_sequence == number && out.discontinuity_sequence == steps + out.discontinuities && numbers_go_on (number + 1) out.discontinuity_sequence later
 
 -- as one segment has a section or none, so have all
-abbrev pub sections_alike : Bool → List OutSegment → Bool
-sections_alike mapped [] = true
-sections_alike mapped (out ∷ later) = cond mapped (is_some out.segment.init_section) (is_none out.segment.init_section) && sections_alike mapped later
+abbrev pub init_sections_alike : Bool → List OutSegment → Bool
+init_sections_alike with_init_sections [] = true
+init_sections_alike with_init_sections (out ∷ later) = cond with_init_sections (is_some out.segment.init_section) (is_none out.segment.init_section) && init_sections_alike with_init_sections later
 
 -- the lines fit and can stand here, and lead there
 pub record Goes (from : Known) (lines : List Said) (to : Known) : Type 0 where
@@ -100,20 +100,20 @@ goes_keys old new k e h g =
 
 -- ---- the section
 
-abbrev with_section : Known → List Key → Option InitSection → Known
-with_section k keys section = record k { standing = record k.standing { keys = keys; init_section = section } }
+abbrev with_init_section : Known → List Key → Option InitSection → Known
+with_init_section k keys init_section = record k { standing = record k.standing { keys = keys; init_section = init_section } }
 
-with_both : (k : Known) (ks : List Key) (s : Option InitSection) → k.standing.keys ≡ ks → k.standing.init_section ≡ s → k ≡ with_section k ks s
-with_both k ks s e g = ap (with_keys k) e ∙ ap (with_section k ks) g
+with_both : (k : Known) (ks : List Key) (s : Option InitSection) → k.standing.keys ≡ ks → k.standing.init_section ≡ s → k ≡ with_init_section k ks s
+with_both k ks s e g = ap (with_keys k) e ∙ ap (with_init_section k ks) g
 
-record SectionParts (s : InitSection) : Type 0 where
+record InitSectionParts (s : InitSection) : Type 0 where
   uri : quoted_uri_fits s.uri ≡ true
   byte_range : if_some byte_range_fits s.byte_range ≡ true
   keys : keys_fit s.keys ≡ true
   ivs : list_any needs_iv s.keys ≡ false
 
-section_parts : (s : InitSection) → section_fits s ≡ true → SectionParts s
-section_parts s h =
+init_section_parts : (s : InitSection) → init_section_fits s ≡ true → InitSectionParts s
+init_section_parts s h =
     let a = and_parts _ _ h in let b = and_parts _ _ a.0 in let c : (quoted_uri_fits s.uri ≡ true) × (if_some byte_range_fits s.byte_range ≡ true) = and_parts _ _ b.0 in
     record { uri = c.0; byte_range = c.1; keys = b.1; ivs = not-true _ a.1 }
 
@@ -121,25 +121,25 @@ section_parts s h =
 abbrev written : Bool → InitSection → Option InitSection
 written same new = cond same None (Some new)
 
-section_step : (same : Bool) (cur : Current) (new : InitSection) (k : Known) → same_option same_section (Some new) cur.init_section ≡ same → k.standing.keys ≡ cur.keys → k.standing.init_section ≡ cur.init_section → keys_fit cur.keys ≡ true → section_fits new ≡ true
-    → Goes k (section_owed cur.keys (written same new)) (with_section k (keys_then cur.keys (written same new)) (Some new))
-section_step true cur new k e ke se h f = record { allowed = tt; leads = with_both k cur.keys (Some new) ke (se ∙ section_is new cur.init_section e) }
-section_step false cur new k e ke se h f =
-    let p = section_parts new f in
+init_section_step : (same : Bool) (cur : Current) (new : InitSection) (k : Known) → same_option same_init_section (Some new) cur.init_section ≡ same → k.standing.keys ≡ cur.keys → k.standing.init_section ≡ cur.init_section → keys_fit cur.keys ≡ true → init_section_fits new ≡ true
+    → Goes k (init_section_owed cur.keys (written same new)) (with_init_section k (keys_then cur.keys (written same new)) (Some new))
+init_section_step true cur new k e ke se h f = record { allowed = tt; leads = with_both k cur.keys (Some new) ke (se ∙ init_section_is new cur.init_section e) }
+init_section_step false cur new k e ke se h f =
+    let p = init_section_parts new f in
     goes-append _ _ k (with_keys k new.keys) _ (goes_keys cur.keys new.keys k ke h p.keys) (record { allowed = ((p.uri, p.byte_range), p.ivs, tt); leads = refl })
 
-goes_section : (cur : Current) (sec : Option InitSection) (k : Known) → k.standing.keys ≡ cur.keys → k.standing.init_section ≡ cur.init_section → keys_fit cur.keys ≡ true → if_some section_fits sec ≡ true
-    → Goes k (section_owed cur.keys (changed_section cur.init_section sec)) (with_section k (keys_then cur.keys (changed_section cur.init_section sec)) (or_earlier sec cur.init_section))
-goes_section cur None k ke se h f = record { allowed = tt; leads = with_both k cur.keys cur.init_section ke se }
-goes_section cur (Some new) k ke se h f = section_step _ cur new k refl ke se h f
+goes_init_section : (cur : Current) (sec : Option InitSection) (k : Known) → k.standing.keys ≡ cur.keys → k.standing.init_section ≡ cur.init_section → keys_fit cur.keys ≡ true → if_some init_section_fits sec ≡ true
+    → Goes k (init_section_owed cur.keys (changed_init_section cur.init_section sec)) (with_init_section k (keys_then cur.keys (changed_init_section cur.init_section sec)) (or_earlier sec cur.init_section))
+goes_init_section cur None k ke se h f = record { allowed = tt; leads = with_both k cur.keys cur.init_section ke se }
+goes_init_section cur (Some new) k ke se h f = init_section_step _ cur new k refl ke se h f
 
 then_step : (same : Bool) (cur : Current) (new : InitSection) → keys_fit cur.keys ≡ true → keys_fit new.keys ≡ true → keys_fit (keys_then cur.keys (written same new)) ≡ true
 then_step true cur new h g = h
 then_step false cur new h g = g
 
-then_fit : (cur : Current) (sec : Option InitSection) → keys_fit cur.keys ≡ true → if_some section_fits sec ≡ true → keys_fit (keys_then cur.keys (changed_section cur.init_section sec)) ≡ true
+then_fit : (cur : Current) (sec : Option InitSection) → keys_fit cur.keys ≡ true → if_some init_section_fits sec ≡ true → keys_fit (keys_then cur.keys (changed_init_section cur.init_section sec)) ≡ true
 then_fit cur None h f = h
-then_fit cur (Some new) h f = then_step (same_option same_section (Some new) cur.init_section) cur new h (section_parts new f).keys
+then_fit cur (Some new) h f = then_step (same_option same_init_section (Some new) cur.init_section) cur new h (init_section_parts new f).keys
 
 -- ---- the rest of a segment's lines
 
@@ -237,7 +237,7 @@ pub record SegmentFits (out : OutSegment) : Type 0 where
   tail : TailFits out
   keys : keys_fit out.segment.keys ≡ true
   ivs : list_all states_iv out.segment.keys ≡ true
-  init_section : if_some section_fits out.segment.init_section ≡ true
+  init_section : if_some init_section_fits out.segment.init_section ≡ true
 
 pub segment_parts : (out : OutSegment) → segment_fits out ≡ true → SegmentFits out
 segment_parts out h =
@@ -266,12 +266,12 @@ module _ (h : Known) where
   goes_segment cur n d extent segments out f kf se media_is disc_is =
       let k0 = ready h cur n d extent segments in
       let k1 : Known = record k0 { standing = record k0.standing { discontinuity_count = d + out.discontinuities; discontinuities = 0 + out.discontinuities } } in
-      let changed = changed_section cur.init_section out.segment.init_section in
+      let changed = changed_init_section cur.init_section out.segment.init_section in
       let ms = f.media_sequence in let ds = f.discontinuity_sequence in
-      let k2 = with_section k1 (keys_then cur.keys changed) (or_earlier out.segment.init_section cur.init_section) in
+      let k2 = with_init_section k1 (keys_then cur.keys changed) (or_earlier out.segment.init_section cur.init_section) in
       let k3 = with_keys k2 out.segment.keys in
       let one = goes_steps out.discontinuities k0 (omega arith) in
-      let two = goes_section cur out.segment.init_section k1 refl refl kf f.init_section in
+      let two = goes_init_section cur out.segment.init_section k1 refl refl kf f.init_section in
       let three = goes_keys (keys_then cur.keys changed) out.segment.keys k2 refl (then_fit cur out.segment.init_section kf f.init_section) f.keys in
       let four = goes_tail out out.program_date_time out.segment.byte_range refl refl k3 f.tail (lt-leb _ _ (omega arith)) in
       let same = segment_ext out (h.standing.media_sequence + n) (h.standing.discontinuity_sequence + (d + out.discontinuities)) (0 + out.discontinuities) (map (effective_key (h.standing.media_sequence + n)) out.segment.keys) (or_earlier out.segment.init_section cur.init_section)
@@ -292,29 +292,29 @@ module _ (h : Known) where
     pub counted : count ≡ n + length outs
     pub goes : Goes (ready h cur n d extent segments) (segments_owed cur outs) (ready h current count discontinuity_count last (segments ++ map denoted_segment outs))
 
-  kept : (mapped : Bool) (sec cur : Option InitSection) → cond mapped (is_some sec) (is_none sec) ≡ true → (mapped ≡ false → cur ≡ None) → or_earlier sec cur ≡ sec
-  kept mapped (Some s) cur e f = refl
+  kept : (with_init_sections : Bool) (sec cur : Option InitSection) → cond with_init_sections (is_some sec) (is_none sec) ≡ true → (with_init_sections ≡ false → cur ≡ None) → or_earlier sec cur ≡ sec
+  kept with_init_sections (Some s) cur e f = refl
   kept true None cur e f = cc
   kept false None cur e f = f refl
 
-  still_none : (mapped : Bool) (sec cur : Option InitSection) → cond mapped (is_some sec) (is_none sec) ≡ true → or_earlier sec cur ≡ sec → mapped ≡ false → or_earlier sec cur ≡ None
+  still_none : (with_init_sections : Bool) (sec cur : Option InitSection) → cond with_init_sections (is_some sec) (is_none sec) ≡ true → or_earlier sec cur ≡ sec → with_init_sections ≡ false → or_earlier sec cur ≡ None
   still_none true sec cur e g m = cc
   still_none false None cur e g m = g
   still_none false (Some s) cur e g m = cc
 
-  pub goes_segments : (mapped : Bool) (outs : List OutSegment) (cur : Current) (n d number disc : ℕ) (extent : Option Extent) (segments : List Segment) → list_all segment_fits outs ≡ true → sections_alike mapped outs ≡ true
-      → numbers_go_on number disc outs ≡ true → number ≡ h.standing.media_sequence + n → disc ≡ h.standing.discontinuity_sequence + d → keys_fit cur.keys ≡ true → (mapped ≡ false → cur.init_section ≡ None) → After cur n d extent segments outs
-  goes_segments mapped [] cur n d number disc extent segments f a g ne de kf sn =
+  pub goes_segments : (with_init_sections : Bool) (outs : List OutSegment) (cur : Current) (n d number disc : ℕ) (extent : Option Extent) (segments : List Segment) → list_all segment_fits outs ≡ true → init_sections_alike with_init_sections outs ≡ true
+      → numbers_go_on number disc outs ≡ true → number ≡ h.standing.media_sequence + n → disc ≡ h.standing.discontinuity_sequence + d → keys_fit cur.keys ≡ true → (with_init_sections ≡ false → cur.init_section ≡ None) → After cur n d extent segments outs
+  goes_segments with_init_sections [] cur n d number disc extent segments f a g ne de kf sn =
       record { current = cur; count = n; discontinuity_count = d; last = extent; counted = omega arith; goes = record { allowed = tt; leads = ap (ready h cur n d extent) (sym (append-nil segments)) } }
-  goes_segments mapped (out ∷ outs) cur n d number disc extent segments f a g ne de kf sn =
+  goes_segments with_init_sections (out ∷ outs) cur n d number disc extent segments f a g ne de kf sn =
       let fs = and_parts _ _ f in let al = and_parts _ _ a in
       let g1 = and_parts _ _ g in let g4 : ((out.media_sequence == number) ≡ true) × ((out.discontinuity_sequence == disc + out.discontinuities) ≡ true) = and_parts _ _ g1.0 in
       let m : out.media_sequence ≡ number = eqb-true _ _ g4.0 in let c : out.discontinuity_sequence ≡ disc + out.discontinuities = eqb-true _ _ g4.1 in
       let parts = segment_parts out fs.0 in
-      let se = kept mapped out.segment.init_section cur.init_section al.0 sn in
+      let se = kept with_init_sections out.segment.init_section cur.init_section al.0 sn in
       let one = goes_segment cur n d extent segments out parts kf se (omega arith) (omega arith) in
-      let rest = goes_segments mapped outs (after_segment cur out) (n + 1) (d + out.discontinuities) (number + 1) out.discontinuity_sequence (extent_of out) (segments ++ denoted_segment out ∷ []) fs.1 al.1 g1.1 (omega arith) (omega arith) parts.keys
-      (still_none mapped out.segment.init_section cur.init_section al.0 se) in
+      let rest = goes_segments with_init_sections outs (after_segment cur out) (n + 1) (d + out.discontinuities) (number + 1) out.discontinuity_sequence (extent_of out) (segments ++ denoted_segment out ∷ []) fs.1 al.1 g1.1 (omega arith) (omega arith) parts.keys
+      (still_none with_init_sections out.segment.init_section cur.init_section al.0 se) in
       let all = goes-append _ _ _ _ _ one rest.goes in
       record {
         current = rest.current;

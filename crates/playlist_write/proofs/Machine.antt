@@ -8,7 +8,7 @@ use Rattle.playlist_model.specs.declared.ByteRange.{ByteRange}
 use Rattle.playlist_model.specs.declared.Segment.{Segment}
 use Rattle.playlist_model.specs.declared.DateRange.{DateRange}
 use Rattle.date_times.specs.Instant.{in_range}
-use Rattle.playlist_model.specs.Said.{Said, nothing, version, target, sequence, discontinuity_sequence, playlist_type, ended, independent, duration, byte_range, discontinuity, no_keys, key, section, time, date_range, media, Outcome, date_range_said}
+use Rattle.playlist_model.specs.Said.{Said, nothing, version, target, sequence, discontinuity_sequence, playlist_type, ended, independent, duration, byte_range, discontinuity, no_keys, key, init_section, time, date_range, media, Outcome, date_range_said}
 use Rattle.playlist_model.specs.EffectiveKeys.{effective_key}
 use Rattle.playlist_model.specs.LookBack.{is_media, is_discontinuity, put_key, extent_with, byte_range_from, Standing, standing_at, segments_of, date_ranges_of}
 use Rattle.playlist_model.specs.Inner.Heading.{Heading, heading_at}
@@ -77,7 +77,7 @@ standing_after s (byte_range n o) = record s { byte_range = Some (n, o) }
 standing_after s discontinuity = record s { discontinuity_count = s.discontinuity_count + 1; discontinuities = s.discontinuities + 1 }
 standing_after s no_keys = record s { keys = [] }
 standing_after s (key j) = record s { keys = put_key j s.keys }
-standing_after s (section uri part) = record s { init_section = Some (record { uri = uri; byte_range = part; keys = s.keys }) }
+standing_after s (init_section uri part) = record s { init_section = Some (record { uri = uri; byte_range = part; keys = s.keys }) }
 standing_after s (time t) = record s { program_date_time = Some t }
 standing_after s (media uri) = record s {
   media_count = s.media_count + 1;
@@ -120,7 +120,7 @@ known-step (byte_range n o) before = refl
 known-step discontinuity before = refl
 known-step no_keys before = refl
 known-step (key j) before = refl
-known-step (section uri part) before = refl
+known-step (init_section uri part) before = refl
 known-step (time t) before = refl
 known-step (date_range r) before = refl
 known-step (media uri) before = refl
@@ -150,7 +150,7 @@ Allows k (discontinuity_sequence n) =
 Allows k (playlist_type kind) = is_some k.heading.playlist_type ≡ false
 Allows k ended = k.heading.end_list ≡ false
 Allows k discontinuity = passes (discontinuity_known k.standing + 1) ≡ false
-Allows k (section uri part) = list_any needs_iv k.standing.keys ≡ false
+Allows k (init_section uri part) = list_any needs_iv k.standing.keys ≡ false
 Allows k (media uri) =
     (is_none k.standing.duration ≡ false) × (passes (number_known k.standing) ≡ false) × (r : Option ByteRange) × (byte_range_known k.standing uri ≡ Ok r)
 Allows k _ = Unit {0}
@@ -165,7 +165,7 @@ Fits (duration n title) = (n < 10 ^ 15) × (is_clean title ≡ true)
 Fits (byte_range n None) = ⊥
 Fits (byte_range n (Some o)) = n + o < 2 ^ 64
 Fits (key k) = key_fits k ≡ true
-Fits (section uri part) = (quoted_uri_fits uri ≡ true) × (if_some byte_range_fits part ≡ true)
+Fits (init_section uri part) = (quoted_uri_fits uri ≡ true) × (if_some byte_range_fits part ≡ true)
 Fits (time t) = in_range t ≡ true
 Fits (date_range r) = (is_clean r.attributes ≡ true) × (date_range_said unlimited r.attributes ≡ Ok (date_range r))
 Fits (media uri) = uri_fits uri ≡ true
@@ -192,7 +192,7 @@ module _ (base : Parts) where
   line_reads discontinuity before f a = lines.discontinuity_line base before a
   line_reads no_keys before f a = lines.no_keys_line base before
   line_reads (key k) before f a = lines.key_line base before k f
-  line_reads (section uri part) before f a = lines.section_line base before uri part f.0 f.1 a
+  line_reads (init_section uri part) before f a = lines.init_section_line base before uri part f.0 f.1 a
   line_reads (time t) before f a = lines.time_line base before t f
   line_reads (date_range r) before f a = lines.date_range_line base before r f.0 f.1
   line_reads (media uri) before f a = lines.media_line base before uri a.2 f a.0 a.1 a.3

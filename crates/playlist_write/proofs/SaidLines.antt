@@ -29,19 +29,19 @@ use Rattle.playlist_model.specs.Lines.{has_control, kind_of, uri}
 use Rattle.playlist_model.specs.Inner.Lines.{is_printable}
 use Rattle.playlist_model.specs.Uri.{has_scheme, is_scheme_byte}
 use Rattle.date_times.specs.Instant.{in_range, instant_of}
-use Rattle.playlist_model.specs.Said.{Said, version, target, sequence, discontinuity_sequence, playlist_type, ended, independent, duration, byte_range, discontinuity, no_keys, key, section, time, date_range, media, Outcome, ◌>>=◌, refuse_if, or_fault, duration_said, byte_range_of, byte_range_end_fits, uri_of, some_value, iv_of, optional, required, quoted_of, set_key, key_said, section_said, section_byte_range, number, version_of, date_range_said}
+use Rattle.playlist_model.specs.Said.{Said, version, target, sequence, discontinuity_sequence, playlist_type, ended, independent, duration, byte_range, discontinuity, no_keys, key, init_section, time, date_range, media, Outcome, ◌>>=◌, refuse_if, or_fault, duration_said, byte_range_of, byte_range_end_fits, uri_of, some_value, iv_of, optional, required, quoted_of, set_key, key_said, init_section_said, init_section_byte_range, number, version_of, date_range_said}
 use Rattle.playlist_model.specs.Carried.{after_commas, carried}
 use Rattle.playlist_model.specs.Reading.{said_by, unlimited, passes, said_by_kind, within_formats, needs_iv, with_ivs, is_set, has}
 use Rattle.playlist_model.specs.LookBack.{discontinuity_at, own_duration, media_sequence_at, byte_range_at, keys_at, the_version, the_target, the_sequence, the_discontinuity_sequence, the_type, is_media, is_discontinuity, is_ended}
 use Rattle.playlist_model.proofs.SameParts.{key_ext}
 use Rattle.date_times.specs.Digits.{fixed_digits}
 use Rattle.date_times.specs.Times.{time_text}
-use Rattle.playlist_write.specs.Spelling.{spelled, own_pairs, key_text, section_pairs, iv_pairs, format_pairs, in_quotes, part_pairs}
+use Rattle.playlist_write.specs.Spelling.{spelled, own_pairs, key_text, init_section_pairs, iv_pairs, format_pairs, in_quotes, part_pairs}
 use Rattle.writable.specs.Fitting.{is_clean, value_fits, uri_fits, quoted_uri_fits, if_some, iv_fits, key_fits, byte_range_fits}
 use Rattle.playlist_write.proofs.CleanTexts.{Clean, clean-append, clean_printable}
 use Rattle.playlist_write.proofs.WrittenNumbers.{is_number_byte, decimal_bytes, duration_bytes, hex_bytes, hex_read}
 use Rattle.playlist_write.proofs.OtherFields.{carried_others, none_found}
-use Rattle.playlist_write.proofs.TagFields.{KeyParts, key_parts, key_pairs, key_attributes, key_text_is, own_attributes, section_attributes}
+use Rattle.playlist_write.proofs.TagFields.{KeyParts, key_parts, key_pairs, key_attributes, key_text_is, own_attributes, init_section_attributes}
 use Rattle.date_times.proofs.TimeLaws.{time_reads}
 use Rattle.playlist_write.proofs.WrittenTimes.{times_are_clean}
 
@@ -273,7 +273,7 @@ module _ (base : Parts) (before : List Said) where
 
   -- ---- EXT-X-MAP
 
-  part_reads : (part : Option ByteRange) → if_some byte_range_fits part ≡ true → optional section_byte_range (find (is_named (codes "BYTERANGE")) (part_pairs part)) ≡ Ok part
+  part_reads : (part : Option ByteRange) → if_some byte_range_fits part ≡ true → optional init_section_byte_range (find (is_named (codes "BYTERANGE")) (part_pairs part)) ≡ Ok part
   part_reads None h = refl
   part_reads (Some r) h =
       let e = byte_range_reads r.length r.offset (ltb-true _ _ h) in
@@ -282,26 +282,26 @@ module _ (base : Parts) (before : List Said) where
       part_then : ℕ × Option ℕ → Outcome ByteRange
       part_then r = refuse_if (not (byte_range_end_fits r.0 (unwrap_or r.1 0))) fault.BadRange (Ok (record { length = r.0; offset = unwrap_or r.1 0 }))
 
-  section_by : (rest : List ℕ) (pairs : List Pair) (reference resource : List ℕ) (part : Option ByteRange) → attributes_of None rest ≡ Ok pairs → required true (attribute pairs (codes "URI")) ≡ Ok reference
-      → optional section_byte_range (attribute pairs (codes "BYTERANGE")) ≡ Ok part → uri_of base reference ≡ Ok resource → list_any needs_iv (keys_at before) ≡ false
-      → (section_said unlimited base rest >>= with_ivs before) ≡ Ok (section resource part)
-  section_by rest pairs reference resource part a b c d e = rw (a, b, c, d, e) refl
+  init_section_by : (rest : List ℕ) (pairs : List Pair) (reference resource : List ℕ) (part : Option ByteRange) → attributes_of None rest ≡ Ok pairs → required true (attribute pairs (codes "URI")) ≡ Ok reference
+      → optional init_section_byte_range (attribute pairs (codes "BYTERANGE")) ≡ Ok part → uri_of base reference ≡ Ok resource → list_any needs_iv (keys_at before) ≡ false
+      → (init_section_said unlimited base rest >>= with_ivs before) ≡ Ok (init_section resource part)
+  init_section_by rest pairs reference resource part a b c d e = rw (a, b, c, d, e) refl
 
   clean_part : (part : Option ByteRange) → if_some byte_range_fits part ≡ true → AllValuesClean (part_pairs part)
   unfolding AllValuesClean
   clean_part None h = tt
   clean_part (Some r) h = (clean_byte_range r.length r.offset (ltb-true _ _ h), tt)
 
-  section_values : (text : List ℕ) (part : Option ByteRange) → Clean text → if_some byte_range_fits part ≡ true → AllValuesClean (section_pairs text part)
+  init_section_values : (text : List ℕ) (part : Option ByteRange) → Clean text → if_some byte_range_fits part ≡ true → AllValuesClean (init_section_pairs text part)
   unfolding AllValuesClean
-  section_values text part c h = (c, clean_part part h)
+  init_section_values text part c h = (c, clean_part part h)
 
-  pub section_line : (text : List ℕ) (part : Option ByteRange) → quoted_uri_fits text ≡ true → if_some byte_range_fits part ≡ true → list_any needs_iv (keys_at before) ≡ false → IsRead (section text part)
-  section_line text part h g n =
-      let all = section_attributes text part h g in
-      let line = clean-append (codes "#EXT-X-MAP:") _ (clean_printable _ refl) (clean_attributes (section_pairs text part) [] all (section_values text part (clean_uri text h) g)) in
-      as_written (codes "#EXT-X-MAP:" ++ attributes_text (section_pairs text part)) (section_said unlimited base (attributes_text (section_pairs text part)) >>= with_ivs before) _ line
-      (section_by (attributes_text (section_pairs text part)) (section_pairs text part) text text part (written_is_read (section_pairs text part) (some_pairs _ _) all) refl (part_reads part g) (resolves text (scheme_is text h)) n)
+  pub init_section_line : (text : List ℕ) (part : Option ByteRange) → quoted_uri_fits text ≡ true → if_some byte_range_fits part ≡ true → list_any needs_iv (keys_at before) ≡ false → IsRead (init_section text part)
+  init_section_line text part h g n =
+      let all = init_section_attributes text part h g in
+      let line = clean-append (codes "#EXT-X-MAP:") _ (clean_printable _ refl) (clean_attributes (init_section_pairs text part) [] all (init_section_values text part (clean_uri text h) g)) in
+      as_written (codes "#EXT-X-MAP:" ++ attributes_text (init_section_pairs text part)) (init_section_said unlimited base (attributes_text (init_section_pairs text part)) >>= with_ivs before) _ line
+      (init_section_by (attributes_text (init_section_pairs text part)) (init_section_pairs text part) text text part (written_is_read (init_section_pairs text part) (some_pairs _ _) all) refl (part_reads part g) (resolves text (scheme_is text h)) n)
 
   -- ---- the header, times and date ranges
 

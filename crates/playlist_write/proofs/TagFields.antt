@@ -13,7 +13,7 @@ use Rattle.playlist_model.specs.declared.Key.{Key}
 use Rattle.playlist_model.specs.declared.ByteRange.{ByteRange}
 use Rattle.playlist_model.specs.Carried.{are_others, is_key_attribute}
 use Rattle.date_times.specs.Digits.{fixed_digits}
-use Rattle.playlist_write.specs.Spelling.{plain, in_quotes, iv_text, iv_pairs, format_pairs, own_pairs, key_text, part_pairs, section_pairs, byte_range_text}
+use Rattle.playlist_write.specs.Spelling.{plain, in_quotes, iv_text, iv_pairs, format_pairs, own_pairs, key_text, part_pairs, init_section_pairs, byte_range_text}
 use Rattle.writable.specs.Fitting.{if_some, is_clean, value_fits, quoted_uri_fits, byte_range_fits, iv_fits, method_fits, key_fits}
 use Rattle.playlist_write.proofs.OtherFields.{IsOther, OtherPairs, other_pairs, is_other, others_after}
 use Rattle.playlist_write.proofs.WrittenNumbers.{is_number_byte, decimal_bytes, hex_bytes}
@@ -152,9 +152,9 @@ key_text_is k h =
 
 -- ---- a section's attributes
 
-pub section_attributes : (uri : List ℕ) (part : Option ByteRange) → quoted_uri_fits uri ≡ true → if_some byte_range_fits part ≡ true → are_attributes (section_pairs uri part) ≡ true
-section_attributes uri None h g = more_apart [] [] (uri_pair uri) (pair_is (codes "URI") uri true refl (quoted_uri_is uri h)) refl refl
-section_attributes uri (Some part) h g =
+pub init_section_attributes : (uri : List ℕ) (part : Option ByteRange) → quoted_uri_fits uri ≡ true → if_some byte_range_fits part ≡ true → are_attributes (init_section_pairs uri part) ≡ true
+init_section_attributes uri None h g = more_apart [] [] (uri_pair uri) (pair_is (codes "URI") uri true refl (quoted_uri_is uri h)) refl refl
+init_section_attributes uri (Some part) h g =
     let value = byte_range_text part.length part.offset in
     more_apart [] (part_pairs (Some part)) (uri_pair uri) (pair_is (codes "URI") uri true refl (quoted_uri_is uri h)) refl
     (more_apart (uri_pair uri ∷ []) [] (in_quotes (codes "BYTERANGE") value) (pair_is (codes "BYTERANGE") value true refl (byte_range_is_value part g)) refl refl)

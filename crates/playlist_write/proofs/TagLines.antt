@@ -11,7 +11,7 @@ use Rattle.playlist_model.specs.Carried.{after_commas}
 use Rattle.playlist_model.proofs.Carried.{attributes_are, commas_append}
 use Rattle.playlist_write.specs.Spelling.{plain, in_quotes, iv_pairs, format_pairs, part_pairs, byte_range_text}
 use Rattle.playlist_write.specs.Owed.{line_of, with_feed}
-use Rattle.playlist_write.specs.Inner.Owed.{key_line, section_line}
+use Rattle.playlist_write.specs.Inner.Owed.{key_line, init_section_line}
 
 assoc6 : (a b c d e f g : List ℕ) → a ++ (b ++ (c ++ (d ++ (e ++ (f ++ g))))) ≡ (a ++ (b ++ (c ++ (d ++ (e ++ f))))) ++ g
 assoc6 a b c d e f g = simp append_assoc
@@ -32,9 +32,9 @@ key_parts k =
 assoc3 : (a b c d : List ℕ) → a ++ (b ++ (c ++ d)) ≡ (a ++ (b ++ c)) ++ d
 assoc3 a b c d = simp append_assoc
 
-pub section_parts : (s : InitSection) → codes "#EXT-X-MAP:" ++ (pair_spelling (in_quotes (codes "URI") s.uri) ++ (after_commas (part_pairs s.byte_range) ++ 10 ∷ [])) ≡ section_line s
+pub init_section_parts : (s : InitSection) → codes "#EXT-X-MAP:" ++ (pair_spelling (in_quotes (codes "URI") s.uri) ++ (after_commas (part_pairs s.byte_range) ++ 10 ∷ [])) ≡ init_section_line s
 unfolding line_of
-section_parts s =
+init_section_parts s =
     assoc3 (codes "#EXT-X-MAP:") (pair_spelling (in_quotes (codes "URI") s.uri)) (after_commas (part_pairs s.byte_range)) (10 ∷ [])
     ∙ ap (λ t. with_feed (codes "#EXT-X-MAP:" ++ t)) (sym (attributes_are (in_quotes (codes "URI") s.uri) (part_pairs s.byte_range)))
 

@@ -12,7 +12,7 @@ use Rattle.playlist_model.specs.declared.Playlist.{Playlist}
 use Rattle.playlist_model.specs.declared.InitSection.{InitSection}
 use Rattle.playlist_model.specs.Said.{Said, nothing, date_range, date_range_said}
 use Rattle.playlist_model.specs.LookBack.{latest, the_target, is_media, segments_of}
-use Rattle.playlist_model.specs.Reading.{unlimited, whole, whole_fault, and_whole, of_lines, reading, are_mixed, has_section, Denotes, has}
+use Rattle.playlist_model.specs.Reading.{unlimited, whole, whole_fault, and_whole, of_lines, reading, are_mixed, has_init_section, Denotes, has}
 use Rattle.playlist_model.specs.Numbering.{follows, all_follow}
 use Rattle.playlist_model.proofs.SaidCounts.{counted_some}
 use Rattle.stitcher.specs.declared.OutSegment.{OutSegment}
@@ -20,13 +20,13 @@ use Rattle.playlist_write.specs.declared.OutPlaylist.{OutPlaylist}
 use Rattle.playlist_write.specs.Spelling.{spelled, date_range_line}
 use Rattle.playlist_write.specs.Owed.{none_yet, header_owed, type_owed, independent_owed, ended_owed, segments_owed, first_media_sequence, stated_discontinuity_sequence, line_of, said_text, ended_date_range_line, date_ranges_text, playlist_text}
 use Rattle.writable.specs.Fitting.{is_clean, says_date_range, date_range_fits}
-use Rattle.playlist_write.specs.WellFormed.{is_word, version_fits, segment_fits, out_numbers, numbers_fit, is_mapped, sections_agree, well_formed}
+use Rattle.playlist_write.specs.WellFormed.{is_word, version_fits, segment_fits, out_numbers, numbers_fit, has_init_section, init_sections_agree, well_formed}
 use Rattle.playlist_write.specs.Denoted.{denoted, denoted_segment, denoted_date_range, date_range_told}
 use Rattle.playlist_write.specs.Laws.{TextDenotes}
 use Rattle.playlist_write.proofs.CleanTexts.{text, AllClean, clean_printable, lines_of_text, utf8_text}
 use Rattle.playlist_write.proofs.DateRangeReads.{few, one_date_range, is_kept}
 use Rattle.playlist_write.proofs.Machine.{Known, known_at, onto, known_onto, said_onto}
-use Rattle.playlist_write.proofs.Groups.{numbers_go_on, sections_alike, Goes, goes-append, ready, goes_segments, segment_parts}
+use Rattle.playlist_write.proofs.Groups.{numbers_go_on, init_sections_alike, Goes, goes-append, ready, goes_segments, segment_parts}
 
 -- what the lines of the date ranges say, and what all lines say
 abbrev date_ranges_owed : List (List ℕ) → List Said
@@ -98,23 +98,23 @@ goes_header p v t s d =
 
 -- ---- the whole
 
-section_alike : (mapped : Bool) (out : OutSegment) → cond mapped (is_some out.segment.init_section) (is_none out.segment.init_section) ≡ true → has_section (denoted_segment out) ≡ mapped
-section_alike true out h = h
-section_alike false out h = by out.segment.init_section h
+init_section_alike : (with_init_sections : Bool) (out : OutSegment) → cond with_init_sections (is_some out.segment.init_section) (is_none out.segment.init_section) ≡ true → has_init_section (denoted_segment out) ≡ with_init_sections
+init_section_alike true out h = h
+init_section_alike false out h = by out.segment.init_section h
   where
     by : (s : Option InitSection) → is_none s ≡ true → is_some s ≡ false
     by None h = refl
     by (Some s) h = cc
 
-alike_any : (outs : List OutSegment) → sections_alike false outs ≡ true → list_any has_section (map denoted_segment outs) ≡ false
+alike_any : (outs : List OutSegment) → init_sections_alike false outs ≡ true → list_any has_init_section (map denoted_segment outs) ≡ false
 alike_any [] h = refl
-alike_any (out ∷ outs) h = let a = and_parts _ _ h in let e = section_alike false out a.0 in rw e (alike_any outs a.1)
+alike_any (out ∷ outs) h = let a = and_parts _ _ h in let e = init_section_alike false out a.0 in rw e (alike_any outs a.1)
 
-alike_all : (outs : List OutSegment) → sections_alike true outs ≡ true → list_all has_section (map denoted_segment outs) ≡ true
+alike_all : (outs : List OutSegment) → init_sections_alike true outs ≡ true → list_all has_init_section (map denoted_segment outs) ≡ true
 alike_all [] h = refl
-alike_all (out ∷ outs) h = let a = and_parts _ _ h in and_from _ _ (section_alike true out a.0) (alike_all outs a.1)
+alike_all (out ∷ outs) h = let a = and_parts _ _ h in and_from _ _ (init_section_alike true out a.0) (alike_all outs a.1)
 
-unmixed : (mapped : Bool) (outs : List OutSegment) → sections_alike mapped outs ≡ true → are_mixed (map denoted_segment outs) ≡ false
+unmixed : (with_init_sections : Bool) (outs : List OutSegment) → init_sections_alike with_init_sections outs ≡ true → are_mixed (map denoted_segment outs) ≡ false
 unmixed true outs h = and_right _ _ (not_from_true _ (alike_all outs h))
 unmixed false outs h = and_left _ _ (alike_any outs h)
 
@@ -163,24 +163,24 @@ some_segments : (outs : List OutSegment) → numbers_fit outs ≡ true → 0 < l
 some_segments [] h = cc
 some_segments (out ∷ outs) h = omega arith
 
-abbrev first_is_mapped : List OutSegment → Bool
-first_is_mapped [] = false
-first_is_mapped (out ∷ later) = is_mapped out
+abbrev first_has_init_section : List OutSegment → Bool
+first_has_init_section [] = false
+first_has_init_section (out ∷ later) = has_init_section out
 
-none_alike : (outs : List OutSegment) → list_any is_mapped outs ≡ false → sections_alike false outs ≡ true
+none_alike : (outs : List OutSegment) → list_any has_init_section outs ≡ false → init_sections_alike false outs ≡ true
 none_alike [] h = refl
-none_alike (out ∷ outs) h = let a = or_parts _ _ h in and_from _ _ (unmapped out.segment.init_section a.0) (none_alike outs a.1)
+none_alike (out ∷ outs) h = let a = or_parts _ _ h in and_from _ _ (without_init_section out.segment.init_section a.0) (none_alike outs a.1)
   where
-    unmapped : (s : Option InitSection) → is_some s ≡ false → is_none s ≡ true
-    unmapped None h = refl
-    unmapped (Some s) h = cc
+    without_init_section : (s : Option InitSection) → is_some s ≡ false → is_none s ≡ true
+    without_init_section None h = refl
+    without_init_section (Some s) h = cc
 
-alike : (outs : List OutSegment) → sections_agree outs ≡ true → sections_alike (first_is_mapped outs) outs ≡ true
+alike : (outs : List OutSegment) → init_sections_agree outs ≡ true → init_sections_alike (first_has_init_section outs) outs ≡ true
 alike [] h = refl
 alike (out ∷ outs) h =
     elim (or_cases _ _ h) [
-      | inl all ↦ let a = and_parts _ _ all in subst (λ m. sections_alike m (out ∷ outs) ≡ true) (sym a.0) all
-      | inr none ↦ let n = not-true _ none in let a = or_parts _ _ n in subst (λ m. sections_alike m (out ∷ outs) ≡ true) (sym a.0) (none_alike (out ∷ outs) n)
+      | inl all ↦ let a = and_parts _ _ all in subst (λ m. init_sections_alike m (out ∷ outs) ≡ true) (sym a.0) all
+      | inr none ↦ let n = not-true _ none in let a = or_parts _ _ n in subst (λ m. init_sections_alike m (out ∷ outs) ≡ true) (sym a.0) (none_alike (out ∷ outs) n)
     ]
 
 -- ---- the text in lines
@@ -240,7 +240,7 @@ module _ (base : Parts) (p : OutPlaylist) where
       let h : Known = record (header_known p) { date_ranges = flat_map denoted_date_range p.date_ranges } in
       let one = goes_header p f.0 (ltb-true _ _ f.1) firsts.0 firsts.1 in
       let two = goes_date_ranges p.date_ranges (header_known p) a.1 in
-      let three = goes_segments h (first_is_mapped p.segments) p.segments none_yet 0 0 (first_media_sequence p.segments) (stated_discontinuity_sequence p.segments) None [] c.1 same numbers (omega arith) (omega arith) refl (λ m. refl) in
+      let three = goes_segments h (first_has_init_section p.segments) p.segments none_yet 0 0 (first_media_sequence p.segments) (stated_discontinuity_sequence p.segments) None [] c.1 same numbers (omega arith) (omega arith) refl (λ m. refl) in
       let between : Known = ready h three.current three.count three.discontinuity_count three.last (map denoted_segment p.segments) in
       let four = goes_ended p.end_list between refl in
       let counted : 0 < three.count = omega (arith, three.counted) in
@@ -249,7 +249,7 @@ module _ (base : Parts) (p : OutPlaylist) where
         goes = goes-append _ _ start (header_known p) _ one (goes-append _ _ (header_known p) h _ two (goes-append _ _ h between _ three.goes four));
         target_duration = refl;
         some = counted;
-        unmixed = unmixed (first_is_mapped p.segments) p.segments same;
+        unmixed = unmixed (first_has_init_section p.segments) p.segments same;
         playlist = refl;
       }
 

@@ -15,9 +15,9 @@ abbrev pub states_all : Current → List OutSegment → Bool
 states_all current [] = false
 states_all current (out ∷ later) = is_some out.segment.init_section || is_none current.init_section
 
--- the keys and the section that are in force at the end of a text that was written
+-- the keys and the initialisation section that are in force at the end of a text that was written
 abbrev pub current_of : WrittenText → Current
-current_of w = record { keys = w.keys; init_section = w.section }
+current_of w = record { keys = w.keys; init_section = w.init_section }
 
 -- the lines of these segments stand in the text between its places, and what is in force after them is known
 pub record IsLaid (items : List OutSegment) (w : WrittenText) : Type 0 where

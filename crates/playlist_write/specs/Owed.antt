@@ -7,9 +7,9 @@ use Rattle.playlist_model.specs.declared.InitSection.{InitSection}
 use Rattle.playlist_model.specs.declared.PlaylistKind.{PlaylistKind}
 use Rattle.playlist_model.specs.declared.Segment.{Segment}
 use Rattle.playlist_model.specs.LookBack.{or_earlier}
-use Rattle.playlist_model.specs.Said.{Said, version, target, sequence, discontinuity_sequence, playlist_type, ended, independent, duration, byte_range, discontinuity, key_tag_said, section, time, media}
+use Rattle.playlist_model.specs.Said.{Said, version, target, sequence, discontinuity_sequence, playlist_type, ended, independent, duration, byte_range, discontinuity, key_tag_said, init_section, time, media}
 use Rattle.stitcher.specs.declared.OutSegment.{OutSegment}
-use Rattle.playlist_model.specs.Same.{same_option, same_section}
+use Rattle.playlist_model.specs.Same.{same_option, same_init_section}
 use Rattle.stitcher.specs.KeyTags.{transition}
 use Rattle.playlist_write.specs.declared.OutPlaylist.{OutPlaylist}
 use Rattle.playlist_write.specs.Spelling.{spelled, date_range_line}
@@ -19,7 +19,7 @@ use Rattle.playlist_write.specs.Spelling.{spelled, date_range_line}
 abbrev pub keys_owed : List Key → List Key → List Said
 keys_owed old new = map key_tag_said (transition old new)
 
--- the keys and the section that are in force where a line is written
+-- the keys and the initialisation section that are in force where a line is written
 pub record Current : Type 0 where
   pub keys : List Key
   pub init_section : Option InitSection
@@ -27,15 +27,15 @@ pub record Current : Type 0 where
 abbrev pub none_yet : Current
 none_yet = record { keys = []; init_section = None }
 
--- the section, where it is another than the one in force
-abbrev pub changed_section : Option InitSection → Option InitSection → Option InitSection
-changed_section current None = None
-changed_section current (Some new) = if same_option same_section (Some new) current then None else Some new
+-- the initialisation section, where it is another than the one in force
+abbrev pub changed_init_section : Option InitSection → Option InitSection → Option InitSection
+changed_init_section current None = None
+changed_init_section current (Some new) = if same_option same_init_section (Some new) current then None else Some new
 
--- a changed section is written under its own keys, which are then in force
-abbrev pub section_owed : List Key → Option InitSection → List Said
-section_owed keys None = []
-section_owed keys (Some new) = keys_owed keys new.keys ++ section new.uri new.byte_range ∷ []
+-- a changed initialisation section is written under its own keys, which are then in force
+abbrev pub init_section_owed : List Key → Option InitSection → List Said
+init_section_owed keys None = []
+init_section_owed keys (Some new) = keys_owed keys new.keys ++ init_section new.uri new.byte_range ∷ []
 
 abbrev pub keys_then : List Key → Option InitSection → List Key
 keys_then keys None = keys
@@ -54,9 +54,9 @@ media_owed segment = duration segment.duration segment.title ∷ (byte_range_owe
 
 abbrev pub segment_owed : Current → OutSegment → List Said
 segment_owed current out =
-    let changed = changed_section current.init_section out.segment.init_section in
+    let changed = changed_init_section current.init_section out.segment.init_section in
     replicate out.discontinuities discontinuity
-    ++ (section_owed current.keys changed
+    ++ (init_section_owed current.keys changed
     ++ (keys_owed (keys_then current.keys changed) out.segment.keys
     ++ (time_owed out.program_date_time ++ media_owed out.segment)))
 

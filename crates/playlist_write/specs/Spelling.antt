@@ -8,7 +8,7 @@ use Rattle.playlist_model.specs.declared.PlaylistKind.{PlaylistKind}
 use Rattle.playlist_model.specs.declared.PlaylistKind.TheVariants.{Event, Vod}
 use Rattle.playlist_model.specs.declared.Key.{Key}
 use Rattle.playlist_model.specs.declared.ByteRange.{ByteRange}
-use Rattle.playlist_model.specs.Said.{Said, nothing, version, target, sequence, discontinuity_sequence, playlist_type, ended, independent, duration, byte_range, discontinuity, no_keys, key, section, time, date_range, media}
+use Rattle.playlist_model.specs.Said.{Said, nothing, version, target, sequence, discontinuity_sequence, playlist_type, ended, independent, duration, byte_range, discontinuity, no_keys, key, init_section, time, date_range, media}
 use Rattle.date_times.specs.Times.{time_text}
 use Rattle.date_times.specs.Digits.{fixed_digits}
 
@@ -44,8 +44,8 @@ part_pairs None = []
 part_pairs (Some part) = in_quotes (codes "BYTERANGE") (byte_range_text part.length part.offset) ∷ []
 
 -- the attributes of a map tag (4.3.2.5)
-abbrev pub section_pairs : List ℕ → Option ByteRange → List Pair
-section_pairs uri part = in_quotes (codes "URI") uri ∷ part_pairs part
+abbrev pub init_section_pairs : List ℕ → Option ByteRange → List Pair
+init_section_pairs uri part = in_quotes (codes "URI") uri ∷ part_pairs part
 
 -- ---- lines
 
@@ -80,7 +80,7 @@ spelled (byte_range length offset) = codes "#EXT-X-BYTERANGE:" ++ (decimal lengt
 spelled discontinuity = codes "#EXT-X-DISCONTINUITY"
 spelled no_keys = codes "#EXT-X-KEY:METHOD=NONE"
 spelled (key k) = codes "#EXT-X-KEY:" ++ key_text k
-spelled (section uri part) = codes "#EXT-X-MAP:" ++ attributes_text (section_pairs uri part)
+spelled (init_section uri part) = codes "#EXT-X-MAP:" ++ attributes_text (init_section_pairs uri part)
 spelled (time t) = codes "#EXT-X-PROGRAM-DATE-TIME:" ++ time_text t
 spelled (date_range r) = date_range_line r.attributes
 spelled (media uri) = uri

@@ -7,7 +7,7 @@ use Rattle.playlist_model.specs.Numbering.{Numbers, numbers_rise}
 use Rattle.stitcher.specs.declared.OutSegment.{OutSegment}
 use Rattle.playlist_write.specs.declared.OutPlaylist.{OutPlaylist}
 pub use Rattle.writable.specs.Fitting.{duration_fits}
-use Rattle.writable.specs.Fitting.{if_some, is_clean, uri_fits, byte_range_fits, effective_keys_fit, section_fits, date_range_fits}
+use Rattle.writable.specs.Fitting.{if_some, is_clean, uri_fits, byte_range_fits, effective_keys_fit, init_section_fits, date_range_fits}
 
 -- a number of 64 bits
 abbrev pub is_word : ℕ → Bool
@@ -23,7 +23,7 @@ resource_fits segment = uri_fits segment.uri && if_some byte_range_fits segment.
 
 abbrev pub segment_fits : OutSegment → Bool
 segment_fits out =
-    numbers_are_words out && resource_fits out.segment && effective_keys_fit out.segment.keys && if_some section_fits out.segment.init_section
+    numbers_are_words out && resource_fits out.segment && effective_keys_fit out.segment.keys && if_some init_section_fits out.segment.init_section
     && duration_fits out.segment.duration && is_clean out.segment.title && if_some in_range out.program_date_time
 
 -- ---- numbers (4.3.3.2, 4.3.3.3)
@@ -36,12 +36,12 @@ numbers_fit = numbers_rise out_numbers
 
 -- ---- the whole
 
-abbrev pub is_mapped : OutSegment → Bool
-is_mapped out = is_some out.segment.init_section
+abbrev pub has_init_section : OutSegment → Bool
+has_init_section out = is_some out.segment.init_section
 
 -- all have an initialisation section, or none has
-abbrev pub sections_agree : List OutSegment → Bool
-sections_agree segments = list_all is_mapped segments || not (list_any is_mapped segments)
+abbrev pub init_sections_agree : List OutSegment → Bool
+init_sections_agree segments = list_all has_init_section segments || not (list_any has_init_section segments)
 
 abbrev pub version_fits : ℕ → Bool
 version_fits version = version == 6 || version == 7
@@ -49,7 +49,7 @@ version_fits version = version == 6 || version == 7
 abbrev pub fits_without_date_ranges : OutPlaylist → Bool
 fits_without_date_ranges p =
     version_fits p.version && is_word p.target_duration && numbers_fit p.segments && list_all segment_fits p.segments
-    && sections_agree p.segments
+    && init_sections_agree p.segments
 
 abbrev pub well_formed : OutPlaylist → Bool
 well_formed p = fits_without_date_ranges p && list_all date_range_fits p.date_ranges

@@ -6,7 +6,7 @@ ghost use Rattle.playlist_model.specs.Carried.{after_commas};
 ghost use Rattle.playlist_write.specs.Inner.KeyParts.{rest_of, is_identity};
 ghost use Rattle.playlist_model.specs.Said as Said;
 ghost use Rattle.playlist_write.specs.Owed.{line_of, said_text, keys_owed};
-ghost use Rattle.playlist_write.specs.Inner.Owed.{set_tags, key_line, section_line};
+ghost use Rattle.playlist_write.specs.Inner.Owed.{set_tags, key_line, init_section_line};
 ghost use Rattle.playlist_model.specs.Same.{same_option, same_number};
 ghost use Rattle.stitcher.specs.KeyTags.{is_new_key};
 ghost use Rattle.fixed_duration.specs.Appended.{Appends};
@@ -204,14 +204,14 @@ fn push_part(out: &mut String, part: Option<ByteRange>) -> Result<(), AllocError
     Ok(())
 }
 
-/// Appends to `out` the EXT-X-MAP of the initialisation section `section` (RFC 8216, section 4.3.2.5). Fails only if
+/// Appends to `out` the EXT-X-MAP `init_section` (RFC 8216, section 4.3.2.5). Fails only if
 /// an allocation fails.
-pub fn push_section(out: &mut String, section: &InitSection) -> Result<(), AllocError>
-    ensures { Appends result out.old out.new (section_line section.now) }
+pub fn push_init_section(out: &mut String, init_section: &InitSection) -> Result<(), AllocError>
+    ensures { Appends result out.old out.new (init_section_line init_section.now) }
 {
     out.push_str("#EXT-X-MAP:")?;
-    push_quoted(out, "URI", section.uri.as_str())?;
-    push_part(out, section.byte_range)?;
+    push_quoted(out, "URI", init_section.uri.as_str())?;
+    push_part(out, init_section.byte_range)?;
     push_feed(out)?;
     Ok(())
 }

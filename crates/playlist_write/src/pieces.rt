@@ -8,7 +8,7 @@ ghost use Rattle.playlist_write.specs.Inner.Taken.{TookAllBut};
 use crate::WriteFault;
 use crate::header::push_date_range;
 use crate::last_duration::LastDuration;
-use crate::segments::{push_segment, section_of};
+use crate::segments::{init_section_of, push_segment};
 use byte_streams::{Sink, SinkFailed, hand_out};
 use date_times::TimeWriter;
 use playlist_model::{InitSection, Keys};
@@ -78,13 +78,13 @@ pub fn write_segments<S: Sink>(
     let mut last = LastDuration::new(alloc);
     let no_keys = Keys::none();
     let mut keys = &no_keys;
-    let mut section: Option<&InitSection> = None;
+    let mut init_section: Option<&InitSection> = None;
     while let Some(next) = segments.next() {
-        push_segment(held, &mut times, &mut last, keys, section, &next)?;
+        push_segment(held, &mut times, &mut last, keys, init_section, &next)?;
         hand_out_piece(held, sink)?;
         let segment = next.segment.get();
         keys = &segment.keys;
-        section = section_of(segment).or(section);
+        init_section = init_section_of(segment).or(init_section);
     }
     Ok(())
 }

@@ -19,7 +19,7 @@ use std::marker::Model;
 use stitcher::{OutSegment, StitchedItems, StitchedList};
 
 /// A text that was written, with what its next version needs: the places where the lines of its segments begin and end, and
-/// the keys and the section that are in force at their end.
+/// the keys and the initialisation section that are in force at their end.
 #[derive(Drop)]
 pub struct WrittenText {
     /// The text.
@@ -30,15 +30,15 @@ pub struct WrittenText {
     pub till: usize,
     /// The keys in force there.
     pub keys: Keys,
-    /// The section in force there.
-    pub section: Option<Shared<InitSection>>,
+    /// The initialisation section in force there.
+    pub init_section: Option<Shared<InitSection>>,
 }
 
-// Keys and a section that are in force.
+// Keys and an initialisation section that are in force.
 #[derive(Drop)]
 struct InForce<'a> {
     keys: &'a Keys,
-    section: &'a Option<Shared<InitSection>>,
+    init_section: &'a Option<Shared<InitSection>>,
 }
 
 impl<'a> Model for InForce<'a> {
@@ -46,14 +46,14 @@ impl<'a> Model for InForce<'a> {
 
     ghost Value = { Current };
 
-    ghost view = { λ a. record { keys = a.keys.now; init_section = a.section.now } };
+    ghost view = { λ a. record { keys = a.keys.now; init_section = a.init_section.now } };
 }
 
-fn section_in<'a>(section: &'a Option<Shared<InitSection>>) -> Option<&'a InitSection>
-    ensures { option_copied result ≡ section.now }
+fn init_section_in<'a>(init_section: &'a Option<Shared<InitSection>>) -> Option<&'a InitSection>
+    ensures { option_copied result ≡ init_section.now }
 {
-    match section {
-        Some(section) => Some(section),
+    match init_section {
+        Some(init_section) => Some(init_section),
         None => None,
     }
 }
@@ -61,14 +61,14 @@ fn section_in<'a>(section: &'a Option<Shared<InitSection>>) -> Option<&'a InitSe
 fn force_after<'a>(before: &InForce<'a>, segment: &'a Segment) -> InForce<'a>
     ensures { result ≡ record { keys = segment.now.keys; init_section = or_earlier segment.now.init_section before.now.init_section } }
 {
-    let section = if segment.init_section.is_some() {
+    let init_section = if segment.init_section.is_some() {
         &segment.init_section
     } else {
-        before.section
+        before.init_section
     };
     InForce {
         keys: &segment.keys,
-        section,
+        init_section,
     }
 }
 
@@ -88,7 +88,7 @@ fn push_next<'a>(
         times,
         last,
         before.keys,
-        section_in(before.section),
+        init_section_in(before.init_section),
         next,
     )?;
     Ok(force_after(before, next.segment.get()))
@@ -140,13 +140,13 @@ fn push_all<'a>(
     Ok(force)
 }
 
-// The keys and the section that are in force at the end of a text that was written.
+// The keys and the initialisation section that are in force at the end of a text that was written.
 fn force_at_end(last: &WrittenText) -> InForce<'_>
     ensures { result ≡ current_of last.now }
 {
     InForce {
         keys: &last.keys,
-        section: &last.section,
+        init_section: &last.init_section,
     }
 }
 
@@ -168,7 +168,7 @@ fn with_end(
         from,
         till,
         keys: end.keys.clone()?,
-        section: end.section.clone()?,
+        init_section: end.init_section.clone()?,
     })
 }
 
@@ -197,10 +197,10 @@ pub fn laid_out(alloc: Global, playlist: &OutPlaylist<'_>) -> Result<WrittenText
 {
     let mut text = all_before(alloc, playlist)?;
     let from = length_of(&text);
-    let (no_keys, no_section) = (Keys::none(), None);
+    let (no_keys, no_init_section) = (Keys::none(), None);
     let nothing = InForce {
         keys: &no_keys,
-        section: &no_section,
+        init_section: &no_init_section,
     };
     let end = push_all(alloc, &mut text, nothing, playlist.segments.items())?;
     let till = length_of(&text);
@@ -214,7 +214,9 @@ fn states_all(before: &InForce<'_>, segments: StitchedItems<'_>) -> bool
 {
     let mut segments = segments;
     match segments.next() {
-        Some(first) => { first.segment.get().init_section.is_some() || before.section.is_none() }
+        Some(first) => {
+            first.segment.get().init_section.is_some() || before.init_section.is_none()
+        }
         None => false,
     }
 }
@@ -230,10 +232,10 @@ pub fn front_length(
     ensures { IfOk result (λ n. IfSome n (IsFrontLength segments.now gone)) }
 {
     let mut lines = String::new(alloc);
-    let (no_keys, no_section) = (Keys::none(), None);
+    let (no_keys, no_init_section) = (Keys::none(), None);
     let nothing = InForce {
         keys: &no_keys,
-        section: &no_section,
+        init_section: &no_init_section,
     };
     let force = push_first(alloc, &mut lines, nothing, segments.items(), gone)?;
     if !states_all(&force, segments.items_from(gone)) {
@@ -269,10 +271,10 @@ fn joined(
 {
     let mut text = all_before(alloc, playlist)?;
     let from = length_of(&text);
-    let (no_keys, no_section) = (Keys::none(), None);
+    let (no_keys, no_init_section) = (Keys::none(), None);
     let nothing = InForce {
         keys: &no_keys,
-        section: &no_section,
+        init_section: &no_init_section,
     };
     push_first(alloc, &mut text, nothing, playlist.segments.items(), 1)?;
     text.push_str(lines)?;

@@ -2,17 +2,19 @@
 ghost use Rattle.std.specs.Prelude.{◌≡◌, ◌++◌, ◌∷◌, [], OnOk, string_bytes, replicate, Some};
 ghost use Rattle.std.specs.Option.{option_copied};
 ghost use Rattle.playlist_model.specs.Said as Said;
-ghost use Rattle.playlist_model.specs.Same.{same_option, same_section};
-ghost use Rattle.playlist_write.specs.Owed.{none_yet, line_of, with_feed, said_text, changed_section, section_owed, keys_then, time_owed, byte_range_owed, media_owed, segment_owed, segments_owed};
+ghost use Rattle.playlist_model.specs.Same.{same_option, same_init_section};
+ghost use Rattle.playlist_write.specs.Owed.{none_yet, line_of, with_feed, said_text, changed_init_section, init_section_owed, keys_then, time_owed, byte_range_owed, media_owed, segment_owed, segments_owed};
 ghost use Rattle.fixed_duration.specs.Duration.{duration_text};
 ghost use Rattle.fixed_duration.specs.Appended.{Appends};
 
-use crate::keys::{push_key_tags, push_section};
+use crate::keys::{push_init_section, push_key_tags};
 use crate::last_duration::LastDuration;
 use crate::lines::{push_byte_range, push_feed, push_line};
 use date_times::TimeWriter;
 use fixed_duration::Nanos;
-use playlist_model::{ByteRange, InitSection, Instant, Keys, Segment, Shared, is_same_section};
+use playlist_model::{
+    ByteRange, InitSection, Instant, Keys, Segment, Shared, is_same_init_section,
+};
 use std::alloc::{AllocError, Global};
 use stitcher::{OutSegment, StitchedItems};
 
@@ -32,24 +34,24 @@ fn push_steps(out: &mut String, steps: u64) -> Result<(), AllocError>
     Ok(())
 }
 
-// Whether a section is the one in force.
+// Whether an initialisation section is the one in force.
 fn is_current(current: Option<&InitSection>, new: &InitSection) -> bool
-    ensures { result ≡ same_option same_section (Some new.now) (option_copied current.entry) }
+    ensures { result ≡ same_option same_init_section (Some new.now) (option_copied current.entry) }
 {
     match current {
-        Some(old) => is_same_section(new, old),
+        Some(old) => is_same_init_section(new, old),
         None => false,
     }
 }
 
-// The section, where it is another than the one in force.
-fn changed_section<'a>(
+// The initialisation section, where it is another than the one in force.
+fn changed_init_section<'a>(
     current: Option<&InitSection>,
-    section: &'a Option<Shared<InitSection>>,
+    init_section: &'a Option<Shared<InitSection>>,
 ) -> Option<&'a InitSection>
-    ensures { option_copied result ≡ changed_section (option_copied current.entry) section.now }
+    ensures { option_copied result ≡ changed_init_section (option_copied current.entry) init_section.now }
 {
-    match section {
+    match init_section {
         Some(new) => {
             if is_current(current, new) {
                 None
@@ -61,28 +63,28 @@ fn changed_section<'a>(
     }
 }
 
-// The keys in force after a changed section.
+// The keys in force after a changed initialisation section.
 fn keys_then<'a>(keys: &'a Keys, changed: Option<&'a InitSection>) -> &'a Keys
     ensures { result.now ≡ keys_then keys.now (option_copied changed.entry) }
 {
     match changed {
-        Some(section) => &section.keys,
+        Some(init_section) => &init_section.keys,
         None => keys,
     }
 }
 
 // Appends the EXT-X-MAP of the initialisation section that changed, if one did, under its keys (RFC 8216, section
 // 4.3.2.5).
-fn push_changed_section(
+fn push_changed_init_section(
     out: &mut String,
     keys: &Keys,
     changed: Option<&InitSection>,
 ) -> Result<(), AllocError>
-    ensures { Appends result out.old out.new (said_text (section_owed keys.now (option_copied changed.entry))) }
+    ensures { Appends result out.old out.new (said_text (init_section_owed keys.now (option_copied changed.entry))) }
 {
-    if let Some(section) = changed {
-        push_key_tags(out, keys, &section.keys)?;
-        push_section(out, section)?;
+    if let Some(init_section) = changed {
+        push_key_tags(out, keys, &init_section.keys)?;
+        push_init_section(out, init_section)?;
     }
     Ok(())
 }
@@ -170,7 +172,7 @@ fn push_media<'a>(
     Ok(())
 }
 
-/// Appends to `out` the lines of the segment `next`, after lines at whose end `keys` and `section` are in force (RFC
+/// Appends to `out` the lines of the segment `next`, after lines at whose end `keys` and `init_section` are in force (RFC
 /// 8216, section 4.3.2). `times` and `last` keep the time and the duration that were written last, so that equal ones
 /// are copied. Fails only if an allocation fails.
 pub fn push_segment<'a>(
@@ -178,16 +180,16 @@ pub fn push_segment<'a>(
     times: &mut TimeWriter,
     last: &mut LastDuration<'a>,
     keys: &Keys,
-    section: Option<&InitSection>,
+    init_section: Option<&InitSection>,
     next: &OutSegment<'a>,
 ) -> Result<(), AllocError>
     ensures { OnOk result (string_bytes out.new ≡ string_bytes out.old
-        ++ said_text (segment_owed (record { keys = keys.now; init_section = option_copied section.entry }) next.now)) }
+        ++ said_text (segment_owed (record { keys = keys.now; init_section = option_copied init_section.entry }) next.now)) }
 {
     let segment = next.segment.get();
-    let changed = changed_section(section, &segment.init_section);
+    let changed = changed_init_section(init_section, &segment.init_section);
     push_steps(out, next.discontinuities)?;
-    push_changed_section(out, keys, changed)?;
+    push_changed_init_section(out, keys, changed)?;
     push_key_tags(out, keys_then(keys, changed), &segment.keys)?;
     push_time_tag(out, times, next.program_date_time)?;
     push_media(out, last, segment)?;
@@ -195,11 +197,11 @@ pub fn push_segment<'a>(
 }
 
 /// The initialisation section of `segment`, if it has one.
-pub fn section_of(segment: &Segment) -> Option<&InitSection>
+pub fn init_section_of(segment: &Segment) -> Option<&InitSection>
     ensures { option_copied result ≡ segment.now.init_section }
 {
     match &segment.init_section {
-        Some(section) => Some(section),
+        Some(init_section) => Some(init_section),
         None => None,
     }
 }

@@ -2,9 +2,9 @@
 ghost use Rattle.std.specs.Prelude.{◌≡◌, ◌==◌, ◌+◌, IfOk, true, false};
 ghost use Rattle.std.specs.List.{list_all, list_any};
 ghost use Rattle.date_times.specs.Instant.{in_range};
-ghost use Rattle.writable.specs.Fitting.{if_some, section_fits};
+ghost use Rattle.writable.specs.Fitting.{if_some, init_section_fits};
 ghost use Rattle.playlist_model.specs.Numbering.{follows, all_follow};
-ghost use Rattle.playlist_write.specs.WellFormed.{well_formed, fits_without_date_ranges, numbers_are_words, resource_fits, segment_fits, out_numbers, numbers_fit, is_mapped, sections_agree, version_fits, is_word};
+ghost use Rattle.playlist_write.specs.WellFormed.{well_formed, fits_without_date_ranges, numbers_are_words, resource_fits, segment_fits, out_numbers, numbers_fit, has_init_section, init_sections_agree, version_fits, is_word};
 
 use crate::OutPlaylist;
 use crate::date_ranges::date_ranges_fit;
@@ -12,7 +12,7 @@ use playlist_model::{InitSection, Instant, Segment, Shared};
 use std::alloc::{AllocError, Global};
 use stitcher::{OutSegment, StitchedItems, StitchedList};
 use writable::{
-    byte_range_fits, duration_fits, effective_keys_fit, is_clean, section_fits, uri_fits,
+    byte_range_fits, duration_fits, effective_keys_fit, init_section_fits, is_clean, uri_fits,
 };
 
 // A number of 64 bits is one by its type.
@@ -34,11 +34,11 @@ fn resource_fits(segment: &Segment) -> bool
     uri_fits(segment.uri.as_str()) && byte_range_fits(segment.byte_range)
 }
 
-fn optional_section_fits(section: &Option<Shared<InitSection>>) -> bool
-    ensures { result ≡ if_some section_fits section.now }
+fn optional_init_section_fits(init_section: &Option<Shared<InitSection>>) -> bool
+    ensures { result ≡ if_some init_section_fits init_section.now }
 {
-    match section {
-        Some(section) => section_fits(section),
+    match init_section {
+        Some(init_section) => init_section_fits(init_section),
         None => true,
     }
 }
@@ -60,7 +60,7 @@ fn segment_fits(out: &OutSegment<'_>) -> bool
     numbers_are_words(out)
         && resource_fits(segment)
         && effective_keys_fit(&segment.keys)
-        && optional_section_fits(&segment.init_section)
+        && optional_init_section_fits(&segment.init_section)
         && duration_fits(segment.duration)
         && is_clean(segment.title.as_str())
         && optional_time_fits(out.program_date_time)
@@ -123,40 +123,40 @@ fn numbers_fit(segments: StitchedItems<'_>) -> bool
     first.discontinuities <= first.discontinuity_sequence && all_follow(first, later)
 }
 
-fn is_mapped(out: &OutSegment<'_>) -> bool
-    ensures { result ≡ is_mapped out.now }
+fn has_init_section(out: &OutSegment<'_>) -> bool
+    ensures { result ≡ has_init_section out.now }
 {
     out.segment.get().init_section.is_some()
 }
 
-fn all_are_mapped(segments: StitchedItems<'_>) -> bool
-    ensures { result ≡ list_all is_mapped segments.entry }
+fn all_have_init_sections(segments: StitchedItems<'_>) -> bool
+    ensures { result ≡ list_all has_init_section segments.entry }
 {
     let mut segments = segments;
     while let Some(out) = segments.next() {
-        if !is_mapped(&out) {
+        if !has_init_section(&out) {
             return false;
         }
     }
     true
 }
 
-fn one_is_mapped(segments: StitchedItems<'_>) -> bool
-    ensures { result ≡ list_any is_mapped segments.entry }
+fn one_has_init_section(segments: StitchedItems<'_>) -> bool
+    ensures { result ≡ list_any has_init_section segments.entry }
 {
     let mut segments = segments;
     while let Some(out) = segments.next() {
-        if is_mapped(&out) {
+        if has_init_section(&out) {
             return true;
         }
     }
     false
 }
 
-fn sections_agree(segments: &StitchedList<'_>) -> bool
-    ensures { result ≡ sections_agree segments.now }
+fn init_sections_agree(segments: &StitchedList<'_>) -> bool
+    ensures { result ≡ init_sections_agree segments.now }
 {
-    all_are_mapped(segments.items()) || !one_is_mapped(segments.items())
+    all_have_init_sections(segments.items()) || !one_has_init_section(segments.items())
 }
 
 fn version_fits(version: u64) -> bool
@@ -174,7 +174,7 @@ fn fits_without_date_ranges(playlist: &OutPlaylist<'_>) -> bool
         && is_word(playlist.target_duration)
         && numbers_fit(segments.items())
         && segments_fit(segments.items())
-        && sections_agree(segments)
+        && init_sections_agree(segments)
 }
 
 impl<'a> OutPlaylist<'a> {

@@ -19,7 +19,7 @@ use Rattle.playlist_model.specs.Reading.{needs_iv}
 use Rattle.playlist_model.specs.Uri.{has_scheme}
 use Rattle.playlist_model.proofs.Printable.{ascii, printable_has_no_control}
 use Rattle.writable.specs.Fitting as fit
-use Rattle.pod_store.specs.Rules.{byte_range_fits, segment_keeps, iv_keeps, key_keeps, section_keeps, ad_keeps}
+use Rattle.pod_store.specs.Rules.{byte_range_fits, segment_keeps, iv_keeps, key_keeps, init_section_keeps, ad_keeps}
 use Rattle.pod_store.specs.Laws.{segment_can_be_written, ad_can_be_written, PodsCanBeWritten}
 
 -- ---- texts
@@ -144,9 +144,9 @@ keys_are_fit (k ∷ j ∷ keys) n h = absurd (grind (arith, nat_tests))
 
 -- ---- ads
 
-section_is_fit : (section : Option InitSection) → section_keeps section ≡ true → fit.if_some fit.section_fits section ≡ true
-section_is_fit None h = refl
-section_is_fit (Some s) h =
+init_section_is_fit : (init_section : Option InitSection) → init_section_keeps init_section ≡ true → fit.if_some fit.init_section_fits init_section ≡ true
+init_section_is_fit None h = refl
+init_section_is_fit (Some s) h =
     let p = and_parts _ _ h in
     let q = and_parts _ _ p.0 in
     let r = and_parts _ _ q.0 in
@@ -166,7 +166,7 @@ ad_is_fit ad h =
     let r = and_parts _ _ q.0 in
     let s = and_parts _ _ r.0 in
     let keys = keys_are_fit ad.keys s.1 r.1 in
-    and_from _ _ (and_from _ _ (and_from _ _ keys.fits keys.state_ivs) (section_is_fit ad.init_section s.0)) (all_from segment_keeps segment_can_be_written ad.segments p.1 segment_is_fit)
+    and_from _ _ (and_from _ _ (and_from _ _ keys.fits keys.state_ivs) (init_section_is_fit ad.init_section s.0)) (all_from segment_keeps segment_can_be_written ad.segments p.1 segment_is_fit)
 
 pub pods_can_be_written : PodsCanBeWritten
 pods_can_be_written ads h = all_from ad_keeps ad_can_be_written ads (and_parts _ _ h).1 ad_is_fit

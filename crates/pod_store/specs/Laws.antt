@@ -3,7 +3,7 @@ use Rattle.std.specs.Prelude.{◌≡◌, ℕ, ◌≤◌, Bool, true, not, ◌&&�
 use Rattle.std.specs.List.{list_any, list_all}
 use Rattle.playlist_model.specs.LookBack.{or_earlier}
 use Rattle.pod_store.specs.Pods.{PodSegment, Ad, Pod, Decision}
-use Rattle.writable.specs.Fitting.{if_some, uri_fits, byte_range_fits, duration_fits, effective_keys_fit, section_fits}
+use Rattle.writable.specs.Fitting.{if_some, uri_fits, byte_range_fits, duration_fits, effective_keys_fit, init_section_fits}
 use Rattle.pod_store.specs.declared.Decisions.{Decisions}
 use Rattle.pod_store.specs.declared.Decisions.TheVariants.{Breaks, Withdraw, Fallback, NoFallback}
 use Rattle.pod_store.specs.Outcome.{Outcome}
@@ -97,10 +97,10 @@ KeepingIsAdopting = (store : Store) (ids : List (List ℕ)) → kept_in_use ids 
 abbrev pub segment_can_be_written : PodSegment → Bool
 segment_can_be_written s = uri_fits s.uri && if_some byte_range_fits s.byte_range && duration_fits s.duration
 
--- its segments, and its keys and section as those of a segment
+-- its segments, and its keys and initialisation section as those of a segment
 abbrev pub ad_can_be_written : Ad → Bool
-ad_can_be_written ad = effective_keys_fit ad.keys && if_some section_fits ad.init_section && list_all segment_can_be_written ad.segments
+ad_can_be_written ad = effective_keys_fit ad.keys && if_some init_section_fits ad.init_section && list_all segment_can_be_written ad.segments
 
--- the ads of each pod can be written, with keys and sections or without
+-- the ads of each pod can be written, with keys and initialisation sections or without
 abbrev pub PodsCanBeWritten : Type 0
 PodsCanBeWritten = (ads : List Ad) → ads_keep ads ≡ true → list_all ad_can_be_written ads ≡ true

@@ -24,13 +24,13 @@ abbrev pub key_keeps : Key → Bool
 key_keeps k = is_method k.method && is_uri k.uri && iv_keeps k.iv && is_format k.format && length k.other_attributes == 0
 
 -- it has no other keys than an ad can have
-abbrev pub section_keeps : Option InitSection → Bool
-section_keeps None = true
-section_keeps (Some s) = is_uri s.uri && byte_range_fits s.byte_range && nat_le (length s.keys) 1 && list_all key_keeps s.keys
+abbrev pub init_section_keeps : Option InitSection → Bool
+init_section_keeps None = true
+init_section_keeps (Some s) = is_uri s.uri && byte_range_fits s.byte_range && nat_le (length s.keys) 1 && list_all key_keeps s.keys
 
 abbrev pub ad_keeps : Ad → Bool
 ad_keeps ad =
-    section_keeps ad.init_section && nat_le (length ad.keys) 1 && list_all key_keeps ad.keys
+    init_section_keeps ad.init_section && nat_le (length ad.keys) 1 && list_all key_keeps ad.keys
     && nat_lt 0 (length ad.segments) && list_all segment_keeps ad.segments
 
 -- at least one ad, and at most 500 segments in all

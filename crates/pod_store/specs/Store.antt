@@ -51,12 +51,12 @@ abbrev pub is_empty : Store → Bool
 is_empty store = length store.entries == 0 && is_none store.fallback
 
 abbrev pub fits_of : ℕ → Bool → Option Pod → Bool
-fits_of target mapped None = false
-fits_of target mapped (Some pod) = pod_fits target mapped pod
+fits_of target with_init_sections None = false
+fits_of target with_init_sections (Some pod) = pod_fits target with_init_sections pod
 
 -- the break has a pod that it can be filled with, and that fits
 abbrev pub fits : Store → List ℕ → ℕ → Bool → Bool
-fits store id target mapped = fits_of target mapped (pod_for store id)
+fits store id target with_init_sections = fits_of target with_init_sections (pod_for store id)
 
 abbrev pub is_used_entry : Option Entry → Bool
 is_used_entry None = false

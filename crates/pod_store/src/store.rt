@@ -2,7 +2,7 @@
 ghost use Rattle.std.specs.Prelude.{◌≡◌, ℕ, List, ◌+◌, ◌==◌, ◌≤◌, ◌<◌, ◌^◌, map, filter, fold, length, option_map, is_some, true, false, OnOk, OnErr, IfOk, IfErr};
 ghost use Rattle.std.specs.List.{list_all, list_any};
 ghost use Rattle.std.specs.Option.{option_copied};
-ghost use Rattle.pod_store.specs.Pods.{section_fits, segment_fits, ad_fits, pod_fits};
+ghost use Rattle.pod_store.specs.Pods.{init_section_fits, segment_fits, ad_fits, pod_fits};
 ghost use Rattle.pod_store.specs.Store.{nothing_decided, with_entries, names_used, put, without, entry_for, has_own, own_pod, pod_for, is_one_of, fits, is_empty, is_used, is_named, is_named_if_any, with_all, withdrawn, decided, held_in_use, with_used, with_copy, with_copies, adopted, kept_in_use, count_with, is_new_decision, Changes, ChangesExactly};
 ghost use Rattle.pod_store.specs.Inner.Store.{GrowsBy};
 ghost use Rattle.pod_store.specs.Outcome.{no_memory};
@@ -56,30 +56,33 @@ fn segments_fit(segments: &[PodSegment], target: u64) -> bool
         .all(|s: &PodSegment| segment_fits(s, target))
 }
 
-fn section_fits(init_section: &Option<InitSection>, mapped: bool) -> bool
-    ensures { result ≡ section_fits mapped init_section.now }
+fn init_section_fits(init_section: &Option<InitSection>, with_init_sections: bool) -> bool
+    ensures { result ≡ init_section_fits with_init_sections init_section.now }
 {
-    if mapped {
+    if with_init_sections {
         init_section.is_some()
     } else {
         init_section.is_none()
     }
 }
 
-fn ad_fits(ad: &Ad, target: u64, mapped: bool) -> bool
-    ensures { result ≡ ad_fits target mapped ad.now }
+fn ad_fits(ad: &Ad, target: u64, with_init_sections: bool) -> bool
+    ensures { result ≡ ad_fits target with_init_sections ad.now }
 {
-    section_fits(&ad.init_section, mapped) && segments_fit(ad.segments.as_slice(), target)
+    init_section_fits(&ad.init_section, with_init_sections)
+        && segments_fit(ad.segments.as_slice(), target)
 }
 
 impl Pod {
     /// Whether this pod fits a playlist: each segment, rounded to whole seconds, is at most the target duration
     /// `target` (RFC 8216, section 4.3.3.1), and each ad has an initialisation section exactly if the origin's
-    /// segments have one, which is `mapped` (section 4.3.2.5).
-    pub fn fits(&self, target: u64, mapped: bool) -> bool
-        ensures { result ≡ pod_fits target mapped self.now }
+    /// segments have one, which is `with_init_sections` (section 4.3.2.5).
+    pub fn fits(&self, target: u64, with_init_sections: bool) -> bool
+        ensures { result ≡ pod_fits target with_init_sections self.now }
     {
-        self.ads().iter().all(|ad: &Ad| ad_fits(ad, target, mapped))
+        self.ads()
+            .iter()
+            .all(|ad: &Ad| ad_fits(ad, target, with_init_sections))
     }
 }
 
@@ -149,13 +152,13 @@ impl PodStore {
     }
 
     /// Whether the break `id` has a pod that it is filled with, and that pod fits, as `Pod::fits` says of `target`,
-    /// in seconds, and of `mapped`. A pod of the break's own that doesn't fit isn't replaced by the fallback. Takes
+    /// in seconds, and of `with_init_sections`. A pod of the break's own that doesn't fit isn't replaced by the fallback. Takes
     /// no memory.
-    pub fn fits(&self, id: &str, target: u64, mapped: bool) -> bool
-        ensures { result ≡ fits self.now id.now target mapped }
+    pub fn fits(&self, id: &str, target: u64, with_init_sections: bool) -> bool
+        ensures { result ≡ fits self.now id.now target with_init_sections }
     {
         match self.pod_for(id) {
-            Some(pod) => pod.fits(target, mapped),
+            Some(pod) => pod.fits(target, with_init_sections),
             None => false,
         }
     }

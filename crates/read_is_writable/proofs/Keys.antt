@@ -6,14 +6,14 @@ use Rattle.std.proofs.lemmas.Bool.{and_from, and_parts, lt-ltb, ltb-true}
 use Rattle.std.specs.Ordering.{nat_cmp, is_lt}
 use Rattle.std.specs.Cmp.Lexicographic.{slice_cmp}
 use Rattle.playlist_model.specs.declared.Key.{Key}
-use Rattle.playlist_model.specs.Said.{Said, no_keys, key, section}
+use Rattle.playlist_model.specs.Said.{Said, no_keys, key, init_section}
 use Rattle.playlist_model.specs.EffectiveKeys.{effective_key}
-use Rattle.playlist_model.specs.LookBack.{without_format, is_before, insert_key, keys_at, are_sorted, section_at}
+use Rattle.playlist_model.specs.LookBack.{without_format, is_before, insert_key, keys_at, are_sorted, init_section_at}
 use Rattle.playlist_model.proofs.ListTests.{all_filter}
 use Rattle.playlist_model.proofs.KeyOrder.{keys_are_sorted}
 use Rattle.writable.specs.Fitting.{if_some, iv_fits, states_iv, value_fits, method_fits, others_fit}
 use Rattle.playlist_write.specs.WellFormed.{is_word}
-use Rattle.read_is_writable.specs.Read.{key_reads, keys_read, quoted_uri_reads, section_reads, effective_keys_read}
+use Rattle.read_is_writable.specs.Read.{key_reads, keys_read, quoted_uri_reads, init_section_reads, effective_keys_read}
 use Rattle.read_is_writable.proofs.Lines.{is_fit, all_good, all_parts, good_parts, all_fit}
 
 module _ (p : Key → Bool) where
@@ -101,10 +101,10 @@ effective_fit n said h w =
 
 -- ---- the initialisation section
 
-pub section_fits : (said : List Said) → all_good said ≡ true → if_some section_reads (section_at said) ≡ true
-section_fits [] h = refl
-section_fits (section uri part ∷ before) h =
-    let a = all_parts (section uri part) before h in
-    let here = good_parts before (section uri part) a.0 in
+pub init_section_fits : (said : List Said) → all_good said ≡ true → if_some init_section_reads (init_section_at said) ≡ true
+init_section_fits [] h = refl
+init_section_fits (init_section uri part ∷ before) h =
+    let a = all_parts (init_section uri part) before h in
+    let here = good_parts before (init_section uri part) a.0 in
     and_from _ _ (and_from _ _ here.0 (keys_are before (all_fit before a.1))) here.1
-section_fits (said ∷ before) h = section_fits before (all_parts said before h).1
+init_section_fits (said ∷ before) h = init_section_fits before (all_parts said before h).1

@@ -9,7 +9,7 @@ use Rattle.playlist_model.specs.declared.Key.{Key}
 use Rattle.playlist_model.specs.declared.FaultKind.{FaultKind}
 use Rattle.playlist_model.specs.declared.FaultKind.TheVariants as fault
 use Rattle.playlist_model.specs.Lines.{Kind, ignored, uri, tag, kind_of, has_control}
-use Rattle.playlist_model.specs.Said.{Name, key_tag, map_tag, date_range_tag, unknown_tag, Said, no_keys, key, media, nothing, Outcome, ◌>>=◌, mended, refuse_if, over, attributes, key_said, section_said, date_range_said}
+use Rattle.playlist_model.specs.Said.{Name, key_tag, init_section_tag, date_range_tag, unknown_tag, Said, no_keys, key, media, nothing, Outcome, ◌>>=◌, mended, refuse_if, over, attributes, key_said, init_section_said, date_range_said}
 use Rattle.playlist_model.specs.LookBack.{keys_at, count, is_media}
 use Rattle.playlist_model.specs.Reading.{name_of, within_formats, with_ivs, said_by_tag, said_by_uri, said_by_kind, said_by, unlimited, limited}
 use Rattle.read_is_writable.specs.Limits.{has_few, tag_keeps, kind_keeps, line_keeps}
@@ -52,8 +52,8 @@ same_attributes rest h = ap (mended fault.BadAttributes) (within_is_same 64 rest
 same_keys : (base : Parts) (rest : List ℕ) → has_few rest ≡ true → key_said limited base rest ≡ key_said unlimited base rest
 same_keys base rest h = same_bind (attributes limited rest) (attributes unlimited rest) _ (same_attributes rest h)
 
-same_sections : (base : Parts) (rest : List ℕ) → has_few rest ≡ true → section_said limited base rest ≡ section_said unlimited base rest
-same_sections base rest h = same_bind (attributes limited rest) (attributes unlimited rest) _ (same_attributes rest h)
+same_init_sections : (base : Parts) (rest : List ℕ) → has_few rest ≡ true → init_section_said limited base rest ≡ init_section_said unlimited base rest
+same_init_sections base rest h = same_bind (attributes limited rest) (attributes unlimited rest) _ (same_attributes rest h)
 
 same_date_ranges : (rest : List ℕ) → has_few rest ≡ true → date_range_said limited rest ≡ date_range_said unlimited rest
 same_date_ranges rest h = same_bind (attributes limited rest) (attributes unlimited rest) _ (same_attributes rest h)
@@ -129,10 +129,10 @@ module _ (base : Parts) (before : List Said) where
   tag_forward : (name : Name) (rest : List ℕ) (x : Said) → said_by_tag limited base before name rest ≡ Ok x → Keeps (tag_keeps name rest) (said_by_tag unlimited base before name rest) x
   unfolding is_key_tag
   tag_forward key_tag rest x h = key_keeps rest x h
-  tag_forward map_tag rest x h =
-      let w = bind_was (section_said limited base rest) (with_ivs before) x h in
+  tag_forward init_section_tag rest x h =
+      let w = bind_was (init_section_said limited base rest) (with_ivs before) x h in
       let few = few_when rest _ w.0 w.1 in
-      plain_keeps map_tag rest x _ refl few ((tag_kind limited base before map_tag rest).passes x h) (ap (λ o. o >>= with_ivs before) (sym (same_sections base rest few)) ∙ h)
+      plain_keeps init_section_tag rest x _ refl few ((tag_kind limited base before init_section_tag rest).passes x h) (ap (λ o. o >>= with_ivs before) (sym (same_init_sections base rest few)) ∙ h)
   tag_forward date_range_tag rest x h =
       let few = few_when rest _ x h in
       plain_keeps date_range_tag rest x _ refl few ((tag_kind limited base before date_range_tag rest).passes x h) (sym (same_date_ranges rest few) ∙ h)
@@ -145,7 +145,7 @@ module _ (base : Parts) (before : List Said) where
       let few : few_formats (w.0 ∷ before) ≡ true = ap (λ y. few_formats (y ∷ before)) same ∙ f in
       ap (λ o. o >>= within_formats limited before) (same_keys base rest t ∙ w.1)
       ∙ not_refused (over (Some 16) (length (keys_at (w.0 ∷ before)))) fault.TooMany (Ok w.0) (not_over 16 (length (keys_at (w.0 ∷ before))) (leb-true _ _ few)) ∙ w.2
-  tag_back map_tag rest x t f h = ap (λ o. o >>= with_ivs before) (same_sections base rest t) ∙ h
+  tag_back init_section_tag rest x t f h = ap (λ o. o >>= with_ivs before) (same_init_sections base rest t) ∙ h
   tag_back date_range_tag rest x t f h = same_date_ranges rest t ∙ h
   tag_back name rest x t f h = h
 

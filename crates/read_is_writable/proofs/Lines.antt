@@ -11,7 +11,7 @@ use Rattle.attr_list.specs.Numbers.{decimal_of}
 use Rattle.date_times.specs.Instant.{instant_of, in_range}
 use Rattle.playlist_model.specs.declared.FaultKind.TheVariants as fault
 use Rattle.playlist_model.specs.Lines.{Kind, ignored, uri, tag, kind_of, has_control, is_blank, is_tag, is_comment, is_colon}
-use Rattle.playlist_model.specs.Said.{Name, sequence_tag, version_tag, target_tag, discontinuity_sequence_tag, type_tag, ended_tag, independent_tag, frames_tag, master_tag, duration_tag, byte_range_tag, discontinuity_tag, key_tag, map_tag, time_tag, date_range_tag, unknown_tag, Said, nothing, version, target, sequence, discontinuity_sequence, playlist_type, ended, independent, duration, byte_range, discontinuity, no_keys, section, time, media, Outcome, or_fault, mended, number, version_of, playlist_type_of, byte_range_of, duration_said, key_said, section_said, date_range_said, attributes, required, optional, iv_of, quoted_of, uri_of, section_byte_range, time_of, length_of, set_key, byte_range_end_fits, key, date_range}
+use Rattle.playlist_model.specs.Said.{Name, sequence_tag, version_tag, target_tag, discontinuity_sequence_tag, type_tag, ended_tag, independent_tag, frames_tag, master_tag, duration_tag, byte_range_tag, discontinuity_tag, key_tag, init_section_tag, time_tag, date_range_tag, unknown_tag, Said, nothing, version, target, sequence, discontinuity_sequence, playlist_type, ended, independent, duration, byte_range, discontinuity, no_keys, init_section, time, media, Outcome, or_fault, mended, number, version_of, playlist_type_of, byte_range_of, duration_said, key_said, init_section_said, date_range_said, attributes, required, optional, iv_of, quoted_of, uri_of, init_section_byte_range, time_of, length_of, set_key, byte_range_end_fits, key, date_range}
 use Rattle.playlist_model.specs.LookBack.{the_version, the_target, the_sequence, the_discontinuity_sequence, the_type, is_media, is_discontinuity, is_ended, own_duration, byte_range_at, keys_at, discontinuity_at, media_sequence_at}
 use Rattle.playlist_model.specs.Reading.{name_of, has, is_set, passes, needs_iv, said_by_tag, said_by_kind, said_by, said_from, at_line, Fault, unlimited}
 use Rattle.playlist_write.specs.WellFormed.{is_word, duration_fits}
@@ -20,7 +20,7 @@ use Rattle.playlist_write.proofs.CleanTexts.{Clean}
 use Rattle.read_is_writable.specs.Read.{version_reads, uri_reads, quoted_uri_reads, key_reads}
 use Rattle.read_is_writable.proofs.CleanCuts.{clean_is, clean_after, clean_after_first}
 use Rattle.read_is_writable.proofs.AttributeValues.{pairs_fit, attributes_fit, attribute_fits, required_fits, optional_fits, quoted_fits}
-use Rattle.read_is_writable.proofs.Values.{iv_is_fit, byte_range_is_fit, byte_range_of_fits, section_byte_range_fits, plain_uri, quoted_uri, or_identity, key_from}
+use Rattle.read_is_writable.proofs.Values.{iv_is_fit, byte_range_is_fit, byte_range_of_fits, init_section_byte_range_fits, plain_uri, quoted_uri, or_identity, key_from}
 use Rattle.read_is_writable.proofs.Gives.{Gives, answers, fails, guarded, refused, chosen, found, told, bound, after}
 use Rattle.date_times.proofs.TimeRange.{said_in_range}
 use Rattle.read_is_writable.proofs.Bounds.{decimal_is_word, duration_is_small}
@@ -34,7 +34,7 @@ is_fit (discontinuity_sequence n) = is_word n
 is_fit (duration nanos title) = duration_fits nanos && is_clean title
 is_fit (byte_range size offset) = if_some (byte_range_end_fits size) offset
 is_fit (key k) = key_reads k
-is_fit (section resource part) = quoted_uri_reads resource && if_some byte_range_fits part
+is_fit (init_section resource part) = quoted_uri_reads resource && if_some byte_range_fits part
 is_fit (time t) = in_range t
 is_fit (date_range r) = is_clean r.attributes
 is_fit (media resource) = uri_reads resource
@@ -45,7 +45,7 @@ abbrev pub is_placed : List Said → Said → Bool
 is_placed before (sequence n) = not (has is_media before)
 is_placed before (discontinuity_sequence n) = not (has is_media before) && not (has is_discontinuity before)
 is_placed before discontinuity = is_word (discontinuity_at before + 1)
-is_placed before (section resource part) = not (list_any needs_iv (keys_at before))
+is_placed before (init_section resource part) = not (list_any needs_iv (keys_at before))
 is_placed before (media resource) = is_word (media_sequence_at before)
 is_placed before _ = true
 
@@ -78,13 +78,13 @@ is_low : (n : ℕ) → n < 128 → (b : ℕ) → (b == n) ≡ true → b < 128
 is_low n l b h = let e : b ≡ n = eqb-true _ _ h in omega (arith, l, e)
 
 -- what is said is an initialisation section
-is_section : Said → Bool
-is_section (section resource part) = true
-is_section _ = false
+is_init_section : Said → Bool
+is_init_section (init_section resource part) = true
+is_init_section _ = false
 
 -- a section that fits by itself
-is_fit_section : Said → Bool
-is_fit_section said = is_section said && is_fit said
+is_fit_init_section : Said → Bool
+is_fit_init_section said = is_init_section said && is_fit said
 
 -- a line's reference, or what stands after its tag, has no control character
 abbrev pub KindClean : Kind → Type 0
@@ -118,18 +118,18 @@ module _ (before : List Said) where
       chosen _ (bytes_eq method (codes "NONE")) _ _ (λ _. good before no_keys refl refl) (λ other.
       set_key_good base pairs method h (and_from _ _ m (not_from_false _ other)))))
 
-  section_fits : (base : Parts) (rest : List ℕ) → Clean rest → Gives is_fit_section (section_said unlimited base rest)
-  unfolding is_section is_fit_section
-  section_fits base rest c =
+  init_section_fits : (base : Parts) (rest : List ℕ) → Clean rest → Gives is_fit_init_section (init_section_said unlimited base rest)
+  unfolding is_init_section is_fit_init_section
+  init_section_fits base rest c =
       bound pairs_fit _ (attributes unlimited rest) _ (attributes_fit rest c) (λ pairs h.
       bound (value_fits true) _ (required true (attribute pairs (codes "URI"))) _ (required_fits true _ (attribute_fits pairs (codes "URI") h)) (λ reference r.
-      bound (if_some byte_range_fits) _ (optional section_byte_range (attribute pairs (codes "BYTERANGE"))) _ (optional_fits byte_range_fits section_byte_range (attribute pairs (codes "BYTERANGE")) (attribute_fits pairs (codes "BYTERANGE") h) (λ pair _. section_byte_range_fits pair)) (λ part p.
-      bound quoted_uri_reads _ (uri_of base reference) _ (quoted_uri base reference r) (λ resource u. answers is_fit_section (section resource part) (and_from _ _ u p)))))
+      bound (if_some byte_range_fits) _ (optional init_section_byte_range (attribute pairs (codes "BYTERANGE"))) _ (optional_fits byte_range_fits init_section_byte_range (attribute pairs (codes "BYTERANGE")) (attribute_fits pairs (codes "BYTERANGE") h) (λ pair _. init_section_byte_range_fits pair)) (λ part p.
+      bound quoted_uri_reads _ (uri_of base reference) _ (quoted_uri base reference r) (λ resource u. answers is_fit_init_section (init_section resource part) (and_from _ _ u p)))))
 
-  placed_section : (said : Said) → is_fit_section said ≡ true → list_any needs_iv (keys_at before) ≡ false → is_good before said ≡ true
-  unfolding is_section is_fit_section
-  placed_section (section resource part) s h = and_from _ _ s (not_from_false _ h)
-  placed_section _ s h = cc
+  placed_init_section : (said : Said) → is_fit_init_section said ≡ true → list_any needs_iv (keys_at before) ≡ false → is_good before said ≡ true
+  unfolding is_init_section is_fit_init_section
+  placed_init_section (init_section resource part) s h = and_from _ _ s (not_from_false _ h)
+  placed_init_section _ s h = cc
 
   date_range_good : (rest : List ℕ) → Clean rest → Gives (is_good before) (date_range_said unlimited rest)
   date_range_good rest c =
@@ -160,7 +160,7 @@ module _ (before : List Said) where
   by_tag base byte_range_tag rest c = bound byte_range_is_fit _ (byte_range_of rest) _ (byte_range_of_fits rest) (λ r h. good before (byte_range r.0 r.1) h refl)
   by_tag base discontinuity_tag rest c = guarded _ (passes (discontinuity_at before + 1)) _ _ (λ h. good before discontinuity refl (word_below _ h))
   by_tag base key_tag rest c = bound (is_good before) _ (key_said unlimited base rest) _ (key_good base rest c) (λ x h. answers _ x h)
-  by_tag base map_tag rest c = bound is_fit_section _ (section_said unlimited base rest) _ (section_fits base rest c) (λ x s. guarded _ (list_any needs_iv (keys_at before)) _ _ (λ h. answers _ x (placed_section x s h)))
+  by_tag base init_section_tag rest c = bound is_fit_init_section _ (init_section_said unlimited base rest) _ (init_section_fits base rest c) (λ x s. guarded _ (list_any needs_iv (keys_at before)) _ _ (λ h. answers _ x (placed_init_section x s h)))
   by_tag base time_tag rest c = bound in_range _ (or_fault fault.BadTime (instant_of rest)) _ (found in_range fault.BadTime _ (λ t e. said_in_range rest t e)) (λ t h. good before (time t) h refl)
   by_tag base date_range_tag rest c = date_range_good rest c
   by_tag base unknown_tag rest c = good before nothing refl refl

@@ -7,7 +7,7 @@ use Rattle.fixed_duration.specs.Duration.{duration_of}
 use Rattle.attr_list.specs.Attributes.{attribute}
 use Rattle.date_times.specs.Instant.{instant_of}
 use Rattle.playlist_model.specs.declared.FaultKind.TheVariants as fault
-use Rattle.playlist_model.specs.Said.{Name, sequence_tag, version_tag, target_tag, discontinuity_sequence_tag, type_tag, ended_tag, independent_tag, frames_tag, master_tag, duration_tag, byte_range_tag, discontinuity_tag, key_tag, map_tag, time_tag, date_range_tag, unknown_tag, Said, nothing, version, target, sequence, discontinuity_sequence, playlist_type, ended, independent, duration, byte_range, discontinuity, no_keys, key, section, time, date_range, media, or_fault, mended, Reader, over, number, version_of, playlist_type_of, byte_range_of, attributes, required, optional, iv_of, quoted_of, uri_of, section_byte_range, time_of, length_of, key_said, section_said, date_range_said}
+use Rattle.playlist_model.specs.Said.{Name, sequence_tag, version_tag, target_tag, discontinuity_sequence_tag, type_tag, ended_tag, independent_tag, frames_tag, master_tag, duration_tag, byte_range_tag, discontinuity_tag, key_tag, init_section_tag, time_tag, date_range_tag, unknown_tag, Said, nothing, version, target, sequence, discontinuity_sequence, playlist_type, ended, independent, duration, byte_range, discontinuity, no_keys, key, init_section, time, date_range, media, or_fault, mended, Reader, over, number, version_of, playlist_type_of, byte_range_of, attributes, required, optional, iv_of, quoted_of, uri_of, init_section_byte_range, time_of, length_of, key_said, init_section_said, date_range_said}
 use Rattle.playlist_model.specs.LookBack.{the_version, the_target, the_sequence, the_discontinuity_sequence, the_type, is_media, is_discontinuity, is_ended, count, own_duration, byte_range_at, keys_at, discontinuity_at, media_sequence_at}
 use Rattle.playlist_model.specs.Reading.{has, is_set, passes, needs_iv, said_by_tag, said_by_uri}
 use Rattle.read_is_writable.proofs.Gives.{Gives, answers, fails, refused, chosen, bound, after}
@@ -26,7 +26,7 @@ is_of byte_range_tag (byte_range size offset) = true
 is_of discontinuity_tag discontinuity = true
 is_of key_tag no_keys = true
 is_of key_tag (key k) = true
-is_of map_tag (section resource part) = true
+is_of init_section_tag (init_section resource part) = true
 is_of time_tag (time instant) = true
 is_of date_range_tag (date_range r) = true
 is_of unknown_tag nothing = true
@@ -40,10 +40,10 @@ module _ (reader : Reader) (base : Parts) where
       after _ (required true (attribute pairs (codes "URI"))) _ (λ reference. after _ (optional iv_of (attribute pairs (codes "IV"))) _ (λ iv.
       after _ (optional quoted_of (attribute pairs (codes "KEYFORMAT"))) _ (λ format. after _ (uri_of base reference) _ (λ resource. answers (is_of key_tag) _ refl)))))))
 
-  section_kind : (rest : List ℕ) → Gives (is_of map_tag) (section_said reader base rest)
-  section_kind rest =
+  init_section_kind : (rest : List ℕ) → Gives (is_of init_section_tag) (init_section_said reader base rest)
+  init_section_kind rest =
       after _ (attributes reader rest) _ (λ pairs. after _ (required true (attribute pairs (codes "URI"))) _ (λ reference.
-      after _ (optional section_byte_range (attribute pairs (codes "BYTERANGE"))) _ (λ part. after _ (uri_of base reference) _ (λ resource. answers (is_of map_tag) (section resource part) refl))))
+      after _ (optional init_section_byte_range (attribute pairs (codes "BYTERANGE"))) _ (λ part. after _ (uri_of base reference) _ (λ resource. answers (is_of init_section_tag) (init_section resource part) refl))))
 
   date_range_kind : (rest : List ℕ) → Gives (is_of date_range_tag) (date_range_said reader rest)
   date_range_kind rest =
@@ -68,8 +68,8 @@ module _ (reader : Reader) (base : Parts) where
   tag_kind before discontinuity_tag rest = refused _ (passes (discontinuity_at before + 1)) _ _ (answers (is_of discontinuity_tag) discontinuity refl)
   tag_kind before key_tag rest =
       bound (is_of key_tag) _ (key_said reader base rest) _ (key_kind rest) (λ x h. refused _ (over reader.formats (length (keys_at (x ∷ before)))) _ _ (answers (is_of key_tag) x h))
-  tag_kind before map_tag rest =
-      bound (is_of map_tag) _ (section_said reader base rest) _ (section_kind rest) (λ x h. refused _ (list_any needs_iv (keys_at before)) _ _ (answers (is_of map_tag) x h))
+  tag_kind before init_section_tag rest =
+      bound (is_of init_section_tag) _ (init_section_said reader base rest) _ (init_section_kind rest) (λ x h. refused _ (list_any needs_iv (keys_at before)) _ _ (answers (is_of init_section_tag) x h))
   tag_kind before time_tag rest = after _ (or_fault fault.BadTime (instant_of rest)) _ (λ t. answers (is_of time_tag) (time t) refl)
   tag_kind before date_range_tag rest = date_range_kind rest
   tag_kind before unknown_tag rest = answers (is_of unknown_tag) nothing refl

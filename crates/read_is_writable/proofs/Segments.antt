@@ -14,7 +14,7 @@ use Rattle.playlist_write.specs.WellFormed.{duration_fits}
 use Rattle.read_is_writable.specs.Read.{segment_reads, text_is_clean}
 use Rattle.read_is_writable.proofs.CleanCuts.{clean_is, clean_nil}
 use Rattle.read_is_writable.proofs.Values.{byte_range_is_fit}
-use Rattle.read_is_writable.proofs.Keys.{effective_fit, section_fits}
+use Rattle.read_is_writable.proofs.Keys.{effective_fit, init_section_fits}
 use Rattle.read_is_writable.proofs.Lines.{is_fit, all_good, good_parts, all_parts, all_fit}
 use Rattle.read_is_writable.proofs.Numbers.{discontinuity_word}
 
@@ -89,7 +89,7 @@ segment_fits before u h =
     (and_from _ _ number (discontinuity_word before a.1))
     (and_from _ _ here.0 part))
     (effective_fit (media_sequence_at before) before fit number))
-    (section_fits before a.1))
+    (init_section_fits before a.1))
     parts.0)
     parts.1)
     (latest_fits in_range the_time (since_media before) says_time since)

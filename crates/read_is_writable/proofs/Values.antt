@@ -9,7 +9,7 @@ use Rattle.attr_list.specs.Attributes.{Pair, is_value}
 use Rattle.attr_list.specs.Numbers.{decimal_of, hex_of}
 use Rattle.playlist_model.specs.declared.FaultKind.TheVariants as fault
 use Rattle.playlist_model.specs.Uri.{has_scheme, can_be_written, joined, resolved}
-use Rattle.playlist_model.specs.Said.{or_fault, value_if, iv_of, quoted_of, uri_of, byte_range_of, section_byte_range, byte_range_end_fits}
+use Rattle.playlist_model.specs.Said.{or_fault, value_if, iv_of, quoted_of, uri_of, byte_range_of, init_section_byte_range, byte_range_end_fits}
 use Rattle.playlist_model.specs.Carried.{after_commas, carried}
 use Rattle.writable.specs.Fitting.{if_some, is_clean, value_fits, method_fits, iv_fits, byte_range_fits}
 use Rattle.writable.proofs.Hexadecimal.{hex_is_iv}
@@ -38,8 +38,8 @@ byte_range_of_fits rest =
     guarded byte_range_is_fit (not (byte_range_end_fits length offset)) _ _ (λ h. answers byte_range_is_fit (length, Some offset) (not-false _ h))))
     (λ _. answers byte_range_is_fit (length, None) refl))
 
-pub section_byte_range_fits : (pair : Pair) → Gives byte_range_fits (section_byte_range pair)
-section_byte_range_fits pair =
+pub init_section_byte_range_fits : (pair : Pair) → Gives byte_range_fits (init_section_byte_range pair)
+init_section_byte_range_fits pair =
     after byte_range_fits (quoted_of pair) _ (λ value. after byte_range_fits (byte_range_of value) _ (λ r.
     guarded byte_range_fits (not (byte_range_end_fits r.0 (unwrap_or r.1 0))) _ _ (λ h. answers byte_range_fits (record { length = r.0; offset = unwrap_or r.1 0 }) (not-false _ h))))
 

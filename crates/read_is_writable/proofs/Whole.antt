@@ -9,11 +9,11 @@ use Rattle.playlist_model.specs.declared.FaultKind.{FaultKind}
 use Rattle.playlist_model.specs.declared.Playlist.{Playlist}
 use Rattle.playlist_model.specs.Said.{Said, nothing, version, target, Reader, over}
 use Rattle.playlist_model.specs.LookBack.{latest, the_version, the_target, is_media, segments_of}
-use Rattle.playlist_model.specs.Reading.{has, has_section, are_mixed, is_set, said_by, said_from, whole_fault, whole, playlist_of, and_whole, of_lines, reading, unlimited, Fault}
+use Rattle.playlist_model.specs.Reading.{has, has_init_section, are_mixed, is_set, said_by, said_from, whole_fault, whole, playlist_of, and_whole, of_lines, reading, unlimited, Fault}
 use Rattle.playlist_model.proofs.LimitLaws.{reads_what_is_denoted}
 use Rattle.playlist_write.specs.WellFormed.{is_word}
 use Rattle.writable.specs.Fitting.{if_some}
-use Rattle.read_is_writable.specs.Read.{version_reads, sections_agree, IsSaid, AreRead, numbers_read, segment_reads, text_is_clean}
+use Rattle.read_is_writable.specs.Read.{version_reads, init_sections_agree, IsSaid, AreRead, numbers_read, segment_reads, text_is_clean}
 use Rattle.read_is_writable.proofs.Lines.{is_fit, all_good, good_from, all_fit}
 use Rattle.read_is_writable.proofs.Numbers.{numbers_rise}
 use Rattle.read_is_writable.proofs.Segments.{latest_fits, or_default, segments_fit, texts_clean}
@@ -98,7 +98,7 @@ can_be_written reader base bytes p h =
       target_duration = subst (λ (q : Playlist). is_word q.target_duration ≡ true) l.whole (or_default is_word (latest the_target l.said) 0 (latest_fits is_word the_target l.said says_target fit) refl);
       numbers = subst (λ (q : Playlist). numbers_read q.segments ≡ true) l.whole (numbers_rise l.said good t.0);
       segments = subst (λ (q : Playlist). list_all segment_reads q.segments ≡ true) l.whole (segments_fit l.said good);
-      sections = subst (λ (q : Playlist). sections_agree q.segments ≡ true) l.whole (agreed (list_any has_section (segments_of l.said)) (list_all has_section (segments_of l.said)) t.1);
+      init_sections = subst (λ (q : Playlist). init_sections_agree q.segments ≡ true) l.whole (agreed (list_any has_init_section (segments_of l.said)) (list_all has_init_section (segments_of l.said)) t.1);
       date_range_texts = subst (λ (q : Playlist). list_all text_is_clean q.date_ranges ≡ true) l.whole (texts_clean l.said fit);
       date_ranges = date_ranges_are reader base (lines bytes) p (text_was reader base bytes p h).1;
     }

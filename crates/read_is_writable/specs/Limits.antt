@@ -6,7 +6,7 @@ use Rattle.std.specs.Str.Lines.{lines}
 use Rattle.url.specs.Parts.{Parts}
 use Rattle.attr_list.specs.Attributes.{pieces}
 use Rattle.playlist_model.specs.Lines.{Kind, tag, kind_of}
-use Rattle.playlist_model.specs.Said.{Name, key_tag, map_tag, date_range_tag, Said, nothing}
+use Rattle.playlist_model.specs.Said.{Name, key_tag, init_section_tag, date_range_tag, Said, nothing}
 use Rattle.playlist_model.specs.LookBack.{count, is_media, keys_at}
 use Rattle.playlist_model.specs.Reading.{name_of, said_by, said_from, unlimited}
 
@@ -14,7 +14,7 @@ use Rattle.playlist_model.specs.Reading.{name_of, said_by, said_from, unlimited}
 
 abbrev pub takes_attributes : Name → Bool
 takes_attributes key_tag = true
-takes_attributes map_tag = true
+takes_attributes init_section_tag = true
 takes_attributes date_range_tag = true
 takes_attributes _ = false
 

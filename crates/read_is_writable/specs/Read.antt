@@ -8,14 +8,14 @@ use Rattle.playlist_model.specs.declared.DateRange.{DateRange}
 use Rattle.playlist_model.specs.declared.Playlist.{Playlist}
 use Rattle.date_times.specs.Instant.{in_range}
 use Rattle.playlist_model.specs.Said.{Reader, date_range, date_range_said}
-use Rattle.playlist_model.specs.Reading.{has_section, needs_iv}
+use Rattle.playlist_model.specs.Reading.{has_init_section, needs_iv}
 use Rattle.playlist_model.specs.LookBack.{are_sorted}
 use Rattle.playlist_model.specs.Numbering.{segment_numbers, numbers_rise}
 use Rattle.playlist_model.specs.Lines.{has_control}
 use Rattle.playlist_model.specs.Uri.{has_scheme}
 use Rattle.playlist_model.specs.declared.Key.{Key}
 use Rattle.playlist_model.specs.declared.InitSection.{InitSection}
-use Rattle.writable.specs.Fitting.{if_some, is_clean, value_fits, method_fits, iv_fits, others_fit, byte_range_fits, states_iv, effective_keys_fit, section_fits}
+use Rattle.writable.specs.Fitting.{if_some, is_clean, value_fits, method_fits, iv_fits, others_fit, byte_range_fits, states_iv, effective_keys_fit, init_section_fits}
 use Rattle.playlist_write.specs.WellFormed.{is_word, duration_fits, resource_fits}
 
 -- a version that is supported
@@ -44,9 +44,9 @@ keys_read keys = list_all key_reads keys && are_sorted keys
 
 -- ---- initialisation sections (4.3.2.5)
 
--- a key of the section that asks for an IV states it
-abbrev pub section_reads : InitSection → Bool
-section_reads s = quoted_uri_reads s.uri && if_some byte_range_fits s.byte_range && keys_read s.keys && not (list_any needs_iv s.keys)
+-- a key of the initialisation section that asks for an IV states it
+abbrev pub init_section_reads : InitSection → Bool
+init_section_reads s = quoted_uri_reads s.uri && if_some byte_range_fits s.byte_range && keys_read s.keys && not (list_any needs_iv s.keys)
 
 -- ---- a segment by itself
 
@@ -62,7 +62,7 @@ effective_keys_read keys = keys_read keys && list_all states_iv keys
 
 abbrev pub segment_reads : Segment → Bool
 segment_reads s =
-    numbers_are_words s && resource_reads s && effective_keys_read s.keys && if_some section_reads s.init_section && duration_fits s.duration
+    numbers_are_words s && resource_reads s && effective_keys_read s.keys && if_some init_section_reads s.init_section && duration_fits s.duration
     && is_clean s.title && if_some in_range s.program_date_time
 
 -- ---- the same where each URI is UTF-8
@@ -70,16 +70,16 @@ segment_reads s =
 abbrev pub key_is_text : Key → Bool
 key_is_text k = is_utf8 k.uri
 
-abbrev pub section_is_text : InitSection → Bool
-section_is_text s = is_utf8 s.uri && list_all key_is_text s.keys
+abbrev pub init_section_is_text : InitSection → Bool
+init_section_is_text s = is_utf8 s.uri && list_all key_is_text s.keys
 
 abbrev pub uris_are_text : Segment → Bool
-uris_are_text s = is_utf8 s.uri && list_all key_is_text s.keys && if_some section_is_text s.init_section
+uris_are_text s = is_utf8 s.uri && list_all key_is_text s.keys && if_some init_section_is_text s.init_section
 
 -- it can be written with its own numbers and time
 abbrev pub segment_can_be_written : Segment → Bool
 segment_can_be_written s =
-    numbers_are_words s && resource_fits s && effective_keys_fit s.keys && if_some section_fits s.init_section && duration_fits s.duration
+    numbers_are_words s && resource_fits s && effective_keys_fit s.keys && if_some init_section_fits s.init_section && duration_fits s.duration
     && is_clean s.title && if_some in_range s.program_date_time
 
 -- ---- numbers (4.3.3.2, 4.3.3.3)
@@ -90,8 +90,8 @@ numbers_read = numbers_rise segment_numbers
 -- ---- the whole
 
 -- all have an initialisation section, or none has
-abbrev pub sections_agree : List Segment → Bool
-sections_agree segments = list_all has_section segments || not (list_any has_section segments)
+abbrev pub init_sections_agree : List Segment → Bool
+init_sections_agree segments = list_all has_init_section segments || not (list_any has_init_section segments)
 
 -- a date range that its own text says
 abbrev pub IsSaid : Reader → DateRange → Type 0
@@ -105,6 +105,6 @@ pub record AreRead (reader : Reader) (p : Playlist) : Type 0 where
   pub target_duration : is_word p.target_duration ≡ true
   pub numbers : numbers_read p.segments ≡ true
   pub segments : list_all segment_reads p.segments ≡ true
-  pub sections : sections_agree p.segments ≡ true
+  pub init_sections : init_sections_agree p.segments ≡ true
   pub date_ranges : AllByRecursion (IsSaid reader) p.date_ranges
   pub date_range_texts : list_all text_is_clean p.date_ranges ≡ true

@@ -16,7 +16,7 @@ ghost use Rattle.segment_state.specs.Views.{extent_after};
 use crate::durations::Durations;
 use crate::keys::keys_with;
 use crate::references::References;
-use crate::tags::{byte_range_of, key_said, section_said};
+use crate::tags::{byte_range_of, init_section_said, key_said};
 use date_times::TimeReader;
 use fixed_duration::Nanos;
 use playlist_model::{
@@ -161,19 +161,19 @@ impl<'a> ReaderState<'a> {
     /// are those in force at its own line. The faults, in this order: `BadAttributes` for the list,
     /// `MissingAttribute` or `BadAttributes` for URI, `BadAttributes` or `BadRange` for BYTERANGE, `BadUri`,
     /// `MapWithoutIv` if a key of METHOD AES-128 has no IV; `OutOfMemory` only if an allocation fails.
-    pub fn map_tag(&mut self, rest: &str) -> Result<(), FaultKind>
-        ensures { Takes (λ base before. said_by_tag limited base before said.map_tag rest.now) self.old self.new result }
+    pub fn init_section_tag(&mut self, rest: &str) -> Result<(), FaultKind>
+        ensures { Takes (λ base before. said_by_tag limited base before said.init_section_tag rest.now) self.old self.new result }
     {
-        let tag = section_said(self.alloc, self.references.base(), rest)?;
+        let tag = init_section_said(self.alloc, self.references.base(), rest)?;
         if is_iv_needed(&self.keys) {
             return Err(FaultKind::MapWithoutIv);
         }
-        let section = InitSection {
+        let init_section = InitSection {
             uri: tag.uri,
             byte_range: tag.byte_range,
             keys: self.keys.clone()?,
         };
-        self.init_section = Some(Shared::new(self.alloc, section)?);
+        self.init_section = Some(Shared::new(self.alloc, init_section)?);
         Ok(())
     }
 
@@ -231,8 +231,8 @@ impl<'a> ReaderState<'a> {
     }
 
     // The initialisation section in force.
-    fn section(&self) -> Result<Option<Shared<InitSection>>, AllocError>
-        ensures { IfOk result (λ section. section ≡ self.now.standing.init_section) }
+    fn init_section(&self) -> Result<Option<Shared<InitSection>>, AllocError>
+        ensures { IfOk result (λ init_section. init_section ≡ self.now.standing.init_section) }
     {
         self.init_section.clone()
     }
@@ -257,7 +257,7 @@ impl<'a> ReaderState<'a> {
             uri,
             byte_range,
             keys: self.keys.under(number)?,
-            init_section: self.section()?,
+            init_section: self.init_section()?,
             duration,
             title,
             program_date_time: self.program_date_time,

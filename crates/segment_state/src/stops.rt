@@ -1,12 +1,14 @@
 //! What stands after a segment, so that lines which were read before can go on there after others.
 ghost use Rattle.std.specs.Prelude.{◌≡◌, ◌+◌, ◌^◌, ◌<◌, ◌≤◌, true, false, IfOk, IfErr, OnErr, MatchOption, IsTrue, Some, None};
-ghost use Rattle.playlist_model.specs.Same.{same_option, same_section};
+ghost use Rattle.playlist_model.specs.Same.{same_option, same_init_section};
 ghost use Rattle.segment_state.specs.Continued.{IsBetween, IsStop, IsReached, stopped_at};
 ghost use Rattle.segment_state.specs.Inner.Running.{taken_at};
 ghost use Rattle.segment_state.specs.Views.{extent_after};
 
 use crate::{Part, ReaderState};
-use playlist_model::{InitSection, Keys, MAX_SEGMENTS, Shared, are_same_keys, is_same_section};
+use playlist_model::{
+    InitSection, Keys, MAX_SEGMENTS, Shared, are_same_keys, is_same_init_section,
+};
 use std::alloc::AllocError;
 use std::marker::Model;
 
@@ -36,15 +38,15 @@ fn are_equal_keys(one: &Keys, other: &Keys) -> bool
     are_same_keys(one, other)
 }
 
-#[tactic(auto, using(crate::proofs::EqualParts::some_section))]
-fn are_equal_sections(
+#[tactic(auto, using(crate::proofs::EqualParts::some_init_section))]
+fn are_equal_init_sections(
     one: &Option<Shared<InitSection>>,
     other: &Option<Shared<InitSection>>,
 ) -> bool
     ensures { result ≡ true → one.now ≡ other.now }
 {
     match (one, other) {
-        (Some(one), Some(other)) => is_same_section(one, other),
+        (Some(one), Some(other)) => is_same_init_section(one, other),
         (None, None) => true,
         _ => false,
     }
@@ -117,7 +119,7 @@ impl<'a> ReaderState<'a> {
             number,
             discontinuity: self.discontinuity_number(),
             keys: self.keys.clone()?,
-            init_section: self.section()?,
+            init_section: self.init_section()?,
             last: copied_part(&self.last)?,
         }))
     }
@@ -141,7 +143,7 @@ impl<'a> ReaderState<'a> {
         if !are_equal_keys(&self.keys, &stop.keys) {
             return false;
         }
-        if !are_equal_sections(&self.init_section, &stop.init_section) {
+        if !are_equal_init_sections(&self.init_section, &stop.init_section) {
             return false;
         }
         are_equal_parts(&self.last, &stop.last)

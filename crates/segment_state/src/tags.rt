@@ -2,12 +2,12 @@
 ghost use Rattle.std.specs.Prelude.{◌≡◌, codes};
 ghost use Rattle.attr_list.specs.Attributes.{attribute};
 ghost use Rattle.playlist_model.specs.Said as said;
-ghost use Rattle.playlist_model.specs.Said.{iv_of, key_tag_said, uri_of, set_key, key_said, section_said, section_byte_range, byte_range_of, stated_byte_range, or_fault};
+ghost use Rattle.playlist_model.specs.Said.{iv_of, key_tag_said, uri_of, set_key, key_said, init_section_said, init_section_byte_range, byte_range_of, stated_byte_range, or_fault};
 ghost use Rattle.attr_list.specs.Numbers.{decimal_of};
 ghost use Rattle.playlist_model.specs.Reading.{limited};
 ghost use Rattle.playlist_model.specs.Refusals.{Gives};
 ghost use Rattle.segment_state.specs.Attributes.{pairs_of};
-ghost use Rattle.segment_state.specs.Inner.Tags.{section_tag_said};
+ghost use Rattle.segment_state.specs.Inner.Tags.{init_section_tag_said};
 
 use crate::attributes::{attributes_of, optional, required};
 use attr_list::{AttrList, read_decimal, read_hex_u128};
@@ -20,7 +20,7 @@ const IDENTITY: &str = "identity";
 
 /// What a map tag says: a resource, and the part of it.
 #[derive(Drop)]
-pub struct SectionTag {
+pub struct InitSectionTag {
     /// The resource.
     pub uri: Shared<Text>,
     /// The part of it, where it is not the whole.
@@ -134,9 +134,9 @@ fn stated_byte_range(length: u64, offset: u64) -> Result<(u64, Option<u64>), Fau
     Ok((length, Some(offset)))
 }
 
-// The part of its resource that a section is: it begins at 0 where it states no offset.
-fn section_byte_range(list: &AttrList<'_>) -> Result<Option<ByteRange>, FaultKind>
-    ensures { result ≡ said.optional section_byte_range (attribute (pairs_of list.now) (codes "BYTERANGE")) }
+// The part of its resource that an initialisation section is: it begins at 0 where it states no offset.
+fn init_section_byte_range(list: &AttrList<'_>) -> Result<Option<ByteRange>, FaultKind>
+    ensures { result ≡ said.optional init_section_byte_range (attribute (pairs_of list.now) (codes "BYTERANGE")) }
 {
     let Some(value) = optional(list, "BYTERANGE", true)? else {
         return Ok(None);
@@ -149,12 +149,16 @@ fn section_byte_range(list: &AttrList<'_>) -> Result<Option<ByteRange>, FaultKin
 /// What an EXT-X-MAP with the attributes `rest` says under `base` (RFC 8216, section 4.3.2.5). The faults, in this
 /// order: `BadAttributes` for the list, `MissingAttribute` or `BadAttributes` for URI, `BadAttributes` or `BadRange`
 /// for BYTERANGE, `BadUri`; `OutOfMemory` only if an allocation fails.
-pub fn section_said(alloc: Global, base: &Base, rest: &str) -> Result<SectionTag, FaultKind>
-    ensures { Gives section_tag_said result (section_said limited base.now rest.now) }
+pub fn init_section_said(
+    alloc: Global,
+    base: &Base,
+    rest: &str,
+) -> Result<InitSectionTag, FaultKind>
+    ensures { Gives init_section_tag_said result (init_section_said limited base.now rest.now) }
 {
     let list = attributes_of(alloc, rest)?;
     let reference = required(&list, "URI", true)?;
-    let byte_range = section_byte_range(&list)?;
+    let byte_range = init_section_byte_range(&list)?;
     let uri = shared_uri(alloc, base, reference)?;
-    Ok(SectionTag { uri, byte_range })
+    Ok(InitSectionTag { uri, byte_range })
 }

@@ -26,9 +26,9 @@ abbrev pub kept_piece : Marked → Piece
 kept_piece s = record { segment = s.segment; instant = s.instant; mark = None; first_of_ad = false }
 
 abbrev pub with_keys : List Key → InitSection → InitSection
-with_keys keys section = record section { keys = keys }
+with_keys keys init_section = record init_section { keys = keys }
 
--- a pod's segment has its ad's section and keys, no title and no time; it has no number of the origin
+-- a pod's segment has its ad's initialisation section and keys, no title and no time; it has no number of the origin
 abbrev pub ad_segment : Ad → PodSegment → Segment
 ad_segment ad s = record {
   media_sequence = 0;

@@ -1,4 +1,4 @@
-//! Copies of what is put into a list. They share texts and sections, and take memory of their own for lists alone.
+//! Copies of what is put into a list. They share texts and initialisation sections, and take memory of their own for lists alone.
 ghost use Rattle.std.specs.Prelude.{◌≡◌, Bool, IfOk, [], option_map};
 ghost use Rattle.pod_store.specs.Marks.{Mark};
 ghost use Rattle.stitcher.specs.Stitched.{ad_piece, with_keys};
@@ -10,19 +10,19 @@ use pod_store::{Ad, PodSegment};
 use std::alloc::{AllocError, Global};
 use std::marker::Model;
 
-/// A copy of a section that has owners.
-fn shared_section(
-    section: &Option<Shared<InitSection>>,
+/// A copy of an initialisation section that has owners.
+fn shared_init_section(
+    init_section: &Option<Shared<InitSection>>,
 ) -> Result<Option<Shared<InitSection>>, AllocError>
-    ensures { IfOk result (λ s. s ≡ section.now) }
+    ensures { IfOk result (λ s. s ≡ init_section.now) }
 {
-    match section {
-        Some(section) => Ok(Some(section.clone()?)),
+    match init_section {
+        Some(init_section) => Ok(Some(init_section.clone()?)),
         None => Ok(None),
     }
 }
 
-/// What the segments of an ad share: its section under the ad's keys, and the title, which is empty.
+/// What the segments of an ad share: its initialisation section under the ad's keys, and the title, which is empty.
 #[derive(Drop)]
 pub struct AdParts {
     init_section: Option<Shared<InitSection>>,
@@ -40,20 +40,20 @@ impl Model for AdParts {
     ghost invariant = { λ a. a.title ≡ [] };
 }
 
-/// The section of an ad's segments, under the ad's keys.
-fn ad_section(alloc: Global, ad: &Ad) -> Result<Option<Shared<InitSection>>, AllocError>
+/// The initialisation section of an ad's segments, under the ad's keys.
+fn ad_init_section(alloc: Global, ad: &Ad) -> Result<Option<Shared<InitSection>>, AllocError>
     ensures { IfOk result (λ s. s ≡ option_map (with_keys ad.now.keys) ad.now.init_section) }
 {
-    let Some(section) = &ad.init_section else {
+    let Some(init_section) = &ad.init_section else {
         return Ok(None);
     };
     let keys = ad.keys.clone()?;
-    let section = InitSection {
-        uri: section.uri.clone()?,
-        byte_range: section.byte_range,
+    let init_section = InitSection {
+        uri: init_section.uri.clone()?,
+        byte_range: init_section.byte_range,
         keys,
     };
-    Ok(Some(Shared::new(alloc, section)?))
+    Ok(Some(Shared::new(alloc, init_section)?))
 }
 
 fn no_title(alloc: Global) -> Result<Shared<ShortText>, AllocError>
@@ -68,7 +68,7 @@ pub fn ad_parts(alloc: Global, ad: &Ad) -> Result<AdParts, AllocError>
     ensures { IfOk result (λ parts. parts ≡ option_map (with_keys ad.now.keys) ad.now.init_section) }
 {
     Ok(AdParts {
-        init_section: ad_section(alloc, ad)?,
+        init_section: ad_init_section(alloc, ad)?,
         title: no_title(alloc)?,
     })
 }
@@ -92,7 +92,7 @@ pub fn ad_segment(
         uri: ShortText::copy_of(alloc, segment.uri.as_str())?,
         byte_range: segment.byte_range,
         keys: ad.keys.clone()?,
-        init_section: shared_section(&parts.init_section)?,
+        init_section: shared_init_section(&parts.init_section)?,
         duration: segment.duration,
         title: parts.title.clone()?,
         program_date_time: None,

@@ -134,7 +134,7 @@ abbrev pub decided_b : Store
 decided_b = record { entries = record { id = codes "b"; pod = pod; used = false; copied = false } ∷ []; fallback = None }
 
 abbrev pub limits : ℕ → Bool → Option (List ℕ) → EntryLimits
-limits target mapped last = record { tolerance = 10; target_duration = target; mapped = mapped; last = last }
+limits target with_init_sections last = record { tolerance = 10; target_duration = target; with_init_sections = with_init_sections; last = last }
 
 abbrev pub break : Described → Break
 break said = record { id = codes "b"; said = said }

@@ -6,7 +6,7 @@ use Rattle.playlist_model.specs.declared.PlaylistKind.TheVariants.{Event, Vod}
 use Rattle.playlist_model.specs.declared.Key.{Key}
 use Rattle.playlist_model.specs.Lines.{ignored, uri, tag, kind_of}
 use Rattle.playlist_model.specs.Uri.{base_of, has_scheme, resolved}
-use Rattle.playlist_model.specs.Said.{Name, version_tag, target_tag, sequence_tag, discontinuity_sequence_tag, type_tag, ended_tag, independent_tag, frames_tag, master_tag, duration_tag, byte_range_tag, discontinuity_tag, key_tag, map_tag, time_tag, date_range_tag, unknown_tag, duration, no_keys, key, section, date_range, version_of, playlist_type_of, duration_said, byte_range_of, key_said, section_said, date_range_said}
+use Rattle.playlist_model.specs.Said.{Name, version_tag, target_tag, sequence_tag, discontinuity_sequence_tag, type_tag, ended_tag, independent_tag, frames_tag, master_tag, duration_tag, byte_range_tag, discontinuity_tag, key_tag, init_section_tag, time_tag, date_range_tag, unknown_tag, duration, no_keys, key, init_section, date_range, version_of, playlist_type_of, duration_said, byte_range_of, key_said, init_section_said, date_range_said}
 use Rattle.playlist_model.specs.Reading.{name_of, limited}
 use Rattle.worked_examples.specs.Tables.{Gives}
 
@@ -32,7 +32,7 @@ TagsHaveTheirNames = Gives named (
     ∷ ((codes "EXT-X-BYTERANGE", true), byte_range_tag)
     ∷ ((codes "EXT-X-DISCONTINUITY", false), discontinuity_tag)
     ∷ ((codes "EXT-X-KEY", true), key_tag)
-    ∷ ((codes "EXT-X-MAP", true), map_tag)
+    ∷ ((codes "EXT-X-MAP", true), init_section_tag)
     ∷ ((codes "EXT-X-PROGRAM-DATE-TIME", true), time_tag)
     ∷ ((codes "EXT-X-DATERANGE", true), date_range_tag)
     ∷ ((codes "EXT-X-VERSION", true), version_tag)
@@ -117,11 +117,11 @@ KeysAreRead = Gives (λ text. based (λ base. key_said limited base text)) (
     ∷ (codes "METHOD=AES-128,URI=\"//[/x\"", Some (Err BadUri)) ∷ [])
 
 -- 4.3.2.5: URI is required; a BYTERANGE without an offset begins at 0
-abbrev pub SectionsAreRead : Type 0
-SectionsAreRead = Gives (λ text. based (λ base. section_said limited base text)) (
-    (codes "URI=\"a:i\"", Some (Ok (section (codes "a:i") None)))
-    ∷ (codes "URI=\"a:i\",BYTERANGE=\"100@5\"", Some (Ok (section (codes "a:i") (Some (record { length = 100; offset = 5 })))))
-    ∷ (codes "URI=\"a:i\",BYTERANGE=\"100\"", Some (Ok (section (codes "a:i") (Some (record { length = 100; offset = 0 })))))
+abbrev pub InitSectionsAreRead : Type 0
+InitSectionsAreRead = Gives (λ text. based (λ base. init_section_said limited base text)) (
+    (codes "URI=\"a:i\"", Some (Ok (init_section (codes "a:i") None)))
+    ∷ (codes "URI=\"a:i\",BYTERANGE=\"100@5\"", Some (Ok (init_section (codes "a:i") (Some (record { length = 100; offset = 5 })))))
+    ∷ (codes "URI=\"a:i\",BYTERANGE=\"100\"", Some (Ok (init_section (codes "a:i") (Some (record { length = 100; offset = 0 })))))
     ∷ (codes "BYTERANGE=\"100@5\"", Some (Err MissingAttribute))
     ∷ (codes "URI=a", Some (Err BadAttributes))
     ∷ (codes "URI=\"a:i\",BYTERANGE=100", Some (Err BadAttributes))

@@ -43,7 +43,7 @@ under_key_1 = record { uri = codes "a:i"; byte_range = None; keys = identity (co
 -- RFC 8216, 4.3: the tags of the whole playlist, and of three segments. The first number is the stated one (4.3.3.2), the
 -- discontinuity number goes up with each EXT-X-DISCONTINUITY (4.3.3.3), a byte range without an offset begins where the one
 -- before ended (4.3.2.2), a key is in force until another one or NONE (4.3.2.4) and has the segment's number as IV (5.2), and
--- a section has the keys in force at its own line (4.3.2.5)
+-- an initialisation section has the keys in force at its own line (4.3.2.5)
 abbrev pub WholePlaylistIsRead : Type 0
 WholePlaylistIsRead = Gives (read_by limited) ((
   codes "#EXTM3U"
@@ -123,7 +123,7 @@ TagsArePlaced = Gives read_on (
     ∷ ((97 ∷ 7 ∷ []) ∷ [], refused_at 3 fault.Control) ∷ [])
 
 -- a segment has an EXTINF of its own (4.3.2.1), numbers have 64 bits, a byte range without an offset follows one of the same
--- resource (4.3.2.2), EXT-X-MAP under AES-128 needs an IV (4.3.2.5), and either all segments have a section or none has
+-- resource (4.3.2.2), EXT-X-MAP under AES-128 needs an IV (4.3.2.5), and either all segments have an initialisation section or none has
 abbrev pub SegmentsAreChecked : Type 0
 SegmentsAreChecked = Gives read_on (
     (codes "a:s" ∷ [], refused_at 3 fault.NoDuration)
@@ -188,7 +188,7 @@ LinesStand = Gives standing_at ((
   record { media_sequence = 0; discontinuity_sequence = 0; media_count = 0; discontinuity_count = 0; discontinuities = 0; duration = None; byte_range = None; program_date_time = None; keys = []; init_section = None; extent = None },
 )
     ∷ (
-      said.time (pos 9) ∷ said.byte_range 50 None ∷ said.duration 6 [] ∷ said.discontinuity ∷ said.media (codes "a:s") ∷ said.byte_range 100 (Some 5) ∷ said.duration 5 (codes "t") ∷ said.discontinuity ∷ said.section (codes "a:i") None ∷ key (identity (codes "a:1") (Some 1)) ∷ said.discontinuity_sequence 3 ∷ said.sequence 7 ∷ [],
+      said.time (pos 9) ∷ said.byte_range 50 None ∷ said.duration 6 [] ∷ said.discontinuity ∷ said.media (codes "a:s") ∷ said.byte_range 100 (Some 5) ∷ said.duration 5 (codes "t") ∷ said.discontinuity ∷ said.init_section (codes "a:i") None ∷ key (identity (codes "a:1") (Some 1)) ∷ said.discontinuity_sequence 3 ∷ said.sequence 7 ∷ [],
       record {
         media_sequence = 7;
         discontinuity_sequence = 3;
@@ -243,7 +243,7 @@ PartsAreKept = Gives kept_parts ((
 )
     ∷ (record sample { discontinuities = 2 }, record sample { discontinuities = 0; title = []; program_date_time = None }) ∷ [])
 
--- 6.2.1: a segment of one number doesn't change. What is looked at: numbers, resource, byte range, duration, keys and section
+-- 6.2.1: a segment of one number doesn't change. What is looked at: numbers, resource, byte range, duration, keys and initialisation section
 abbrev pub SegmentsAreCompared : Type 0
 SegmentsAreCompared = Gives (same_segment sample) (
     (sample, true)

@@ -69,7 +69,7 @@ init_section keys = record { uri = codes "http://a/i"; byte_range = Some (record
 abbrev pub segment : ℕ → PodSegment
 segment nanos = record { uri = codes "http://a/s"; byte_range = Some (record { length = 100; offset = 5 }); duration = nanos }
 
--- an ad of these, with a section and a key
+-- an ad of these, with an initialisation section and a key
 abbrev pub ad : List PodSegment → Ad
 ad segments = record { init_section = Some (init_section (key (Some 31) ∷ [])); keys = key (Some 31) ∷ []; segments = segments }
 
@@ -83,14 +83,14 @@ pod ads = record { ads = ads }
 abbrev pub PodsAreSummed : Type 0
 PodsAreSummed = Gives total ((pod (clear (segment 1 ∷ segment 20 ∷ []) ∷ ad (segment 300 ∷ []) ∷ []), 321) ∷ (pod [], 0) ∷ [])
 
--- 4.3.3.1: a segment, rounded to seconds, is at most the target duration; and an ad has a section where the origin's segments
+-- 4.3.3.1: a segment, rounded to seconds, is at most the target duration; and an ad has an initialisation section where the origin's segments
 -- have one
 abbrev pub PodsFit : Type 0
 PodsFit = Gives (pod_fits 10 false) (
     (pod (clear (segment 10499999999 ∷ []) ∷ []), true) ∷ (pod (clear (segment 1 ∷ []) ∷ clear (segment 10500000000 ∷ []) ∷ []), false) ∷ (pod (ad (segment 1 ∷ []) ∷ []), false) ∷ [])
 
-abbrev pub MappedPodsFit : Type 0
-MappedPodsFit = Gives (pod_fits 10 true) (
+abbrev pub PodsWithInitSectionsFit : Type 0
+PodsWithInitSectionsFit = Gives (pod_fits 10 true) (
     (pod (ad (segment 1 ∷ []) ∷ []), true) ∷ (pod (clear (segment 1 ∷ []) ∷ []), false) ∷ (pod (ad (segment 1 ∷ []) ∷ clear (segment 1 ∷ []) ∷ []), false) ∷ [])
 
 -- docs/DECISION_FILES.md: an ad has a segment, and at most one key, which has an IV of 128 bits; a byte range ends below 2^64,

@@ -46,7 +46,7 @@ of_second_ad = record {
   first_of_ad = true;
 }
 
--- docs/DECISION_FILES.md: the segments of a pod stand in their order, each with its own byte range and its ad's keys and section,
+-- docs/DECISION_FILES.md: the segments of a pod stand in their order, each with its own byte range and its ad's keys and initialisation section,
 -- which has the ad's keys too (RFC 8216, 4.3.2.5)
 abbrev pub PodsStandInOrder : Type 0
 PodsStandInOrder = Gives pod_pieces ((two_ads, of_first_ad true 8 ∷ of_first_ad false 9 ∷ of_second_ad ∷ []) ∷ [])

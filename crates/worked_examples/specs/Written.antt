@@ -3,7 +3,7 @@ use Rattle.std.specs.Prelude.{true, false, [], ◌∷◌, codes, pos, Some, None
 use Rattle.playlist_model.specs.declared.Segment.{Segment}
 use Rattle.playlist_model.specs.declared.Key.{Key}
 use Rattle.playlist_model.specs.declared.PlaylistKind.TheVariants.{Event, Vod}
-use Rattle.playlist_model.specs.Said.{nothing, version, target, sequence, discontinuity_sequence, playlist_type, ended, independent, duration, byte_range, discontinuity, no_keys, key, section, time, date_range, media}
+use Rattle.playlist_model.specs.Said.{nothing, version, target, sequence, discontinuity_sequence, playlist_type, ended, independent, duration, byte_range, discontinuity, no_keys, key, init_section, time, date_range, media}
 use Rattle.playlist_write.specs.Spelling.{spelled}
 use Rattle.stitcher.specs.declared.OutSegment.{OutSegment}
 use Rattle.playlist_write.specs.Owed.{none_yet, playlist_text}
@@ -34,8 +34,8 @@ LinesAreSpelled = Gives spelled (
     ∷ (no_keys, codes "#EXT-X-KEY:METHOD=NONE")
     ∷ (key (identity (codes "a:k") (Some 31)), codes "#EXT-X-KEY:METHOD=AES-128,URI=\"a:k\",IV=0x0000000000000000000000000000001F")
     ∷ (key drm, codes "#EXT-X-KEY:METHOD=SAMPLE-AES,URI=\"skd://k\",KEYFORMAT=\"f\",KEYFORMATVERSIONS=\"1\"")
-    ∷ (section (codes "a:i") None, codes "#EXT-X-MAP:URI=\"a:i\"")
-    ∷ (section (codes "a:i") (Some (record { length = 100; offset = 5 })), codes "#EXT-X-MAP:URI=\"a:i\",BYTERANGE=\"100@5\"")
+    ∷ (init_section (codes "a:i") None, codes "#EXT-X-MAP:URI=\"a:i\"")
+    ∷ (init_section (codes "a:i") (Some (record { length = 100; offset = 5 })), codes "#EXT-X-MAP:URI=\"a:i\",BYTERANGE=\"100@5\"")
     ∷ (time (pos 1714564800000000000), codes "#EXT-X-PROGRAM-DATE-TIME:2024-05-01T12:00:00.000Z")
     ∷ (date_range (record { id = codes "b"; start = None; end = None; duration = None; planned_duration = None; scte35_out = None; scte35_in = None; attributes = codes "ID=\"b\",X=1" }), codes "#EXT-X-DATERANGE:ID=\"b\",X=1")
     ∷ (media (codes "a:s"), codes "a:s") ∷ [])
@@ -50,7 +50,7 @@ abbrev pub nobody : OutPlaylist
 nobody = record { version = 6; target_duration = 10; playlist_type = None; independent_segments = false; end_list = false; date_ranges = []; segments = [] }
 
 -- the header, the date ranges, the segments and the end. The first discontinuity number is the one before the first segment's
--- own EXT-X-DISCONTINUITY (4.3.3.3), a section has a line where it changes, under its keys (4.3.2.5), and a key where it
+-- own EXT-X-DISCONTINUITY (4.3.3.3), an initialisation section has a line where it changes, under its keys (4.3.2.5), and a key where it
 -- changes (4.3.2.4)
 abbrev pub PlaylistsAreWritten : Type 0
 PlaylistsAreWritten = Gives playlist_text ((
@@ -100,7 +100,7 @@ PlaylistsAreWritten = Gives playlist_text ((
 abbrev pub out : Segment → OutSegment
 out s = record { segment = s; media_sequence = 5; discontinuity_sequence = 6; discontinuities = 7; program_date_time = None }
 
--- 4.3.2.4 and 4.3.2.5: the keys of the last segment, and the last section that a segment has
+-- 4.3.2.4 and 4.3.2.5: the keys of the last segment, and the last initialisation section that a segment has
 abbrev pub WrittenLinesAreInForce : Type 0
 WrittenLinesAreInForce = Gives (after_segments none_yet) (
     ([], record { keys = []; init_section = None })
@@ -109,6 +109,6 @@ WrittenLinesAreInForce = Gives (after_segments none_yet) (
 
 abbrev pub WrittenTextsTellWhatIsInForce : Type 0
 WrittenTextsTellWhatIsInForce = Gives current_of ((
-  record { text = codes "x"; from = 0; till = 1; keys = first.keys; section = first.init_section },
+  record { text = codes "x"; from = 0; till = 1; keys = first.keys; init_section = first.init_section },
   record { keys = first.keys; init_section = first.init_section },
 ) ∷ [])

@@ -4,11 +4,11 @@
 #![tactic(auto)]
 
 ghost use Rattle.worked_examples.specs.Texts.{DurationsAreRead, DurationsAreWritten, DurationsAreRounded, AttributesAreRead, AttributesAreLimited, AttributesAreWritten, DecimalsAreRead, SequencesAreRead, InstantsAreRead, InstantsAreWritten};
-ghost use Rattle.worked_examples.specs.Lines.{LinesHaveTheirKinds, TagsHaveTheirNames, SchemesAreSeen, VersionsAreRead, TypesAreRead, SegmentDurationsAreRead, ByteRangesAreRead, ReferencesAreResolved, BasesAreWebUrls, KeysAreRead, SectionsAreRead, DateRangesAreRead};
+ghost use Rattle.worked_examples.specs.Lines.{LinesHaveTheirKinds, TagsHaveTheirNames, SchemesAreSeen, VersionsAreRead, TypesAreRead, SegmentDurationsAreRead, ByteRangesAreRead, ReferencesAreResolved, BasesAreWebUrls, KeysAreRead, InitSectionsAreRead, DateRangesAreRead};
 ghost use Rattle.worked_examples.specs.Playlists.{WholePlaylistIsRead, TagsArePlaced, SegmentsAreChecked, HeadersAreChecked, ReadersAreLimited, LimitsAreStated, KeysAreInForce, KeysHaveTheirIvs, LinesStand, SegmentsBegin, SegmentsEnd, PartsAreKept, SegmentsAreCompared, FaultsAreTold};
 ghost use Rattle.worked_examples.specs.Splices.{SplicesAreRead};
 ghost use Rattle.worked_examples.specs.Breaks.{SignalsAreRead, TicksAreCounted, FirstValuesStand, BreaksEnd, BreaksAreSignalled, StartsAreNear, EndsAreNear, ClosedBreaksCanBeEntered, BreaksAreKnown, BreaksAreEntered, BreaksGoOn, ReasonsAreTold};
-ghost use Rattle.worked_examples.specs.Pods.{IdsAreChecked, UrisAreChecked, MethodsAreChecked, FormatsAreChecked, PodsAreSummed, PodsFit, MappedPodsFit, RulesAreKept, DecisionsAreTaken, StoreIsLimited, PodsAreFound, OwnPodsFit, UsedPodsStay, FilesAreRead, BreaksAreChecked, AdsAreChecked, SegmentsAreCounted, FaultsOfFilesAreTold, LackOfMemoryHasNoPlace};
+ghost use Rattle.worked_examples.specs.Pods.{IdsAreChecked, UrisAreChecked, MethodsAreChecked, FormatsAreChecked, PodsAreSummed, PodsFit, PodsWithInitSectionsFit, RulesAreKept, DecisionsAreTaken, StoreIsLimited, PodsAreFound, OwnPodsFit, UsedPodsStay, FilesAreRead, BreaksAreChecked, AdsAreChecked, SegmentsAreCounted, FaultsOfFilesAreTold, LackOfMemoryHasNoPlace};
 ghost use Rattle.worked_examples.specs.Stitched.{PodsStandInOrder, RestsAreLeft, RunsAreReplaced, PodsKeepPace, NumbersFit, ItemsAreWritten, MarksAreFound, KeysChange};
 ghost use Rattle.worked_examples.specs.Written.{LinesAreSpelled, PlaylistsAreWritten, WrittenLinesAreInForce, WrittenTextsTellWhatIsInForce};
 ghost use Rattle.worked_examples.specs.Windows.{ItemsAreOfPods, ItemsHavePieces, PiecesHaveSegments, PiecesLast, MarkedAreTheOrigins, UnmarkedAreSeen, TimesAreStated, MarksAreMeant, RestsAreMeant, LastWindowsStand, BreaksArePlayed};
@@ -40,7 +40,7 @@ pub fn lines_have_their_values()
     ensures references_are_resolved { ReferencesAreResolved }
     ensures bases_are_web_urls { BasesAreWebUrls }
     ensures keys_are_read { KeysAreRead }
-    ensures sections_are_read { SectionsAreRead }
+    ensures init_sections_are_read { InitSectionsAreRead }
     ensures date_ranges_are_read { DateRangesAreRead }
 {}
 
@@ -91,7 +91,7 @@ pub fn pods_have_their_values()
     ensures formats_are_checked { FormatsAreChecked }
     ensures pods_are_summed { PodsAreSummed }
     ensures pods_fit { PodsFit }
-    ensures mapped_pods_fit { MappedPodsFit }
+    ensures pods_with_init_sections_fit { PodsWithInitSectionsFit }
     ensures rules_are_kept { RulesAreKept }
     ensures decisions_are_taken { DecisionsAreTaken }
     ensures store_is_limited { StoreIsLimited }

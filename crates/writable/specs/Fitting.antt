@@ -1,4 +1,4 @@
--- What can be written: texts, durations, keys, sections and date ranges (RFC 8216, sections 4.2 and 4.3).
+-- What can be written: texts, durations, keys, initialisation sections and date ranges (RFC 8216, sections 4.2 and 4.3).
 use Rattle.std.specs.Prelude.{ℕ, ◌^◌, Bool, true, false, not, ◌&&◌, nat_lt, List, codes, Option, Some, None, Ok, bytes_eq, is_none}
 use Rattle.std.specs.List.{list_any, list_all}
 use Rattle.std.specs.Str.{is_utf8}
@@ -75,8 +75,8 @@ effective_keys_fit keys = keys_fit keys && list_all states_iv keys
 
 -- ---- initialisation sections (4.3.2.5)
 
-abbrev pub section_fits : InitSection → Bool
-section_fits s =
+abbrev pub init_section_fits : InitSection → Bool
+init_section_fits s =
     quoted_uri_fits s.uri && if_some byte_range_fits s.byte_range && keys_fit s.keys && not (list_any needs_iv s.keys)
 
 -- ---- date ranges (4.3.2.7)

@@ -2,7 +2,7 @@
 ghost use Rattle.std.specs.Prelude.{◌≡◌};
 ghost use Rattle.std.specs.List.{list_any, list_all};
 ghost use Rattle.playlist_model.specs.LookBack.{is_before, are_sorted};
-ghost use Rattle.writable.specs.Fitting.{if_some, byte_range_fits, iv_fits, others_fit, method_fits, key_fits, keys_fit, states_iv, effective_keys_fit, section_fits};
+ghost use Rattle.writable.specs.Fitting.{if_some, byte_range_fits, iv_fits, others_fit, method_fits, key_fits, keys_fit, states_iv, effective_keys_fit, init_section_fits};
 
 use crate::texts::{is_clean, quoted_uri_fits, value_fits};
 use playlist_model::{
@@ -119,14 +119,14 @@ pub fn effective_keys_fit(keys: &Keys) -> bool
     keys_fit(keys) && all_state_ivs(keys)
 }
 
-/// Whether `section` can be written (RFC 8216, section 4.3.2.5): its URI in quotes, its byte range and its keys, of
+/// Whether `init_section` can be written (RFC 8216, section 4.3.2.5): its URI in quotes, its byte range and its keys, of
 /// which those of the method AES-128 have an IV.
-pub fn section_fits(section: &InitSection) -> bool
-    ensures { result ≡ section_fits section.now }
+pub fn init_section_fits(init_section: &InitSection) -> bool
+    ensures { result ≡ init_section_fits init_section.now }
 {
-    let keys = &section.keys;
-    quoted_uri_fits(section.uri.as_str())
-        && byte_range_fits(section.byte_range)
+    let keys = &init_section.keys;
+    quoted_uri_fits(init_section.uri.as_str())
+        && byte_range_fits(init_section.byte_range)
         && keys_fit(keys)
         && !is_iv_needed(keys)
 }

@@ -5,5 +5,5 @@
 mod key_rules;
 mod texts;
 
-pub use key_rules::{byte_range_fits, effective_keys_fit, method_fits, section_fits};
+pub use key_rules::{byte_range_fits, effective_keys_fit, init_section_fits, method_fits};
 pub use texts::{duration_fits, is_clean, is_name, quoted_uri_fits, uri_fits, value_fits};

@@ -52,31 +52,31 @@ abbrev pub fallback : Store
 fallback = record { entries = []; fallback = Some pod_ab }
 
 abbrev pub moment : Bool → Option (List ℕ) → EntryLimits
-moment mapped last = record { tolerance = 100000000; target_duration = 10; mapped = mapped; last = last }
+moment with_init_sections last = record { tolerance = 100000000; target_duration = 10; with_init_sections = with_init_sections; last = last }
 
 -- the break that is entered at T+n
 abbrev pub entered_at : Bool → List DateRange → ℕ → Option (List ℕ)
-entered_at mapped date_ranges nanos = entered (moment mapped None) store (known_of date_ranges) (Some (at_nanos nanos))
+entered_at with_init_sections date_ranges nanos = entered (moment with_init_sections None) store (known_of date_ranges) (Some (at_nanos nanos))
 
 -- the same where there is a fallback, and this is what else there is
 abbrev pub falls_at : Store → Bool → List DateRange → ℕ → Option (List ℕ)
-falls_at store mapped date_ranges nanos = entered (moment mapped None) store (known_of date_ranges) (Some (at_nanos nanos))
+falls_at store with_init_sections date_ranges nanos = entered (moment with_init_sections None) store (known_of date_ranges) (Some (at_nanos nanos))
 
 abbrev pub inside_at : List DateRange → ℕ → Bool
 inside_at date_ranges seconds = is_inside (known_of date_ranges) (codes "b1") (Some (at_seconds seconds)) 100000000 pod_ab
 
 abbrev pub why_of : List DateRange → Bool → Why
-why_of date_ranges mapped = why (known_of date_ranges) (codes "b1") 10 mapped store false
+why_of date_ranges with_init_sections = why (known_of date_ranges) (codes "b1") 10 with_init_sections store false
 
 abbrev pub why_falls : Store → Bool → Why
-why_falls store mapped = why (known_of (b1 ∷ [])) (codes "b1") 10 mapped store false
+why_falls store with_init_sections = why (known_of (b1 ∷ [])) (codes "b1") 10 with_init_sections store false
 
 -- an ad with an initialisation section, in a fallback beside an own pod without one
-abbrev pub mapped_ab : Pod
-mapped_ab = record { ads = map (λ (ad : Ad). record ad { init_section = Some (record { uri = codes "http://ads.example/i.mp4"; byte_range = None; keys = [] }) }) pod_ab.ads }
+abbrev pub ab_with_init_section : Pod
+ab_with_init_section = record { ads = map (λ (ad : Ad). record ad { init_section = Some (record { uri = codes "http://ads.example/i.mp4"; byte_range = None; keys = [] }) }) pod_ab.ads }
 
 abbrev pub own_beside : Store
-own_beside = record { entries = store.entries; fallback = Some mapped_ab }
+own_beside = record { entries = store.entries; fallback = Some ab_with_init_section }
 
 -- ---- where a break ends
 

@@ -28,8 +28,8 @@ segments_read (Some (Ok playlist)) = playlist.segments
 segments_read (Some (Err e)) = []
 segments_read None = []
 
-abbrev pub keys_and_section : Segment → List Key × Option InitSection
-keys_and_section s = (s.keys, s.init_section)
+abbrev pub keys_and_init_section : Segment → List Key × Option InitSection
+keys_and_init_section s = (s.keys, s.init_section)
 
 abbrev pub resolved_here : List ℕ → Option (Option (List ℕ))
 resolved_here reference = option_map (λ base. resolved base reference) (base_of (codes "http://origin.example/ch/index.m3u8"))

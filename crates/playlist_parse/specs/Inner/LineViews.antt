@@ -3,7 +3,7 @@ use Rattle.playlist_parse.specs.LineViews.{is_feed}
 use Rattle.std.specs.Prelude.{ℕ, Bool, not, ◌||◌, List}
 use Rattle.playlist_model.specs.Lines.{has_control}
 use Rattle.playlist_model.specs.Inner.Lines.{is_printable}
-use Rattle.playlist_model.specs.Said.{Name, version_tag, target_tag, sequence_tag, discontinuity_sequence_tag, type_tag, ended_tag, independent_tag, frames_tag, master_tag, duration_tag, byte_range_tag, discontinuity_tag, key_tag, map_tag, time_tag, date_range_tag, unknown_tag}
+use Rattle.playlist_model.specs.Said.{Name, version_tag, target_tag, sequence_tag, discontinuity_sequence_tag, type_tag, ended_tag, independent_tag, frames_tag, master_tag, duration_tag, byte_range_tag, discontinuity_tag, key_tag, init_section_tag, time_tag, date_range_tag, unknown_tag}
 use Rattle.playlist_parse.specs.declared.tag.Tag.{Tag}
 use Rattle.playlist_parse.specs.declared.tag.Tag.TheVariants as tag_name
 
@@ -32,7 +32,7 @@ tag_view tag_name.Inf = duration_tag
 tag_view tag_name.ByteRange = byte_range_tag
 tag_view tag_name.Discontinuity = discontinuity_tag
 tag_view tag_name.Key = key_tag
-tag_view tag_name.Map = map_tag
+tag_view tag_name.InitSection = init_section_tag
 tag_view tag_name.ProgramDateTime = time_tag
 tag_view tag_name.DateRange = date_range_tag
 tag_view tag_name.Unknown = unknown_tag

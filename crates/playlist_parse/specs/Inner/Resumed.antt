@@ -6,7 +6,7 @@ use Rattle.playlist_model.specs.declared.InitSection.{InitSection}
 use Rattle.playlist_model.specs.declared.Segment.{Segment}
 use Rattle.playlist_model.specs.declared.DateRange.{DateRange}
 use Rattle.playlist_model.specs.Said.{Said, Reader}
-use Rattle.playlist_model.specs.LookBack.{Extent, latest, the_sequence, the_discontinuity_sequence, is_media, count, own_duration, own_byte_range, own_time, media_sequence_at, discontinuity_at, steps_at, keys_at, section_at, last_extent, segments_of, date_ranges_of}
+use Rattle.playlist_model.specs.LookBack.{Extent, latest, the_sequence, the_discontinuity_sequence, is_media, count, own_duration, own_byte_range, own_time, media_sequence_at, discontinuity_at, steps_at, keys_at, init_section_at, last_extent, segments_of, date_ranges_of}
 use Rattle.playlist_model.specs.Inner.Heading.{Heading, heading_at}
 use Rattle.playlist_model.specs.Reading.{has, said_by, said_from}
 
@@ -20,7 +20,7 @@ pub record Scene : Type 0 where
   pub byte_range : Option (ℕ × Option ℕ)
   pub time : Option ℤ
   pub keys : List Key
-  pub section : Option InitSection
+  pub init_section : Option InitSection
   pub extent : Option Extent
 
 abbrev pub scene_at : List Said → Scene
@@ -33,7 +33,7 @@ scene_at before = record {
   byte_range = own_byte_range before;
   time = own_time before;
   keys = keys_at before;
-  section = section_at before;
+  init_section = init_section_at before;
   extent = last_extent before;
 }
 

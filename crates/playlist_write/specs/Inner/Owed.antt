@@ -3,7 +3,7 @@ use Rattle.playlist_write.specs.Owed.{line_of}
 use Rattle.std.specs.Prelude.{ℕ, List, map}
 use Rattle.playlist_model.specs.declared.Key.{Key}
 use Rattle.playlist_model.specs.declared.InitSection.{InitSection}
-use Rattle.playlist_model.specs.Said.{Said, key, key_tag_said, section}
+use Rattle.playlist_model.specs.Said.{Said, key, key_tag_said, init_section}
 use Rattle.playlist_model.specs.declared.KeyTag.TheVariants.{Set}
 
 -- ---- the lines of a segment
@@ -17,5 +17,5 @@ set_tags keys = map key_tag_said (map Set keys)
 abbrev pub key_line : Key → List ℕ
 key_line k = line_of (key k)
 
-abbrev pub section_line : InitSection → List ℕ
-section_line s = line_of (section s.uri s.byte_range)
+abbrev pub init_section_line : InitSection → List ℕ
+init_section_line s = line_of (init_section s.uri s.byte_range)

@@ -38,7 +38,7 @@ after_segment old last = record old {
 
 -- what stands where the lines of a playlist that was read before go on
 abbrev pub taken_at : Running → ℕ → ℕ → List Key → Option InitSection → Option Extent → Running
-taken_at old media_count discontinuity_count keys section last = record old {
+taken_at old media_count discontinuity_count keys init_section last = record old {
   standing = record {
     media_sequence = old.standing.media_sequence;
     discontinuity_sequence = old.standing.discontinuity_sequence;
@@ -49,7 +49,7 @@ taken_at old media_count discontinuity_count keys section last = record old {
     byte_range = None;
     program_date_time = None;
     keys = keys;
-    init_section = section;
+    init_section = init_section;
     extent = last;
   };
 }

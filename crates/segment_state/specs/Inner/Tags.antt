@@ -2,13 +2,13 @@
 use Rattle.std.specs.Prelude.{List, length, Ok}
 use Rattle.playlist_model.specs.declared.FaultKind.TheVariants as fault
 use Rattle.playlist_model.specs.declared.Key.{Key}
-use Rattle.playlist_model.specs.Said.{Said, section, Outcome, refuse_if, over}
+use Rattle.playlist_model.specs.Said.{Said, init_section, Outcome, refuse_if, over}
 use Rattle.playlist_model.specs.LookBack.{put_key}
 use Rattle.playlist_model.specs.Reading.{limited}
-use Rattle.segment_state.specs.declared.tags.SectionTag.{SectionTag}
+use Rattle.segment_state.specs.declared.tags.InitSectionTag.{InitSectionTag}
 
-abbrev pub section_tag_said : SectionTag → Said
-section_tag_said tag = section tag.uri tag.byte_range
+abbrev pub init_section_tag_said : InitSectionTag → Said
+init_section_tag_said tag = init_section tag.uri tag.byte_range
 
 -- the keys in force after one more, where no more formats than the limit are in force then
 abbrev pub with_key : Key → List Key → Outcome (List Key)

@@ -42,9 +42,9 @@ pub returns-clause-keys_are_read : goal.returns-clause-keys_are_read
 unfolding on_literals
 returns-clause-keys_are_read c = refl
 
-pub returns-clause-sections_are_read : goal.returns-clause-sections_are_read
+pub returns-clause-init_sections_are_read : goal.returns-clause-init_sections_are_read
 unfolding on_literals
-returns-clause-sections_are_read c = refl
+returns-clause-init_sections_are_read c = refl
 
 pub returns-clause-date_ranges_are_read : goal.returns-clause-date_ranges_are_read
 unfolding on_literals

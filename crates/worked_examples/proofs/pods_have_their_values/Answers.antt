@@ -26,9 +26,9 @@ pub returns-clause-pods_fit : goal.returns-clause-pods_fit
 unfolding on_literals
 returns-clause-pods_fit c = refl
 
-pub returns-clause-mapped_pods_fit : goal.returns-clause-mapped_pods_fit
+pub returns-clause-pods_with_init_sections_fit : goal.returns-clause-pods_with_init_sections_fit
 unfolding on_literals
-returns-clause-mapped_pods_fit c = refl
+returns-clause-pods_with_init_sections_fit c = refl
 
 pub returns-clause-rules_are_kept : goal.returns-clause-rules_are_kept
 unfolding on_literals

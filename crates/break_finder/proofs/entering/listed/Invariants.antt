@@ -5,4 +5,4 @@ use Rattle.break_finder.proofs.entering.listed.Given as goal
 
 abbrev pub invariant-loop-id : goal.invariant-loop-id
 invariant-loop-id l =
-    l.list.items ++ entrances_in l.target l.mapped l.store (map break_at l.id-iterator) ≡ entrances_in l.target l.mapped l.store (map break_at l.breaks.entries)
+    l.list.items ++ entrances_in l.target l.with_init_sections l.store (map break_at l.id-iterator) ≡ entrances_in l.target l.with_init_sections l.store (map break_at l.breaks.entries)

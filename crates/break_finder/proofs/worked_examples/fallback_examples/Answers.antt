@@ -10,9 +10,9 @@ pub returns-clause-waiting : goal.returns-clause-waiting
 unfolding sections_on_literals
 returns-clause-waiting c = refl
 
-pub returns-clause-mapped : goal.returns-clause-mapped
+pub returns-clause-with_init_sections : goal.returns-clause-with_init_sections
 unfolding sections_on_literals
-returns-clause-mapped c = refl
+returns-clause-with_init_sections c = refl
 
 pub returns-clause-own : goal.returns-clause-own
 unfolding sections_on_literals

@@ -1,7 +1,7 @@
 use Rattle.std.proofs.Common.{ℕ, rules, refl, length, ◌≡◌, ◌∙◌, ap, sym, subst, List}
 use Rattle.std.specs.Prelude.{Option, filter}
 use Rattle.channel_spec.specs.Marking.{Moment, is_new}
-use Rattle.channel_spec.specs.Successor.{is_mapped}
+use Rattle.channel_spec.specs.Successor.{has_init_sections}
 use Rattle.break_finder.specs.Breaks.{Break}
 use Rattle.channel_window.specs.declared.showing.Showing.{Showing}
 use Rattle.channel_window.specs.Marking.{so_far, mark_on, length_after}
@@ -16,7 +16,7 @@ returns c =
     let newest = c.in_ok-newest.newest in
     let marked = c.in_ok-marked.marked.items in
     let fresh = c.fresh_of-fresh.result.now in
-    let moment : Moment = record { tolerance = c.args.tolerance; target_duration = p.target_duration; mapped = is_mapped p.segments; breaks = c.in_ok-knowledge.knowledge; store = s.store } in
+    let moment : Moment = record { tolerance = c.args.tolerance; target_duration = p.target_duration; with_init_sections = has_init_sections p.segments; breaks = c.in_ok-knowledge.knowledge; store = s.store } in
     let marked_are : marked ≡ mark_on moment newest s.entered fresh c.new.result = search rules in
     let a : Showing = record { knowledge = c.in_ok-knowledge.knowledge; list = c.in_ok-joined.field-0; fresh = length c.fresh_of-fresh.result.now; so_far = c.length_after-so_far.result } in
     subst (λ (breaks : List Break). IsShown c.args.tolerance s p (record a { knowledge = breaks })) (sym c.knowledge.view_is)

@@ -23,9 +23,9 @@ pub returns-clause-duration : goal.returns-clause-duration
 unfolding serde_json_on_literals is_utf8 chars
 returns-clause-duration c = refl
 
-pub returns-clause-no_map : goal.returns-clause-no_map
+pub returns-clause-no_init_section : goal.returns-clause-no_init_section
 unfolding serde_json_on_literals is_utf8 chars
-returns-clause-no_map c = refl
+returns-clause-no_init_section c = refl
 
 pub returns-clause-no_format : goal.returns-clause-no_format
 unfolding serde_json_on_literals is_utf8 chars

@@ -18,13 +18,13 @@ pub returns-clause-bad_iv : goal.returns-clause-bad_iv
 unfolding url_on_literals
 returns-clause-bad_iv c = refl
 
-pub returns-clause-map_without_uri : goal.returns-clause-map_without_uri
+pub returns-clause-init_section_without_uri : goal.returns-clause-init_section_without_uri
 unfolding url_on_literals
-returns-clause-map_without_uri c = refl
+returns-clause-init_section_without_uri c = refl
 
-pub returns-clause-map_without_iv : goal.returns-clause-map_without_iv
+pub returns-clause-init_section_without_iv : goal.returns-clause-init_section_without_iv
 unfolding url_on_literals
-returns-clause-map_without_iv c = refl
+returns-clause-init_section_without_iv c = refl
 
 pub returns-clause-none_with_iv : goal.returns-clause-none_with_iv
 unfolding url_on_literals

@@ -9,16 +9,16 @@ use Rattle.playlist_write.proofs.pieces.write_segments.Goals as goal
 pub returns-in_err-hand_out_piece-clause-err : goal.returns-in_err-hand_out_piece-clause-err
 returns-in_err-hand_out_piece-clause-err g c =
     let next = c.in-Some.next in
-    let later = said_text (segments_owed (record { keys = next.segment.keys; init_section = or_earlier next.segment.init_section (option_copied c.loop-next.section) }) c.next.new.self) in
-    let held : string_bytes c.loop-next.held ++ said_text (segments_owed (record { keys = c.loop-next.keys.now; init_section = option_copied c.loop-next.section }) c.loop-next.segments)
+    let later = said_text (segments_owed (record { keys = next.segment.keys; init_section = or_earlier next.segment.init_section (option_copied c.loop-next.init_section) }) c.next.new.self) in
+    let held : string_bytes c.loop-next.held ++ said_text (segments_owed (record { keys = c.loop-next.keys.now; init_section = option_copied c.loop-next.init_section }) c.loop-next.segments)
     ≡ string_bytes c.push_segment.new.out ++ later =
     grind (arith, common_steps) in
     on_err c.from_residual-in_err-hand_out_piece.result _ (front_of_held _ _ _ _ _ (string_bytes c.push_segment.new.out) later c.loop-next.invariant.taken held c.in_err-hand_out_piece.ensures.err)
 
 pub loop-next-preserved : goal.loop-next-preserved
 loop-next-preserved g c =
-    let later = said_text (segments_owed (record { keys = c.get-segment.result.now.keys; init_section = option_copied c.or-section.result }) c.next.new.self) in
-    let held : string_bytes c.loop-next.held ++ said_text (segments_owed (record { keys = c.loop-next.keys.now; init_section = option_copied c.loop-next.section }) c.loop-next.segments)
+    let later = said_text (segments_owed (record { keys = c.get-segment.result.now.keys; init_section = option_copied c.or-init_section.result }) c.next.new.self) in
+    let held : string_bytes c.loop-next.held ++ said_text (segments_owed (record { keys = c.loop-next.keys.now; init_section = option_copied c.loop-next.init_section }) c.loop-next.segments)
     ≡ string_bytes c.push_segment.new.out ++ later =
     grind (arith, common_steps) in
     record {

@@ -54,10 +54,10 @@ returns-in-Key c =
     takes_named c.args.name.now c.args.rest.now c.args.colon said.key_tag c.args.self.now c.key.new.self c.key.result (sym (ap tag_view c.in-Key.is) ∙ c.tag_of.ensures)
     c.key.ensures
 
-pub returns-in-Map : goal.returns-in-Map
-returns-in-Map c =
-    takes_named c.args.name.now c.args.rest.now c.args.colon said.map_tag c.args.self.now c.section.new.self c.section.result (sym (ap tag_view c.in-Map.is) ∙ c.tag_of.ensures)
-    c.section.ensures
+pub returns-in-InitSection : goal.returns-in-InitSection
+returns-in-InitSection c =
+    takes_named c.args.name.now c.args.rest.now c.args.colon said.init_section_tag c.args.self.now c.init_section.new.self c.init_section.result (sym (ap tag_view c.in-InitSection.is) ∙ c.tag_of.ensures)
+    c.init_section.ensures
 
 pub returns-in-ProgramDateTime : goal.returns-in-ProgramDateTime
 returns-in-ProgramDateTime c =

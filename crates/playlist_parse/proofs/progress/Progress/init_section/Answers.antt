@@ -1,0 +1,11 @@
+use Rattle.playlist_model.specs.Said as said
+use Rattle.playlist_model.specs.Reading.{said_by_tag}
+use Rattle.playlist_model.specs.Reading.{limited}
+use Rattle.playlist_parse.specs.Inner.Views.{progress_of}
+use Rattle.playlist_parse.proofs.Kept.{takes_tag, init_section_tag_says}
+use Rattle.playlist_parse.proofs.progress.Progress.init_section.Goals as goal
+
+pub returns : goal.returns
+returns c =
+    takes_tag (λ base before. said_by_tag limited base before said.init_section_tag c.args.rest.now) (progress_of c.self.inside) c.args.self.now _ _ c.self.view_is
+    (λ base before. init_section_tag_says limited base before c.args.rest.now) c.init_section_tag.ensures
