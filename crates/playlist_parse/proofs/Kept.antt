@@ -1,11 +1,13 @@
 -- A tag that changes what stands and nothing else of a reading.
 use Rattle.std.proofs.Common.{◌≡◌, ◌≢◌, ℕ, Bool, true, false, List, ◌∷◌, refl, ap, sym, ◌∙◌, subst}
-use Rattle.std.specs.Prelude.{Result, Ok, Err, IsOk, MatchResult, codes, bytes_eq, if◌then◌else◌}
+use Rattle.std.specs.Prelude.{Result, Ok, Err, IsOk, MatchResult, codes, bytes_eq, ◌==◌, if◌then◌else◌}
 use Rattle.url.specs.Parts.{Parts}
 use Rattle.attr_list.specs.Attributes.{Pair, attribute}
 use Rattle.playlist_model.specs.declared.FaultKind.{FaultKind}
-use Rattle.playlist_model.specs.Said.{Reader, key_tag, init_section_tag, time_tag, Said, no_keys, Outcome, ◌>>=◌, refuse_if, attributes, required, optional, set_key, key_said, init_section_said, init_section_byte_range, iv_of, quoted_of, uri_of, or_fault}
+use Rattle.playlist_model.specs.Said.{Reader, key_tag, init_section_tag, time_tag, duration_tag, Said, no_keys, Outcome, ◌>>=◌, refuse_if, attributes, required, optional, set_key, key_said, init_section_said, init_section_byte_range, iv_of, quoted_of, uri_of, or_fault, mended}
 use Rattle.date_times.specs.Instant.{instant_of}
+use Rattle.fixed_duration.specs.Duration.{duration_of}
+use Rattle.std.specs.List.{before_first}
 use Rattle.playlist_model.specs.declared.FaultKind.TheVariants as fault
 use Rattle.playlist_model.specs.LookBack.{Standing, standing_at, with_said}
 use Rattle.playlist_model.specs.Reading.{said_by_tag, within_formats, with_ivs}
@@ -70,14 +72,18 @@ init_section_tag_says reader base before rest =
 pub time_tag_says : (reader : Reader) (base : Parts) (before : List Said) (rest : List ℕ) → Says (said_by_tag reader base before time_tag rest)
 time_tag_says reader base before rest = says_then (or_fault fault.BadTime (instant_of rest)) _ (λ t. λ b lines. refl)
 
+pub duration_tag_says : (reader : Reader) (base : Parts) (before : List Said) (rest : List ℕ) → Says (said_by_tag reader base before duration_tag rest)
+duration_tag_says reader base before rest =
+    says_then (mended fault.BadDuration (duration_of (before_first (λ b. b == 44) rest))) _ (λ nanos. λ b lines. refl)
+
 goes : (base : Parts) (before : List Said) (o : Outcome Said) → Says o → progress_at base (with_said before o) ≡ with_standing (progress_at base before) (standing_at (with_said before o))
 goes base before (Ok said) h = h base before
 goes base before (Err e) h = refl
 
-abbrev running_of : Progress → Running
+abbrev pub running_of : Progress → Running
 running_of p = record { base = p.base; standing = p.standing }
 
-abbrev with_running : Progress → Running → Progress
+abbrev pub with_running : Progress → Running → Progress
 with_running p r = record p { base = r.base; standing = r.standing }
 
 finish : (p : Progress) (new : Running) (before : List Said) (o : Outcome Said) → p ≡ progress_at p.base before → Says o → new ≡ running_at p.base (with_said before o)

@@ -15,3 +15,4 @@ pub mod Scenes
 pub mod GoingOn
 pub mod JoinedLines
 pub mod GoingTo
+pub mod Again

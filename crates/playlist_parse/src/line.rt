@@ -1,5 +1,5 @@
 //! The lines of a playlist and their kinds (RFC 8216, section 4.1).
-ghost use Rattle.std.specs.Prelude.{◌≡◌, [], ◌∷◌, ◌++◌, true, map, ◌+◌, ◌^◌, ◌<◌, length, MatchOption};
+ghost use Rattle.std.specs.Prelude.{◌≡◌, [], ◌∷◌, ◌++◌, true, map, ◌+◌, ◌^◌, ◌<◌, length, IfSome, MatchOption};
 ghost use Rattle.std.specs.List.{list_all, position_or_len, before_first, after_first};
 ghost use Rattle.std.specs.Str.Lines.{lines, strip_carriage_return};
 ghost use Rattle.attr_list.specs.Attributes.{slices_at};
@@ -7,6 +7,7 @@ ghost use Rattle.playlist_model.specs.Lines.{kind_of, is_blank, is_colon, placed
 ghost use Rattle.playlist_parse.specs.LineViews.{line_kind_view, line_span, line_view, is_feed, lines_from, with_end};
 ghost use Rattle.playlist_parse.specs.Inner.LineViews.{is_plain_byte, line_text};
 ghost use Rattle.playlist_parse.specs.Inner.Source.{EndsInFeed};
+ghost use Rattle.segment_state.specs.Repeated.{IsLineOf};
 
 use attr_list::Span;
 use memchr::{memchr, memrchr};
@@ -181,6 +182,26 @@ fn end_of_segments(text: &str) -> usize {
     text.len()
 }
 
+/// The first line of `text` with its line feed, if it has one. It has no contract: `stated_in` looks at the line,
+/// whatever it is.
+pub(crate) fn whole_line(text: &str) -> Option<&str> {
+    let feed = memchr(b'\n', text.as_bytes())?;
+    text.get(..feed + 1)
+}
+
+#[tactic(auto, using(crate::proofs::Again::line_states))]
+/// What `line` states, if it is one whole line of EXTINF with its line feed.
+pub(crate) fn stated_in(line: &str) -> Option<&str>
+    ensures { IfSome result (λ stated. IsLineOf line.now stated.now) }
+{
+    let mut lines = Lines::new(line);
+    let first = lines.next()?;
+    if lines.next().is_some() || !ends_in_feed(line) {
+        return None;
+    }
+    first.text.strip_prefix("#EXTINF:")
+}
+
 /// A text in two parts.
 #[derive(Clone, Copy)]
 pub struct CutText<'a> {
@@ -241,6 +262,24 @@ impl<'a> Lines<'a> {
         ensures { map line_text self.now ≡ lines result.now }
     {
         self.rest
+    }
+
+    /// Where the text that is left begins, in bytes from 0, and that text.
+    #[inline(always)]
+    pub(crate) fn stand(&self) -> (usize, &'a str)
+        ensures lines { self.now ≡ lines_from result.0 result.1.now }
+        ensures bound { result.0 + length result.1.now < 2 ^ 64 }
+    {
+        (self.start, self.rest)
+    }
+
+    /// The lines of `rest`, what is left of a text from the place `start` on, in bytes from 0.
+    #[inline(always)]
+    pub(crate) fn at(start: usize, rest: &'a str) -> Lines<'a>
+        requires { start + length rest.now < 2 ^ 64 }
+        ensures { result ≡ lines_from start rest.now }
+    {
+        Lines { start, rest }
     }
 
     /// The lines after `front`, if the text that is left begins so and `front` ends with a line feed.

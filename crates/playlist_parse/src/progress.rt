@@ -8,11 +8,11 @@ ghost use Rattle.playlist_model.specs.Said as said;
 ghost use Rattle.playlist_model.specs.Said.{number, version_of, playlist_type_of, refuse_if};
 ghost use Rattle.playlist_model.specs.Reading.{limited};
 ghost use Rattle.segment_state.specs.Continued.{IsStop};
-ghost use Rattle.playlist_parse.specs.Inner.Progress.{progress_at, playlist_from, TakesLine, Ends};
+ghost use Rattle.playlist_parse.specs.Inner.Progress.{progress_at, playlist_from, IsLineAgain, TakesLine, Ends};
 ghost use Rattle.playlist_parse.specs.Inner.Source.{gone_to};
 
 use crate::date_range::date_range_of;
-use crate::line::{LineKind, kind_of};
+use crate::line::{LineKind, Lines, kind_of, stated_in, whole_line};
 use crate::tag::{Tag, tag_of};
 use attr_list::read_decimal;
 use playlist_model::{
@@ -222,6 +222,45 @@ impl<'a> Progress<'a> {
             return self.duration(stated);
         }
         self.other_line(line)
+    }
+
+    #[tactic(auto, using(crate::proofs::Again::line_again))]
+    /// If the next of `lines` is the EXTINF that was kept as the one that repeats itself, takes it and passes it: no
+    /// line end is looked for, and no text is read (RFC 8216, section 4.3.2.1).
+    #[inline(always)]
+    pub fn repeats(&mut self, lines: &mut Lines<'a>) -> bool
+        ensures again { result ≡ true → IsLineAgain lines.old lines.new self.old self.new }
+        ensures other { result ≡ false → (self.new ≡ self.old) × (lines.new ≡ lines.old) }
+    {
+        let (start, left) = lines.stand();
+        let Some(later) = self.state.duration_again(left) else {
+            self.keep_next(left);
+            return false;
+        };
+        *lines = Lines::at(start + (left.len() - later.len()), later);
+        true
+    }
+
+    // Keeps the line that comes next, if it is EXTINF's and the last two stated what it states.
+    #[inline(always)]
+    fn keep_next(&mut self, left: &'a str)
+        ensures { self.new ≡ self.old }
+    {
+        if self.state.wants_duration_line() {
+            self.keep_line(left);
+        }
+    }
+
+    #[inline(never)]
+    fn keep_line(&mut self, left: &'a str)
+        ensures { self.new ≡ self.old }
+    {
+        let Some(line) = whole_line(left) else {
+            return;
+        };
+        if let Some(stated) = stated_in(line) {
+            self.state.keep_duration_line(line, stated);
+        }
     }
 
     // What a line without control characters adds.

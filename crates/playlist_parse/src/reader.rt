@@ -107,6 +107,20 @@ pub fn playlist_of(reading: Reading<'_>) -> Result<Playlist, PlaylistFault>
     }
 }
 
+// Passes the next of `lines` if it is the EXTINF that repeats itself, and gives how many lines it passed.
+#[inline(always)]
+fn pass_again<'a>(progress: &mut Progress<'a>, lines: &mut Lines<'a>, is_plain: bool) -> u64
+    requires { is_plain ≡ true → list_all is_free (map line_text lines.old) ≡ true }
+    ensures reached { (base : Parts) (number : ℕ) (all : List (List ℕ)) → Reached base progress.old number (map line_text lines.old) all → Reached base progress.new (number + result) (map line_text lines.new) all }
+    ensures plain { is_plain ≡ true → list_all is_free (map line_text lines.new) ≡ true }
+    ensures fewer { length lines.new + result ≡ length lines.old }
+{
+    if !is_plain {
+        return 0;
+    }
+    if progress.repeats(lines) { 1 } else { 0 }
+}
+
 // Reads the lines after the header.
 fn read_lines<'a>(
     alloc: Global,
@@ -127,6 +141,7 @@ fn read_lines<'a>(
             Ok(()) => number += 1,
             Err(kind) => return Err(fault_at(kind, number)),
         }
+        number += pass_again(&mut progress, &mut lines, is_plain);
     }
     match progress.playlist() {
         Ok(playlist) => Ok(playlist),

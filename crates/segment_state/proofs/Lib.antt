@@ -3,3 +3,4 @@ pub mod KeyLemmas
 pub mod Ranges
 pub mod Timed
 pub mod EqualParts
+pub mod Repeating

@@ -1,5 +1,6 @@
 pub mod Attributes
 pub mod Kept
+pub mod Repeated
 pub mod Running
 pub mod Continued
 pub mod Views

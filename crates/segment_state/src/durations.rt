@@ -1,10 +1,11 @@
 //! The durations and titles of a playlist's segments (RFC 8216, 4.3.2.1), of which most are the same.
-ghost use Rattle.std.specs.Prelude.{◌≡◌, false, Some, None, Ok, Err, IfOk, IfErr, OnOk, OnErr, MatchResult};
+ghost use Rattle.std.specs.Prelude.{◌≡◌, false, Some, None, Ok, Err, IfOk, IfErr, OnOk, OnErr, MatchResult, MatchOption};
 ghost use Rattle.std.specs.List.{before_first, after_first};
 ghost use Rattle.std.specs.Prelude.{◌==◌};
 ghost use Rattle.playlist_model.specs.Said.{duration, duration_said};
 ghost use Rattle.playlist_model.specs.Refusals.{Gives, Refuses};
 ghost use Rattle.segment_state.specs.Kept.{IsDue};
+ghost use Rattle.segment_state.specs.Repeated.{IsLineOf, IsTakenAgain};
 
 use fixed_duration::Nanos;
 use playlist_model::{FaultKind, Shared, ShortText};
@@ -19,17 +20,23 @@ pub struct Durations<'a> {
     text: &'a str,
     said: Option<(Nanos, Shared<ShortText>)>,
     is_due: bool,
+    // Whether the text stood twice.
+    is_repeated: bool,
+    // The whole line of that text, with its line feed, where it stood twice.
+    line: Option<&'a str>,
 }
 
 impl<'a> Model for Durations<'a> {
     ghost use Rattle.std.specs.Prelude.{List, ℕ, Option};
     ghost use Rattle.segment_state.specs.Kept.{IsSaid, due_of};
+    ghost use Rattle.segment_state.specs.Repeated.{IsAgain};
+    ghost use Rattle.std.specs.Option.{option_copied};
 
     ghost Value = { Option (ℕ × List ℕ) };
 
     ghost view = { due_of };
 
-    ghost invariant = { λ a. IsSaid a.text.now a.said };
+    ghost invariant = { λ a. IsSaid a.text.now a.said × IsAgain (option_copied a.line) a.said };
 }
 
 // Reads the seconds and the title that EXTINF states. Most texts begin as the one before, up to their comma: what that
@@ -108,6 +115,8 @@ impl<'a> Durations<'a> {
             text: "",
             said: None,
             is_due: false,
+            is_repeated: false,
+            line: None,
         }
     }
 
@@ -143,6 +152,8 @@ impl<'a> Durations<'a> {
         self.text = text;
         self.said = Some(own);
         self.is_due = true;
+        self.is_repeated = false;
+        self.line = None;
     }
 
     // Reads a text that is not the last one's. Out of line, so that the same text again takes few steps.
@@ -169,10 +180,40 @@ impl<'a> Durations<'a> {
         match &self.said {
             Some(_) if text == self.text => {
                 self.is_due = true;
+                self.is_repeated = true;
                 Ok(())
             }
             _ => self.read_other(text),
         }
+    }
+
+    /// Whether `keep_line` may keep a line: the last two stated the same. It has no contract, since `keep_line` looks
+    /// for itself.
+    #[inline(always)]
+    pub fn wants_line(&self) -> bool {
+        self.is_repeated && self.line.is_none()
+    }
+
+    /// Keeps `line`, a whole line of EXTINF with its line feed, which states `stated`, if the last one stated the same.
+    pub fn keep_line(&mut self, line: &'a str, stated: &str)
+        requires { IsLineOf line.now stated.now }
+        ensures { self.new ≡ self.old }
+    {
+        if self.said.is_some() && stated == self.text {
+            self.line = Some(line);
+        }
+    }
+
+    /// If `left`, what is left of a playlist, begins with the line that was kept, takes that line again and gives what
+    /// is left after it: the next segment has its duration and its title (RFC 8216, section 4.3.2.1).
+    #[inline(always)]
+    pub fn again(&mut self, left: &'a str) -> Option<&'a str>
+        ensures { MatchOption result (self.new ≡ self.old) (λ later. IsTakenAgain left.now later.now self.new) }
+    {
+        let line = self.line?;
+        let later = left.strip_prefix(line)?;
+        self.is_due = true;
+        Some(later)
     }
 
     /// Whether the next segment has them.

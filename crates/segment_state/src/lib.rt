@@ -2,7 +2,7 @@
 //! to what RFC 8216 says by looking back over the lines before.
 #![tactic(auto)]
 
-ghost use Rattle.std.specs.Prelude.{◌≡◌, ◌+◌, ◌^◌, ◌<◌, ◌≤◌, [], map, Some, None, Ok, Err, IfOk, nat_lt, length};
+ghost use Rattle.std.specs.Prelude.{◌≡◌, ◌+◌, ◌^◌, ◌<◌, ◌≤◌, [], map, Some, None, Ok, Err, IfOk, MatchOption, nat_lt, length};
 ghost use Rattle.std.specs.Option.{SomeIff};
 ghost use Rattle.playlist_model.specs.LookBack.{byte_range_from, byte_range_after, extent_with};
 ghost use Rattle.playlist_model.specs.Reading.{limited, said_by_tag, said_by_uri};
@@ -12,6 +12,7 @@ ghost use Rattle.playlist_model.specs.Refusals.{Gives};
 ghost use Rattle.segment_state.specs.Running.{running_at, Follows, Takes, TakesExactly, TakesSegment};
 ghost use Rattle.segment_state.specs.Inner.Running.{after_segment, segment_from};
 ghost use Rattle.segment_state.specs.Views.{extent_after};
+ghost use Rattle.segment_state.specs.Repeated.{IsLineOf, IsRepeated};
 
 use crate::durations::Durations;
 use crate::keys::keys_with;
@@ -141,6 +142,32 @@ impl<'a> ReaderState<'a> {
         ensures { Takes (λ base before. said_by_tag limited base before said.duration_tag rest.now) self.old self.new result }
     {
         self.durations.read(rest)
+    }
+
+    /// Whether `keep_duration_line` may keep a line: the last two EXTINF stated the same. It has no contract, since
+    /// `keep_duration_line` looks for itself.
+    #[inline(always)]
+    pub fn wants_duration_line(&self) -> bool {
+        self.durations.wants_line()
+    }
+
+    /// Keeps `line`, a whole line of EXTINF with its line feed, which states `stated`, for `duration_again`, if the
+    /// last EXTINF stated the same.
+    pub fn keep_duration_line(&mut self, line: &'a str, stated: &str)
+        requires { IsLineOf line.now stated.now }
+        ensures { self.new ≡ self.old }
+    {
+        self.durations.keep_line(line, stated);
+    }
+
+    #[tactic(auto, using(crate::proofs::Repeating::repeated))]
+    /// If `left`, what is left of a playlist, begins with the line that was kept, takes that line again, as
+    /// `duration_tag` would, and gives what is left after it (RFC 8216, section 4.3.2.1). Takes no memory.
+    #[inline(always)]
+    pub fn duration_again(&mut self, left: &'a str) -> Option<&'a str>
+        ensures { MatchOption result (self.new ≡ self.old) (λ later. IsRepeated left.now later.now self.old self.new) }
+    {
+        self.durations.again(left)
     }
 
     /// Takes `rest`, the attributes of EXT-X-KEY (RFC 8216, section 4.3.2.4). METHOD=NONE ends the keys of every

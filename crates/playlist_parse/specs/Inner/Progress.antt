@@ -1,5 +1,5 @@
 -- How far a playlist has been read.
-use Rattle.std.specs.Prelude.{◌≡◌, ◌≢◌, ℕ, unwrap_or, List, None, Some, Result, IsOk, MatchResult}
+use Rattle.std.specs.Prelude.{◌≡◌, ◌≢◌, ℕ, unwrap_or, List, None, Some, Result, Ok, IsOk, ◌∷◌, map, false, MatchResult}
 use Rattle.url.specs.Parts.{Parts}
 use Rattle.playlist_model.specs.declared.FaultKind.{FaultKind}
 use Rattle.playlist_model.specs.declared.FaultKind.TheVariants.{OutOfMemory}
@@ -9,7 +9,9 @@ use Rattle.playlist_model.specs.declared.Playlist.{Playlist}
 use Rattle.playlist_model.specs.Refusals.{Refuses}
 use Rattle.playlist_model.specs.Said.{Said, Outcome}
 use Rattle.playlist_model.specs.LookBack.{Standing, standing_at, segments_of, date_ranges_of, with_said}
-use Rattle.playlist_model.specs.Reading.{whole_fault, playlist_of}
+use Rattle.playlist_model.specs.Lines.{has_control}
+use Rattle.playlist_model.specs.Reading.{whole_fault, playlist_of, said_by, limited}
+use Rattle.playlist_parse.specs.Inner.LineViews.{line_text}
 use Rattle.playlist_model.specs.Inner.Heading.{Heading, heading_at}
 
 pub record Progress : Type 0 where
@@ -37,6 +39,14 @@ TakesLine outcome old new result =
     MatchResult result
     (λ _. IsOk (outcome old.base before) × (new ≡ progress_at old.base (with_said before (outcome old.base before))))
     (λ e. Refuses e (outcome old.base before))
+
+-- the next of these lines is passed, and what it says is read
+pub record IsLineAgain (lines later : List ((ℕ × ℕ) × List ℕ)) (old new : Progress) : Type 0 where
+  pub line : List ℕ
+  pub cut : map line_text lines ≡ line ∷ map line_text later
+  pub takes :
+      let done : Result (Unit {0}) FaultKind = Ok (record {}) in
+      has_control line ≡ false → TakesLine (λ base before. said_by limited base before line) old new done
 
 -- the playlist of what is read, of this target duration
 abbrev pub playlist_from : Progress → ℕ → Playlist

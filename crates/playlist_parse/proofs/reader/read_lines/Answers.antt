@@ -22,6 +22,6 @@ loop-line-preserved c =
     let cut : map line_text c.loop-line.lines ≡ line ∷ map line_text c.next.new.self = ap (map line_text) c.in-Some.ensures in
     let r : Reached c.args.base.now c.loop-line.progress c.loop-line.number (line ∷ map line_text c.next.new.self) all =
     subst (λ left. Reached c.args.base.now c.loop-line.progress c.loop-line.number left all) cut c.loop-line.invariant.0 in (
-      next r (taken_ok line c.line.new.self r c.in-Ok.ensures),
-      λ plain. let a = and_parts _ _ (subst (λ ls. list_all is_free ls ≡ true) cut (c.loop-line.invariant.1 plain)) in a.1,
+      c.pass_again-number.ensures.reached c.args.base.now _ all (next r (taken_ok line c.line.new.self r c.in-Ok.ensures)),
+      c.pass_again-number.ensures.plain,
     )

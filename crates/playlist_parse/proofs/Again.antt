@@ -1,0 +1,76 @@
+-- A line of EXTINF that is taken again.
+use Rattle.std.proofs.Common.{◌≡◌, ℕ, ◌+◌, ◌≤◌, length, arith, Bool, true, false, List, [], ◌∷◌, ◌++◌, map, refl, ap, sym, ◌∙◌, Ok, subst}
+use Rattle.std.specs.Prelude.{Result, IsOk, codes}
+use Rattle.std.specs.Str.Lines.{lines}
+use Rattle.url.specs.Parts.{Parts}
+use Rattle.playlist_model.specs.declared.FaultKind.{FaultKind}
+use Rattle.playlist_model.specs.Lines.{has_control}
+use Rattle.playlist_model.specs.Said.{Said, duration_tag, Reader}
+use Rattle.playlist_model.specs.Reading.{said_by, said_by_tag, limited}
+use Rattle.segment_state.specs.Running.{Running}
+use Rattle.segment_state.specs.Repeated.{IsLineOf, IsRepeated}
+use Rattle.playlist_parse.specs.LineViews.{lines_from}
+use Rattle.std.specs.List.{list_all}
+use Rattle.std.proofs.lemmas.Bool.{and_parts, not-true}
+use Rattle.std.proofs.lemmas.List.{length-append, length-map}
+use Rattle.playlist_parse.specs.Inner.LineViews.{is_free, line_text}
+use Rattle.playlist_parse.specs.Inner.Reached.{Reached}
+use Rattle.playlist_parse.proofs.Reached.{next, taken_ok}
+use Rattle.playlist_parse.specs.Inner.Source.{EndsInFeed}
+use Rattle.playlist_model.specs.LookBack.{with_said}
+use Rattle.playlist_parse.specs.Inner.Progress.{Progress, progress_at, TakesLine, IsLineAgain}
+use Rattle.playlist_parse.proofs.JoinedLines.{after_front}
+use Rattle.playlist_parse.proofs.LineLemmas.{duration_line}
+use Rattle.playlist_parse.proofs.Kept.{running_of, with_running, takes_tag, duration_tag_says}
+
+-- a line that is the only one of its text
+pub line_states : (line first stated : List ℕ) (all left : List ((ℕ × ℕ) × List ℕ)) (view : (ℕ × ℕ) × List ℕ)
+    → map (λ (l : (ℕ × ℕ) × List ℕ). l.1) all ≡ lines line → all ≡ view ∷ left → left ≡ [] → view.1 ≡ first → first ≡ codes "#EXTINF:" ++ stated
+    → EndsInFeed line → IsLineOf line stated
+line_states line first stated all left view texts cut none is says ends = record {
+  front = ends.front;
+  ends = ends.is;
+  is = sym texts ∙ ap (map (λ (l : (ℕ × ℕ) × List ℕ). l.1)) (cut ∙ ap (λ ls. view ∷ ls) none) ∙ ap (λ l. l ∷ []) (is ∙ says);
+}
+
+one_less : (line : List ℕ) (old later : List (List ℕ)) (l : List ℕ) → old ≡ lines line ++ later → lines line ≡ l ∷ [] → old ≡ l ∷ later
+one_less line old later l h e = h ∙ ap (λ ls. ls ++ later) e
+
+says_line : (old new : Progress) (line stated : List ℕ) → line ≡ codes "#EXTINF:" ++ stated → has_control line ≡ false
+    → (let done : Result (Unit {0}) FaultKind = Ok (record {}) in TakesLine (λ base before. said_by_tag limited base before duration_tag stated) old new done)
+    → (let done : Result (Unit {0}) FaultKind = Ok (record {}) in TakesLine (λ base before. said_by limited base before line) old new done)
+says_line old new line stated is free takes = λ before e.
+    subst (λ o. IsOk o × (new ≡ progress_at old.base (with_said before o))) (sym (duration_line old.base before line stated is free)) (takes before e)
+
+-- the line that is passed, with what it says
+pub line_again : (p q : Progress) (new : Running) (start more : ℕ) (left later : List ℕ) (ls later_lines : List ((ℕ × ℕ) × List ℕ))
+    → ls ≡ lines_from start left → later_lines ≡ lines_from more later → p ≡ q → IsRepeated left later (running_of p) new
+    → IsLineAgain ls later_lines q (with_running p new)
+line_again p q new start more left later ls later_lines lines_are later_are is r = record {
+  line = codes "#EXTINF:" ++ r.stated;
+  cut = one_less r.line _ _ _
+      (ap (map line_text) lines_are ∙ after_front start more left r.line later r.is (record { front = r.is_line.front; is = r.is_line.ends }) ∙ ap (λ xs. lines r.line ++ map line_text xs) (sym later_are))
+      r.is_line.is;
+  takes = λ free. says_line q (with_running p new) (codes "#EXTINF:" ++ r.stated) r.stated refl free
+      (takes_tag (λ base before. said_by_tag limited base before duration_tag r.stated) p q new (Ok (record {})) is (λ base before. duration_tag_says limited base before r.stated) r.takes);
+}
+
+pub shorter : (left line later : List ℕ) → left ≡ line ++ later → length later ≤ length left
+shorter left line later h = let e = ap length h ∙ length-append line later in omega (arith, e)
+
+-- what is reached after the line
+pub reached_again : {base : Parts} {old new : Progress} {number : ℕ} {lines later : List ((ℕ × ℕ) × List ℕ)} {all : List (List ℕ)}
+    → list_all is_free (map line_text lines) ≡ true → IsLineAgain lines later old new → Reached base old number (map line_text lines) all
+    → Reached base new (number + 1) (map line_text later) all
+reached_again {base = base} {old = old} {new = new} {number = number} {lines = lines} {later = later} {all = all} free a r =
+    let cut_free = and_parts _ _ (subst (λ ls. list_all is_free ls ≡ true) a.cut free) in
+    let at : Reached base old number (a.line ∷ map line_text later) all = subst (λ left. Reached base old number left all) a.cut r in
+    next at (taken_ok a.line new at (a.takes (not-true _ cut_free.0)))
+
+pub free_again : {lines later : List ((ℕ × ℕ) × List ℕ)} {old new : Progress} → list_all is_free (map line_text lines) ≡ true → IsLineAgain lines later old new
+    → list_all is_free (map line_text later) ≡ true
+free_again free a = let both = and_parts _ _ (subst (λ ls. list_all is_free ls ≡ true) a.cut free) in both.1
+
+pub fewer_again : {lines later : List ((ℕ × ℕ) × List ℕ)} {old new : Progress} → IsLineAgain lines later old new → length later + 1 ≡ length lines
+fewer_again {lines = lines} {later = later} a =
+    let size = ap length a.cut in omega (arith, size, length-map lines line_text, length-map later line_text)
