@@ -1,21 +1,17 @@
--- The segments from a number on, and the last break entered, found from the newest on.
-use Rattle.std.proofs.Common.{◌≡◌, ℕ, ◌<◌, ◌≤◌, true, false, cond, List, [], ◌∷◌, ◌++◌, map, length, refl, ap, sym, ◌∙◌, subst, arith, length-append}
-use Rattle.std.specs.Prelude.{Option, Some, None, IsSome, option_map, drop, nat_lt, nat_le, is_some}
+-- The segments from a number on, found from the newest on.
+use Rattle.std.proofs.Common.{◌≡◌, ℕ, ◌<◌, ◌≤◌, true, false, cond, List, [], ◌∷◌, ◌++◌, map, length, refl, ap, sym, ◌∙◌, arith, length-append}
+use Rattle.std.specs.Prelude.{drop, nat_lt, nat_le}
 use Rattle.std.proofs.lemmas.Bool.Decides.{nat_tests}
 use mathlib.Core.List.{reverse_aux}
-use Rattle.pod_store.specs.Pods.{Pod}
-use Rattle.pod_store.specs.Marks.{Marked}
-use Rattle.playlist_model.specs.LookBack.{or_earlier}
 use Rattle.stitcher.specs.Stitched.{up_to}
-use Rattle.pod_store.specs.Store.{Store, pod_for}
+use Rattle.pod_store.specs.Store.{Store}
 use Rattle.stitcher.specs.declared.marked.MarkedSegment.{MarkedSegment as Held}
-use Rattle.stitcher.specs.StitchedSegments.{meant, mark_in, mark_with, IsDecided, AreDecided}
-use Rattle.channel_spec.specs.Marking.{mark_id, last_mark, last_entered}
+use Rattle.stitcher.specs.StitchedSegments.{meant}
 use Rattle.channel_spec.specs.Live.{gone_before}
 use Rattle.channel_spec.specs.Kept.{shown_from}
 use Rattle.channel_window.specs.Marking.{so_far}
 use Rattle.channel_window.specs.Listed.{IsFront}
-use Rattle.channel_window.proofs.Listed.{last_seen, all_after, none_seen}
+use Rattle.channel_window.proofs.Listed.{last_seen, none_seen}
 
 nothing_after : {A : Type 0} (xs : List A) → xs ++ [] ≡ xs
 nothing_after [] = refl
@@ -117,45 +113,3 @@ counted_all number list rest store c h = by rest h c.whole (c.seen store)
         → so_far store list ≡ shown_from number (so_far store list)
     by [] h w s = ap (so_far store) w ∙ sym s
     by (x ∷ xs) h w s = absurd (cc)
-
--- ---- the last break entered
-
-pub record Unentered (rest list : List Held) (entered : Option (List ℕ)) : Type 0 where
-  pub front : IsFront rest list
-  pub same : (store : Store) → AreDecided store list → or_earlier (last_entered (so_far store list)) entered ≡ or_earlier (last_entered (so_far store rest)) entered
-
-pub none_passed : (list : List Held) (entered : Option (List ℕ)) → Unentered list list entered
-none_passed list entered = record { front = front_whole list; same = λ store d. refl }
-
-unmarked_last : (store : Store) (before : List Marked) (m : Held) (o : Option (List ℕ)) → m.mark ≡ o → is_some o ≡ false → last_entered (meant store m ∷ before) ≡ last_entered before
-unmarked_last store before m None e h = ap (λ mark. option_map mark_id (or_earlier (mark_in store mark) (last_mark before))) e
-unmarked_last store before m (Some id) e h = absurd (cc)
-
-pub one_passed : (list rest before : List Held) (m : Held) (entered : Option (List ℕ)) → Unentered rest list entered → rest ≡ before ++ m ∷ [] → is_some m.mark ≡ false → Unentered before list entered
-one_passed list rest before m entered u e h = record {
-  front = front_less list rest before m u.front e;
-  same = λ store d.
-      u.same store d
-      ∙ ap (λ o. or_earlier o entered) (ap last_entered (last_seen store rest before m e) ∙ unmarked_last store (so_far store before) m m.mark refl h);
-}
-
-marked_by : (id : List ℕ) (p : Option Pod) (rest : Option (List ℕ)) (before : List Marked) (entered : Option (List ℕ)) → IsSome p
-    → or_earlier (option_map mark_id (or_earlier (mark_with id p) (last_mark before))) entered ≡ Some id
-marked_by id None rest before entered h = absurd (cc)
-marked_by id (Some pod) rest before entered h = refl
-
-marked_last : (store : Store) (before : List Marked) (o entered : Option (List ℕ)) → is_some o ≡ true → IsDecided store o
-    → or_earlier (option_map mark_id (or_earlier (mark_in store o) (last_mark before))) entered ≡ o
-marked_last store before None entered h d = absurd (cc)
-marked_last store before (Some id) entered h d = marked_by id (pod_for store id) None before entered d
-
-pub passed_to : (list rest before : List Held) (m : Held) (entered : Option (List ℕ)) (store : Store) → Unentered rest list entered → rest ≡ before ++ m ∷ [] → is_some m.mark ≡ true → AreDecided store list
-    → m.mark ≡ or_earlier (last_entered (so_far store list)) entered
-passed_to list rest before m entered store u e h d =
-    let in_rest : AreDecided store rest = (all_after (λ (x : Held). IsDecided store x.mark) rest u.front.0 (subst (AreDecided store) u.front.1 d)).0 in
-    let here : IsDecided store m.mark = (all_after (λ (x : Held). IsDecided store x.mark) before (m ∷ []) (subst (AreDecided store) e in_rest)).1.0 in
-    sym (u.same store d ∙ ap (λ xs. or_earlier (last_entered xs) entered) (last_seen store rest before m e) ∙ marked_last store (so_far store before) m.mark entered h here)
-
-pub passed_all : (list rest : List Held) (entered : Option (List ℕ)) (store : Store) → Unentered rest list entered → length rest ≡ 0 → AreDecided store list
-    → entered ≡ or_earlier (last_entered (so_far store list)) entered
-passed_all list rest entered store u h d = sym (u.same store d ∙ ap (λ xs. or_earlier (last_entered xs) entered) (none_seen store rest h))

@@ -1,7 +1,7 @@
 pub mod Counted
 pub mod Dues
+pub mod Extended
 pub mod Found
-pub mod Lengths
 pub mod Listed
 pub mod Marked
 pub mod Passing
@@ -9,7 +9,7 @@ pub mod Placed
 pub mod Ranges
 pub mod Rest
 pub mod Runs
-pub mod Shown
+pub mod ShownWith
 pub mod Sizes
 pub mod Starting
 pub mod TakenOver

@@ -42,15 +42,15 @@ place_found store number place list front d f seen is = ap newest_place (sym see
 -- ---- the last window
 
 -- how many items it came to, no more of them than can be told
-pub written_long : (state : ChannelState) (ended : Bool) (rest : List Held) (m : Held) (before place run first most : ℕ) → state.shown ≡ rest ++ m ∷ [] → AreDecided state.store state.shown
-    → before ≡ rest_count state.store state.rest → place ≡ place_on state.store None 0 0 state.shown → run ≡ run_count state.store ended state.so_far m.mark
+pub written_long : (state : ChannelState) (ended : Bool) (rest : List Held) (m : Held) (before place run first most : ℕ) → state.shown.list ≡ rest ++ m ∷ [] → AreDecided state.store state.shown.list
+    → before ≡ rest_count state.store state.shown.rest → place ≡ place_on state.store None 0 0 state.shown.list → run ≡ run_count state.store ended state.shown.so_far m.mark
     → first ≡ min (before + place) (2 ^ 64 - 1) → most ≡ min (first + run) (2 ^ 64 - 1)
-    → most ≡ min (length (stitched_on ended state.so_far (so_far state.store state.shown) (rest_in state.store state.rest))) (2 ^ 64 - 1)
+    → most ≡ min (length (stitched_on ended state.shown.so_far (so_far state.store state.shown.list) (rest_in state.store state.shown.rest))) (2 ^ 64 - 1)
 written_long state ended rest m before place run first most e d b p r f g =
-    let seen = so_far state.store state.shown in
-    let size = length-append (due_with ended state.so_far seen) (rest_pieces (rest_in state.store state.rest)) in
-    let list = list_long state.store ended state.so_far state.shown rest m e (newest_decided state.store state.shown rest m e d) in
-    let at = place_is_counted state.store state.shown d in
+    let seen = so_far state.store state.shown.list in
+    let size = length-append (due_with ended state.shown.so_far seen) (rest_pieces (rest_in state.store state.shown.rest)) in
+    let list = list_long state.store ended state.shown.so_far state.shown.list rest m e (newest_decided state.store state.shown.list rest m e d) in
+    let at = place_is_counted state.store state.shown.list d in
     omega (arith, size, list, at, b, p, r, f, g)
 
 -- ---- where the next one starts
@@ -62,12 +62,12 @@ module _ (state : ChannelState) (p : Playlist) (list : List Held) (place : ℕ) 
   pub start_first : state.last ≡ None → place ≡ start_on state.last number (kept_in state) (so_far state.store list)
   start_first e = sym (ap (λ o. start_on o number (kept_in state) (so_far state.store list)) e ∙ item)
 
-  pub start_later : (last : Playlist) (base most start : ℕ) → state.last ≡ Some last → (number == first_number last.segments) ≡ false → base ≡ rest_count state.store state.rest
-      → most ≡ min (length (stitched_on last.end_list state.so_far (so_far state.store state.shown) (rest_in state.store state.rest))) (2 ^ 64 - 1) → place + base < 2 ^ 64 → start ≡ min (place + base) most
+  pub start_later : (last : Playlist) (base most start : ℕ) → state.last ≡ Some last → (number == first_number last.segments) ≡ false → base ≡ rest_count state.store state.shown.rest
+      → most ≡ min (length (stitched_on last.end_list state.shown.so_far (so_far state.store state.shown.list) (rest_in state.store state.shown.rest))) (2 ^ 64 - 1) → place + base < 2 ^ 64 → start ≡ min (place + base) most
       → start ≡ start_on state.last number (kept_in state) (so_far state.store list)
   start_later last base most start e other b m room is =
-      let old = length (stitched_on last.end_list state.so_far (so_far state.store state.shown) (rest_in state.store state.rest)) in
-      let here = place_of number (so_far state.store list) + rest_count state.store state.rest in
+      let old = length (stitched_on last.end_list state.shown.so_far (so_far state.store state.shown.list) (rest_in state.store state.shown.rest)) in
+      let here = place_of number (so_far state.store list) + rest_count state.store state.shown.rest in
       let same : start ≡ min here old = omega (arith, item, b, m, room, is) in
       same ∙ sym (ap (λ o. start_on o number (kept_in state) (so_far state.store list)) e ∙ ap (λ t. cond t 0 (min here old)) other)
 
@@ -118,14 +118,14 @@ handed_on (Err d) e h p f = rw h (more e p f)
     more _ p f = absurd p
 
 module _ (state : ChannelState) (p : Playlist) (list : List Held) (n : ℕ) (ends : Ends) (first : Numbers) (decided : AreDecided state.store list)
-    (ends_are : ends_in state.store ends ≡ ends_of p.end_list n (rest_in state.store state.rest)) (first_is : first ≡ numbers_on state.last state.numbers (so_far state.store list)) where
+    (ends_are : ends_in state.store ends ≡ ends_of p.end_list n (rest_in state.store state.shown.rest)) (first_is : first ≡ numbers_on state.last state.shown.numbers (so_far state.store list)) where
   abbrev seen : List Marked
   seen = so_far state.store list
 
   items_are : numbered first (stitched_with (ends_in state.store ends) seen) ≡ items_on (kept_in state) p seen n
   items_are =
       ap (λ (f : Numbers). numbered f (stitched_with (ends_in state.store ends) seen)) first_is
-      ∙ ap (numbered (numbers_on state.last state.numbers seen)) (ap (λ (e : MeantEnds). stitched_with e seen) ends_are ∙ sym (between_ends p.end_list n seen (rest_in state.store state.rest)))
+      ∙ ap (numbered (numbers_on state.last state.shown.numbers seen)) (ap (λ (e : MeantEnds). stitched_with e seen) ends_are ∙ sym (between_ends p.end_list n seen (rest_in state.store state.shown.rest)))
 
   pub fit_is : list_all item_fits (stitched_segments state.store first ends list) ≡ list_all fits (items_on (kept_in state) p seen n)
   fit_is = number_range_is_stitched state.store first ends list ∙ ap (list_all fits) items_are
@@ -141,10 +141,10 @@ module _ (state : ChannelState) (p : Playlist) (list : List Held) (n : ℕ) (end
       ∙ (ap (λ (xs : List Item). map written_item (reverse (from_place start xs))) items_are
       ∙ ap (λ k. map written_item (reverse (from_place k (items_on (kept_in state) p seen n)))) start_is))
 
-  pub room_left : (items : List OutSegment) → items ≡ stitched_segments state.store first ends list → (front : List Held) → IsFront front list → place_on state.store None 0 0 front + rest_count state.store state.rest ≤ length items
+  pub room_left : (items : List OutSegment) → items ≡ stitched_segments state.store first ends list → (front : List Held) → IsFront front list → place_on state.store None 0 0 front + rest_count state.store state.shown.rest ≤ length items
   room_left items items_is front f =
-      let same : rest_count state.store ends.rest ≡ rest_count state.store state.rest = ap (λ (e : MeantEnds). length (rest_pieces e.rest)) ends_are in
+      let same : rest_count state.store ends.rest ≡ rest_count state.store state.shown.rest = ap (λ (e : MeantEnds). length (rest_pieces e.rest)) ends_are in
       omega (arith, within state.store first ends list front decided f, same, ap length items_is)
 
-  pub has_room : (items : List OutSegment) → items ≡ stitched_segments state.store first ends list → length items < 2 ^ 64 → HasRoom state.store state.rest list
+  pub has_room : (items : List OutSegment) → items ≡ stitched_segments state.store first ends list → length items < 2 ^ 64 → HasRoom state.store state.shown.rest list
   has_room items items_is h front f = omega (arith, room_left items items_is front f, h)

@@ -1,4 +1,4 @@
 pub mod Checked
 pub mod Listed
 pub mod Placing
-pub mod Staying
+pub mod Terms

@@ -11,10 +11,10 @@ mod state;
 mod successor;
 mod writing;
 
-pub use listing::{count_before, from_place, last_entered};
-pub use marking::{Limits, mark_on, text_in};
+pub use listing::{count_before, from_place};
+pub use marking::text_in;
 pub use placing::{place_of, rest_count, run_count};
 pub use showing::{Showing, shown_with};
-pub use state::ChannelState;
+pub use state::{ChannelState, Shown};
 pub use successor::{check_successor, first_number, has_init_sections};
 pub use writing::{PlacedList, date_ranges_left, head_of, placed_of};

@@ -1,24 +1,20 @@
 //! The segments that a channel holds, the oldest first: the newest of them, those of a playlist that come after it, and parts of them.
 ghost use Rattle.std.specs.Prelude.{◌≡◌, ◌≤◌, ◌+◌, ◌++◌, ℕ, true, List, Option, IfOk, length, filter, drop};
 ghost use Rattle.pod_store.specs.Marks.{newest_mark};
-ghost use Rattle.playlist_model.specs.LookBack.{or_earlier};
 ghost use Rattle.stitcher.specs.Stitched.{up_to};
 ghost use Rattle.pod_store.specs.Store.{Store};
 ghost use Rattle.stitcher.specs.StitchedSegments.{mark_in, IsDecided, AreDecided};
-ghost use Rattle.channel_spec.specs.Marking.{newest_end, is_new, last_entered};
+ghost use Rattle.channel_spec.specs.Marking.{newest_end, is_new};
 ghost use Rattle.channel_spec.specs.Live.{gone_before};
 ghost use Rattle.channel_spec.specs.Kept.{shown_from};
 ghost use Rattle.channel_window.specs.Checked.{AreContiguous};
-ghost use Rattle.channel_window.specs.Marking.{so_far, capped_in, length_after};
+ghost use Rattle.channel_window.specs.Marking.{so_far};
 ghost use Rattle.channel_window.specs.Listed.{IsFront};
 ghost use Rattle.channel_window.specs.Inner.Listed.{IsTail, is_after};
 
-use crate::marking::copied_text;
-use fixed_duration::Nanos;
-use playlist_model::{Items, Members, Segment, Shared, Text};
-use pod_store::PodStore;
+use playlist_model::{Items, Members, Segment, Shared};
 use std::alloc::{AllocError, Global};
-use stitcher::{MarkedSegment, SharedMark, is_same_run};
+use stitcher::{MarkedSegment, SharedMark};
 
 #[tactic(auto, using(crate::proofs::Listed::newest_seen, crate::proofs::Listed::newest_decided, crate::proofs::Listed::none_seen))]
 /// The mark of the newest of the `shown` segments, which is the last; no mark if there is none. Fails only if an
@@ -158,61 +154,6 @@ pub fn joined(
     Ok(list)
 }
 
-// The length of a run with one more segment, no more of it than a nanosecond above its pod's total.
-fn capped(store: &PodStore, mark: &Option<Shared<Text>>, duration: Nanos, so_far: u64) -> u64
-    ensures { result ≡ capped_in store.now mark.now (duration + so_far) }
-{
-    let Some(id) = mark else {
-        return 0;
-    };
-    match store.pod_for(id.as_str()) {
-        Some(pod) => duration.0.saturating_add(so_far).min(pod.total().0 + 1),
-        None => 0,
-    }
-}
-
-#[tactic(auto, using(crate::proofs::Lengths::ends_unmarked))]
-// Whether there are some of which the newest has no mark.
-fn ends_unmarked(marked: &[MarkedSegment]) -> bool
-    ensures { result ≡ true → (store : Store) (newest : Option (List ℕ)) (before : ℕ) → length_after store newest before marked.now ≡ 0 }
-{
-    match marked.split_last() {
-        Some((newest, _)) => newest.mark.is_none(),
-        None => false,
-    }
-}
-
-/// How long the newest run has lasted after the segments `marked`: before them the newest segment had the mark
-/// `newest`, and its run had lasted for `so_far`. It is at most a nanosecond more than the run's pod in `store`, and
-/// 0 if the last of `marked` has no mark.
-pub fn length_after(
-    store: &PodStore,
-    newest: &Option<Shared<Text>>,
-    so_far: Nanos,
-    marked: &[MarkedSegment],
-) -> Nanos
-    ensures { result ≡ length_after store.now newest.now so_far marked.now }
-{
-    // No run goes on after a segment without a mark, and most segments have none.
-    if ends_unmarked(marked) {
-        return Nanos(0);
-    }
-    let mut previous = newest;
-    let mut length = so_far.0;
-    let mut rest = marked;
-    while let Some((here, later)) = rest.split_first() {
-        let before = if is_same_run(&here.mark, previous) {
-            length
-        } else {
-            0
-        };
-        length = capped(store, &here.mark, here.segment.duration, before);
-        previous = &*here.mark;
-        rest = later;
-    }
-    Nanos(length)
-}
-
 #[tactic(auto, using(crate::proofs::Counted::front_whole, crate::proofs::Counted::front_less, crate::proofs::Counted::front_seen, crate::proofs::Counted::front_stops, crate::proofs::Counted::front_ends))]
 /// The segments of `list` up to the one of the media sequence number `number`.
 pub fn front_to(number: u64, list: &[MarkedSegment]) -> &[MarkedSegment]
@@ -271,23 +212,4 @@ pub fn from_place<T: Drop>(list: Vec<T>, place: usize) -> Result<Vec<T>, AllocEr
     }
     let mut list = list;
     list.split_off(place)
-}
-
-#[tactic(auto, using(crate::proofs::Counted::none_passed, crate::proofs::Counted::one_passed, crate::proofs::Counted::passed_to, crate::proofs::Counted::passed_all))]
-/// The last break entered: that of the newest segment of `list` that has a mark, else `entered`. Fails only if an
-/// allocation fails.
-pub fn last_entered(
-    list: &[MarkedSegment],
-    entered: &Option<Shared<Text>>,
-) -> Result<Option<Shared<Text>>, AllocError>
-    ensures { IfOk result (λ id. (store : Store) → AreDecided store list.now → id ≡ or_earlier (last_entered (so_far store list.now)) entered.now) }
-{
-    let mut rest = list;
-    while let Some((newest, before)) = rest.split_last() {
-        if newest.mark.is_some() {
-            return Ok(copied_text(&newest.mark)?);
-        }
-        rest = before;
-    }
-    Ok(copied_text(entered)?)
 }

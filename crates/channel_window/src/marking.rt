@@ -1,32 +1,24 @@
 //! The new segments of a refresh, with the breaks that they are marked with.
-ghost use Rattle.std.specs.Prelude.{◌≡◌, ◌++◌, ℕ, ℤ, true, List, Option, IfOk, IfSome, OnOk, Some, None};
+ghost use Rattle.std.specs.Prelude.{◌≡◌, ◌++◌, ◌+◌, ℕ, ℤ, true, List, Option, IfOk, OnOk, None};
 ghost use Rattle.std.specs.Option.{option_copied};
 ghost use Rattle.playlist_model.specs.LookBack.{or_earlier};
-ghost use Rattle.pod_store.specs.Store.{is_empty, pod_for};
+ghost use Rattle.pod_store.specs.Store.{is_empty};
 ghost use Rattle.break_finder.specs.Entering.{entered};
 ghost use Rattle.channel_spec.specs.Marking.{limits};
-ghost use Rattle.channel_window.specs.Marking.{is_still_inside, stays, next_id, mark_on};
-ghost use Rattle.channel_window.specs.Inner.Staying.{stays_in};
+ghost use Rattle.channel_spec.specs.Successor.{has_init_sections};
+ghost use Rattle.channel_window.specs.Marking.{next_id, mark_on, length_before, length_after, entered_after};
+ghost use Rattle.channel_window.specs.Inner.Terms.{AreTerms, IsExtended, IsRun, capped_at, stays_in};
 
+use crate::state::Shown;
+use crate::successor::has_init_sections;
 use break_finder::{Entrances, Knowledge, Stay};
 use fixed_duration::Nanos;
-use playlist_model::{Instant, Member, Members, Segment, Shared, Text};
+use playlist_model::{Instant, Member, Members, Playlist, Segment, Shared, Text};
 use pod_store::PodStore;
 use std::alloc::{AllocError, Global};
 use std::marker::Model;
-use stitcher::{MarkedSegment, SharedMark};
+use stitcher::{MarkedSegment, SharedMark, is_same_run};
 use timeline::{Beginnings, OptionalInstant};
-
-/// What marks are decided by, the known breaks and the store apart.
-#[derive(Clone, Copy)]
-pub struct Limits {
-    /// How far an instant may be from the start of a break, and must be before its end.
-    pub tolerance: Nanos,
-    /// The target duration, in seconds.
-    pub target_duration: u64,
-    /// Whether the origin's segments have initialisation sections.
-    pub with_init_sections: bool,
-}
 
 /// The characters of `text`, if there is one.
 pub fn text_in(text: &Option<Shared<Text>>) -> Option<&str>
@@ -48,153 +40,162 @@ pub fn copied_text(text: &Option<Shared<Text>>) -> Result<Option<Shared<Text>>, 
     }
 }
 
-// Until when segments stay in a break; none do where it has no pod.
-#[derive(Drop)]
-struct Staying {
-    id: Shared<Text>,
-    stay: Option<Stay>,
+// What is looked up of a break once for a run of it.
+#[derive(Clone, Copy)]
+struct Terms {
+    // Until when segments stay in it.
+    stay: Stay,
+    // No more of its run's length counts: a nanosecond above its pod's total.
+    most: u64,
 }
 
-// What decides the marks of a refresh's segments, with the breaks that can be entered in it.
+// Whether a segment at an instant stays in the break of these terms; none do where there is no such break.
+fn stays_in(terms: &Option<Terms>, instant: Option<Instant>) -> bool
+    ensures { result ≡ stays_in terms.now instant }
+{
+    match terms {
+        Some(terms) => terms.stay.holds(instant),
+        None => false,
+    }
+}
+
+// As much of a run's length as counts by these terms, where it lasts for `duration` more than `before`.
+fn capped_at(terms: &Option<Terms>, duration: Nanos, before: Nanos) -> Nanos
+    ensures { result ≡ capped_at terms.now (duration + before) }
+{
+    match terms {
+        Some(terms) => Nanos(duration.0.saturating_add(before.0).min(terms.most)),
+        None => Nanos(0),
+    }
+}
+
+// How far the marks are: the mark of the segment before, with the terms of its break, the last break entered, and how long the
+// newest run has lasted.
 #[derive(Drop)]
-struct Marker<'a> {
-    limits: Limits,
+struct Run {
+    before: SharedMark,
+    terms: Option<Terms>,
+    entered: Option<Shared<Text>>,
+    so_far: Nanos,
+}
+
+/// The new segments of a refresh, with their marks, and what goes on after them.
+#[derive(Drop)]
+pub struct Marks {
+    /// The segments, the oldest first.
+    pub list: Vec<MarkedSegment>,
+    /// The last break entered.
+    pub entered: Option<Shared<Text>>,
+    /// How long the newest run has lasted.
+    pub so_far: Nanos,
+}
+
+/// What decides the marks of a refresh's segments, with the breaks that can be entered in it.
+#[derive(Drop)]
+pub struct Marker<'a> {
+    tolerance: Nanos,
+    target_duration: u64,
+    with_init_sections: bool,
     knowledge: &'a Knowledge,
     store: &'a PodStore,
     entrances: Entrances<'a>,
     // None, which the segments without a mark own together.
     unmarked: SharedMark,
-    // That of the break that was asked for last: it is looked up once for a run.
-    staying: Option<Staying>,
 }
 
 impl<'a> Model for Marker<'a> {
     ghost use Rattle.std.specs.Prelude.{◌≡◌, None};
     ghost use Rattle.break_finder.specs.Entrances.{entrances_in};
     ghost use Rattle.channel_spec.specs.Marking.{Moment};
-    ghost use Rattle.channel_window.specs.Inner.Staying.{IsStaying};
 
     ghost Value = { Moment };
 
-    ghost view = { λ a. record { tolerance = a.limits.tolerance; target_duration = a.limits.target_duration; with_init_sections = a.limits.with_init_sections; breaks = a.knowledge.now; store = a.store.now } };
+    ghost view = { λ a. record { tolerance = a.tolerance; target_duration = a.target_duration; with_init_sections = a.with_init_sections; breaks = a.knowledge.now; store = a.store.now } };
 
-    ghost invariant = { λ a. (a.entrances ≡ record { tolerance = a.limits.tolerance; found = entrances_in a.limits.target_duration a.limits.with_init_sections a.store.now a.knowledge.now }) × (a.unmarked ≡ None) × IsStaying a.knowledge.now a.store.now a.limits.tolerance a.staying };
+    ghost invariant = { λ a. (a.entrances ≡ record { tolerance = a.tolerance; found = entrances_in a.target_duration a.with_init_sections a.store.now a.knowledge.now }) × (a.unmarked ≡ None) };
 }
 
-// What decides them for about so many segments.
-fn marker_of<'a>(
-    alloc: Global,
-    limits: &Limits,
-    knowledge: &'a Knowledge,
-    store: &'a PodStore,
-    segments: usize,
-) -> Result<Marker<'a>, AllocError>
-    ensures { IfOk result (λ marker. marker ≡ record { tolerance = limits.now.tolerance; target_duration = limits.now.target_duration; with_init_sections = limits.now.with_init_sections; breaks = knowledge.now; store = store.now }) }
+// Notes the break that marks a segment, where one does, as the last one entered.
+fn enter(entered: &mut Option<Shared<Text>>, mark: &Option<Shared<Text>>) -> Result<(), AllocError>
+    ensures { OnOk result (entered.new ≡ or_earlier mark.now entered.old) }
 {
-    Ok(Marker {
-        limits: *limits,
-        knowledge,
-        store,
-        entrances: knowledge.entrances(
-            alloc,
-            limits.tolerance,
-            limits.target_duration,
-            limits.with_init_sections,
-            store,
-            segments,
-        )?,
-        unmarked: Shared::new(alloc, None)?,
-        staying: None,
-    })
+    if mark.is_some() {
+        *entered = copied_text(mark)?;
+    }
+    Ok(())
 }
 
-// Whether a segment at an instant stays in a break.
-fn stays_in(stay: Option<Stay>, instant: Option<Instant>) -> bool
-    ensures { result ≡ stays_in stay instant }
+// How long the run of a segment of the mark `mark` has lasted before it.
+fn length_before(mark: &Option<Shared<Text>>, run: &Run) -> Nanos
+    ensures { result ≡ length_before mark.now run.now.before run.now.so_far }
 {
-    match stay {
-        Some(stay) => stay.holds(instant),
-        None => false,
+    if is_same_run(mark, &run.before) {
+        run.so_far
+    } else {
+        Nanos(0)
+    }
+}
+
+fn marked_with(
+    segment: Member<Segment>,
+    instant: OptionalInstant,
+    mark: SharedMark,
+) -> MarkedSegment
+    ensures { result ≡ record { segment = segment; instant = instant; mark = mark } }
+{
+    MarkedSegment {
+        segment,
+        instant,
+        mark,
     }
 }
 
 impl<'a> Marker<'a> {
-    // Until when segments stay in a break.
-    fn stay_of(&self, id: &str) -> Option<Stay>
-        ensures { (instant : Option ℤ) → stays_in result instant ≡ is_still_inside self.now id.now instant (pod_for self.now.store id.now) }
+    /// What decides the marks of about `segments` new segments of `playlist`: the breaks of `knowledge`, which have their
+    /// pods in `store`. A break is entered by `tolerance`. Fails only if an allocation fails.
+    pub fn new(
+        alloc: Global,
+        tolerance: Nanos,
+        playlist: &Playlist,
+        knowledge: &'a Knowledge,
+        store: &'a PodStore,
+        segments: usize,
+    ) -> Result<Marker<'a>, AllocError>
+        ensures { IfOk result (λ marker. marker ≡ record { tolerance = tolerance; target_duration = playlist.now.target_duration; with_init_sections = has_init_sections playlist.now.segments; breaks = knowledge.now; store = store.now }) }
     {
-        match self.store.pod_for(id) {
-            Some(pod) => Some(self.knowledge.stay(id, self.limits.tolerance, pod)),
-            None => None,
-        }
-    }
-
-    // That of the break that was asked for last, where it is this one.
-    fn stay_again(&self, id: &Shared<Text>) -> Option<Option<Stay>>
-        ensures { IfSome result (λ stay. (instant : Option ℤ) → stays_in stay instant ≡ is_still_inside self.now id.now instant (pod_for self.now.store id.now)) }
-    {
-        match &self.staying {
-            Some(staying) if staying.id == *id => Some(staying.stay),
-            _ => None,
-        }
-    }
-
-    // Until when segments stay in a break, with its ID.
-    fn staying_in(&self, id: &Shared<Text>) -> Result<Staying, AllocError>
-        ensures id { IfOk result (λ staying. staying.id ≡ id.now) }
-        ensures stay { IfOk result (λ staying. (instant : Option ℤ) → stays_in staying.stay instant ≡ is_still_inside self.now id.now instant (pod_for self.now.store id.now)) }
-    {
-        Ok(Staying {
-            id: id.clone()?,
-            stay: self.stay_of(id.as_str()),
+        let target_duration = playlist.target_duration;
+        let with_init_sections = has_init_sections(playlist.segments.as_slice());
+        Ok(Marker {
+            tolerance,
+            target_duration,
+            with_init_sections,
+            knowledge,
+            store,
+            entrances: knowledge.entrances(
+                alloc,
+                tolerance,
+                target_duration,
+                with_init_sections,
+                store,
+                segments,
+            )?,
+            unmarked: Shared::new(alloc, None)?,
         })
     }
 
-    // Looks that up, and keeps it.
-    fn look_up(&mut self, id: &Shared<Text>) -> Result<Option<Stay>, AllocError>
-        ensures stay { IfOk result (λ stay. (instant : Option ℤ) → stays_in stay instant ≡ is_still_inside self.old id.now instant (pod_for self.old.store id.now)) }
-        ensures kept { self.new ≡ self.old }
+    // The terms of the break of a mark, where it has a pod.
+    fn terms_of(&self, mark: &Option<Shared<Text>>) -> Option<Terms>
+        ensures { AreTerms self.now mark.now result }
     {
-        let staying = self.staying_in(id)?;
-        let stay = staying.stay;
-        self.staying = Some(staying);
-        Ok(stay)
-    }
-
-    // The same, which is looked up once for a run.
-    fn stay_now(&mut self, id: &Shared<Text>) -> Result<Option<Stay>, AllocError>
-        ensures stay { IfOk result (λ stay. (instant : Option ℤ) → stays_in stay instant ≡ is_still_inside self.old id.now instant (pod_for self.old.store id.now)) }
-        ensures kept { self.new ≡ self.old }
-    {
-        match self.stay_again(id) {
-            Some(stay) => Ok(stay),
-            None => self.look_up(id),
-        }
-    }
-
-    fn is_still_inside(
-        &mut self,
-        id: &Shared<Text>,
-        instant: Option<Instant>,
-    ) -> Result<bool, AllocError>
-        ensures inside { IfOk result (λ inside. inside ≡ is_still_inside self.old id.now instant (pod_for self.old.store id.now)) }
-        ensures kept { self.new ≡ self.old }
-    {
-        let stay = self.stay_now(id)?;
-        Ok(stays_in(stay, instant))
-    }
-
-    fn stays(
-        &mut self,
-        newest: &Option<Shared<Text>>,
-        instant: Option<Instant>,
-    ) -> Result<bool, AllocError>
-        ensures stays { IfOk result (λ staying. staying ≡ stays self.old newest.now instant) }
-        ensures kept { self.new ≡ self.old }
-    {
-        match newest {
-            Some(id) => self.is_still_inside(id, instant),
-            None => Ok(false),
+        let Some(id) = mark else {
+            return None;
+        };
+        match self.store.pod_for(id.as_str()) {
+            Some(pod) => Some(Terms {
+                stay: self.knowledge.stay(id.as_str(), self.tolerance, pod),
+                most: pod.total().0 + 1,
+            }),
+            None => None,
         }
     }
 
@@ -219,99 +220,16 @@ impl<'a> Marker<'a> {
         }
     }
 
-    // The first break but this one that is entered at an instant.
-    fn entered_since(
-        &mut self,
-        alloc: Global,
-        last: &str,
-        instant: Option<Instant>,
-    ) -> Result<Option<Shared<Text>>, AllocError>
-        ensures entered { IfOk result (λ id. id ≡ entered (limits self.old (Some last.now)) self.old.store self.old.breaks instant) }
-        ensures kept { self.new ≡ self.old }
+    // A mark of its own for a break, and for none the one that they share.
+    fn mark_of(&self, alloc: Global, id: Option<Shared<Text>>) -> Result<SharedMark, AllocError>
+        ensures { IfOk result (λ mark. mark ≡ id) }
     {
-        self.entered(alloc, Some(last), instant)
-    }
-
-    fn entered_after(
-        &mut self,
-        alloc: Global,
-        last: &Option<Shared<Text>>,
-        instant: Option<Instant>,
-    ) -> Result<Option<Shared<Text>>, AllocError>
-        ensures entered { IfOk result (λ id. id ≡ entered (limits self.old last.now) self.old.store self.old.breaks instant) }
-        ensures kept { self.new ≡ self.old }
-    {
-        match last {
-            Some(last) => self.entered_since(alloc, last.as_str(), instant),
-            None => self.entered(alloc, None, instant),
-        }
-    }
-
-    // The break that marks a segment, by whether it stays on the run of the one before it.
-    fn next_id(
-        &mut self,
-        alloc: Global,
-        staying: bool,
-        newest: &SharedMark,
-        last: &Option<Shared<Text>>,
-        instant: Option<Instant>,
-    ) -> Result<SharedMark, AllocError>
-        requires { staying ≡ stays self.old newest.now instant }
-        ensures id { IfOk result (λ id. id ≡ next_id self.old newest.now last.now instant) }
-        ensures kept { self.new ≡ self.old }
-    {
-        if staying {
-            return newest.clone();
-        }
-        let id = self.entered_after(alloc, last, instant)?;
         if id.is_none() {
             return self.unmarked.clone();
         }
         Shared::new(alloc, id)
     }
-}
 
-// Notes the break that marks a segment, where one does, as the last one entered.
-fn enter(entered: &mut Option<Shared<Text>>, mark: &Option<Shared<Text>>) -> Result<(), AllocError>
-    ensures { OnOk result (entered.new ≡ or_earlier mark.now entered.old) }
-{
-    if mark.is_some() {
-        *entered = copied_text(mark)?;
-    }
-    Ok(())
-}
-
-// How far the marks are: the mark of the segment before, and the last break entered.
-#[derive(Drop)]
-struct Run {
-    before: SharedMark,
-    entered: Option<Shared<Text>>,
-}
-
-fn run_of(newest: &SharedMark, last: &Option<Shared<Text>>) -> Result<Run, AllocError>
-    ensures { IfOk result (λ run. run ≡ record { before = newest.now; entered = last.now }) }
-{
-    Ok(Run {
-        before: newest.clone()?,
-        entered: copied_text(last)?,
-    })
-}
-
-fn marked_with(
-    segment: Member<Segment>,
-    instant: OptionalInstant,
-    mark: SharedMark,
-) -> MarkedSegment
-    ensures { result ≡ record { segment = segment; instant = instant; mark = mark } }
-{
-    MarkedSegment {
-        segment,
-        instant,
-        mark,
-    }
-}
-
-impl<'a> Marker<'a> {
     #[inline(always)]
     fn is_quiet(&self, instant: Option<Instant>) -> bool
         ensures { result ≡ true → (last : Option (List ℕ)) → entered (limits self.now last) self.now.store self.now.breaks instant ≡ None }
@@ -332,7 +250,56 @@ impl<'a> Marker<'a> {
         }
     }
 
-    // The next segment with its mark; how far the marks are is told after it.
+    // The mark of a segment that begins a run, or has none; `run` is then as far as it.
+    fn begin(
+        &mut self,
+        alloc: Global,
+        run: &mut Run,
+        instant: Option<Instant>,
+        duration: Nanos,
+    ) -> Result<SharedMark, AllocError>
+        ensures mark { IfOk result (λ mark. mark ≡ entered (limits self.old run.old.entered) self.old.store self.old.breaks instant) }
+        ensures goes { IfOk result (λ mark. IsExtended self.old.store duration mark run.old run.new) }
+        ensures run { OnOk result (IsRun self.old run.new) }
+        ensures kept { self.new ≡ self.old }
+    {
+        let id = self.entered(alloc, text_in(&run.entered), instant)?;
+        let mark = self.mark_of(alloc, id)?;
+        let before = length_before(&mark, run);
+        enter(&mut run.entered, &mark)?;
+        run.before = mark.clone()?;
+        run.terms = self.terms_of(&mark);
+        run.so_far = capped_at(&run.terms, duration, before);
+        Ok(mark)
+    }
+
+    #[tactic(auto, using(crate::proofs::Extended::unmarked_on, crate::proofs::Extended::stays_on, crate::proofs::Extended::stays_next, crate::proofs::Extended::begins_next))]
+    // The mark of the next segment; `run` is then as far as it.
+    fn next_mark(
+        &mut self,
+        alloc: Global,
+        run: &mut Run,
+        instant: OptionalInstant,
+        duration: Nanos,
+    ) -> Result<SharedMark, AllocError>
+        requires { IsRun self.old run.old }
+        ensures mark { IfOk result (λ mark. mark ≡ next_id self.old run.old.before run.old.entered instant) }
+        ensures goes { IfOk result (λ mark. IsExtended self.old.store duration mark run.old run.new) }
+        ensures run { OnOk result (IsRun self.old run.new) }
+        ensures kept { self.new ≡ self.old }
+    {
+        if self.is_unmarked(&run.before, instant.get()) {
+            run.so_far = Nanos(0);
+            return run.before.clone();
+        }
+        if stays_in(&run.terms, instant.get()) {
+            run.so_far = capped_at(&run.terms, duration, run.so_far);
+            return run.before.clone();
+        }
+        self.begin(alloc, run, instant.get(), duration)
+    }
+
+    // The next segment with its mark; `run` is then as far as it.
     fn next(
         &mut self,
         alloc: Global,
@@ -340,18 +307,13 @@ impl<'a> Marker<'a> {
         segment: Member<Segment>,
         instant: OptionalInstant,
     ) -> Result<MarkedSegment, AllocError>
+        requires { IsRun self.old run.old }
         ensures marked { IfOk result (λ m. m ≡ record { segment = segment; instant = instant; mark = next_id self.old run.old.before run.old.entered instant }) }
-        ensures run { IfOk result (λ m. run.new ≡ record { before = m.mark; entered = or_earlier m.mark run.old.entered }) }
+        ensures goes { IfOk result (λ m. IsExtended self.old.store segment.duration m.mark run.old run.new) }
+        ensures run { OnOk result (IsRun self.old run.new) }
         ensures kept { self.new ≡ self.old }
     {
-        let begun = instant.get();
-        if self.is_unmarked(&run.before, begun) {
-            return Ok(marked_with(segment, instant, run.before.clone()?));
-        }
-        let staying = self.stays(&run.before, begun)?;
-        let mark = self.next_id(alloc, staying, &run.before, &run.entered, begun)?;
-        enter(&mut run.entered, &mark)?;
-        run.before = mark.clone()?;
+        let mark = self.next_mark(alloc, run, instant, segment.duration)?;
         Ok(marked_with(segment, instant, mark))
     }
 
@@ -364,7 +326,10 @@ impl<'a> Marker<'a> {
         instants: &mut Beginnings<'_>,
         done: &mut Vec<MarkedSegment>,
     ) -> Result<(), AllocError>
-        ensures { OnOk result (done.new.items ≡ done.old.items ++ mark_on self.old run.old.before run.old.entered segments.old instants.old) }
+        requires { IsRun self.old run.old }
+        ensures list { OnOk result (done.new.items ≡ done.old.items ++ mark_on self.old run.old.before run.old.entered segments.old instants.old) }
+        ensures entered { OnOk result (run.new.entered ≡ entered_after run.old.entered (mark_on self.old run.old.before run.old.entered segments.old instants.old)) }
+        ensures so_far { OnOk result (run.new.so_far ≡ length_after self.old.store run.old.before run.old.so_far (mark_on self.old run.old.before run.old.entered segments.old instants.old)) }
     {
         while let Some(segment) = segments.next()? {
             let Some(instant) = instants.next()? else {
@@ -378,59 +343,71 @@ impl<'a> Marker<'a> {
     // The same where no break is decided, with no fallback, and the segment before has no mark: none of these has one.
     fn all_unmarked(
         &self,
+        run: &mut Run,
         segments: &mut Members<'_, Segment>,
         instants: &mut Beginnings<'_>,
         done: &mut Vec<MarkedSegment>,
     ) -> Result<(), AllocError>
-        requires { is_empty self.now.store ≡ true }
-        ensures { OnOk result ((last : Option (List ℕ)) → done.new.items ≡ done.old.items ++ mark_on self.now None last segments.old instants.old) }
+        requires empty { is_empty self.now.store ≡ true }
+        requires unmarked { run.old.before ≡ None }
+        ensures list { OnOk result (done.new.items ≡ done.old.items ++ mark_on self.now run.old.before run.old.entered segments.old instants.old) }
+        ensures entered { OnOk result (run.new.entered ≡ entered_after run.old.entered (mark_on self.now run.old.before run.old.entered segments.old instants.old)) }
+        ensures so_far { OnOk result (run.new.so_far ≡ length_after self.now.store run.old.before run.old.so_far (mark_on self.now run.old.before run.old.entered segments.old instants.old)) }
     {
         while let Some(segment) = segments.next()? {
             let Some(begun) = instants.next()? else {
                 return Ok(());
             };
+            run.so_far = Nanos(0);
             done.push(marked_with(segment, begun, self.unmarked.clone()?))?;
         }
         Ok(())
     }
 
-    // These segments, which begin at these instants, with their marks.
-    fn marked(
-        &mut self,
+    // How far the marks are before the first new segment.
+    fn run_after(&self, shown: &Shown, newest: SharedMark) -> Result<Run, AllocError>
+        requires { or_earlier newest shown.now.entered ≡ shown.now.entered }
+        ensures run { IfOk result (IsRun self.now) }
+        ensures before { IfOk result (λ run. run.before ≡ newest) }
+        ensures entered { IfOk result (λ run. run.entered ≡ shown.now.entered) }
+        ensures so_far { IfOk result (λ run. run.so_far ≡ shown.now.so_far) }
+    {
+        Ok(Run {
+            terms: self.terms_of(&newest),
+            before: newest,
+            entered: copied_text(&shown.entered)?,
+            so_far: shown.so_far,
+        })
+    }
+
+    /// The new `segments`, which begin at the `instants`, with their marks, after those of `shown`, the newest of which
+    /// has the mark `newest`. A segment enters a break, or stays in the break of the segment before it, or has no mark.
+    /// Fails only if an allocation fails.
+    pub fn mark(
+        self,
         alloc: Global,
-        run: &mut Run,
+        shown: &Shown,
+        newest: SharedMark,
         segments: Members<'_, Segment>,
         instants: Beginnings<'_>,
-    ) -> Result<Vec<MarkedSegment>, AllocError>
-        ensures { IfOk result (λ v. v.items ≡ mark_on self.old run.old.before run.old.entered segments.entry instants.entry) }
+    ) -> Result<Marks, AllocError>
+        requires { or_earlier newest shown.now.entered ≡ shown.now.entered }
+        ensures list { IfOk result (λ marks. marks.list.items ≡ mark_on self.entry newest shown.now.entered segments.entry instants.entry) }
+        ensures entered { IfOk result (λ marks. marks.entered ≡ entered_after shown.now.entered marks.list.items) }
+        ensures so_far { IfOk result (λ marks. marks.so_far ≡ length_after self.entry.store newest shown.now.so_far marks.list.items) }
     {
-        let (mut segments, mut instants) = (segments, instants);
-        let mut done = Vec::with_capacity(alloc, segments.len())?;
-        if self.store.is_empty() && run.before.is_none() {
-            self.all_unmarked(&mut segments, &mut instants, &mut done)?;
+        let (mut marker, mut segments, mut instants) = (self, segments, instants);
+        let mut run = marker.run_after(shown, newest)?;
+        let mut list = Vec::with_capacity(alloc, segments.len())?;
+        if marker.store.is_empty() && run.before.is_none() {
+            marker.all_unmarked(&mut run, &mut segments, &mut instants, &mut list)?;
         } else {
-            self.all(alloc, run, &mut segments, &mut instants, &mut done)?;
+            marker.all(alloc, &mut run, &mut segments, &mut instants, &mut list)?;
         }
-        Ok(done)
+        Ok(Marks {
+            list,
+            entered: run.entered,
+            so_far: run.so_far,
+        })
     }
-}
-
-/// The `segments`, which begin at the `instants`, with their marks. A segment enters a break that `knowledge` and
-/// `store` let it enter by `limits`, or stays in the break of the segment before it, or has no mark. `newest` is the
-/// mark of the segment before the first one, and `last` the last break entered. Fails only if an allocation fails.
-pub fn mark_on(
-    alloc: Global,
-    limits: &Limits,
-    knowledge: &Knowledge,
-    store: &PodStore,
-    newest: &SharedMark,
-    last: &Option<Shared<Text>>,
-    segments: Members<'_, Segment>,
-    instants: Beginnings<'_>,
-) -> Result<Vec<MarkedSegment>, AllocError>
-    ensures { IfOk result (λ v. v.items ≡ mark_on (record { tolerance = limits.now.tolerance; target_duration = limits.now.target_duration; with_init_sections = limits.now.with_init_sections; breaks = knowledge.now; store = store.now }) newest.now last.now segments.entry instants.entry) }
-{
-    let mut marker = marker_of(alloc, limits, knowledge, store, segments.len())?;
-    let mut run = run_of(newest, last)?;
-    marker.marked(alloc, &mut run, segments, instants)
 }

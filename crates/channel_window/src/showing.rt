@@ -1,20 +1,15 @@
 //! The breaks that are known after a refresh, and the segments that are shown then.
-ghost use Rattle.std.specs.Prelude.{◌≡◌, IfOk};
+ghost use Rattle.std.specs.Prelude.{IfOk};
 ghost use Rattle.stitcher.specs.StitchedSegments.{AreDecided};
-ghost use Rattle.channel_spec.specs.Successor.{has_init_sections};
 ghost use Rattle.channel_window.specs.Checked.{AreContiguous};
-ghost use Rattle.channel_window.specs.Showing.{kept_in};
-ghost use Rattle.channel_window.specs.Showing.{IsShown};
+ghost use Rattle.channel_window.specs.Showing.{IsLastEntered, IsShown, kept_in};
 
-use crate::listing::{
-    fresh_of, joined, last_members, length_after, list_with, newest_end, newest_mark,
-};
-use crate::marking::{Limits, mark_on, text_in};
+use crate::listing::{fresh_of, joined, last_members, list_with, newest_end, newest_mark};
+use crate::marking::{Marker, text_in};
 use crate::state::ChannelState;
-use crate::successor::has_init_sections;
 use break_finder::Knowledge;
 use fixed_duration::Nanos;
-use playlist_model::Playlist;
+use playlist_model::{Playlist, Shared, Text};
 use std::alloc::{AllocError, Global};
 use stitcher::MarkedSegment;
 use timeline::Beginnings;
@@ -28,18 +23,10 @@ pub struct Showing {
     pub list: Vec<MarkedSegment>,
     /// How many of them are shown for the first time.
     pub fresh: usize,
+    /// The last break entered.
+    pub entered: Option<Shared<Text>>,
     /// How long their newest run has lasted.
     pub so_far: Nanos,
-}
-
-fn limits_of(tolerance: Nanos, playlist: &Playlist) -> Limits
-    ensures { result ≡ record { tolerance = tolerance; target_duration = playlist.now.target_duration; with_init_sections = has_init_sections playlist.now.segments } }
-{
-    Limits {
-        tolerance,
-        target_duration: playlist.target_duration,
-        with_init_sections: has_init_sections(playlist.segments.as_slice()),
-    }
 }
 
 /// What the channel of `state` knows and shows with the segments of `playlist`, of which new ones enter breaks by
@@ -51,29 +38,30 @@ pub fn shown_with(
     playlist: &Playlist,
 ) -> Result<Showing, AllocError>
     requires contiguous { AreContiguous playlist.now.segments }
-    requires decided { AreDecided state.now.store state.now.shown }
+    requires decided { AreDecided state.now.store state.now.shown.list }
+    requires entered { IsLastEntered (kept_in state.now) }
     ensures { IfOk result (λ a. IsShown tolerance state.now playlist.now a) }
 {
-    let shown = state.shown.as_slice();
+    let shown = state.shown.list.as_slice();
     let newest = newest_mark(alloc, shown)?;
-    let knowledge = state.knowledge.carry(alloc, playlist, text_in(&newest))?;
+    let known = &state.shown.knowledge;
+    let knowledge = known.carry(alloc, playlist, text_in(&newest))?;
     let fresh = fresh_of(shown, playlist.segments.as_slice());
     let segments = list_with(alloc, fresh, &playlist.segments)?;
-    let marked = mark_on(
+    let store = &state.store;
+    let marker = Marker::new(alloc, tolerance, playlist, &knowledge, store, fresh.len())?;
+    let marks = marker.mark(
         alloc,
-        &limits_of(tolerance, playlist),
-        &knowledge,
-        &state.store,
-        &newest,
-        &state.entered,
+        &state.shown,
+        newest,
         last_members(&segments, fresh),
         Beginnings::new(alloc, newest_end(shown), fresh),
     )?;
-    let so_far = length_after(&state.store, &newest, state.so_far, marked.as_slice());
     Ok(Showing {
         knowledge,
-        list: joined(alloc, shown, marked)?,
+        list: joined(alloc, shown, marks.list)?,
         fresh: fresh.len(),
-        so_far,
+        entered: marks.entered,
+        so_far: marks.so_far,
     })
 }

@@ -79,17 +79,17 @@ fn ends_of(rest: &Option<Rest>, ended: bool, so_far: Nanos) -> Result<Ends, Allo
 
 // How many items the last window came to, from its first one on; no more of it is told than fits.
 fn written_before(state: &ChannelState, last: &Playlist) -> usize
-    requires place { place_on state.now.store None 0 0 state.now.shown < 2 ^ 64 }
-    requires decided { AreDecided state.now.store state.now.shown }
-    ensures { result ≡ min (length (stitched_on last.now.end_list state.now.so_far (so_far state.now.store state.now.shown) (rest_in state.now.store state.now.rest))) (2 ^ 64 - 1) }
+    requires place { place_on state.now.store None 0 0 state.now.shown.list < 2 ^ 64 }
+    requires decided { AreDecided state.now.store state.now.shown.list }
+    ensures { result ≡ min (length (stitched_on last.now.end_list state.now.shown.so_far (so_far state.now.store state.now.shown.list) (rest_in state.now.store state.now.shown.rest))) (2 ^ 64 - 1) }
 {
     let store = &state.store;
-    let shown = state.shown.as_slice();
-    let before = rest_count(store, &state.rest);
+    let shown = state.shown.list.as_slice();
+    let before = rest_count(store, &state.shown.rest);
     let Some((newest, _)) = shown.split_last() else {
         return before;
     };
-    let run = run_count(store, &newest.mark, last.end_list, state.so_far);
+    let run = run_count(store, &newest.mark, last.end_list, state.shown.so_far);
     before
         .saturating_add(place_of(store, shown))
         .saturating_add(run)
@@ -98,11 +98,11 @@ fn written_before(state: &ChannelState, last: &Playlist) -> usize
 // Where the window starts in the stitched list of the segments that are shown, after the rest (RFC 8216, section
 // 6.2.2).
 fn start_of(state: &ChannelState, playlist: &Playlist, list: &[MarkedSegment]) -> usize
-    requires room { HasRoom state.now.store state.now.rest list.now }
-    requires front { IsFront state.now.shown list.now }
+    requires room { HasRoom state.now.store state.now.shown.rest list.now }
+    requires front { IsFront state.now.shown.list list.now }
     requires decided { AreDecided state.now.store list.now }
     ensures value { result ≡ start_on state.now.last (first_number playlist.now.segments) (kept_in state.now) (so_far state.now.store list.now) }
-    ensures within { (most : ℕ) → IsWithin state.now.store state.now.rest list.now most → result ≤ most }
+    ensures within { (most : ℕ) → IsWithin state.now.store state.now.shown.rest list.now most → result ≤ most }
 {
     let number = first_number(playlist.segments.as_slice());
     let place = place_of(&state.store, front_to(number, list));
@@ -113,7 +113,7 @@ fn start_of(state: &ChannelState, playlist: &Playlist, list: &[MarkedSegment]) -
         return 0;
     }
     let most = written_before(state, last);
-    (place + rest_count(&state.store, &state.rest)).min(most)
+    (place + rest_count(&state.store, &state.shown.rest)).min(most)
 }
 
 // The rest of the pod before the first segment that is shown, where a window that starts at this place starts with it.
@@ -123,13 +123,13 @@ fn rest_from(
     start: usize,
     list: &[MarkedSegment],
 ) -> Result<Option<Rest>, AllocError>
-    requires room { HasRoom state.now.store state.now.rest list.now }
+    requires room { HasRoom state.now.store state.now.shown.rest list.now }
     requires decided { AreDecided state.now.store list.now }
     ensures decided { IfOk result (λ rest. IsRestDecided state.now.store rest) }
-    ensures value { IfOk result (λ rest. rest_in state.now.store rest ≡ rest_over (rest_count state.now.store state.now.rest) start number (so_far state.now.store list.now)) }
+    ensures value { IfOk result (λ rest. rest_in state.now.store rest ≡ rest_over (rest_count state.now.store state.now.shown.rest) start number (so_far state.now.store list.now)) }
 {
     let store = &state.store;
-    let before = rest_count(store, &state.rest);
+    let before = rest_count(store, &state.shown.rest);
     if start >= place_of(store, front_to(number, list)) + before {
         return Ok(None);
     }
@@ -153,26 +153,26 @@ fn rest_after(
     start: usize,
     list: &[MarkedSegment],
 ) -> Result<Option<Rest>, AllocError>
-    requires room { HasRoom state.now.store state.now.rest list.now }
+    requires room { HasRoom state.now.store state.now.shown.rest list.now }
     requires decided { AreDecided state.now.store list.now }
-    requires rest { IsRestDecided state.now.store state.now.rest }
+    requires rest { IsRestDecided state.now.store state.now.shown.rest }
     ensures decided { IfOk result (λ rest. IsRestDecided state.now.store rest) }
-    ensures value { IfOk result (λ rest. rest_in state.now.store rest ≡ rest_on state.now.last (first_number playlist.now.segments) start (so_far state.now.store list.now) (rest_in state.now.store state.now.rest)) }
+    ensures value { IfOk result (λ rest. rest_in state.now.store rest ≡ rest_on state.now.last (first_number playlist.now.segments) start (so_far state.now.store list.now) (rest_in state.now.store state.now.shown.rest)) }
 {
     let number = first_number(playlist.segments.as_slice());
     let Some(last) = &state.last else {
         return Ok(None);
     };
     if number == first_number(last.segments.as_slice()) {
-        return copied_rest(&state.rest);
+        return copied_rest(&state.shown.rest);
     }
     rest_from(state, number, start, list)
 }
 
 // How many items the last window came to; no more of it is told than fits.
 fn stood_of(state: &ChannelState, list: &[MarkedSegment]) -> usize
-    requires room { HasRoom state.now.store state.now.rest list.now }
-    requires front { IsFront state.now.shown list.now }
+    requires room { HasRoom state.now.store state.now.shown.rest list.now }
+    requires front { IsFront state.now.shown.list list.now }
     requires decided { AreDecided state.now.store list.now }
     ensures { result ≡ min (length (last_pieces state.now.last (kept_in state.now))) (2 ^ 64 - 1) }
 {
@@ -207,8 +207,8 @@ pub fn placed_of<'a>(
     lasted: Nanos,
 ) -> Result<PlacedList<'a>, RefreshFault>
     requires decided { AreDecided state.now.store list.now }
-    requires front { IsFront state.now.shown list.now }
-    requires rest { IsRestDecided state.now.store state.now.rest }
+    requires front { IsFront state.now.shown.list list.now }
+    requires rest { IsRestDecided state.now.store state.now.shown.rest }
     ensures whole { IfOk result (λ w. w.whole ≡ map written_item (reverse (items_on (kept_in state.now) playlist.now (so_far state.now.store list.now) lasted))) }
     ensures window { IfOk result (λ w. drop w.start w.whole ≡ map written_item (window_on (kept_in state.now) playlist.now (so_far state.now.store list.now) lasted)) }
     ensures stood { IfOk result (λ w. w.stood ≡ min (length (last_pieces state.now.last (kept_in state.now))) (2 ^ 64 - 1)) }
@@ -217,9 +217,9 @@ pub fn placed_of<'a>(
     ensures fit { IfOk result (λ w. list_all fits (items_on (kept_in state.now) playlist.now (so_far state.now.store list.now) lasted) ≡ true) }
     ensures err { IfErr result (λ e. RefusesList e (list_all fits (items_on (kept_in state.now) playlist.now (so_far state.now.store list.now) lasted) ≡ false)) }
 {
-    let ends = ends_of(&state.rest, playlist.end_list, lasted)?;
-    let first = numbers_on(&state.last, state.numbers, list, &state.store, &ends)?;
-    let cut = state.shown.len();
+    let ends = ends_of(&state.shown.rest, playlist.end_list, lasted)?;
+    let first = numbers_on(&state.last, state.shown.numbers, list, &state.store, &ends)?;
+    let cut = state.shown.list.len();
     let whole = stitched(alloc, list, cut, &state.store, first, &ends)?;
     let start = start_of(state, playlist, list);
     let rest = rest_after(state, playlist, start, list)?;

@@ -23,7 +23,7 @@ use Rattle.live_channel.proofs.Stores.{Stay, all_stay}
 
 module _ (base : Parts) (tolerance : ℕ) (state : ChannelState) (text : Option (List ℕ)) where
   abbrev shown : List Held
-  shown = state.shown
+  shown = state.shown.list
 
   abbrev kept_by : Store → Type 0
   kept_by store = AreKept store state
@@ -37,14 +37,14 @@ module _ (base : Parts) (tolerance : ℕ) (state : ChannelState) (text : Option 
     pub changes : ChangesStore (at old) (at new) result outcome
     pub on : StandsOn (at old) event result (at new)
 
-  moved : (old new : Store) → Stay old new shown state.rest → at new ≡ with_store (at old) new
+  moved : (old new : Store) → Stay old new shown state.shown.rest → at new ≡ with_store (at old) new
   moved old new s =
-      ap (λ xs. record (at old) { kept = record (at old).kept { store = new; shown = reverse xs; rest = rest_in new state.rest } }) s.marks.same
+      ap (λ xs. record (at old) { kept = record (at old).kept { store = new; shown = reverse xs; rest = rest_in new state.shown.rest } }) s.marks.same
       ∙ ap (λ r. record (at old) { kept = record (at old).kept { store = new; rest = r } }) s.rest.same
 
   changed : (old new : Store) (event : Given) (given : List Given) → Represents (at old) given → kept_by old → ((mark : Option Mark) → HasPod old mark → HasPod new mark)
       → Represents (with_store (at old) new) (event ∷ given) → Represents (at new) (event ∷ given)
-  changed old new event given s d keeps h = subst (λ c. Represents c (event ∷ given)) (sym (moved old new (all_stay (at old) given new shown state.rest s refl refl d.0 d.1 keeps))) h
+  changed old new event given s d keeps h = subst (λ c. Represents c (event ∷ given)) (sym (moved old new (all_stay (at old) given new shown state.shown.rest s refl refl d.0 d.1 keeps))) h
 
   pub answered : (old new : Store) (event : Given) (result : Result (Unit {0}) DecisionFault) (outcome : Outcome (Store)) → Changes old new result outcome → Stands (at old) → kept_by old
       → ((mark : Option Mark) → HasPod old mark → HasPod (taken old outcome) mark)
@@ -54,7 +54,7 @@ module _ (base : Parts) (tolerance : ℕ) (state : ChannelState) (text : Option 
       let same : taken old outcome ≡ new = ap (taken old) h in
       let keeps_new = subst (λ (x : Store). (mark : Option Mark) → HasPod old mark → HasPod x mark) same keeps in
       let follows_new = subst (λ (x : Store). (given : List Given) → Represents (at old) given → Represents (with_store (at old) x) (event ∷ given)) same follows in
-      let stay = all_stay (at old) stands.0 new shown state.rest stands.1 refl refl d.0 d.1 keeps_new in
+      let stay = all_stay (at old) stands.0 new shown state.shown.rest stands.1 refl refl d.0 d.1 keeps_new in
       record {
         stands = (event ∷ stands.0, changed old new event stands.0 stands.1 d keeps_new (follows_new stands.0 stands.1));
         decided = (stay.marks.decided, stay.rest.decided);

@@ -6,4 +6,5 @@ pub mod Accepting
 pub mod Marks
 pub mod Refreshing
 pub mod Owed
+pub mod LastEntered
 pub mod LastText

@@ -42,7 +42,7 @@ use Rattle.channel_window.specs.Showing.{AreKept, kept_in}
 use Rattle.channel_window.specs.Listed.{IsRestDecided}
 use Rattle.live_channel.specs.Channel.{Channel, Reading, refreshed, IsAsTyped, Stands, IsContiguous, channel_with, judged, refreshed_with, fresh_after, step_judged, step_read, says_read, is_out_of_memory, Steps, StepsUnless, Refreshes}
 use Rattle.live_channel.specs.Inner.Accepting.{breaks_after, IsAccepted, IsRead, Follows, RefusesNext, Refused, accepted_state}
-use Rattle.channel_window.proofs.Shown.{marked_too}
+use Rattle.channel_window.proofs.ShownWith.{marked_too}
 use Rattle.live_channel.proofs.Stores.{MarksStay, RestStays, Stay, unturned}
 use Rattle.live_channel.proofs.Steps.{steps_refresh}
 
@@ -174,20 +174,20 @@ module _ (base : Parts) (tolerance : ℕ) (state : ChannelState) (text : Option 
         → is_one_of a.in_use.items id ≡ true
     listed id k = accepted.in_use.ids id ∙ (in_use_with_is (first_number p.segments) (kept_list tolerance kept p) (or_earlier (last_entered (kept_list tolerance kept p)) kept.entered) (rest_after kept p (kept_list tolerance kept p)) id ∙ k)
 
-    in_use : AllByRecursion (λ (x : Marked). (id : List ℕ) → is_marked id x.mark ≡ true → is_one_of a.in_use.items id ≡ true) (so_far state.store a.shown.items)
+    in_use : AllByRecursion (λ (x : Marked). (id : List ℕ) → is_marked id x.mark ≡ true → is_one_of a.in_use.items id ≡ true) (so_far state.store a.shown.list)
     in_use =
         subst (λ (xs : List Marked). AllByRecursion (λ (x : Marked). (id : List ℕ) → is_marked id x.mark ≡ true → is_one_of a.in_use.items id ≡ true) xs) (sym accepted.shown)
         (used_from (first_number p.segments) (is_one_of a.in_use.items) (kept_list tolerance kept p) (λ id k. listed id (or_first _ _ (or_first _ _ k))))
 
-    rest_used : (id : List ℕ) → is_this id (rest_id (rest_in state.store a.rest)) ≡ true → is_one_of a.in_use.items id ≡ true
+    rest_used : (id : List ℕ) → is_this id (rest_id (rest_in state.store a.shown.rest)) ≡ true → is_one_of a.in_use.items id ≡ true
     rest_used id k = listed id (or_second _ _ (ap (λ o. is_this id (rest_id o)) (sym accepted.rest) ∙ k))
 
-    stay : Stay state.store (kept_in_use a.in_use.items state.store) a.shown.items a.rest
+    stay : Stay state.store (kept_in_use a.in_use.items state.store) a.shown.list a.shown.rest
     stay = record {
       marks =
-          marks_stay a.in_use.items state.store a.shown.items accepted.decided
-          (unturned (λ (x : Marked). (id : List ℕ) → is_marked id x.mark ≡ true → is_one_of a.in_use.items id ≡ true) (map (meant state.store) a.shown.items) [] in_use).0;
-      rest = rest_stays a.in_use.items state.store a.rest accepted.rest_decided rest_used;
+          marks_stay a.in_use.items state.store a.shown.list accepted.decided
+          (unturned (λ (x : Marked). (id : List ℕ) → is_marked id x.mark ≡ true → is_one_of a.in_use.items id ≡ true) (map (meant state.store) a.shown.list) [] in_use).0;
+      rest = rest_stays a.in_use.items state.store a.shown.rest accepted.rest_decided rest_used;
     }
 
     kept_is : kept_in (accepted_state state p a) ≡ kept_after tolerance kept p

@@ -15,17 +15,16 @@ use crate::refresh::{accept, next_after, playlist_after, playlist_of};
 use crate::type_facts::know_pods;
 use break_finder::{Knowledge, Why};
 use channel_spec::{MAX_TOLERANCE, RefreshFault};
-use channel_window::{ChannelState, has_init_sections};
+use channel_window::{ChannelState, Shown, has_init_sections};
 use decision_files::read_decisions;
 use fixed_duration::Nanos;
-use playlist_model::{Items, Playlist, Shared, Text};
+use playlist_model::{Playlist, Shared, Text};
 use playlist_parse::{Read, Source};
 use playlist_write::resumed::WrittenText;
 use pod_store::{DecisionFault, PodStore};
 use std::alloc::{AllocError, Global};
 use std::hash::RandomState;
 use std::marker::Model;
-use stitcher::{MarkedSegment, Numbers};
 use uri_resolver::{Base, BaseFault};
 
 /// What an accepted refresh did.
@@ -119,17 +118,8 @@ impl Channel {
             tolerance,
             state: ChannelState {
                 store: PodStore::new(alloc, hashing),
-                knowledge: Knowledge::new(alloc, hashing),
                 last: None,
-                shown: Items::from_vec(Vec::new(alloc)),
-                entered: None,
-                numbers: Numbers {
-                    media_sequence: 0,
-                    discontinuity_sequence: 0,
-                    discontinuities: 0,
-                },
-                so_far: Nanos(0),
-                rest: None,
+                shown: Shown::new(alloc, hashing),
             },
             written: None,
             source: None,
@@ -236,7 +226,7 @@ impl Channel {
         ensures place { option_map (λ id. id.now) result ≡ option_map id_of (slice_get self.now.kept.breaks place) }
         ensures owed { Knows self.now place (option_map (λ id. id.now) result) }
     {
-        self.state.knowledge.ids(place)
+        self.state.shown.knowledge.ids(place)
     }
 
     #[tactic(auto, using(crate::proofs::Owed::explains))]
@@ -247,7 +237,7 @@ impl Channel {
         ensures owed { Explains self.now id.now result }
     {
         match &self.state.last {
-            Some(last) => why_after(&self.state.knowledge, &self.state.store, last, id),
+            Some(last) => why_after(&self.state.shown.knowledge, &self.state.store, last, id),
             None => Why::NotKnown,
         }
     }

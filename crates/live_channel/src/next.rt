@@ -4,6 +4,8 @@ ghost use Rattle.std.specs.List.{list_all, list_any};
 ghost use Rattle.stitcher.specs.Stitched.{fits};
 ghost use Rattle.playlist_write.specs.Owed.{playlist_text};
 ghost use Rattle.stitcher.specs.StitchedSegments.{AreDecided};
+ghost use Rattle.playlist_model.specs.LookBack.{or_earlier};
+ghost use Rattle.channel_spec.specs.Marking.{last_entered};
 ghost use Rattle.channel_spec.specs.Kept.{items_on};
 ghost use Rattle.channel_spec.specs.Live.{date_range_text, date_ranges_left};
 ghost use Rattle.channel_window.specs.Marking.{so_far};
@@ -16,37 +18,25 @@ ghost use Rattle.live_channel.specs.Inner.LastText.{Stood, StoodIn, StandIn};
 
 use crate::channel::Refreshed;
 use crate::in_use::breaks_in_use;
-use break_finder::Knowledge;
 use channel_spec::RefreshFault;
 use channel_window::{
-    ChannelState, PlacedList, Showing, count_before, date_ranges_left, first_number, from_place,
-    head_of, last_entered, placed_of,
+    ChannelState, PlacedList, Showing, Shown, count_before, date_ranges_left, first_number,
+    from_place, head_of, placed_of,
 };
-use fixed_duration::Nanos;
 use playlist_model::{Items, Playlist, Shared, Text};
 use playlist_write::OutPlaylist;
 use playlist_write::resumed::{WrittenText, front_length, laid_after, laid_out};
 use std::alloc::{AllocError, Global};
 use std::hash::RandomState;
-use stitcher::{MarkedSegment, Numbers, Rest, StitchedList, TextRef};
+use stitcher::{StitchedList, TextRef};
 
 /// What a channel comes to by an accepted refresh.
 #[derive(Drop)]
 pub struct NextState {
-    /// The breaks that are known.
-    pub knowledge: Knowledge,
-    /// The segments that are shown from the playlist's first one on, the oldest first.
-    pub shown: Vec<MarkedSegment>,
-    /// The last break entered.
-    pub entered: Option<Shared<Text>>,
+    /// What it shows.
+    pub shown: Shown,
     /// The breaks in use.
     pub in_use: Vec<Shared<Text>>,
-    /// The numbers of the window's first item.
-    pub numbers: Numbers,
-    /// How long the newest run has lasted.
-    pub so_far: Nanos,
-    /// The rest of a pod that the window starts with.
-    pub rest: Option<Rest>,
     /// What the refresh did.
     pub refreshed: Refreshed,
     /// The text that is written.
@@ -172,8 +162,9 @@ pub fn next_of(
 ) -> Result<NextState, RefreshFault>
     requires stood { StoodIn (kept_in state.now) (items_on (kept_in state.now) playlist.now (so_far state.now.store showing.list.items) showing.so_far) written.now }
     requires decided { AreDecided state.now.store showing.list.items }
-    requires front { IsFront state.now.shown showing.list.items }
-    requires rest { IsRestDecided state.now.store state.now.rest }
+    requires front { IsFront state.now.shown.list showing.list.items }
+    requires entered { showing.entered ≡ or_earlier (last_entered (so_far state.now.store showing.list.items)) state.now.shown.entered }
+    requires rest { IsRestDecided state.now.store state.now.shown.rest }
     ensures ok { IfOk result (λ next. IsNext (kept_in state.now) playlist.now showing.knowledge (so_far state.now.store showing.list.items) showing.so_far showing.fresh next) }
     ensures err { IfErr result (λ e. RefusesList e (list_all fits (items_on (kept_in state.now) playlist.now (so_far state.now.store showing.list.items) showing.so_far) ≡ false)) }
 {
@@ -190,8 +181,7 @@ pub fn next_of(
     let again = standing(alloc, written, &whole, start, stood)?;
     let mut items = whole;
     items.leave_out(start);
-    let entered = last_entered(list, &state.entered)?;
-    let in_use = breaks_in_use(alloc, number, list, &entered, &rest)?;
+    let in_use = breaks_in_use(alloc, number, list, &showing.entered, &rest)?;
     let numbers = head_of(&items);
     let refreshed = Refreshed {
         media_sequence: numbers.media_sequence,
@@ -201,14 +191,17 @@ pub fn next_of(
     let hashing = state.store.hashing();
     let written = text_without(alloc, hashing, playlist, in_use.as_slice(), items, &again)?;
     let gone = count_before(number, list);
-    Ok(NextState {
+    let shown = Shown {
         knowledge: showing.knowledge,
-        shown: from_place(showing.list, gone)?,
-        entered,
-        in_use,
+        list: Items::from_vec(from_place(showing.list, gone)?),
+        entered: showing.entered,
         numbers,
         so_far: showing.so_far,
         rest,
+    };
+    Ok(NextState {
+        shown,
+        in_use,
         refreshed,
         written,
     })

@@ -8,7 +8,7 @@ ghost use Rattle.channel_spec.specs.Live.{succession_fault};
 ghost use Rattle.channel_spec.specs.Successor.{answer_of};
 ghost use Rattle.channel_window.specs.Checked.{AreContiguous};
 ghost use Rattle.playlist_parse.specs.Kept.{AreTaken, IsKept, IsSource, last_segments};
-ghost use Rattle.channel_window.specs.Showing.{AreKept, kept_in};
+ghost use Rattle.channel_window.specs.Showing.{AreKept, IsLastEntered, kept_in};
 ghost use Rattle.live_channel.specs.Channel.{IsContiguous};
 ghost use Rattle.live_channel.specs.Inner.Accepting.{IsAccepted, IsRead, Follows, Refused, RefusesNext, accepted_state};
 ghost use Rattle.channel_window.specs.Listed.{RefusesList};
@@ -21,7 +21,7 @@ use crate::type_facts::utf8_of_uris;
 use channel_spec::RefreshFault;
 use channel_window::{ChannelState, check_successor, shown_with};
 use fixed_duration::Nanos;
-use playlist_model::{Items, Playlist};
+use playlist_model::Playlist;
 use playlist_parse::{Read, Source, read, read_after};
 use playlist_write::resumed::WrittenText;
 use std::alloc::Global;
@@ -52,6 +52,7 @@ fn next_kept(
     requires stood { StoodIn (kept_in state.now) (kept_items tolerance (kept_in state.now) playlist.now) written.now }
     requires contiguous { AreContiguous playlist.now.segments }
     requires decided { AreKept state.now.store state.now }
+    requires entered { IsLastEntered (kept_in state.now) }
     ensures ok { IfOk result (λ a. IsAccepted tolerance (kept_in state.now) playlist.now a) }
     ensures err { IfErr result (λ e. RefusesList e (list_all fits (kept_items tolerance (kept_in state.now) playlist.now) ≡ false)) }
 {
@@ -72,6 +73,7 @@ pub fn next_after(
     requires stood { StoodBefore tolerance (kept_in state.now) read.now.playlist written.now }
     requires contiguous { AreContiguous read.now.playlist.segments }
     requires decided { AreKept state.now.store state.now }
+    requires entered { IsLastEntered (kept_in state.now) }
     requires last { IsContiguous state.now.last }
     requires taken { AreTaken (last_segments state.now.last) read.now.playlist.segments read.now.taken.start read.now.taken.end }
     ensures ok { IfOk result (λ a. Follows tolerance (kept_in state.now) read.now.playlist a) }
@@ -138,12 +140,7 @@ pub fn accept(
 {
     state.store.keep_in_use(next.in_use.as_slice())?;
     *written = Some(next.written);
-    state.knowledge = next.knowledge;
     state.last = Some(playlist);
-    state.shown = Items::from_vec(next.shown);
-    state.entered = next.entered;
-    state.numbers = next.numbers;
-    state.so_far = next.so_far;
-    state.rest = next.rest;
+    state.shown = next.shown;
     Ok(next.refreshed)
 }

@@ -25,13 +25,15 @@ use Rattle.served_examples.specs.Answers.{first_refresh, refresh}
 abbrev pub state : ChannelState
 state = record {
   store = ab;
-  knowledge = record { id = codes "a"; said = nothing_said } ∷ [];
   last = Some five;
-  shown = record { segment = stepped 5 3 1; instant = None; mark = None } ∷ record { segment = stepped 6 3 0; instant = None; mark = Some (codes "a") } ∷ [];
-  entered = Some (codes "a");
-  numbers = record { media_sequence = 8; discontinuity_sequence = 4; discontinuities = 2 };
-  so_far = 7;
-  rest = Some (record { id = codes "b"; place = 3 });
+  shown = record {
+    knowledge = record { id = codes "a"; said = nothing_said } ∷ [];
+    list = record { segment = stepped 5 3 1; instant = None; mark = None } ∷ record { segment = stepped 6 3 0; instant = None; mark = Some (codes "a") } ∷ [];
+    entered = Some (codes "a");
+    numbers = record { media_sequence = 8; discontinuity_sequence = 4; discontinuities = 2 };
+    so_far = 7;
+    rest = Some (record { id = codes "b"; place = 3 });
+  };
 }
 
 -- the segments stand with the newest first, and a mark has its pod

@@ -43,15 +43,15 @@ text_with_window p breaks window = playlist_text (out_playlist p (map date_range
 -- has lasted so long, and so many of which weren't shown before: each number of the stitched list fits
 pub record IsNext (kept : Kept) (p : Playlist) (known : List Break) (list : List Marked) (so_long fresh : ℕ) (next : NextState) : Type 0 where
   pub fit : list_all fits (items_on kept p list so_long) ≡ true
-  pub breaks : next.knowledge ≡ known
-  pub shown : so_far kept.store next.shown.items ≡ shown_from (first_number p.segments) list
-  pub decided : AreDecided kept.store next.shown.items
-  pub entered : next.entered ≡ or_earlier (last_entered list) kept.entered
+  pub breaks : next.shown.knowledge ≡ known
+  pub shown : so_far kept.store next.shown.list ≡ shown_from (first_number p.segments) list
+  pub decided : AreDecided kept.store next.shown.list
+  pub entered : next.shown.entered ≡ or_earlier (last_entered list) kept.entered
   pub in_use : NameTheSame next.in_use.items (breaks_after kept p list)
-  pub numbers : next.numbers ≡ head_numbers (window_on kept p list so_long)
-  pub lasted : next.so_far ≡ so_long
-  pub rest : rest_in kept.store next.rest ≡ rest_after kept p list
-  pub rest_decided : IsRestDecided kept.store next.rest
+  pub numbers : next.shown.numbers ≡ head_numbers (window_on kept p list so_long)
+  pub lasted : next.shown.so_far ≡ so_long
+  pub rest : rest_in kept.store next.shown.rest ≡ rest_after kept p list
+  pub rest_decided : IsRestDecided kept.store next.shown.rest
   pub refreshed : next.refreshed ≡ refreshed_with (window_on kept p list so_long) fresh
   pub text : next.written.text ≡ text_with_window p (breaks_after kept p list) (window_on kept p list so_long)
   pub laid : IsLaid (map written_item (window_on kept p list so_long)) next.written
@@ -90,13 +90,4 @@ Refused base tolerance state bytes fault =
 
 -- what is kept then: a break that is in use keeps its pod, or a copy of the fallback
 abbrev pub accepted_state : ChannelState → Playlist → NextState → ChannelState
-accepted_state state p next = record {
-  store = kept_in_use next.in_use.items state.store;
-  knowledge = next.knowledge;
-  last = Some p;
-  shown = next.shown.items;
-  entered = next.entered;
-  numbers = next.numbers;
-  so_far = next.so_far;
-  rest = next.rest;
-}
+accepted_state state p next = record { store = kept_in_use next.in_use.items state.store; last = Some p; shown = next.shown }

@@ -6,7 +6,7 @@ use Rattle.stitcher.specs.Written.{written_item}
 use Rattle.stitcher.specs.declared.OutSegment.{OutSegment}
 use Rattle.channel_spec.specs.Live.{succession_fault}
 use Rattle.channel_spec.specs.Kept.{Kept, kept_items}
-use Rattle.channel_spec.specs.LastWindow.{last_pieces, last_items}
+use Rattle.channel_spec.specs.LastWindow.{last_pieces}
 use Rattle.playlist_write.specs.declared.resumed.WrittenText.{WrittenText}
 use Rattle.playlist_write.specs.Laid.{IsLaid, StandsAgain}
 use Rattle.live_channel.specs.declared.next.Again.{Again}

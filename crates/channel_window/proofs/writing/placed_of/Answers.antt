@@ -10,7 +10,7 @@ pub returns-in_err-first-clause-err : goal.returns-in_err-first-clause-err
 returns-in_err-first-clause-err c =
     let s = c.args.state.now in
     let list = c.args.list.now in
-    let same = fit_is s c.args.playlist.now list c.args.lasted c.in_ok-ends.ends (numbers_on s.last s.numbers (so_far s.store list)) c.requires.decided (c.in_ok-ends.ensures s.store) refl in
+    let same = fit_is s c.args.playlist.now list c.args.lasted c.in_ok-ends.ends (numbers_on s.last s.shown.numbers (so_far s.store list)) c.requires.decided (c.in_ok-ends.ensures s.store) refl in
     handed_on c.from_residual-in_err-first.result c.in_err-first.field-0.0 c.from_residual-in_err-first.ensures.1 c.in_err-first.ensures.err (λ h. sym same ∙ h)
 
 pub returns-in_err-whole-clause-err : goal.returns-in_err-whole-clause-err

@@ -19,7 +19,7 @@ returns-in_default-clause-value c =
 pub written_before-most-requires-clause-decided : goal.written_before-most-requires-clause-decided
 written_before-most-requires-clause-decided c =
     let s = c.args.state.now in
-    front_decided s.store c.args.list.now s.shown c.requires.decided c.requires.front
+    front_decided s.store c.args.list.now s.shown.list c.requires.decided c.requires.front
 
 pub returns-clause-value : goal.returns-clause-value
 returns-clause-value c =

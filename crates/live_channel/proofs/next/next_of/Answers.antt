@@ -36,26 +36,29 @@ returns-clause-ok c =
     let items = c.leave_out.new.self in
     let rest = c.in_ok-whole.field-0.rest in
     let window : items ≡ map written_item (window_on (kept_in s) p seen n) = c.leave_out.ensures ∙ c.in_ok-whole.ensures.window in
-    let entered_is : c.in_ok-entered.entered ≡ or_earlier (last_entered seen) s.entered = search rules in
-    let breaks_are : NameTheSame c.in_ok-in_use.in_use.items (breaks_held (first_number p.segments) held c.in_ok-entered.entered rest) = search rules in
+    let entered = c.args.showing.entered in
+    let entered_is : entered ≡ or_earlier (last_entered seen) s.shown.entered = c.requires.entered ∙ ap (λ (xs : List Held). or_earlier (last_entered (so_far s.store xs)) s.shown.entered) (sym same) in
+    let breaks_are : NameTheSame c.in_ok-in_use.in_use.items (breaks_held (first_number p.segments) held entered rest) = search rules in
     let breaks : NameTheSame c.in_ok-in_use.in_use.items (breaks_after (kept_in s) p seen) =
-    subst (λ ids. NameTheSame c.in_ok-in_use.in_use.items ids) (breaks_seen s (kept_in s) p held c.in_ok-entered.entered (or_earlier (last_entered seen) s.entered) rest all_decided entered_is c.in_ok-whole.ensures.rest c.in_ok-whole.ensures.left) breaks_are in
+    subst (λ ids. NameTheSame c.in_ok-in_use.in_use.items ids) (breaks_seen s (kept_in s) p held entered (or_earlier (last_entered seen) s.shown.entered) rest all_decided entered_is c.in_ok-whole.ensures.rest c.in_ok-whole.ensures.left) breaks_are in
     let number = first_number p.segments in
     let dropped_is : so_far s.store (drop c.count_before-gone.result held) ≡ shown_from number seen = search rules in
-    let tail : c.in_ok-from_place.field-0.items ≡ drop c.count_before-gone.result held = c.in_ok-from_place.ensures ∙ ap (drop c.count_before-gone.result) (sym same) in
+    let tail : c.from_vec.result ≡ drop c.count_before-gone.result held = c.from_vec.ensures ∙ c.in_ok-from_place.ensures ∙ ap (drop c.count_before-gone.result) (sym same) in
     let inside = c.numbers.inside in
     let numbers : Numbers = record { media_sequence = inside.media_sequence; discontinuity_sequence = inside.discontinuity_sequence; discontinuities = inside.discontinuities } in
     let head_is : c.head_of-numbers.result ≡ head_of items = search rules in
     let numbers_are : numbers ≡ head_of items = c.numbers.view_is ∙ head_is in
     let done : Refreshed = record { media_sequence = inside.media_sequence; segments = c.count.result; fresh = c.args.showing.fresh } in
     let next : NextState = record {
-      knowledge = c.args.showing.knowledge;
-      shown = c.in_ok-from_place.field-0;
-      entered = c.in_ok-entered.entered;
+      shown = record {
+        knowledge = c.args.showing.knowledge;
+        list = c.from_vec.result;
+        entered = entered;
+        numbers = c.head_of-numbers.result;
+        so_far = n;
+        rest = rest;
+      };
       in_use = c.in_ok-in_use.in_use;
-      numbers = c.head_of-numbers.result;
-      so_far = n;
-      rest = rest;
       refreshed = done;
       written = c.in_ok-written.written;
     } in

@@ -1,12 +1,17 @@
-use Rattle.std.proofs.Common.{◌≡◌, ◌++◌, ℕ, List, length}
-use Rattle.std.specs.Prelude.{Option, None}
-use Rattle.channel_window.specs.Marking.{mark_on}
+use Rattle.std.proofs.Common.{◌≡◌, ◌++◌, length}
+use Rattle.std.specs.Prelude.{None}
+use Rattle.channel_window.specs.Marking.{mark_on, entered_after, length_after}
 use Rattle.channel_window.proofs.marking.Marker.all_unmarked.Given as goal
 
 abbrev pub invariant-loop-segment : goal.invariant-loop-segment
-invariant-loop-segment l =
-    (last : Option (List ℕ)) → l.done.items ++ mark_on l.self None last l.segments l.instants
-    ≡ l.fn.done.items ++ mark_on l.self None last l.fn.segments l.fn.instants
+invariant-loop-segment l = record {
+  done : l.done.items ++ mark_on l.self l.run.before l.run.entered l.segments l.instants ≡ l.fn.done.items ++ mark_on l.self l.fn.run.before l.fn.run.entered l.fn.segments l.fn.instants;
+  entered : entered_after l.run.entered (mark_on l.self l.run.before l.run.entered l.segments l.instants)
+      ≡ entered_after l.fn.run.entered (mark_on l.self l.fn.run.before l.fn.run.entered l.fn.segments l.fn.instants);
+  so_far : length_after l.self.store l.run.before l.run.so_far (mark_on l.self l.run.before l.run.entered l.segments l.instants)
+      ≡ length_after l.self.store l.fn.run.before l.fn.run.so_far (mark_on l.self l.fn.run.before l.fn.run.entered l.fn.segments l.fn.instants);
+  before : l.run.before ≡ None;
+}
 
 abbrev pub decreases-loop-segment : goal.decreases-loop-segment
 decreases-loop-segment l = length l.segments

@@ -2,11 +2,12 @@ use Rattle.std.proofs.Common.{◌≡◌, Ok, rules, subst, sym}
 use Rattle.std.specs.Prelude.{IfErr, Some}
 use Rattle.channel_spec.specs.declared.fault.RefreshFault.TheVariants.{OutOfMemory}
 use Rattle.channel_spec.specs.Kept.{kept_refusal}
-use Rattle.channel_window.specs.Showing.{AreKept, kept_in}
+use Rattle.channel_window.specs.Showing.{AreKept, IsLastEntered, kept_in}
 use Rattle.channel_window.specs.declared.state.ChannelState.{ChannelState}
 use Rattle.playlist_parse.specs.Kept.{AreTaken, IsKept, IsSource, last_segments}
-use Rattle.live_channel.specs.Channel.{Channel, Stands, IsContiguous, channel_with, text_in, Refreshes}
+use Rattle.live_channel.specs.Channel.{Channel, Stands, IsContiguous, channel_with, told_by, text_in, Refreshes}
 use Rattle.live_channel.specs.Inner.Accepting.{IsRead, RefusesNext}
+use Rattle.live_channel.proofs.LastEntered.{is_last_entered}
 use Rattle.live_channel.proofs.Refreshing.{goes, stays_next, stays_full}
 use Rattle.live_channel.specs.LastText.{IsLaidOut}
 use Rattle.live_channel.proofs.LastText.{stood_before, laid_next}
@@ -28,6 +29,12 @@ next_after-requires-clause-stood c =
     let s = c.self.invariant.0 in
     let here : IsRead i.base bytes p = subst (λ (x : Channel). IsRead x.base bytes p) (sym c.self.view_is) c.requires.read.is_read in
     stood_before i.base i.tolerance s.0 bytes p (kept_in i.state) i.written s.1.kept s.1.typed here.read c.self.invariant.3
+
+pub next_after-requires-clause-entered : goal.next_after-requires-clause-entered
+next_after-requires-clause-entered c =
+    let i = c.self.inside in
+    let s = c.self.invariant.0 in
+    subst IsLastEntered (sym s.1.kept) (is_last_entered (told_by i.base i.tolerance s.0))
 
 pub returns-in_err-next : goal.returns-in_err-next
 returns-in_err-next c bytes read =

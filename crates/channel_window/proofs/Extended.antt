@@ -1,0 +1,107 @@
+-- A run with one segment more.
+use Rattle.std.proofs.Common.{◌≡◌, ℕ, ◌+◌, ℤ, true, false, cond, List, [], ◌∷◌, refl, ap, sym, ◌∙◌}
+use Rattle.std.specs.Prelude.{Option, Some, None, option_map}
+use Rattle.std.proofs.lemmas.Slice.Eq.{bytes_eq-Decides}
+use Rattle.playlist_model.specs.declared.Segment.{Segment}
+use Rattle.playlist_model.specs.LookBack.{or_earlier}
+use Rattle.pod_store.specs.Store.{Store}
+use Rattle.pod_store.specs.Marks.{Mark, Marked, newest_mark}
+use Rattle.stitcher.specs.declared.marked.MarkedSegment.{MarkedSegment as Held}
+use Rattle.break_finder.specs.Entering.{entered}
+use Rattle.channel_spec.specs.Marking.{Moment, limits, mark_id, last_mark, last_entered}
+use Rattle.channel_window.specs.Marking.{stays, next_id, mark_on, capped_in, length_before, length_after, entered_after}
+use Rattle.channel_window.specs.declared.marking.Run.{Run}
+use Rattle.channel_window.specs.Inner.Terms.{IsExtended, IsRun, capped_at, stays_in}
+
+-- ---- a segment without a mark, after another
+
+pub unmarked_on : (store : Store) (duration : ℕ) (run : Run) (mark : Option (List ℕ)) → run.before ≡ None → mark ≡ run.before → IsExtended store duration mark run (record run { so_far = 0 })
+unmarked_on store duration run mark none is =
+    let here : mark ≡ None = is ∙ none in
+    record {
+      before = sym is;
+      entered = sym (ap (λ o. or_earlier o run.entered) here);
+      so_far = sym (ap (λ o. capped_in store o (duration + length_before o run.before run.so_far)) here);
+    }
+
+-- ---- a segment that stays in its run
+
+length_itself : (m : Moment) (mark : Option (List ℕ)) (instant : Option ℤ) (n : ℕ) → stays m mark instant ≡ true → length_before mark mark n ≡ n
+length_itself m None instant n h = absurd (cc)
+length_itself m (Some id) instant n h = ap (λ b. cond b n 0) ((bytes_eq-Decides id id).1 refl)
+
+pub stays_on : (m : Moment) (run : Run) (duration n : ℕ) (instant : Option ℤ) (mark : Option (List ℕ)) → IsRun m run → stays_in run.terms instant ≡ true → n ≡ capped_at run.terms (duration + run.so_far) → mark ≡ run.before
+    → IsExtended m.store duration mark run (record run { so_far = n })
+stays_on m run duration n instant mark r h k is =
+    let stay : stays m run.before instant ≡ true = sym (r.terms.stays instant) ∙ h in
+    record {
+      before = sym is;
+      entered = sym (ap (λ o. or_earlier o run.entered) is ∙ r.entered);
+      so_far =
+          k
+          ∙ (r.terms.capped (duration + run.so_far)
+          ∙ (ap (λ (n : ℕ). capped_in m.store run.before (duration + n)) (sym (length_itself m run.before instant run.so_far stay))
+          ∙ ap (λ o. capped_in m.store o (duration + length_before o run.before run.so_far)) (sym is)));
+    }
+
+pub stays_next : (m : Moment) (run : Run) (instant : Option ℤ) (mark : Option (List ℕ)) → IsRun m run → stays_in run.terms instant ≡ true → mark ≡ run.before → mark ≡ next_id m run.before run.entered instant
+stays_next m run instant mark r h is =
+    let stay : stays m run.before instant ≡ true = sym (r.terms.stays instant) ∙ h in
+    is ∙ sym (ap (λ b. cond b run.before (entered (limits m run.entered) m.store m.breaks instant)) stay)
+
+-- ---- one that begins a run
+
+pub begins_next : (m : Moment) (run : Run) (instant : Option ℤ) (mark : Option (List ℕ)) → IsRun m run → stays_in run.terms instant ≡ false → mark ≡ entered (limits m run.entered) m.store m.breaks instant
+    → mark ≡ next_id m run.before run.entered instant
+begins_next m run instant mark r h is =
+    let stay : stays m run.before instant ≡ false = sym (r.terms.stays instant) ∙ h in
+    is ∙ sym (ap (λ b. cond b run.before (entered (limits m run.entered) m.store m.breaks instant)) stay)
+
+pub earlier_twice : (mark last : Option (List ℕ)) → or_earlier mark (or_earlier mark last) ≡ or_earlier mark last
+earlier_twice None last = refl
+earlier_twice (Some id) last = refl
+
+-- ---- the break of the newest segment, if any, is the last one entered
+
+newest_by : (o : Option Mark) (newest last : Option (List ℕ)) (before : Option Mark) → option_map mark_id o ≡ newest → or_earlier (option_map mark_id (or_earlier o before)) last ≡ last → or_earlier newest last ≡ last
+newest_by None newest last before e h = sym (ap (λ id. or_earlier id last) e)
+newest_by (Some mark) newest last before e h = sym (ap (λ id. or_earlier id last) e) ∙ h
+
+pub newest_is_last : (seen : List Marked) (newest last : Option (List ℕ)) → option_map mark_id (newest_mark seen) ≡ newest → or_earlier (last_entered seen) last ≡ last → or_earlier newest last ≡ last
+newest_is_last [] newest last e h = newest_by None newest last None e h
+newest_is_last (s ∷ before) newest last e h = newest_by s.mark newest last (last_mark before) e h
+
+-- ---- the marks of the next segments
+
+pub one_marked : (m : Moment) (newest last mark : Option (List ℕ)) (s : Segment) (later segments : List Segment) (instant : Option ℤ) (more instants : List (Option ℤ)) → segments ≡ s ∷ later → instants ≡ instant ∷ more
+    → mark ≡ next_id m newest last instant → mark_on m newest last segments instants ≡ record { segment = s; instant = instant; mark = mark } ∷ mark_on m mark (or_earlier mark last) later more
+one_marked m newest last mark s later segments instant more instants e f is =
+    ap (λ ss. mark_on m newest last ss instants) e
+    ∙ (ap (mark_on m newest last (s ∷ later)) f
+    ∙ ap (λ id. record { segment = s; instant = instant; mark = id } ∷ mark_on m id (or_earlier id last) later more) (sym is))
+
+pub record OneMore (m : Moment) (old new : Run) (segments later : List Segment) (instants more : List (Option ℤ)) (here : Held) : Type 0 where
+  pub list : mark_on m old.before old.entered segments instants ≡ here ∷ mark_on m new.before new.entered later more
+  pub entered : entered_after new.entered (mark_on m new.before new.entered later more) ≡ entered_after old.entered (mark_on m old.before old.entered segments instants)
+  pub so_far : length_after m.store new.before new.so_far (mark_on m new.before new.entered later more) ≡ length_after m.store old.before old.so_far (mark_on m old.before old.entered segments instants)
+
+pub one_more : (m : Moment) (old new : Run) (s : Segment) (later segments : List Segment) (instant : Option ℤ) (more instants : List (Option ℤ)) (here : Held) → segments ≡ s ∷ later → instants ≡ instant ∷ more
+    → here ≡ record { segment = s; instant = instant; mark = next_id m old.before old.entered instant } → IsExtended m.store s.duration here.mark old new → OneMore m old new segments later instants more here
+one_more m old new s later segments instant more instants here e f is goes =
+    let rest = mark_on m new.before new.entered later more in
+    let mark : here.mark ≡ next_id m old.before old.entered instant = ap (λ (h : Held). h.mark) is in
+    let itself : record { segment = s; instant = instant; mark = here.mark } ≡ here = ap (λ id. record { segment = s; instant = instant; mark = id }) mark ∙ sym is in
+    let list : mark_on m old.before old.entered segments instants ≡ here ∷ rest =
+    one_marked m old.before old.entered here.mark s later segments instant more instants e f mark
+    ∙ (ap (λ (h : Held). h ∷ mark_on m here.mark (or_earlier here.mark old.entered) later more) itself
+    ∙ (ap (λ id. here ∷ mark_on m id (or_earlier here.mark old.entered) later more) (sym goes.before)
+    ∙ ap (λ id. here ∷ mark_on m new.before id later more) (sym goes.entered))) in
+    record {
+      list = list;
+      entered = ap (λ id. entered_after id rest) goes.entered ∙ sym (ap (entered_after old.entered) list);
+      so_far =
+          ap (λ id. length_after m.store id new.so_far rest) goes.before
+          ∙ (ap (λ n. length_after m.store here.mark n rest) goes.so_far
+          ∙ (ap (λ (t : Segment). length_after m.store here.mark (capped_in m.store here.mark (t.duration + length_before here.mark old.before old.so_far)) rest) (sym (ap (λ (h : Held). h.segment) is))
+          ∙ sym (ap (length_after m.store old.before old.so_far) list)));
+    }

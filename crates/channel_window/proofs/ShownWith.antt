@@ -1,0 +1,114 @@
+-- The segments that are shown after a refresh, from those that a channel holds.
+use Rattle.std.proofs.Common.{◌≡◌, ℕ, ℤ, List, [], ◌∷◌, ◌++◌, map, length, refl, ap, sym, ◌∙◌, subst}
+use Rattle.std.specs.Prelude.{Option, Some, None, IsSome, option_map, filter}
+use mathlib.Core.List.{reverse_aux}
+use Rattle.playlist_model.specs.LookBack.{or_earlier}
+use Rattle.playlist_model.specs.declared.Playlist.{Playlist}
+use Rattle.playlist_model.specs.declared.Segment.{Segment}
+use Rattle.playlist_model.specs.Instants.{instants_after}
+use Rattle.break_finder.specs.Breaks.{Break}
+use Rattle.pod_store.specs.Pods.{Pod}
+use Rattle.pod_store.specs.Marks.{Mark, Marked, newest_mark}
+use Rattle.pod_store.specs.Store.{Store, pod_for}
+use Rattle.stitcher.specs.declared.marked.MarkedSegment.{MarkedSegment as Held}
+use Rattle.stitcher.specs.StitchedSegments.{meant, mark_in, mark_with, IsDecided, AreDecided}
+use Rattle.break_finder.specs.Known.{is_this, carry}
+use Rattle.channel_spec.specs.Successor.{has_init_sections}
+use Rattle.channel_spec.specs.Marking.{Moment, mark_id, last_mark, last_entered, is_new, newest_end}
+use Rattle.channel_spec.specs.Live.{is_marked}
+use Rattle.channel_spec.specs.Kept.{show_on, length_on, kept_acceptance}
+use Rattle.channel_window.specs.declared.state.ChannelState.{ChannelState}
+use Rattle.channel_window.specs.declared.showing.Showing.{Showing}
+use Rattle.channel_window.specs.Marking.{so_far, mark_on, entered_after, length_after}
+use Rattle.channel_window.proofs.Extended.{newest_is_last}
+use Rattle.channel_window.proofs.Listed.{seen_after, all_after, is_listed, is_decided, is_long}
+use Rattle.channel_window.specs.Showing.{kept_in, IsLastEntered, IsShown}
+
+-- ---- the mark that is carried
+
+pod_marks : (id : List ℕ) (o : Option Pod) → IsSome o → option_map mark_id (mark_with id o) ≡ Some id
+pod_marks id None h = absurd (cc)
+pod_marks id (Some pod) h = refl
+
+mark_named : (store : Store) (o : Option (List ℕ)) → IsDecided store o → option_map mark_id (mark_in store o) ≡ o
+mark_named store None h = refl
+mark_named store (Some id) h = pod_marks id (pod_for store id) h
+
+pub marked_too : (store : Store) (id : List ℕ) (o : Option (List ℕ)) → IsDecided store o → is_marked id (mark_in store o) ≡ is_this id o
+marked_too store id o d = ap (is_this id) (mark_named store o d)
+
+-- ---- the last break entered
+
+one_entered : (o x : Option Mark) (id last e : Option (List ℕ)) → option_map mark_id o ≡ id → or_earlier (option_map mark_id x) last ≡ e → or_earlier (option_map mark_id (or_earlier o x)) last ≡ or_earlier id e
+one_entered None x id last e is h = h ∙ ap (λ i. or_earlier i e) is
+one_entered (Some mark) x id last e is h = ap (λ i. or_earlier i e) is
+
+-- the last break entered, with these segments after others
+last_onto : (store : Store) (marked : List Held) (before : List Marked) (last e : Option (List ℕ)) → AreDecided store marked → or_earlier (last_entered before) last ≡ e
+    → or_earlier (last_entered (reverse_aux (map (meant store) marked) before)) last ≡ entered_after e marked
+last_onto store [] before last e d h = h
+last_onto store (m ∷ later) before last e d h =
+    last_onto store later (meant store m ∷ before) last (or_earlier m.mark e) d.1
+    (one_entered (mark_in store m.mark) (last_mark before) m.mark last e (mark_named store m.mark d.0) h)
+
+-- ---- what is shown
+
+-- the known breaks, and the segments that were shown with the new ones, where the shown segments are handed on as a list
+module _ (tolerance : ℕ) (state : ChannelState) (p : Playlist) (shown : List Held) (newest : Option (List ℕ)) (fresh : List Segment) (ended : Option ℤ) (begun : List (Option ℤ)) (marked : List Held) (a : Showing)
+    (before : AreDecided state.store state.shown.list) (last_is : IsLastEntered (kept_in state)) (same : shown ≡ state.shown.list)
+    (mark_is : newest_mark (so_far state.store shown) ≡ mark_in state.store newest) (newest_is : AreDecided state.store shown → IsDecided state.store newest)
+    (breaks_are : a.knowledge ≡ carry (record { playlist = p; carried = newest }) state.shown.knowledge) (fresh_is : fresh ≡ filter (is_new (so_far state.store shown)) p.segments)
+    (ended_is : ended ≡ newest_end (so_far state.store shown)) (begun_is : begun ≡ instants_after ended fresh)
+    (marked_is : marked ≡ mark_on (record { tolerance = tolerance; target_duration = p.target_duration; with_init_sections = has_init_sections p.segments; breaks = a.knowledge; store = state.store }) newest state.shown.entered fresh begun)
+    (list_is : a.list.items ≡ shown ++ marked) (entered_is : a.entered ≡ entered_after state.shown.entered marked) where
+  abbrev store : Store
+  store = state.store
+
+  abbrev moment : List Break → Moment
+  moment breaks = record { tolerance = tolerance; target_duration = p.target_duration; with_init_sections = has_init_sections p.segments; breaks = breaks; store = store }
+
+  decided : AreDecided store shown
+  decided = subst (AreDecided store) (sym same) before
+
+  breaks_kept : a.knowledge ≡ carry (kept_acceptance (kept_in state) p) state.shown.knowledge
+  breaks_kept =
+      breaks_are
+      ∙ ap (λ o. carry (record { playlist = p; carried = o }) state.shown.knowledge)
+      (sym (ap (λ (xs : List Held). option_map mark_id (newest_mark (so_far store xs))) (sym same) ∙ ap (option_map mark_id) mark_is ∙ mark_named store newest (newest_is decided)))
+
+  list_decided : AreDecided store a.list.items
+  list_decided = is_decided (moment a.knowledge) shown newest state.shown.entered p.segments fresh ended begun marked a.list.items mark_is (newest_is decided) decided ended_is fresh_is begun_is marked_is list_is
+
+  last_entered_is : a.entered ≡ or_earlier (last_entered (so_far store a.list.items)) state.shown.entered
+  last_entered_is =
+      let before_is : or_earlier (last_entered (so_far store shown)) state.shown.entered ≡ state.shown.entered =
+      ap (λ (xs : List Held). or_earlier (last_entered (so_far store xs)) state.shown.entered) same ∙ last_is in
+      let marked_decided = (all_after (λ (h : Held). IsDecided store h.mark) shown marked (subst (AreDecided store) list_is list_decided)).1 in
+      entered_is
+      ∙ sym (ap (λ (seen : List Marked). or_earlier (last_entered seen) state.shown.entered) (ap (so_far store) list_is ∙ seen_after store shown marked)
+      ∙ last_onto store marked (so_far store shown) state.shown.entered state.shown.entered marked_decided before_is)
+
+  pub shown_is : (a.fresh ≡ length fresh) → a.so_far ≡ length_after store newest state.shown.so_far marked → IsShown tolerance state p a
+  shown_is count long = record {
+    breaks = breaks_kept;
+    list =
+        is_listed (moment a.knowledge) shown newest state.shown.entered p.segments fresh ended begun marked a.list.items mark_is (newest_is decided) decided ended_is fresh_is begun_is marked_is list_is
+        ∙ (ap (λ (xs : List Held). show_on (moment a.knowledge) (so_far store xs) state.shown.entered (filter (is_new (so_far store xs)) p.segments)) same
+        ∙ ap (λ b. show_on (moment b) (so_far store state.shown.list) state.shown.entered (filter (is_new (so_far store state.shown.list)) p.segments)) breaks_kept);
+    fresh = count ∙ (ap length fresh_is ∙ ap (λ (xs : List Held). length (filter (is_new (so_far store xs)) p.segments)) same);
+    entered = last_entered_is;
+    length =
+        is_long (moment a.knowledge) shown newest state.shown.entered p.segments fresh ended begun marked a.list.items mark_is (newest_is decided) decided ended_is fresh_is begun_is marked_is list_is state.shown.so_far a.so_far long
+        ∙ (ap (λ (xs : List Held). length_on (moment a.knowledge) (so_far store xs) state.shown.entered state.shown.so_far (filter (is_new (so_far store xs)) p.segments)) same
+        ∙ ap (λ b. length_on (moment b) (so_far store state.shown.list) state.shown.entered state.shown.so_far (filter (is_new (so_far store state.shown.list)) p.segments)) breaks_kept);
+    front = (marked, list_is ∙ ap (λ xs. xs ++ marked) same);
+    decided = list_decided;
+  }
+
+-- the newest mark, if any, is that of the last break entered
+pub newest_entered : (state : ChannelState) (shown : List Held) (newest : Option (List ℕ)) → shown ≡ state.shown.list → AreDecided state.store state.shown.list → IsLastEntered (kept_in state)
+    → newest_mark (so_far state.store shown) ≡ mark_in state.store newest → (AreDecided state.store shown → IsDecided state.store newest) → or_earlier newest state.shown.entered ≡ state.shown.entered
+newest_entered state shown newest same d last mark_is newest_is =
+    let decided = newest_is (subst (AreDecided state.store) (sym same) d) in
+    newest_is_last (so_far state.store shown) newest state.shown.entered (ap (option_map mark_id) mark_is ∙ mark_named state.store newest decided)
+    (ap (λ (xs : List Held). or_earlier (last_entered (so_far state.store xs)) state.shown.entered) same ∙ last)

@@ -1,0 +1,35 @@
+-- Until when segments stay in a break, and how much of its run's length counts, as it is looked up once for a run.
+use Rattle.std.specs.Prelude.{◌≡◌, ◌+◌, min, ℕ, ℤ, Bool, false, List, Option, Some, None}
+use Rattle.playlist_model.specs.LookBack.{or_earlier}
+use Rattle.pod_store.specs.Store.{Store}
+use Rattle.break_finder.specs.Stays.{stays_at}
+use Rattle.channel_spec.specs.Marking.{Moment}
+use Rattle.channel_window.specs.declared.marking.Terms.{Terms}
+use Rattle.channel_window.specs.declared.marking.Run.{Run}
+use Rattle.channel_window.specs.Marking.{stays, capped_in, length_before}
+
+-- a segment that begins at this instant stays in the break
+abbrev pub stays_in : Option Terms → Option ℤ → Bool
+stays_in None instant = false
+stays_in (Some terms) instant = stays_at terms.stay instant
+
+-- as much of this length counts
+abbrev pub capped_at : Option Terms → ℕ → ℕ
+capped_at None length = 0
+capped_at (Some terms) length = min length terms.most
+
+-- so it is for the run of a segment of this mark
+pub record AreTerms (m : Moment) (mark : Option (List ℕ)) (terms : Option Terms) : Type 0 where
+  pub stays : (instant : Option ℤ) → stays_in terms instant ≡ stays m mark instant
+  pub capped : (length : ℕ) → capped_at terms length ≡ capped_in m.store mark length
+
+-- the terms are those of the run, and its break, if any, is the last one entered
+pub record IsRun (m : Moment) (run : Run) : Type 0 where
+  pub terms : AreTerms m run.before run.terms
+  pub entered : or_earlier run.before run.entered ≡ run.entered
+
+-- a run, with one segment more of this duration and this mark
+pub record IsExtended (store : Store) (duration : ℕ) (mark : Option (List ℕ)) (old new : Run) : Type 0 where
+  pub before : new.before ≡ mark
+  pub entered : new.entered ≡ or_earlier mark old.entered
+  pub so_far : new.so_far ≡ capped_in store mark (duration + length_before mark old.before old.so_far)
