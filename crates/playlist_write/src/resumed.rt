@@ -73,6 +73,7 @@ fn force_after<'a>(before: &InForce<'a>, segment: &'a Segment) -> InForce<'a>
 }
 
 // Appends the lines of the segment `next` after lines with `before` in force. Answers what is in force then.
+#[inline(always)]
 fn push_next<'a>(
     out: &mut String,
     times: &mut TimeWriter,

@@ -330,12 +330,29 @@ impl<'a> ReaderState<'a> {
         let Some(number) = self.number() else {
             return Err(FaultKind::BadValue);
         };
-        if self.byte_range.is_none() {
-            let uri = self.references.resolve(reference)?;
-            let segment = self.segment_here(number, uri, None, own)?;
-            self.segment_stands(None);
-            return Ok(segment);
+        if self.byte_range.is_some() {
+            return self.take_part(number, reference, own);
         }
+        let uri = self.references.resolve(reference)?;
+        let segment = self.segment_here(number, uri, None, own)?;
+        self.segment_stands(None);
+        Ok(segment)
+    }
+
+    // The segment of the URI line `reference` where it is a part of its resource. Out of line, since most segments are
+    // whole resources, and what a function holds is cleared at each call.
+    #[inline(never)]
+    fn take_part(
+        &mut self,
+        number: u64,
+        reference: &str,
+        own: (Nanos, Shared<ShortText>),
+    ) -> Result<Segment, FaultKind>
+        requires fits { self.old.standing.media_count < MAX_SEGMENTS }
+        requires number { number ≡ self.old.standing.media_sequence + self.old.standing.media_count }
+        requires own { self.old.standing.duration ≡ Some own }
+        ensures { TakesSegment (λ base before. said_by_uri limited base before reference.now) self.old self.new result }
+    {
         let uri = self.references.resolve_part(reference)?;
         let byte_range = self.next_byte_range(uri.as_str())?;
         let segment = self.segment_here(number, uri, byte_range, own)?;

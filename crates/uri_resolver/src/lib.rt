@@ -144,6 +144,7 @@ impl Base {
     }
 
     // What stands before this reference, where it is plain.
+    #[inline(always)]
     fn front_of(&self, reference: &str) -> Option<&str>
         ensures { IfSome (option_copied result) (λ front. resolved self.now reference.now ≡ Some (front ++ reference.now)) }
     {
