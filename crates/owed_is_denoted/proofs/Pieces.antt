@@ -17,7 +17,7 @@ use Rattle.stitcher.specs.declared.OutSegment.{OutSegment}
 use Rattle.stitcher.specs.Written.{written_item}
 use Rattle.writable.specs.Fitting.{if_some, is_clean, uri_fits, byte_range_fits, effective_keys_fit, init_section_fits}
 use Rattle.playlist_model.specs.Numbering.{follows, all_follow}
-use Rattle.playlist_write.specs.WellFormed.{resource_fits, duration_fits, segment_fits, out_numbers, numbers_fit, has_init_section, init_sections_agree}
+use Rattle.playlist_write.specs.WellFormed.{resource_fits, duration_fits, segment_fits, out_numbers, numbers_fit, out_has_init_section, init_sections_agree}
 use Rattle.pod_store.specs.Laws.{segment_can_be_written, ad_can_be_written}
 use Rattle.channel_spec.proofs.Reversed.{list_all-reverse}
 use Rattle.owed_is_denoted.proofs.Writable.{stitched_ad, stitched_ads, pod_can_be_written}
@@ -164,16 +164,16 @@ has_init_section_kept : (kept : Bool) (s : Segment) (n : Numbers) → is_some (c
 has_init_section_kept true s n = refl
 has_init_section_kept false s n = refl
 
-pub has_init_section_item : (item : Item) → has_init_section (written_item item) ≡ is_some item.piece.segment.init_section
+pub has_init_section_item : (item : Item) → out_has_init_section (written_item item) ≡ is_some item.piece.segment.init_section
 has_init_section_item item = has_init_section_kept (is_kept item.piece) item.piece.segment item.numbers
 
-all_with_init_section : (outs : List OutSegment) → AllByRecursion (λ (o : OutSegment). has_init_section o ≡ true) outs → list_all has_init_section outs ≡ true
+all_with_init_section : (outs : List OutSegment) → AllByRecursion (λ (o : OutSegment). out_has_init_section o ≡ true) outs → list_all out_has_init_section outs ≡ true
 all_with_init_section [] h = refl
 all_with_init_section (o ∷ outs) h = and_from _ _ h.0 (all_with_init_section outs h.1)
 
-none_with_init_section : (outs : List OutSegment) → AllByRecursion (λ (o : OutSegment). has_init_section o ≡ false) outs → list_any has_init_section outs ≡ false
+none_with_init_section : (outs : List OutSegment) → AllByRecursion (λ (o : OutSegment). out_has_init_section o ≡ false) outs → list_any out_has_init_section outs ≡ false
 none_with_init_section [] h = refl
-none_with_init_section (o ∷ outs) h = ap (λ b. b || list_any has_init_section outs) h.0 ∙ none_with_init_section outs h.1
+none_with_init_section (o ∷ outs) h = ap (λ b. b || list_any out_has_init_section outs) h.0 ∙ none_with_init_section outs h.1
 
 front : (a b : Bool) → a ≡ true → (a || b) ≡ true
 front true b h = refl
@@ -184,6 +184,6 @@ back true b h = refl
 back false true h = absurd (cc)
 back false false h = refl
 
-pub agree : (m : Bool) (outs : List OutSegment) → AllByRecursion (λ (o : OutSegment). has_init_section o ≡ m) outs → init_sections_agree outs ≡ true
+pub agree : (m : Bool) (outs : List OutSegment) → AllByRecursion (λ (o : OutSegment). out_has_init_section o ≡ m) outs → init_sections_agree outs ≡ true
 agree true outs h = front _ _ (all_with_init_section outs h)
-agree false outs h = back (list_all has_init_section outs) (list_any has_init_section outs) (none_with_init_section outs h)
+agree false outs h = back (list_all out_has_init_section outs) (list_any out_has_init_section outs) (none_with_init_section outs h)

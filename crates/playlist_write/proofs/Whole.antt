@@ -20,7 +20,7 @@ use Rattle.playlist_write.specs.declared.OutPlaylist.{OutPlaylist}
 use Rattle.playlist_write.specs.Spelling.{spelled, date_range_line}
 use Rattle.playlist_write.specs.Owed.{none_yet, header_owed, type_owed, independent_owed, ended_owed, segments_owed, first_media_sequence, stated_discontinuity_sequence, line_of, said_text, ended_date_range_line, date_ranges_text, playlist_text}
 use Rattle.writable.specs.Fitting.{is_clean, says_date_range, date_range_fits}
-use Rattle.playlist_write.specs.WellFormed.{is_word, version_fits, segment_fits, out_numbers, numbers_fit, has_init_section, init_sections_agree, well_formed}
+use Rattle.playlist_write.specs.WellFormed.{is_word, version_fits, segment_fits, out_numbers, numbers_fit, out_has_init_section, init_sections_agree, well_formed}
 use Rattle.playlist_write.specs.Denoted.{denoted, denoted_segment, denoted_date_range, date_range_told}
 use Rattle.playlist_write.specs.Laws.{TextDenotes}
 use Rattle.playlist_write.proofs.CleanTexts.{text, AllClean, clean_printable, lines_of_text, utf8_text}
@@ -165,9 +165,9 @@ some_segments (out ∷ outs) h = omega arith
 
 abbrev first_has_init_section : List OutSegment → Bool
 first_has_init_section [] = false
-first_has_init_section (out ∷ later) = has_init_section out
+first_has_init_section (out ∷ later) = out_has_init_section out
 
-none_alike : (outs : List OutSegment) → list_any has_init_section outs ≡ false → init_sections_alike false outs ≡ true
+none_alike : (outs : List OutSegment) → list_any out_has_init_section outs ≡ false → init_sections_alike false outs ≡ true
 none_alike [] h = refl
 none_alike (out ∷ outs) h = let a = or_parts _ _ h in and_from _ _ (without_init_section out.segment.init_section a.0) (none_alike outs a.1)
   where

@@ -36,12 +36,12 @@ numbers_fit = numbers_rise out_numbers
 
 -- ---- the whole
 
-abbrev pub has_init_section : OutSegment → Bool
-has_init_section out = is_some out.segment.init_section
+abbrev pub out_has_init_section : OutSegment → Bool
+out_has_init_section out = is_some out.segment.init_section
 
 -- all have an initialisation section, or none has
 abbrev pub init_sections_agree : List OutSegment → Bool
-init_sections_agree segments = list_all has_init_section segments || not (list_any has_init_section segments)
+init_sections_agree segments = list_all out_has_init_section segments || not (list_any out_has_init_section segments)
 
 abbrev pub version_fits : ℕ → Bool
 version_fits version = version == 6 || version == 7

@@ -4,7 +4,7 @@ ghost use Rattle.std.specs.List.{list_all, list_any};
 ghost use Rattle.date_times.specs.Instant.{in_range};
 ghost use Rattle.writable.specs.Fitting.{if_some, init_section_fits};
 ghost use Rattle.playlist_model.specs.Numbering.{follows, all_follow};
-ghost use Rattle.playlist_write.specs.WellFormed.{well_formed, fits_without_date_ranges, numbers_are_words, resource_fits, segment_fits, out_numbers, numbers_fit, has_init_section, init_sections_agree, version_fits, is_word};
+ghost use Rattle.playlist_write.specs.WellFormed.{well_formed, fits_without_date_ranges, numbers_are_words, resource_fits, segment_fits, out_numbers, numbers_fit, out_has_init_section, init_sections_agree, version_fits, is_word};
 
 use crate::OutPlaylist;
 use crate::date_ranges::date_ranges_fit;
@@ -123,18 +123,18 @@ fn numbers_fit(segments: StitchedItems<'_>) -> bool
     first.discontinuities <= first.discontinuity_sequence && all_follow(first, later)
 }
 
-fn has_init_section(out: &OutSegment<'_>) -> bool
-    ensures { result ≡ has_init_section out.now }
+fn out_has_init_section(out: &OutSegment<'_>) -> bool
+    ensures { result ≡ out_has_init_section out.now }
 {
     out.segment.get().init_section.is_some()
 }
 
 fn all_have_init_sections(segments: StitchedItems<'_>) -> bool
-    ensures { result ≡ list_all has_init_section segments.entry }
+    ensures { result ≡ list_all out_has_init_section segments.entry }
 {
     let mut segments = segments;
     while let Some(out) = segments.next() {
-        if !has_init_section(&out) {
+        if !out_has_init_section(&out) {
             return false;
         }
     }
@@ -142,11 +142,11 @@ fn all_have_init_sections(segments: StitchedItems<'_>) -> bool
 }
 
 fn one_has_init_section(segments: StitchedItems<'_>) -> bool
-    ensures { result ≡ list_any has_init_section segments.entry }
+    ensures { result ≡ list_any out_has_init_section segments.entry }
 {
     let mut segments = segments;
     while let Some(out) = segments.next() {
-        if has_init_section(&out) {
+        if out_has_init_section(&out) {
             return true;
         }
     }
