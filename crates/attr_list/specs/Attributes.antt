@@ -1,8 +1,8 @@
 -- Attribute lists, after RFC 8216, section 4.2.
--- Bytes of ASCII: 32 is the space, 34 the quote, 44 the comma, 45 `-` and 61 `=`.
-use Rattle.std.specs.Prelude.{◌≡◌, ℕ, ◌+◌, ◌*◌, Bool, true, false, not, ◌&&◌, ◌||◌, ◌==◌, nat_lt, nat_le, List, [], ◌∷◌, ◌++◌, map, take, drop, length, slice_range, Option, Some, None, Result, Ok, Err, bytes_eq, if◌then◌else◌, AllPairs, IsTrue, find, ◌≢◌}
+use Rattle.std.specs.Prelude.{◌≡◌, ℕ, ◌+◌, Bool, true, false, not, ◌&&◌, ◌||◌, ◌==◌, nat_lt, nat_le, List, [], ◌∷◌, ◌++◌, map, take, drop, length, slice_range, Option, Some, None, Result, Ok, Err, bytes_eq, if◌then◌else◌, AllPairs, IsTrue, find, ◌≢◌}
 use Rattle.std.specs.List.{list_all, list_any, position_or_len, join_with_byte, onto_first}
 use Rattle.std.specs.Char.{is_ascii_digit, is_ascii_uppercase}
+use Rattle.spec_words.specs.Bytes.{space, quote, comma, hyphen, equals}
 use Rattle.attr_list.specs.declared.AttrFault.{AttrFault}
 use Rattle.attr_list.specs.declared.AttrFault.TheVariants.{BadName, NoEquals, BadValue, OpenQuote, Twice, TooMany}
 
@@ -13,18 +13,18 @@ pub record Pair : Type 0 where
   pub quoted : Bool
 
 abbrev pub is_comma : ℕ → Bool
-is_comma b = b == 44
+is_comma b = b == comma
 
 abbrev pub is_equals : ℕ → Bool
-is_equals b = b == 61
+is_equals b = b == equals
 
 abbrev pub is_quote : ℕ → Bool
-is_quote b = b == 34
+is_quote b = b == quote
 
 -- ---- the grammar
 
 abbrev pub is_name_byte : ℕ → Bool
-is_name_byte b = is_ascii_uppercase b || is_ascii_digit b || b == 45
+is_name_byte b = is_ascii_uppercase b || is_ascii_digit b || b == hyphen
 
 -- one or more of A to Z, 0 to 9 and `-`
 abbrev pub is_name : List ℕ → Bool
@@ -32,7 +32,7 @@ is_name text = nat_lt 0 (length text) && list_all is_name_byte text
 
 -- a comma, a quote or a space
 abbrev pub ends_plain : ℕ → Bool
-ends_plain b = is_comma b || is_quote b || b == 32
+ends_plain b = is_comma b || is_quote b || b == space
 
 -- no quote between quotes; else not empty, and no comma, quote or space
 abbrev pub is_value : Bool → List ℕ → Bool
@@ -44,18 +44,18 @@ is_named name pair = bytes_eq name pair.name
 
 -- `name=value` or `name="value"`
 abbrev pub value_spelling : Bool → List ℕ → List ℕ
-value_spelling true value = 34 ∷ (value ++ 34 ∷ [])
+value_spelling true value = quote ∷ (value ++ quote ∷ [])
 value_spelling false value = value
 
 abbrev pub pair_spelling : Pair → List ℕ
-pair_spelling pair = pair.name ++ (61 ∷ value_spelling pair.quoted pair.value)
+pair_spelling pair = pair.name ++ (equals ∷ value_spelling pair.quoted pair.value)
 
 abbrev pub IsPair : Pair → Type 0
 IsPair pair = IsTrue (is_name pair.name) × IsTrue (is_value pair.quoted pair.value)
 
 -- the spellings of the pairs with commas between them
 abbrev pub attributes_text : List Pair → List ℕ
-attributes_text pairs = join_with_byte 44 (map pair_spelling pairs)
+attributes_text pairs = join_with_byte comma (map pair_spelling pairs)
 
 -- the text is the spellings of these pairs with commas between them, and no name comes twice
 pub record IsAttributeList (text : List ℕ) (pairs : List Pair) : Type 0 where

@@ -1,5 +1,4 @@
--- The front of a text that is cut into attributes: its first piece, and how a piece ends (RFC 8216, 4.2). The byte
--- 61 is `=`.
+-- The front of a text that is cut into attributes: its first piece (RFC 8216, 4.2).
 use Rattle.std.specs.Prelude.{ℕ, Bool, false, not, ◌&&◌, List, [], ◌∷◌, if◌then◌else◌}
 use Rattle.attr_list.specs.Attributes.{is_comma, is_quote}
 

@@ -56,16 +56,20 @@ impl<'a> AttrList<'a> {
         // What is read is in the grammar.
         ensures list { IfOk result (λ list. IsAttributeList text.now (map attr_pair list)) }
         // What is in the grammar is read, up to the limit.
-        ensures reads { (pairs : List Pair) → IsAttributeList text.now pairs → length pairs ≤ MAX_ATTRIBUTES
-            → MatchResult result (λ list. map attr_pair list ≡ pairs) (λ e. e ≡ AttrFault.OutOfMemory) }
+        ensures reads { (pairs : List Pair) → IsAttributeList text.now pairs
+            → length pairs ≤ MAX_ATTRIBUTES
+            → MatchResult result (λ list. map attr_pair list ≡ pairs)
+            (λ e. e ≡ AttrFault.OutOfMemory) }
 
         // Exactly the answer of the reading, with its first fault.
-        ensures ok { IfOk result (λ list. attributes_of (Some MAX_ATTRIBUTES) text.now ≡ Ok (map attr_pair list)) }
+        ensures ok { IfOk result
+            (λ list. attributes_of (Some MAX_ATTRIBUTES) text.now ≡ Ok (map attr_pair list)) }
         ensures fault { IfErr result
             (λ e. (e ≡ AttrFault.OutOfMemory) ⊎ (attributes_of (Some MAX_ATTRIBUTES) text.now ≡ Err e)) }
 
         // The first attribute's fault is told whatever memory there is: that of an empty text, too.
-        ensures told { (e : AttrFault) → pair_of (Some MAX_ATTRIBUTES) [] (first_piece text.now) ≡ Err e → result ≡ Err e }
+        ensures told { (e : AttrFault)
+            → pair_of (Some MAX_ATTRIBUTES) [] (first_piece text.now) ≡ Err e → result ≡ Err e }
 
         // Each attribute's place, where its spelling stands.
         ensures spans { IfOk result (λ list. map attr_span list ≡ spans_from 0 (pieces text.now)) }
@@ -106,10 +110,12 @@ impl<'a> AttrList<'a> {
 
 // The attributes of a text, in one pass.
 fn read_attrs(alloc: Global, text: &str) -> Result<Vec<Attr<'_>>, AttrFault>
-    ensures ok { IfOk result (λ v. attributes_of (Some MAX_ATTRIBUTES) text.now ≡ Ok (map attr_pair v.items)) }
+    ensures ok { IfOk result
+        (λ v. attributes_of (Some MAX_ATTRIBUTES) text.now ≡ Ok (map attr_pair v.items)) }
     ensures fault { IfErr result
         (λ e. (e ≡ AttrFault.OutOfMemory) ⊎ (attributes_of (Some MAX_ATTRIBUTES) text.now ≡ Err e)) }
-    ensures told { (e : AttrFault) → pair_of (Some MAX_ATTRIBUTES) [] (first_piece text.now) ≡ Err e → result ≡ Err e }
+    ensures told { (e : AttrFault) → pair_of (Some MAX_ATTRIBUTES) [] (first_piece text.now) ≡ Err e
+        → result ≡ Err e }
     ensures spans { IfOk result (λ v. map attr_span v.items ≡ spans_from 0 (pieces text.now)) }
 {
     let mut attrs: Vec<Attr<'_>> = Vec::new(alloc);

@@ -32,7 +32,8 @@ pub fn read_decimal(text: &str) -> Result<u64, AttrFault>
 
 // A number with one more digit behind it, below 2^64.
 fn with_digit(number: u64, digit: u8) -> Option<u64>
-    ensures { SomeIff result ((is_ascii_digit digit ≡ true) × (number * 10 + (digit - 48) < 2 ^ 64)) (number * 10 + (digit - 48)) }
+    ensures { SomeIff result ((is_ascii_digit digit ≡ true)
+        × (number * 10 + (digit - 48) < 2 ^ 64)) (number * 10 + (digit - 48)) }
 {
     if !digit.is_ascii_digit() {
         return None;

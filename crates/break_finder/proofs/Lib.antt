@@ -5,6 +5,7 @@ pub mod Walked
 pub mod OnLiterals
 pub mod TagIds
 pub mod FirstEntered
+pub mod Halvings
 pub mod SpanLaws
 pub mod Quiet
 mod Staying

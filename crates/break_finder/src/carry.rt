@@ -28,7 +28,8 @@ fn is_this(id: &str, other: Option<&str>) -> bool
 
 // Notes the ID of a tag.
 fn add_id<'a>(ids: &mut IdSet<'a>, tag: &'a DateRange) -> Result<(), AllocError>
-    ensures { OnOk result ((id : List ℕ) → is_one_of ids.new id ≡ (is_one_of ids.old id || is_tag_of id tag.now)) }
+    ensures { OnOk result ((id : List ℕ)
+        → is_one_of ids.new id ≡ (is_one_of ids.old id || is_tag_of id tag.now)) }
 {
     ids.add(tag.id.as_str())?;
     Ok(())
@@ -40,7 +41,8 @@ fn ids_of<'a>(
     hashing: RandomState,
     date_ranges: &'a [DateRange],
 ) -> Result<IdSet<'a>, AllocError>
-    ensures { IfOk result (λ ids. (id : List ℕ) → is_one_of ids id ≡ list_any (is_tag_of id) date_ranges.now) }
+    ensures { IfOk result
+        (λ ids. (id : List ℕ) → is_one_of ids id ≡ list_any (is_tag_of id) date_ranges.now) }
 {
     let mut ids = IdSet::new(alloc, hashing);
     let mut rest = date_ranges;
@@ -59,12 +61,15 @@ fn stands_with(ids: &IdSet<'_>, carried: Option<&str>, id: &str) -> bool
 
 // Forgets the breaks that are none of these IDs and are not carried.
 fn keep_standing(kept: &mut Breaks, ids: &IdSet<'_>, carried: Option<&str>)
-    ensures standing { kept.new.entries ≡ filter (is_kept_with ids.now (option_copied carried.entry)) kept.old.entries }
+    ensures standing { kept.new.entries
+        ≡ filter (is_kept_with ids.now (option_copied carried.entry)) kept.old.entries }
     ensures unique { IsUnique string_eq kept.new }
 {
     kept.retain(
         |id: &String, said: &mut Described| -> bool
-            ensures { (result ≡ stands_with ids.entry.now (option_copied carried.entry) (string_bytes id.now)) × (said.new ≡ said.old) }
+            ensures { (result
+                ≡ stands_with ids.entry.now (option_copied carried.entry) (string_bytes id.now))
+                × (said.new ≡ said.old) }
         { stands_with(ids, carried, id.as_str()) },
     );
 }
@@ -81,7 +86,8 @@ fn said_so_far(breaks: &Breaks, id: &str) -> Described
 
 // A tag of a break that is known says more of it; another break is known from now on.
 fn add_tag(alloc: Global, breaks: &mut Breaks, tag: &DateRange) -> Result<(), AllocError>
-    ensures { OnOk result (map break_at breaks.new.entries ≡ with_tag (map break_at breaks.old.entries) tag.now) }
+    ensures { OnOk result (map break_at breaks.new.entries
+        ≡ with_tag (map break_at breaks.old.entries) tag.now) }
 {
     let id = tag.id.as_str();
     let said = and_tag(alloc, said_so_far(breaks, id), tag)?;
@@ -97,7 +103,8 @@ pub fn add_tags(
     breaks: &mut Breaks,
     date_ranges: &[DateRange],
 ) -> Result<(), AllocError>
-    ensures { OnOk result (map break_at breaks.new.entries ≡ fold with_tag (map break_at breaks.old.entries) date_ranges.now) }
+    ensures { OnOk result (map break_at breaks.new.entries
+        ≡ fold with_tag (map break_at breaks.old.entries) date_ranges.now) }
 {
     let mut rest = date_ranges;
     while let Some((tag, later)) = rest.split_first() {
@@ -115,7 +122,9 @@ pub fn standing(
     date_ranges: &[DateRange],
     carried: Option<&str>,
 ) -> Result<Breaks, AllocError>
-    ensures standing { IfOk result (λ kept. map break_at kept.entries ≡ filter (break_stands date_ranges.now (option_copied carried.entry)) (map break_at breaks.now.entries)) }
+    ensures standing { IfOk result
+        (λ kept. map break_at kept.entries
+        ≡ filter (break_stands date_ranges.now (option_copied carried.entry)) (map break_at breaks.now.entries)) }
     ensures unique { IfOk result (IsUnique string_eq) }
 {
     // Before the first refresh nothing is known, and the IDs of what comes needn't be listed.

@@ -66,7 +66,8 @@ fn listed<'a>(
     store: &PodStore,
     breaks: &'a Breaks,
 ) -> Result<Vec<Entrance<'a>>, AllocError>
-    ensures { IfOk result (λ v. v.items ≡ entrances_in target with_init_sections store.now (map break_at breaks.now.entries)) }
+    ensures { IfOk result
+        (λ v. v.items ≡ entrances_in target with_init_sections store.now (map break_at breaks.now.entries)) }
 {
     let mut list = Vec::new(alloc);
     for (id, said) in breaks {
@@ -90,7 +91,9 @@ pub fn entrances_of<'a>(
     breaks: &'a Breaks,
     segments: usize,
 ) -> Result<Entrances<'a>, AllocError>
-    ensures { IfOk result (λ found. found ≡ record { tolerance = tolerance; found = entrances_in target with_init_sections store.now (map break_at breaks.now.entries) }) }
+    ensures { IfOk result
+        (λ found. found
+        ≡ record { tolerance = tolerance; found = entrances_in target with_init_sections store.now (map break_at breaks.now.entries) }) }
 {
     let list = listed(alloc, target, with_init_sections, store, breaks)?;
     let spans = spans_for(alloc, tolerance, list.as_slice(), segments)?;
@@ -106,7 +109,8 @@ impl<'a> Entrances<'a> {
     // The ID of the first of them that is entered.
     #[inline(always)]
     fn first(&mut self, instant: Instant, last: Option<&str>) -> Option<&'a str>
-        ensures taken { option_copied result ≡ taken self.old.tolerance (option_copied last.entry) instant self.old.found }
+        ensures taken { option_copied result
+            ≡ taken self.old.tolerance (option_copied last.entry) instant self.old.found }
         ensures kept { self.new ≡ self.old }
     {
         self.place = place_of(self.spans.as_slice(), self.place, instant);
@@ -120,7 +124,8 @@ impl<'a> Entrances<'a> {
     // Whether this is in the span found last, and no break is entered in that.
     #[inline(always)]
     fn is_in_closed_span(&self, instant: Instant) -> bool
-        ensures { result ≡ true → (last : Option (List ℕ)) → taken self.now.tolerance last instant self.now.found ≡ None }
+        ensures { result ≡ true → (last : Option (List ℕ))
+            → taken self.now.tolerance last instant self.now.found ≡ None }
     {
         match span_at(self.spans.as_slice(), self.place, instant) {
             Some(span) => span.is_closed(),
@@ -134,7 +139,8 @@ impl<'a> Entrances<'a> {
     #[inline(always)]
     pub fn is_quiet(&self, instant: Option<Instant>) -> bool
         ensures { result ≡ true → (m : EntryLimits) → (store : Store) → (breaks : List Break)
-            → m.tolerance ≡ self.now.tolerance → self.now.found ≡ entrances_in m.target_duration m.with_init_sections store breaks
+            → m.tolerance ≡ self.now.tolerance
+            → self.now.found ≡ entrances_in m.target_duration m.with_init_sections store breaks
             → entered m store breaks instant ≡ None }
     {
         match instant {
@@ -149,7 +155,8 @@ impl<'a> Entrances<'a> {
     pub fn entered(&mut self, instant: Option<Instant>, last: Option<&str>) -> Option<&'a str>
         ensures entered { (target : ℕ) → (with_init_sections : Bool) → (store : Store) → (breaks : List Break)
             → self.old.found ≡ entrances_in target with_init_sections store breaks
-            → option_map (λ id. id.now) result ≡ entered (record { tolerance = self.old.tolerance; target_duration = target; with_init_sections = with_init_sections; last = option_copied last.entry }) store breaks instant }
+            → option_map (λ id. id.now) result
+            ≡ entered (record { tolerance = self.old.tolerance; target_duration = target; with_init_sections = with_init_sections; last = option_copied last.entry }) store breaks instant }
         ensures kept { self.new ≡ self.old }
     {
         match instant {

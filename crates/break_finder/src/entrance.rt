@@ -66,7 +66,8 @@ pub fn entrance_of<'a>(
     id: &'a str,
     said: &Described,
 ) -> Option<Entrance<'a>>
-    ensures { result ≡ entrance_of target with_init_sections (record { id = id.now; said = said.now }) (pod_for store.now id.now) }
+    ensures { result
+        ≡ entrance_of target with_init_sections (record { id = id.now; said = said.now }) (pod_for store.now id.now) }
 {
     let start = said.start?;
     if !is_leaving(said.scte35_out) {
@@ -88,7 +89,8 @@ pub fn first_entered<'a>(
     last: Option<&str>,
     instant: Instant,
 ) -> Option<&'a str>
-    ensures { option_map (λ id. id.now) result ≡ taken tolerance (option_copied last.entry) instant list.now }
+    ensures { option_map
+        (λ id. id.now) result ≡ taken tolerance (option_copied last.entry) instant list.now }
 {
     for entrance in list {
         if is_entered(tolerance, last, instant, entrance) {

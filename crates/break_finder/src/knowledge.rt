@@ -46,7 +46,8 @@ impl Stay {
 
 // Until when segments are inside a break, of which this is said if it is known.
 fn stay_of(said: Option<Described>, tolerance: Nanos, pod: &Pod) -> Stay
-    ensures { (instant : Option ℤ) → stays_at result instant ≡ is_inside_said instant tolerance pod.now said }
+    ensures { (instant : Option ℤ)
+        → stays_at result instant ≡ is_inside_said instant tolerance pod.now said }
 {
     match said {
         Some(said) => Stay {
@@ -120,7 +121,8 @@ impl Knowledge {
     /// Until when segments are inside the break `id`, which has the pod `pod`, by `tolerance`: none is if the break isn't known,
     /// is closed, or has no end. The break is looked up here alone, so that a run asks for it once.
     pub fn stay(&self, id: &str, tolerance: Nanos, pod: &Pod) -> Stay
-        ensures { (instant : Option ℤ) → stays_at result instant ≡ is_inside self.now id.now instant tolerance pod.now }
+        ensures { (instant : Option ℤ)
+            → stays_at result instant ≡ is_inside self.now id.now instant tolerance pod.now }
     {
         stay_of(self.said(id), tolerance, pod)
     }
@@ -170,7 +172,9 @@ impl Knowledge {
         store: &PodStore,
         segments: usize,
     ) -> Result<Entrances<'_>, AllocError>
-        ensures { IfOk result (λ entrances. entrances ≡ record { tolerance = tolerance; found = entrances_in target with_init_sections store.now self.now }) }
+        ensures { IfOk result
+            (λ entrances. entrances
+            ≡ record { tolerance = tolerance; found = entrances_in target with_init_sections store.now self.now }) }
     {
         entrances_of(
             alloc,
@@ -199,11 +203,16 @@ impl Knowledge {
         playlist: &Playlist,
         newest: Option<&str>,
     ) -> Result<Knowledge, AllocError>
-        ensures carried { IfOk result (λ after. after ≡ carry (record { playlist = playlist.now; carried = option_copied newest.entry }) self.now) }
+        ensures carried { IfOk result
+            (λ after. after
+            ≡ carry (record { playlist = playlist.now; carried = option_copied newest.entry }) self.now) }
 
         // So it is what looking back over all refreshes gives, wherever that was so before.
         ensures known { (before : List Accepted) → CarriesKnown before → self.now ≡ known before
-            → IfOk result (λ after. after ≡ known (record { playlist = playlist.now; carried = option_copied newest.entry } ∷ before)) }
+            → IfOk result
+            (λ after. after
+            ≡ known (record { playlist = playlist.now; carried = option_copied newest.entry }
+            ∷ before)) }
     {
         let date_ranges = playlist.date_ranges.as_slice();
         let mut breaks = standing(alloc, &self.breaks, date_ranges, newest)?;

@@ -1,5 +1,5 @@
 //! Time cut into spans, in each of which the same break is entered.
-ghost use Rattle.std.specs.Prelude.{◌≡◌, ◌++◌, ◌∷◌, [], ◌≤ℤ◌, ◌+ℤ◌, ◌-ℤ◌, pos, int_lt, ◌&&◌, ℕ, ℤ, true, List, Some, None, option_map, is_none, IfOk, IfSome};
+ghost use Rattle.std.specs.Prelude.{◌≡◌, ◌≤◌, ◌+◌, ◌*◌, ◌^◌, length, ◌++◌, ◌∷◌, [], ◌≤ℤ◌, ◌+ℤ◌, ◌-ℤ◌, pos, int_lt, ◌&&◌, ℕ, ℤ, true, List, Some, None, option_map, is_none, IfOk, IfSome};
 ghost use Rattle.std.specs.List.{All};
 ghost use Rattle.std.specs.Option.{option_copied, option_or};
 ghost use Rattle.break_finder.specs.Breaks.{is_near, is_not_past};
@@ -13,6 +13,9 @@ use fixed_duration::Nanos;
 use playlist_model::Instant;
 use std::alloc::{AllocError, Global};
 use std::marker::Model;
+
+// How often a list is halved at most until each part has one.
+const HALVINGS: usize = 64;
 
 /// Time from an instant up to another, which is no part of it, in nanoseconds from 1970. Of the breaks that can be
 /// entered in it the IDs of the first, and of the first that is another.
@@ -35,7 +38,8 @@ impl<'a> Model for TimeSpan<'a> {
 
 // The first, or where it is the last one entered the second.
 fn but<'a>(first: Option<&'a str>, second: Option<&'a str>, last: Option<&str>) -> Option<&'a str>
-    ensures { option_copied result ≡ but (option_copied first.entry) (option_copied second.entry) (option_copied last.entry) }
+    ensures { option_copied result
+        ≡ but (option_copied first.entry) (option_copied second.entry) (option_copied last.entry) }
 {
     let Some(id) = first else {
         return None;
@@ -53,7 +57,8 @@ fn second_of<'a>(
     their_first: Option<&'a str>,
     their_second: Option<&'a str>,
 ) -> Option<&'a str>
-    ensures { option_copied result ≡ second_of (option_copied our_first.entry) (option_copied our_second.entry) (option_copied their_first.entry) (option_copied their_second.entry) }
+    ensures { option_copied result
+        ≡ second_of (option_copied our_first.entry) (option_copied our_second.entry) (option_copied their_first.entry) (option_copied their_second.entry) }
 {
     if our_first.is_none() {
         return their_second;
@@ -81,7 +86,8 @@ impl<'a> TimeSpan<'a> {
 
     /// The ID of the break that a segment in this span enters, if the break `last` was entered last.
     pub fn entered(&self, last: Option<&str>) -> Option<&'a str>
-        ensures { option_copied result ≡ but self.now.first self.now.second (option_copied last.entry) }
+        ensures { option_copied result
+            ≡ but self.now.first self.now.second (option_copied last.entry) }
     {
         but(self.first, self.second, last)
     }
@@ -94,7 +100,8 @@ fn met<'a>(ours: &TimeSpan<'a>, theirs: &TimeSpan<'a>) -> TimeSpan<'a>
     ensures to_ours { result.to ≤ℤ ours.now.to }
     ensures to_theirs { result.to ≤ℤ theirs.now.to }
     ensures first { result.first ≡ option_or ours.now.first theirs.now.first }
-    ensures second { result.second ≡ second_of ours.now.first ours.now.second theirs.now.first theirs.now.second }
+    ensures second { result.second
+        ≡ second_of ours.now.first ours.now.second theirs.now.first theirs.now.second }
 {
     TimeSpan {
         from: ours.from.max(theirs.from),
@@ -106,7 +113,8 @@ fn met<'a>(ours: &TimeSpan<'a>, theirs: &TimeSpan<'a>) -> TimeSpan<'a>
 
 // These spans, but the first one where it ends here or before.
 fn from_here<'s, 'a>(spans: &'s [TimeSpan<'a>], end: i128) -> &'s [TimeSpan<'a>]
-    ensures { (tolerance : ℕ) (found : List Entrance) → All (Tells tolerance found) spans.now → All (Tells tolerance found) result.now }
+    ensures { (tolerance : ℕ) (found : List Entrance) → All (Tells tolerance found) spans.now
+        → All (Tells tolerance found) result.now }
 {
     match spans.split_first() {
         Some((span, later)) => {
@@ -125,13 +133,19 @@ fn joined<'a>(
     ours: &[TimeSpan<'a>],
     theirs: &[TimeSpan<'a>],
 ) -> Result<Vec<TimeSpan<'a>>, AllocError>
-    ensures { IfOk result (λ v. (tolerance : ℕ) (before after : List Entrance) → All (Tells tolerance before) ours.now → All (Tells tolerance after) theirs.now → All (Tells tolerance (before ++ after)) v.items) }
+    ensures tells { IfOk result
+        (λ v. (tolerance : ℕ) (before after : List Entrance) → All (Tells tolerance before) ours.now
+        → All (Tells tolerance after) theirs.now
+        → All (Tells tolerance (before ++ after)) v.items) }
+
+    // There are no more of them than of both.
+    ensures few { IfOk result (λ v. length v.items ≤ length ours.now + length theirs.now) }
 {
     let most = ours.len().saturating_add(theirs.len());
     let mut done = Vec::with_capacity(alloc, most)?;
     let mut ours = ours;
     let mut theirs = theirs;
-    for _ in 0..most {
+    while done.len() < most {
         let Some((our, _)) = ours.split_first() else {
             return Ok(done);
         };
@@ -163,7 +177,9 @@ fn late(start: Instant, tolerance: Nanos) -> i128
 
 // The same of one that ends here.
 fn late_before(start: Instant, tolerance: Nanos, end: i128) -> i128
-    ensures { (instant : ℤ) → (is_near instant tolerance (Some start) && int_lt (instant +ℤ pos tolerance) end) ≡ is_within (start -ℤ pos tolerance) result instant }
+    ensures { (instant : ℤ)
+        → (is_near instant tolerance (Some start) && int_lt (instant +ℤ pos tolerance) end)
+        ≡ is_within (start -ℤ pos tolerance) result instant }
 {
     if end <= i128::from(start.0) {
         return opening(start, tolerance);
@@ -173,7 +189,10 @@ fn late_before(start: Instant, tolerance: Nanos, end: i128) -> i128
 
 // The same of one with this end, if any.
 fn closing(start: Instant, tolerance: Nanos, end: Option<End>) -> i128
-    ensures { (instant : ℤ) → (is_near instant tolerance (Some start) && is_not_past instant tolerance (option_map end_view end)) ≡ is_within (start -ℤ pos tolerance) result instant }
+    ensures { (instant : ℤ)
+        → (is_near instant tolerance (Some start)
+        && is_not_past instant tolerance (option_map end_view end))
+        ≡ is_within (start -ℤ pos tolerance) result instant }
 {
     match end {
         Some(End::At(end)) => late_before(start, tolerance, end),
@@ -197,7 +216,8 @@ fn closed_span<'a>(from: i128, to: i128) -> TimeSpan<'a>
 // The span in which a break can be entered.
 fn open_span<'a>(tolerance: Nanos, entrance: &Entrance<'a>) -> TimeSpan<'a>
     ensures from { result.from ≡ entrance.now.start -ℤ pos tolerance }
-    ensures window { (instant : ℤ) → is_enterable tolerance instant entrance.now ≡ is_in result instant }
+    ensures window { (instant : ℤ)
+        → is_enterable tolerance instant entrance.now ≡ is_in result instant }
     ensures first { result.first ≡ Some entrance.now.id }
     ensures second { result.second ≡ None }
 {
@@ -215,7 +235,8 @@ fn spans_of_one<'a>(
     tolerance: Nanos,
     entrance: &Entrance<'a>,
 ) -> Result<Vec<TimeSpan<'a>>, AllocError>
-    ensures { IfOk result (λ v. All (Tells tolerance (entrance.now ∷ [])) v.items) }
+    ensures tells { IfOk result (λ v. All (Tells tolerance (entrance.now ∷ [])) v.items) }
+    ensures three { IfOk result (λ v. length v.items ≡ 3) }
 {
     let within = open_span(tolerance, entrance);
     let before = closed_span(i128::MIN, within.from);
@@ -227,13 +248,16 @@ fn spans_of_one<'a>(
     Ok(spans)
 }
 
-/// The spans of time in which the breaks of `list` are entered, by `tolerance`. Fails only if an allocation fails.
-pub fn spans_of<'a>(
+// The spans of the breaks of a list, which is halved until each part has one: so often at most.
+fn spans_halved<'a>(
     alloc: Global,
     tolerance: Nanos,
     list: &[Entrance<'a>],
+    halvings: usize,
 ) -> Result<Vec<TimeSpan<'a>>, AllocError>
-    ensures { IfOk result (λ v. All (Tells tolerance list.now) v.items) }
+    requires { length list.now ≤ 2 ^ halvings }
+    ensures tells { IfOk result (λ v. All (Tells tolerance list.now) v.items) }
+    ensures few { IfOk result (λ v. length v.items ≤ 3 * length list.now) }
 {
     let Some(first) = list.first() else {
         return Ok(Vec::new(alloc));
@@ -241,10 +265,24 @@ pub fn spans_of<'a>(
     if list.len() == 1 {
         return spans_of_one(alloc, tolerance, first);
     }
+    let left = halvings - 1;
     let (before, after) = list.split_at(list.len() / 2);
-    let ours = spans_of(alloc, tolerance, before)?;
-    let theirs = spans_of(alloc, tolerance, after)?;
+    let ours = spans_halved(alloc, tolerance, before, left)?;
+    let theirs = spans_halved(alloc, tolerance, after, left)?;
     joined(alloc, ours.as_slice(), theirs.as_slice())
+}
+
+/// The spans of time in which the breaks of `list` are entered, by `tolerance`: at most three for each break. Fails
+/// only if an allocation fails.
+pub fn spans_of<'a>(
+    alloc: Global,
+    tolerance: Nanos,
+    list: &[Entrance<'a>],
+) -> Result<Vec<TimeSpan<'a>>, AllocError>
+    ensures tells { IfOk result (λ v. All (Tells tolerance list.now) v.items) }
+    ensures few { IfOk result (λ v. length v.items ≤ 3 * length list.now) }
+{
+    spans_halved(alloc, tolerance, list, HALVINGS)
 }
 
 /// The place, from 0, of that one of `spans` in which `instant` is, which often is `place`.
@@ -263,7 +301,8 @@ pub fn span_at<'s, 'a>(
     instant: Instant,
 ) -> Option<&'s TimeSpan<'a>>
     ensures inside { IfSome result (λ span. is_in span.now instant ≡ true) }
-    ensures tells { (tolerance : ℕ) (found : List Entrance) → All (Tells tolerance found) spans.now → IfSome result (λ span. Tells tolerance found span.now) }
+    ensures tells { (tolerance : ℕ) (found : List Entrance) → All (Tells tolerance found) spans.now
+        → IfSome result (λ span. Tells tolerance found span.now) }
 {
     match spans.get(place) {
         Some(span) if span.holds(i128::from(instant.0)) => Some(span),

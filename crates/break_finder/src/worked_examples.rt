@@ -11,7 +11,8 @@ use crate::why::Why;
 fn signal_examples()
     ensures out { signal_of out_30 ≡ Signal.Leaves (Some 2700000) }
     ensures back { signal_of back_in ≡ Signal.Returns None }
-    ensures short { signal_of (codes "0xFC302000000000000000FFF00F05000000017FFFFE002932E0000100000000000000") ≡ Signal.Nothing }
+    ensures short { signal_of (codes "0xFC302000000000000000FFF00F05000000017FFFFE002932E0000100000000000000")
+        ≡ Signal.Nothing }
     ensures odd { signal_of (codes "0xF") ≡ Signal.Nothing }
 {}
 

@@ -11,7 +11,8 @@ use Rattle.pod_store.specs.Pods.{Pod}
 use Rattle.pod_store.specs.Marks.{Mark, Marked, newest_mark}
 use Rattle.pod_store.specs.Store.{Entry, Store, with_entries, with_copies, has_id, pod_of, entry_for, pod_for, has_own, is_used, is_used_entry, is_one_of, put, without, names_used, count_with, kept_in_use}
 use Rattle.pod_store.proofs.Copies.{all_own}
-use Rattle.pod_store.specs.Outcome.{refuse_if, fault_at, nowhere}
+use Rattle.spec_words.specs.Outcomes.{refuse_if}
+use Rattle.pod_store.specs.Outcome.{fault_at, nowhere}
 use Rattle.pod_store.specs.declared.Decisions.{Decisions}
 use Rattle.pod_store.specs.declared.Decisions.TheVariants.{Breaks, Withdraw, Fallback, NoFallback}
 use Rattle.pod_store.specs.declared.fault.DecisionKind.TheVariants.{Used, Full, Unknown}

@@ -9,7 +9,8 @@ use Rattle.pod_store.specs.Pods.{Pod}
 use Rattle.pod_store.specs.Marks.{Mark, Marked}
 use Rattle.channel_spec.specs.declared.fault.RefreshFault.{RefreshFault}
 use Rattle.pod_store.specs.Store.{Entry, Store, with_entries, with_copies, has_id, has_own, is_used, is_used_entry, put, without, names_used, count_with}
-use Rattle.pod_store.specs.Outcome.{refuse_if, fault_at, nowhere}
+use Rattle.spec_words.specs.Outcomes.{refuse_if}
+use Rattle.pod_store.specs.Outcome.{fault_at, nowhere}
 use Rattle.pod_store.specs.declared.Decisions.{Decisions}
 use Rattle.pod_store.specs.declared.Decisions.TheVariants.{Breaks, Withdraw, Fallback, NoFallback}
 use Rattle.pod_store.specs.declared.fault.DecisionKind.TheVariants.{Used, Full, Unknown}

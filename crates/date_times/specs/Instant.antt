@@ -1,11 +1,11 @@
 -- Instants in whole nanoseconds from 1970 in UTC, and the time texts that say them: EXT-X-PROGRAM-DATE-TIME (RFC 8216,
 -- 4.3.2.6) and START-DATE and END-DATE of EXT-X-DATERANGE (4.3.2.7), after ISO 8601.
--- Bytes of ASCII: 43 is `+`, 45 `-`, 46 `.`, 58 `:`, 84 `T` and 90 `Z`.
 use Rattle.std.specs.Prelude.{◌≡◌, ℕ, zero, suc, ◌+◌, ◌-◌, ◌*◌, ◌/◌, ◌%◌, Bool, true, false, not, ◌&&◌, ◌||◌, ◌==◌, nat_lt, nat_le, List, [], ◌∷◌, take, drop, length, slice_index, ℤ, pos, ◌+ℤ◌, ◌-ℤ◌, ◌*ℤ◌, int_le, int_lt, Option, Some, None, if◌then◌else◌}
 use Rattle.jiff_core.specs.Calendar.{IsEpochDay}
 use Rattle.std.specs.List.{list_all, prefix_len}
 use Rattle.std.specs.Char.{is_ascii_digit}
 use Rattle.std.specs.Str.Parse.{digits_value}
+use Rattle.spec_words.specs.Bytes.{plus, hyphen, point, colon, capital_t, capital_z}
 use Rattle.fixed_duration.specs.Text.{number_of, nine_digits}
 
 -- the number that the digits from i up to j write
@@ -46,7 +46,7 @@ is_day year month day = nat_le 1 month && nat_le month 12 && nat_le 1 day && nat
 
 -- `YYYY-MM-DD`
 abbrev pub has_date_form : List ℕ → Bool
-has_date_form text = are_digits text 0 4 && slice_index text 4 == 45 && are_digits text 5 7 && slice_index text 7 == 45 && are_digits text 8 10
+has_date_form text = are_digits text 0 4 && slice_index text 4 == hyphen && are_digits text 5 7 && slice_index text 7 == hyphen && are_digits text 8 10
 
 -- the same, and a day of the calendar
 abbrev pub is_date : List ℕ → Bool
@@ -62,7 +62,7 @@ is_time_of_day hour minute second = nat_lt hour 24 && nat_lt minute 60 && nat_lt
 -- `hh:mm:ss` after the `T`
 abbrev pub has_clock_form : List ℕ → Bool
 has_clock_form text =
-    are_digits text 11 13 && slice_index text 13 == 58 && are_digits text 14 16 && slice_index text 16 == 58 && are_digits text 17 19
+    are_digits text 11 13 && slice_index text 13 == colon && are_digits text 14 16 && slice_index text 16 == colon && are_digits text 17 19
 
 -- the same, and a time of day
 abbrev pub is_clock : List ℕ → Bool
@@ -75,7 +75,7 @@ seconds_at text =
 
 -- how many bytes a point and the digits after it have, and none without a point
 abbrev pub fraction_len : List ℕ → ℕ
-fraction_len text = if slice_index text 0 == 46 then prefix_len is_ascii_digit (drop 1 text) + 1 else 0
+fraction_len text = if slice_index text 0 == point then prefix_len is_ascii_digit (drop 1 text) + 1 else 0
 
 -- no fraction, or a point with 1 to 9 digits
 abbrev pub is_fraction : ℕ → Bool
@@ -88,9 +88,9 @@ fraction_nanos digits = number_of (nine_digits digits)
 -- seconds east of UTC: `hh:mm`, `hhmm` or `hh` after the sign
 abbrev pub offset_seconds : List ℕ → Option ℕ
 offset_seconds text =
-    let minutes = if length text == 5 && slice_index text 2 == 58 then drop 3 text else drop 2 text in
+    let minutes = if length text == 5 && slice_index text 2 == colon then drop 3 text else drop 2 text in
     if are_digits text 0 2 && nat_lt (field text 0 2) 24 && list_all is_ascii_digit minutes && nat_lt (digits_value 10 minutes) 60
-    && (length text == 2 || length text == 4 || (length text == 5 && slice_index text 2 == 58))
+    && (length text == 2 || length text == 4 || (length text == 5 && slice_index text 2 == colon))
     then Some (field text 0 2 * 3600 + digits_value 10 minutes * 60) else None
 
 abbrev pub signed_offset : Bool → Option ℕ → Option ℤ
@@ -101,9 +101,9 @@ signed_offset west (Some seconds) = Some (if west then pos 0 -ℤ pos seconds el
 abbrev pub zone_offset : List ℕ → Option ℤ
 zone_offset [] = Some (pos 0)
 zone_offset (b ∷ text) =
-    if b == 90 && length text == 0 then Some (pos 0)
-    else (if b == 43 then signed_offset false (offset_seconds text)
-    else (if b == 45 then signed_offset true (offset_seconds text) else None))
+    if b == capital_z && length text == 0 then Some (pos 0)
+    else (if b == plus then signed_offset false (offset_seconds text)
+    else (if b == hyphen then signed_offset true (offset_seconds text) else None))
 
 -- ---- The range
 
@@ -134,5 +134,5 @@ abbrev pub instant_of : List ℕ → Option ℤ
 instant_of text =
     let rest = drop 19 text in
     let len = fraction_len rest in
-    if is_date text && slice_index text 10 == 84 && is_clock text && is_fraction len
+    if is_date text && slice_index text 10 == capital_t && is_clock text && is_fraction len
     then instant_at (seconds_at text) (fraction_nanos (drop 1 (take len rest))) (zone_offset (drop len rest)) else None

@@ -1,6 +1,6 @@
 -- How an instant is written: as a time text in UTC with `Z` (RFC 8216, 4.3.2.6).
--- Bytes of ASCII: 45 is `-`, 46 `.`, 58 `:`, 84 `T` and 90 `Z`.
 use Rattle.std.specs.Prelude.{ℕ, zero, suc, ◌+◌, ◌-◌, ◌/◌, ◌%◌, ◌==◌, nat_lt, List, [], ◌∷◌, ◌++◌, ℤ, pos, negsuc, if◌then◌else◌}
+use Rattle.spec_words.specs.Bytes.{hyphen, point, colon, capital_t, capital_z}
 use Rattle.date_times.specs.Instant.{is_leap, days_in_month}
 use Rattle.date_times.specs.Digits.{fixed_digits}
 
@@ -25,10 +25,10 @@ month_after (suc turns) year month days =
     if nat_lt days (days_in_month year month) then (month, days) else month_after turns year (month + 1) (days - days_in_month year month)
 
 abbrev pub date_text : ℕ → ℕ → ℕ → List ℕ → List ℕ
-date_text year month day rest = fixed_digits 10 4 year ++ 45 ∷ (fixed_digits 10 2 month ++ 45 ∷ (fixed_digits 10 2 day ++ rest))
+date_text year month day rest = fixed_digits 10 4 year ++ hyphen ∷ (fixed_digits 10 2 month ++ hyphen ∷ (fixed_digits 10 2 day ++ rest))
 
 abbrev pub clock_text : ℕ → List ℕ → List ℕ
-clock_text seconds rest = fixed_digits 10 2 (seconds / 3600) ++ 58 ∷ (fixed_digits 10 2 (seconds / 60 % 60) ++ 58 ∷ (fixed_digits 10 2 (seconds % 60) ++ rest))
+clock_text seconds rest = fixed_digits 10 2 (seconds / 3600) ++ colon ∷ (fixed_digits 10 2 (seconds / 60 % 60) ++ colon ∷ (fixed_digits 10 2 (seconds % 60) ++ rest))
 
 -- three decimals, or nine where three would lose something
 abbrev pub decimals : ℕ → List ℕ
@@ -38,7 +38,7 @@ decimals nanos = if nanos % 1000000 == 0 then fixed_digits 10 3 (nanos / 1000000
 abbrev pub text_at : ℕ → List ℕ
 text_at n =
     let year = year_after 300 1900 (n / 86400000000000) in let month = month_after 12 year.0 1 year.1 in
-    date_text year.0 month.0 (month.1 + 1) (84 ∷ clock_text (n / 1000000000 % 86400) (46 ∷ (decimals (n % 1000000000) ++ 90 ∷ [])))
+    date_text year.0 month.0 (month.1 + 1) (capital_t ∷ clock_text (n / 1000000000 % 86400) (point ∷ (decimals (n % 1000000000) ++ capital_z ∷ [])))
 
 abbrev pub time_text : ℤ → List ℕ
 time_text t = text_at (from_1900 t)

@@ -16,7 +16,8 @@ use Rattle.serde_json.specs.Find.{get, as_object}
 use Rattle.pod_store.specs.declared.fault.DecisionFault.{DecisionFault}
 use Rattle.pod_store.specs.declared.fault.Place.{Place}
 use Rattle.pod_store.specs.declared.fault.DecisionKind.TheVariants.{Shape, BadUri, BadDuration, BadKey, EmptyPod, TooMany}
-use Rattle.pod_store.specs.Outcome.{Outcome, ◌>>=◌, fault_at, in_ad, in_segment, or_fault, mended, refuse_if, optional, some_value, each_after}
+use Rattle.spec_words.specs.Outcomes.{◌>>=◌, or_fault, mended, refuse_if, optional, some_value, each_after}
+use Rattle.pod_store.specs.Outcome.{Outcome, fault_at, in_ad, in_segment}
 use Rattle.decision_files.specs.Json.{text_at, list_at, u64_of}
 use Rattle.decision_files.specs.Decided as said
 use Rattle.pod_store.specs.Rules.{byte_range_fits, segment_keeps, key_keeps, ad_keeps, ads_keep}

@@ -16,7 +16,8 @@ use Rattle.pod_store.specs.declared.Decisions.TheVariants.{Breaks, Withdraw, Fal
 use Rattle.pod_store.specs.declared.fault.DecisionFault.{DecisionFault}
 use Rattle.pod_store.specs.declared.fault.Place.{Place}
 use Rattle.pod_store.specs.declared.fault.DecisionKind.TheVariants.{NotJson, Shape, BadUri, BadDuration, BadKey, EmptyPod, TooMany}
-use Rattle.pod_store.specs.Outcome.{Outcome, ◌>>=◌, nowhere, in_break, in_ad, in_segment, fault_at, or_fault, mended, refuse_if, optional, each_after}
+use Rattle.spec_words.specs.Outcomes.{◌>>=◌, or_fault, mended, refuse_if, optional, each_after}
+use Rattle.pod_store.specs.Outcome.{Outcome, nowhere, in_break, in_ad, in_segment, fault_at}
 use Rattle.decision_files.specs.Json.{text_at, values_of, list_at, u64_of}
 
 -- ---- ranges

@@ -2,7 +2,8 @@
 ghost use Rattle.std.specs.Prelude.{◌≡◌, ◌≤◌, ◌+◌, IfOk, map, codes, option_map, sum, []};
 ghost use Rattle.serde_json.specs.View.{view};
 ghost use Rattle.serde_json.specs.Find.{get};
-ghost use Rattle.pod_store.specs.Outcome.{Gives, each_after, optional};
+ghost use Rattle.spec_words.specs.Outcomes.{each_after, optional};
+ghost use Rattle.pod_store.specs.Outcome.{Gives, in_break, fault_at};
 ghost use Rattle.pod_store.specs.Pods.{segment_count};
 ghost use Rattle.decision_files.specs.Decided.{init_section_said, key_said, ad_said, next_ad, pod_said, ad_of};
 ghost use Rattle.decision_files.specs.Inner.Views.{part_of};
@@ -28,7 +29,8 @@ fn stated_init_section(
 }
 
 fn stated_key(alloc: Global, place: Place, value: &Value) -> Result<Option<Key>, DecisionFault>
-    ensures { Gives (λ key. key) result (optional (key_said place) (get (codes "key") (view value.now))) }
+    ensures { Gives (λ key. key) result
+        (optional (key_said place) (get (codes "key") (view value.now))) }
 {
     match value.get("key") {
         Some(key) => Ok(Some(key_said(alloc, place, key)?)),
@@ -95,7 +97,10 @@ fn ads_of(alloc: Global, pod: usize, list: &[Value]) -> Result<Vec<Ad>, Decision
 /// The pod that `ads` state, for the break that the decision file lists at `pod`, from 0. `EmptyPod` if there are
 /// none; then the faults of each ad in turn; `OutOfMemory` only if an allocation fails.
 pub fn pod_said(alloc: Global, pod: usize, ads: &[Value]) -> Result<Pod, DecisionFault>
-    ensures { Gives (λ p. p) result (pod_said pod (map view ads.now)) }
+    ensures said { Gives (λ p. p) result (pod_said pod (map view ads.now)) }
+
+    // That there are none is answered whatever memory there is.
+    ensures told { ads.now ≡ [] → result ≡ Err (fault_at (in_break pod) DecisionKind.EmptyPod) }
 {
     if ads.is_empty() {
         return Err(Place::in_break(pod).fault(DecisionKind::EmptyPod));

@@ -1,8 +1,9 @@
 //! A decision file.
-ghost use Rattle.std.specs.Prelude.{◌≡◌, ◌∷◌, ◌++◌, [], map, codes, IfOk};
+ghost use Rattle.std.specs.Prelude.{◌≡◌, false, ◌∷◌, ◌++◌, [], map, codes, IfOk};
 ghost use Rattle.serde_json.specs.View.{view};
-ghost use Rattle.pod_store.specs.Outcome.{Gives, each_after};
-ghost use Rattle.pod_store.specs.Inner.Outcome.{GivesExactly};
+ghost use Rattle.std.specs.Str.{is_utf8};
+ghost use Rattle.spec_words.specs.Outcomes.{each_after, GivesExactly, Tells};
+ghost use Rattle.pod_store.specs.Outcome.{Gives, nowhere, fault_at};
 ghost use Rattle.decision_files.specs.Decided.{id_said, pod_said, break_said, next_break, breaks_said, withdraw_said, in_no_break, of_no_break, fallback_pod, fallback_said, value_said, json_of, decisions_of};
 
 use crate::ads::pod_said;
@@ -77,7 +78,8 @@ fn breaks_said(
 }
 
 fn withdraw_said(alloc: Global, value: &Value) -> Result<Decisions, DecisionFault>
-    ensures { Gives (λ d. d) result (withdraw_said (view value.now)) }
+    ensures said { Gives (λ d. d) result (withdraw_said (view value.now)) }
+    ensures told { Tells result (withdraw_said (view value.now)) }
 {
     let id = value
         .as_str()
@@ -148,7 +150,9 @@ fn value_said(
 
 // The JSON value of these bytes.
 fn json_of(alloc: Global, bytes: &[u8]) -> Result<Value, DecisionFault>
-    ensures { Gives view result (json_of bytes.now) }
+    ensures said { Gives view result (json_of bytes.now) }
+    ensures told { is_utf8 bytes.now ≡ false
+        → result ≡ Err (fault_at nowhere DecisionKind.NotJson) }
 {
     let not_json = Place::nowhere().fault(DecisionKind::NotJson);
     let Ok(text) = text_of(bytes) else {
@@ -178,7 +182,11 @@ pub fn read_decisions(
     hashing: RandomState,
     bytes: &[u8],
 ) -> Result<Decisions, DecisionFault>
-    ensures { Gives (λ d. d) result (decisions_of bytes.now) }
+    ensures said { Gives (λ d. d) result (decisions_of bytes.now) }
+
+    // Bytes that are no text are refused whatever memory there is.
+    ensures told { is_utf8 bytes.now ≡ false
+        → result ≡ Err (fault_at nowhere DecisionKind.NotJson) }
 {
     let value = json_of(alloc, bytes)?;
     value_said(alloc, hashing, &value)

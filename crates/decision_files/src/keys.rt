@@ -3,8 +3,8 @@ ghost use Rattle.std.specs.Prelude.{◌≡◌, IfOk, option_map, codes};
 ghost use Rattle.std.specs.Option.{option_copied};
 ghost use Rattle.serde_json.specs.View.{view};
 ghost use Rattle.serde_json.specs.Find.{as_str, get};
-ghost use Rattle.pod_store.specs.Outcome.{Gives, optional, or_fault};
-ghost use Rattle.pod_store.specs.Inner.Outcome.{GivesExactly};
+ghost use Rattle.spec_words.specs.Outcomes.{optional, or_fault, GivesExactly, Tells};
+ghost use Rattle.pod_store.specs.Outcome.{Gives};
 ghost use Rattle.decision_files.specs.Decided.{part_said, init_section_said, format_said, text_of, method_said, key_uri_said, iv_said, key_said, key_members, keys_of, init_section_with};
 ghost use Rattle.decision_files.specs.Inner.Views.{part_of};
 
@@ -28,21 +28,34 @@ pub struct Part {
     pub byte_range: Option<ByteRange>,
 }
 
-/// The resource `uri`, and the part of it that the byte range of the object `value` states. The faults, at `place`
-/// and in this order: `BadUri` if `uri` can't be one, then those of `byte_range_said`; `OutOfMemory` only if an
-/// allocation fails.
+/// The part of the resource `uri` that the byte range of the object `value` states. The faults, at `place` and in this
+/// order: `BadUri` if `uri` can't be one, then those of `byte_range_said`. Takes no memory.
+pub fn part_of_resource(
+    place: Place,
+    uri: &str,
+    value: &Value,
+) -> Result<Option<ByteRange>, DecisionFault>
+    ensures { GivesExactly (λ byte_range. (uri.now, byte_range)) result
+        (part_said place uri.now (view value.now)) }
+{
+    if !is_uri(uri) {
+        return Err(place.fault(DecisionKind::BadUri));
+    }
+    byte_range_said(place, value)
+}
+
+/// The resource `uri` with the part of it that the object `value` states. The faults of `part_of_resource`, at `place`;
+/// `OutOfMemory` only if an allocation fails.
 pub fn part_said(
     alloc: Global,
     place: Place,
     uri: &str,
     value: &Value,
 ) -> Result<Part, DecisionFault>
-    ensures { Gives part_of result (part_said place uri.now (view value.now)) }
+    ensures said { Gives part_of result (part_said place uri.now (view value.now)) }
+    ensures told { Tells result (part_said place uri.now (view value.now)) }
 {
-    if !is_uri(uri) {
-        return Err(place.fault(DecisionKind::BadUri));
-    }
-    let byte_range = byte_range_said(place, value)?;
+    let byte_range = part_of_resource(place, uri, value)?;
     let uri = Shared::copy_of(alloc, uri)?;
     Ok(Part { uri, byte_range })
 }
@@ -50,7 +63,8 @@ pub fn part_said(
 /// The resource and the part of it that `value`, the initialisation section of an ad, states (RFC 8216, section
 /// 4.3.2.5). `Shape`, at `place`, if it is no object with a URI; then the faults of `part_said`.
 pub fn init_section_said(alloc: Global, place: Place, value: &Value) -> Result<Part, DecisionFault>
-    ensures { Gives part_of result (init_section_said place (view value.now)) }
+    ensures said { Gives part_of result (init_section_said place (view value.now)) }
+    ensures told { Tells result (init_section_said place (view value.now)) }
 {
     let uri = text_at(value, "uri").ok_or(place.fault(DecisionKind::Shape))?;
     part_said(alloc, place, uri, value)
@@ -73,7 +87,8 @@ fn format_said(place: Place, value: &Value) -> Result<&str, DecisionFault>
 }
 
 fn stated_format(place: Place, value: &Value) -> Result<Option<&str>, DecisionFault>
-    ensures { GivesExactly (option_map (λ text. text.now)) result (optional (format_said place) (get (codes "format") (view value.now))) }
+    ensures { GivesExactly (option_map
+        (λ text. text.now)) result (optional (format_said place) (get (codes "format") (view value.now))) }
 {
     match value.get("format") {
         Some(format) => Ok(Some(format_said(place, format)?)),
@@ -112,7 +127,8 @@ fn iv_said(place: Place, value: &Value) -> Result<u128, DecisionFault>
 }
 
 fn key_members(alloc: Global, place: Place, value: &Value) -> Result<Key, DecisionFault>
-    ensures { Gives (λ key. key) result (key_members place (view value.now)) }
+    ensures said { Gives (λ key. key) result (key_members place (view value.now)) }
+    ensures told { Tells result (key_members place (view value.now)) }
 {
     let method = method_said(place, value)?;
     let uri = key_uri_said(place, value)?;
@@ -130,7 +146,8 @@ fn key_members(alloc: Global, place: Place, value: &Value) -> Result<Key, Decisi
 /// The key that `value`, the key of an ad, states (RFC 8216, section 4.3.2.4). `Shape`, at `place`, if it is no
 /// object; then the faults of its members in turn.
 pub fn key_said(alloc: Global, place: Place, value: &Value) -> Result<Key, DecisionFault>
-    ensures { Gives (λ key. key) result (key_said place (view value.now)) }
+    ensures said { Gives (λ key. key) result (key_said place (view value.now)) }
+    ensures told { Tells result (key_said place (view value.now)) }
 {
     if !value.is_object() {
         return Err(place.fault(DecisionKind::Shape));

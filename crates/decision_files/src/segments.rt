@@ -1,12 +1,15 @@
 //! The segments of an ad.
-ghost use Rattle.std.specs.Prelude.{◌≡◌, ◌≤◌, ◌+◌, ◌<◌, map, length, [], IfOk, OnOk};
+ghost use Rattle.std.specs.Prelude.{◌≡◌, ◌≤◌, ◌+◌, ◌<◌, map, length, codes, [], Some, IfOk, OnOk};
 ghost use Rattle.serde_json.specs.View.{view};
-ghost use Rattle.pod_store.specs.Outcome.{Gives, each_after};
+ghost use Rattle.spec_words.specs.Outcomes.{each_after, Tells};
+ghost use Rattle.pod_store.specs.Outcome.{Gives, in_ad, fault_at};
+ghost use Rattle.decision_files.specs.Json.{list_at};
 ghost use Rattle.decision_files.specs.Decided.{segment_texts, segment_said, next_segment, segments_said};
 
-use crate::keys::part_said;
+use crate::keys::part_of_resource;
 use crate::members::{list_at, text_at};
 use fixed_duration::Nanos;
+use playlist_model::Shared;
 use pod_store::{DecisionFault, DecisionKind, Place, PodSegment};
 use serde_json::Value;
 use std::alloc::Global;
@@ -21,21 +24,24 @@ fn segment_texts(
     duration: &str,
     value: &Value,
 ) -> Result<PodSegment, DecisionFault>
-    ensures { Gives (λ s. s) result (segment_texts place uri.now duration.now (view value.now)) }
+    ensures said { Gives (λ s. s) result
+        (segment_texts place uri.now duration.now (view value.now)) }
+    ensures told { Tells result (segment_texts place uri.now duration.now (view value.now)) }
 {
-    let part = part_said(alloc, place, uri, value)?;
-    match Nanos::read(duration) {
-        Ok(duration) => Ok(PodSegment {
-            uri: part.uri,
-            byte_range: part.byte_range,
-            duration,
-        }),
-        Err(_) => Err(place.fault(DecisionKind::BadDuration)),
-    }
+    let byte_range = part_of_resource(place, uri, value)?;
+    let Ok(duration) = Nanos::read(duration) else {
+        return Err(place.fault(DecisionKind::BadDuration));
+    };
+    Ok(PodSegment {
+        uri: Shared::copy_of(alloc, uri)?,
+        byte_range,
+        duration,
+    })
 }
 
 fn segment_said(alloc: Global, place: Place, value: &Value) -> Result<PodSegment, DecisionFault>
-    ensures { Gives (λ s. s) result (segment_said place (view value.now)) }
+    ensures said { Gives (λ s. s) result (segment_said place (view value.now)) }
+    ensures told { Tells result (segment_said place (view value.now)) }
 {
     let uri = text_at(value, "uri").ok_or(place.fault(DecisionKind::Shape))?;
     let duration = text_at(value, "duration").ok_or(place.fault(DecisionKind::Shape))?;
@@ -52,7 +58,10 @@ fn next_segment(
     value: &Value,
 ) -> Result<PodSegment, DecisionFault>
     requires { before ≤ MAX_SEGMENTS }
-    ensures said { Gives (λ s. s) result (next_segment pod ad before done.now.items (view value.now)) }
+    ensures said { Gives (λ s. s) result
+        (next_segment pod ad before done.now.items (view value.now)) }
+    ensures told { Tells result
+        (next_segment pod ad before done.now.items (view value.now)) }
     ensures room { OnOk result (before + length done.now.items < MAX_SEGMENTS) }
 {
     let place = Place::in_segment(pod, ad, done.len());
@@ -71,7 +80,8 @@ fn segments_of(
     list: &[Value],
 ) -> Result<Vec<PodSegment>, DecisionFault>
     requires { before ≤ MAX_SEGMENTS }
-    ensures said { Gives (λ v. v.items) result (each_after (next_segment pod ad before) [] (map view list.now)) }
+    ensures said { Gives (λ v. v.items) result
+        (each_after (next_segment pod ad before) [] (map view list.now)) }
     ensures most { IfOk result (λ v. before + length v.items ≤ MAX_SEGMENTS) }
 {
     let mut done = Vec::new(alloc);
@@ -96,6 +106,10 @@ pub fn segments_said(
 ) -> Result<Vec<PodSegment>, DecisionFault>
     requires { before ≤ MAX_SEGMENTS }
     ensures said { Gives (λ v. v.items) result (segments_said pod ad before (view value.now)) }
+
+    // That there are none is answered whatever memory there is.
+    ensures told { list_at (codes "segments") (view value.now) ≡ Some []
+        → result ≡ Err (fault_at (in_ad pod ad) DecisionKind.EmptyPod) }
     ensures most { IfOk result (λ v. before + length v.items ≤ MAX_SEGMENTS) }
 {
     let place = Place::in_ad(pod, ad);

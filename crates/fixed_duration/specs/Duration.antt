@@ -1,5 +1,6 @@
 -- What a text says as a duration in nanoseconds, and how a duration is written (RFC 8216, 4.3.2.1).
 use Rattle.std.specs.Prelude.{ℕ, ◌+◌, ◌*◌, ◌/◌, ◌%◌, ◌^◌, not, ◌==◌, nat_le, List, [], ◌∷◌, ◌++◌, decimal, codes, Result, Ok, Err, if◌then◌else◌}
+use Rattle.spec_words.specs.Bytes.{point}
 use Rattle.fixed_duration.specs.declared.DurationFault.{DurationFault}
 use Rattle.fixed_duration.specs.declared.DurationFault.TheVariants.{Empty, NotDigits, TooLarge}
 use Rattle.fixed_duration.specs.Text.{is_empty, is_decimal, whole_part, fraction_part, number_of, nine_digits, fraction_digits}
@@ -20,9 +21,9 @@ duration_of text =
     else (if nat_le (10 ^ 6) (seconds_of text) then Err TooLarge
     else Ok (seconds_of text * 10 ^ 9 + fraction_of text)))
 
--- a point (46) and the digits after it, up to the last that is not 0; nothing where all nine are 0
+-- a point and the digits after it, up to the last that is not 0; nothing where all nine are 0
 abbrev pub fraction_text : ℕ → List ℕ
-fraction_text nanos = if nanos == 0 then [] else 46 ∷ fraction_digits 9 nanos
+fraction_text nanos = if nanos == 0 then [] else point ∷ fraction_digits 9 nanos
 
 -- how a number of nanoseconds is written in seconds
 abbrev pub duration_text : ℕ → List ℕ

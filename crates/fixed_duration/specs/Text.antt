@@ -3,10 +3,10 @@ use Rattle.std.specs.Prelude.{ℕ, ◌+◌, ◌/◌, ◌%◌, Bool, not, ◌&&�
 use Rattle.std.specs.List.{before_first, after_first, list_all}
 use Rattle.std.specs.Char.{is_ascii_digit}
 use Rattle.std.specs.Str.Parse.{digits_value}
+use Rattle.spec_words.specs.Bytes.{point, digit_zero}
 
--- `.`, of which 46 is the byte
 abbrev pub is_point : ℕ → Bool
-is_point c = c == 46
+is_point c = c == point
 
 abbrev pub is_empty : List ℕ → Bool
 is_empty text = length text == 0
@@ -33,17 +33,17 @@ number_of digits = digits_value 10 digits
 
 -- the first nine digits, filled up with zeros: a fraction of a second in nanoseconds
 abbrev pub nine_digits : List ℕ → List ℕ
-nine_digits digits = take 9 (digits ++ replicate 9 48)
+nine_digits digits = take 9 (digits ++ replicate 9 digit_zero)
 
 -- the last so many decimal digits of a number, zeros in front among them
 unfoldable pub last_digits : ℕ → ℕ → List ℕ
 last_digits zero n = []
-last_digits (suc k) n = last_digits k (n / 10) ++ (48 + n % 10) ∷ []
+last_digits (suc k) n = last_digits k (n / 10) ++ (digit_zero + n % 10) ∷ []
 
--- without the zeros at the end (48 is the byte of `0`)
+-- without the zeros at the end
 abbrev pub without_last_zeros : List ℕ → List ℕ
 without_last_zeros [] = []
-without_last_zeros (d ∷ digits) = if d == 48 && is_empty (without_last_zeros digits) then [] else d ∷ without_last_zeros digits
+without_last_zeros (d ∷ digits) = if d == digit_zero && is_empty (without_last_zeros digits) then [] else d ∷ without_last_zeros digits
 
 -- the digits of a fraction of 10 ^ places, up to the last that is not 0
 abbrev pub fraction_digits : ℕ → ℕ → List ℕ

@@ -9,7 +9,8 @@ use Rattle.pod_store.specs.declared.Decisions.TheVariants.{Withdraw}
 use Rattle.pod_store.specs.Store.{Store, Changes, ChangesExactly}
 use Rattle.pod_store.specs.Store as store
 use Rattle.decision_files.specs.Decided.{decisions_of}
-use Rattle.pod_store.specs.Outcome.{Outcome, ◌>>=◌, Refuses}
+use Rattle.spec_words.specs.Outcomes.{◌>>=◌}
+use Rattle.pod_store.specs.Outcome.{Outcome, Refuses}
 use Rattle.stitcher.specs.declared.marked.MarkedSegment.{MarkedSegment as Held}
 use Rattle.stitcher.specs.StitchedSegments.{rest_in}
 use Rattle.channel_spec.specs.Live.{taken}

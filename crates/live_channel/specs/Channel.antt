@@ -15,7 +15,8 @@ use Rattle.pod_store.specs.Store.{Store, is_used}
 use Rattle.pod_store.specs.Store.{decided as after_decisions}
 use Rattle.pod_store.specs.Store.{withdrawn as without_break}
 use Rattle.decision_files.specs.Decided.{decisions_of}
-use Rattle.pod_store.specs.Outcome.{Outcome, ◌>>=◌, no_memory, Refuses}
+use Rattle.spec_words.specs.Outcomes.{◌>>=◌}
+use Rattle.pod_store.specs.Outcome.{Outcome, no_memory, Refuses}
 use Rattle.pod_store.specs.declared.Decisions.{Decisions}
 use Rattle.pod_store.specs.declared.Decisions.TheVariants.{Withdraw}
 use Rattle.pod_store.specs.declared.fault.DecisionFault.{DecisionFault}

@@ -6,7 +6,8 @@ use Rattle.playlist_model.specs.LookBack.{or_earlier}
 use Rattle.pod_store.specs.Pods.{Pod}
 use Rattle.pod_store.specs.Marks.{Mark, Marked, newest_mark}
 use Rattle.pod_store.specs.Store.{Entry, Store, with_entries, has_id, pod_of, pod_for, put, without, names_used, count_with, has_own, is_used, copied_last, with_copy, with_copies, is_one_of, is_held, kept_in_use}
-use Rattle.pod_store.specs.Outcome.{refuse_if, fault_at, nowhere}
+use Rattle.spec_words.specs.Outcomes.{refuse_if}
+use Rattle.pod_store.specs.Outcome.{fault_at, nowhere}
 use Rattle.pod_store.specs.declared.fault.DecisionFault.{DecisionFault}
 use Rattle.pod_store.specs.declared.Decisions.{Decisions}
 use Rattle.pod_store.specs.declared.Decisions.TheVariants.{Breaks, Withdraw, Fallback, NoFallback}

@@ -12,7 +12,8 @@ use Rattle.attr_list.specs.declared.AttrFault.{AttrFault}
 use Rattle.attr_list.specs.declared.AttrFault.TheVariants.{TooMany as TooManyAttributes}
 use Rattle.attr_list.specs.Attributes.{Pair, pieces, is_full, pair_of, add_pair, pairs_from}
 use Rattle.playlist_model.specs.LookBack.{keys_at, count, is_media}
-use Rattle.playlist_model.specs.Said.{Name, key_tag, init_section_tag, date_range_tag, Said, nothing, over, Outcome, ◌>>=◌, refuse_if, Reader, attributes, mended, key_said, init_section_said, date_range_said}
+use Rattle.spec_words.specs.Outcomes.{◌>>=◌, refuse_if, mended}
+use Rattle.playlist_model.specs.Said.{Name, key_tag, init_section_tag, date_range_tag, Said, nothing, over, Outcome, Reader, attributes, key_said, init_section_said, date_range_said}
 use Rattle.playlist_model.specs.Reading.{name_of, said_by_tag, said_by_uri, said_by_kind, said_by, said_from, at_line, Fault, and_whole, of_lines, reading, unlimited, within_formats, Denotes}
 
 -- what the one answers, the other answers too

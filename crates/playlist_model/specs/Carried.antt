@@ -1,7 +1,7 @@
 -- The attributes of a key tag that are carried as they stand (RFC 8216, section 4.3.2.4).
--- Byte of ASCII: 44 is the comma.
 use Rattle.std.specs.Prelude.{ℕ, Bool, true, false, not, ◌&&◌, ◌||◌, List, [], ◌∷◌, Result, Ok, Err, None, codes, filter}
 use Rattle.std.specs.List.{list_any, flat_map}
+use Rattle.spec_words.specs.Bytes.{comma}
 use Rattle.attr_list.specs.declared.AttrFault.{AttrFault}
 use Rattle.attr_list.specs.Attributes.{Pair, attributes_of, is_comma, is_named, pair_spelling}
 
@@ -16,7 +16,7 @@ carried pairs = filter (λ pair. not (is_key_attribute pair)) pairs
 
 -- attributes as they are spelled (4.2), each with a comma before it
 abbrev pub after_commas : List Pair → List ℕ
-after_commas pairs = flat_map (λ pair. 44 ∷ pair_spelling pair) pairs
+after_commas pairs = flat_map (λ pair. comma ∷ pair_spelling pair) pairs
 
 -- a list of which no attribute has a meaning of its own
 abbrev pub is_carried : Result (List Pair) AttrFault → Bool

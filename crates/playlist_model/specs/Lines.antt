@@ -1,10 +1,10 @@
 -- The lines of a playlist and their kinds, after RFC 8216, section 4.1.
--- Bytes of ASCII: 10 is the line feed, 32 the space, 58 `:` and 127 the delete character.
 use Rattle.std.specs.Prelude.{ℕ, ◌+◌, Bool, ◌==◌, nat_eq, List, [], ◌∷◌, drop, length, codes, if◌then◌else◌}
 use Rattle.std.specs.List.{list_all, list_any, before_first, after_first, slice_split, starts_with}
 use Rattle.std.specs.Str.{chars}
 use Rattle.std.specs.Str.Lines.{strip_carriage_return}
 use Rattle.std.specs.Char.{is_control}
+use Rattle.spec_words.specs.Bytes.{line_feed, space, colon}
 
 -- the lines between line feeds, each with the place where it begins: a last piece that is empty is
 -- no line, and a carriage return goes only with the line feed after it
@@ -15,7 +15,7 @@ placed_from start (piece ∷ next ∷ later) =
     (start, strip_carriage_return piece) ∷ placed_from (start + length piece + 1) (next ∷ later)
 
 abbrev pub placed_lines : List ℕ → List (ℕ × List ℕ)
-placed_lines text = placed_from 0 (slice_split (λ b. b == 10) text)
+placed_lines text = placed_from 0 (slice_split (λ b. b == line_feed) text)
 
 -- what kind of line a text is
 pub data Kind : Type 0 where
@@ -24,10 +24,10 @@ pub data Kind : Type 0 where
   tag : List ℕ → List ℕ → Bool → Kind
 
 abbrev pub is_colon : ℕ → Bool
-is_colon b = b == 58
+is_colon b = b == colon
 
 abbrev pub is_blank : List ℕ → Bool
-is_blank line = list_all (λ b. b == 32) line
+is_blank line = list_all (λ b. b == space) line
 
 abbrev pub is_tag : List ℕ → Bool
 is_tag line = starts_with nat_eq line (codes "#EXT")

@@ -12,7 +12,8 @@ use Rattle.playlist_model.specs.declared.Segment.{Segment}
 use Rattle.playlist_model.specs.declared.Playlist.{Playlist}
 use Rattle.playlist_model.specs.Lines.{Kind, ignored, uri, tag, kind_of, has_control}
 use Rattle.date_times.specs.Instant.{instant_of}
-use Rattle.playlist_model.specs.Said.{Name, version_tag, target_tag, sequence_tag, discontinuity_sequence_tag, type_tag, ended_tag, independent_tag, frames_tag, master_tag, duration_tag, byte_range_tag, discontinuity_tag, key_tag, init_section_tag, time_tag, date_range_tag, unknown_tag, Said, nothing, version, target, sequence, discontinuity_sequence, playlist_type, ended, independent, byte_range, discontinuity, time, media, Outcome, ◌>>=◌, or_fault, refuse_if, over, Reader, number, version_of, playlist_type_of, duration_said, byte_range_of, key_said, init_section_said, date_range_said, uri_of}
+use Rattle.spec_words.specs.Outcomes.{◌>>=◌, or_fault, refuse_if}
+use Rattle.playlist_model.specs.Said.{Name, version_tag, target_tag, sequence_tag, discontinuity_sequence_tag, type_tag, ended_tag, independent_tag, frames_tag, master_tag, duration_tag, byte_range_tag, discontinuity_tag, key_tag, init_section_tag, time_tag, date_range_tag, unknown_tag, Said, nothing, version, target, sequence, discontinuity_sequence, playlist_type, ended, independent, byte_range, discontinuity, time, media, Outcome, over, Reader, number, version_of, playlist_type_of, duration_said, byte_range_of, key_said, init_section_said, date_range_said, uri_of}
 use Rattle.playlist_model.specs.LookBack.{latest, the_version, the_target, the_sequence, the_discontinuity_sequence, the_type, is_media, is_discontinuity, is_ended, is_independent, count, own_duration, media_sequence_at, discontinuity_at, keys_at, byte_range_at, segments_of, date_ranges_of}
 
 -- ---- the tags by name (RFC 8216, 4.3)

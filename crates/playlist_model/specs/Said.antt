@@ -1,10 +1,11 @@
 -- What one line says by itself, after RFC 8216, section 4.3.
--- Bytes of ASCII: 44 is the comma and 64 `@`.
 use Rattle.std.specs.Prelude.{ℕ, ◌+◌, ◌^◌, Bool, true, false, not, ◌||◌, ◌==◌, nat_lt, List, length, codes, ℤ, Option, Some, None, Result, Ok, Err, bytes_eq, unwrap_or, option_map, if◌then◌else◌}
 use Rattle.std.specs.List.{list_any, before_first, after_first}
+use Rattle.spec_words.specs.Bytes.{at_sign}
 use Rattle.url.specs.Parts.{Parts}
+use Rattle.spec_words.specs.Outcomes.{◌>>=◌, or_fault, mended, refuse_if, optional}
 use Rattle.fixed_duration.specs.Duration.{duration_of}
-use Rattle.attr_list.specs.Attributes.{Pair, attributes_of, attribute}
+use Rattle.attr_list.specs.Attributes.{Pair, is_comma, attributes_of, attribute}
 use Rattle.attr_list.specs.Numbers.{decimal_of, hex_of}
 use Rattle.playlist_model.specs.Uri.{resolved}
 use Rattle.playlist_model.specs.Carried.{carried, after_commas}
@@ -73,27 +74,9 @@ abbrev pub key_tag_said : KeyTag → Said
 key_tag_said End = no_keys
 key_tag_said (Set k) = key k
 
+-- what a line says, or its fault
 abbrev pub Outcome : Type 0 → Type 0
 Outcome A = Result A FaultKind
-
-infixl 10 ◌>>=◌
-abbrev pub ◌>>=◌ : {A B : Type 0} → Outcome A → (A → Outcome B) → Outcome B
-(Ok x) >>= f = f x
-(Err e) >>= f = Err e
-
--- the value, or this fault where there is none
-abbrev pub or_fault : {A : Type 0} → FaultKind → Option A → Outcome A
-or_fault e None = Err e
-or_fault e (Some x) = Ok x
-
-abbrev pub mended : {A E : Type 0} → FaultKind → Result A E → Outcome A
-mended e (Ok x) = Ok x
-mended e (Err d) = Err e
-
--- this fault where the test holds, else what follows
-abbrev pub refuse_if : {A : Type 0} → Bool → FaultKind → Outcome A → Outcome A
-refuse_if true e outcome = Err e
-refuse_if false e outcome = outcome
 
 -- ---- the parts of a line
 
@@ -115,12 +98,15 @@ playlist_type_of rest =
 -- EXTINF (4.3.2.1): the duration up to the first comma, and the title after it
 abbrev pub duration_said : List ℕ → Outcome Said
 duration_said rest =
-    mended fault.BadDuration (duration_of (before_first (λ b. b == 44) rest)) >>= λ nanos.
-    Ok (duration nanos (after_first (λ b. b == 44) rest))
+    mended fault.BadDuration (duration_of (before_first is_comma rest)) >>= λ nanos.
+    Ok (duration nanos (after_first is_comma rest))
 
 -- whether the end of a byte range has 64 bits (4.3.2.2)
 abbrev pub byte_range_end_fits : ℕ → ℕ → Bool
 byte_range_end_fits length offset = nat_lt (length + offset) (2 ^ 64)
+
+abbrev pub is_at_sign : ℕ → Bool
+is_at_sign b = b == at_sign
 
 abbrev pub stated_byte_range : ℕ → ℕ → Outcome (ℕ × Option ℕ)
 stated_byte_range length offset = refuse_if (not (byte_range_end_fits length offset)) fault.BadRange (Ok (length, Some offset))
@@ -128,9 +114,9 @@ stated_byte_range length offset = refuse_if (not (byte_range_end_fits length off
 -- EXT-X-BYTERANGE (4.3.2.2), `n[@o]`: the length, and the offset where it is stated
 abbrev pub byte_range_of : List ℕ → Outcome (ℕ × Option ℕ)
 byte_range_of rest =
-    or_fault fault.BadRange (decimal_of (before_first (λ b. b == 64) rest)) >>= λ length.
-    if list_any (λ b. b == 64) rest
-    then or_fault fault.BadRange (decimal_of (after_first (λ b. b == 64) rest)) >>= stated_byte_range length
+    or_fault fault.BadRange (decimal_of (before_first is_at_sign rest)) >>= λ length.
+    if list_any is_at_sign rest
+    then or_fault fault.BadRange (decimal_of (after_first is_at_sign rest)) >>= stated_byte_range length
     else Ok (length, None)
 
 -- whether so many are over the limit, where there is one
@@ -150,14 +136,6 @@ value_if wanted quoted value = refuse_if (if wanted then not quoted else quoted)
 abbrev pub required : Bool → Option Pair → Outcome (List ℕ)
 required wanted None = Err fault.MissingAttribute
 required wanted (Some pair) = value_if wanted pair.quoted pair.value
-
-abbrev pub some_value : {A : Type 0} → Outcome A → Outcome (Option A)
-some_value (Ok x) = Ok (Some x)
-some_value (Err e) = Err e
-
-abbrev pub optional : {A : Type 0} → (Pair → Outcome A) → Option Pair → Outcome (Option A)
-optional read None = Ok None
-optional read (Some pair) = some_value (read pair)
 
 -- the IV of EXT-X-KEY (4.3.2.4), a hexadecimal-sequence
 abbrev pub iv_of : Pair → Outcome ℕ

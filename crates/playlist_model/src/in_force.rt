@@ -91,11 +91,12 @@ impl<'a> KeyRef<'a> {
         &self.stated.other_attributes
     }
 
+    #[tactic(auto, using(crate::proofs::KeysUnder::format_stays))]
     /// Whether this key is before `other`, as [`Key::is_before`] says.
     pub fn is_before(&self, other: &KeyRef<'_>) -> bool
         ensures { result ≡ is_before self.now other.now }
     {
-        self.format() < other.format()
+        self.stated.is_before(other.stated)
     }
 
     #[tactic(auto, using(crate::proofs::KeysUnder::all_stay))]

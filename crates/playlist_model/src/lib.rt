@@ -297,7 +297,8 @@ pub fn has_control(text: &str) -> bool
 
 /// The text that `bytes` are. `NotUtf8` if they aren't UTF-8 (RFC 8216, section 4.1). Takes no memory.
 pub fn text_of(bytes: &[u8]) -> Result<&str, FaultKind>
-    ensures { MatchResult result (λ text. IsTrue (is_utf8 bytes.now) × (text.now ≡ bytes.now)) (λ e. (is_utf8 bytes.now ≡ false) × (e ≡ FaultKind.NotUtf8)) }
+    ensures { MatchResult result (λ text. IsTrue (is_utf8 bytes.now) × (text.now ≡ bytes.now))
+        (λ e. (is_utf8 bytes.now ≡ false) × (e ≡ FaultKind.NotUtf8)) }
 {
     match str::from_utf8(bytes) {
         Ok(text) => Ok(text),

@@ -81,7 +81,9 @@ impl<'a, T: Drop> Members<'a, T> {
     /// The next value, if there is one. Takes no memory, and fails only where a list would have more than 2^64 - 1 owners;
     /// then all are still to come.
     pub fn next(&mut self) -> Result<Option<Member<T>>, AllocError>
-        ensures next { IfOk result (λ next. MatchOption next ((self.old ≡ []) × (self.new ≡ [])) (λ member. self.old ≡ member ∷ self.new)) }
+        ensures next { IfOk result
+            (λ next. MatchOption next ((self.old ≡ []) × (self.new ≡ []))
+            (λ member. self.old ≡ member ∷ self.new)) }
         ensures refused { IfErr result (λ _. self.new ≡ self.old) }
     {
         if self.place >= self.list.len() {

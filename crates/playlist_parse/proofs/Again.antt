@@ -12,7 +12,7 @@ use Rattle.segment_state.specs.Repeated.{IsLineOf, IsRepeated}
 use Rattle.playlist_parse.specs.LineViews.{lines_from}
 use Rattle.std.specs.List.{list_all}
 use Rattle.std.proofs.lemmas.Bool.{and_parts, not-true}
-use Rattle.std.proofs.lemmas.List.{length-append, length-map}
+use Rattle.std.proofs.lemmas.List.{length-append}
 use Rattle.playlist_parse.specs.Inner.LineViews.{is_free, line_text}
 use Rattle.playlist_parse.specs.Inner.Reached.{Reached}
 use Rattle.playlist_parse.proofs.Reached.{next, taken_ok}
@@ -66,11 +66,3 @@ reached_again {base = base} {old = old} {new = new} {number = number} {lines = l
     let cut_free = and_parts _ _ (subst (λ ls. list_all is_free ls ≡ true) a.cut free) in
     let at : Reached base old number (a.line ∷ map line_text later) all = subst (λ left. Reached base old number left all) a.cut r in
     next at (taken_ok a.line new at (a.takes (not-true _ cut_free.0)))
-
-pub free_again : {lines later : List ((ℕ × ℕ) × List ℕ)} {old new : Progress} → list_all is_free (map line_text lines) ≡ true → IsLineAgain lines later old new
-    → list_all is_free (map line_text later) ≡ true
-free_again free a = let both = and_parts _ _ (subst (λ ls. list_all is_free ls ≡ true) a.cut free) in both.1
-
-pub fewer_again : {lines later : List ((ℕ × ℕ) × List ℕ)} {old new : Progress} → IsLineAgain lines later old new → length later + 1 ≡ length lines
-fewer_again {lines = lines} {later = later} a =
-    let size = ap length a.cut in omega (arith, size, length-map lines line_text, length-map later line_text)

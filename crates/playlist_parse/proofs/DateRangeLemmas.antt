@@ -6,7 +6,8 @@ use Rattle.attr_list.specs.Attributes.{Pair}
 use Rattle.playlist_model.specs.declared.FaultKind.TheVariants as fault
 use Rattle.date_times.specs.declared.reading.TimeFault.{TimeFault}
 use Rattle.date_times.specs.Instant.{instant_of}
-use Rattle.playlist_model.specs.Said.{or_fault, some_value, optional, time_of}
+use Rattle.spec_words.specs.Outcomes.{or_fault, some_value, optional}
+use Rattle.playlist_model.specs.Said.{time_of}
 
 time_stated : (o : Option ℤ) (e : TimeFault) (t : ℤ) → Ok t ≡ ok_or o e → Ok (Some t) ≡ some_value (or_fault fault.BadTime o)
 time_stated None e t h = absurd (cc h)

@@ -2,9 +2,10 @@
 use Rattle.std.proofs.Common.{◌≡◌, ◌≢◌, ℕ, Bool, true, false, List, ◌∷◌, refl, ap, sym, ◌∙◌, subst}
 use Rattle.std.specs.Prelude.{Result, Ok, Err, IsOk, MatchResult, codes, bytes_eq, ◌==◌, if◌then◌else◌}
 use Rattle.url.specs.Parts.{Parts}
-use Rattle.attr_list.specs.Attributes.{Pair, attribute}
+use Rattle.attr_list.specs.Attributes.{Pair, attribute, is_comma}
 use Rattle.playlist_model.specs.declared.FaultKind.{FaultKind}
-use Rattle.playlist_model.specs.Said.{Reader, key_tag, init_section_tag, time_tag, duration_tag, Said, no_keys, Outcome, ◌>>=◌, refuse_if, attributes, required, optional, set_key, key_said, init_section_said, init_section_byte_range, iv_of, quoted_of, uri_of, or_fault, mended}
+use Rattle.spec_words.specs.Outcomes.{◌>>=◌, refuse_if, optional, or_fault, mended}
+use Rattle.playlist_model.specs.Said.{Reader, key_tag, init_section_tag, time_tag, duration_tag, Said, no_keys, Outcome, attributes, required, set_key, key_said, init_section_said, init_section_byte_range, iv_of, quoted_of, uri_of}
 use Rattle.date_times.specs.Instant.{instant_of}
 use Rattle.fixed_duration.specs.Duration.{duration_of}
 use Rattle.std.specs.List.{before_first}
@@ -74,7 +75,7 @@ time_tag_says reader base before rest = says_then (or_fault fault.BadTime (insta
 
 pub duration_tag_says : (reader : Reader) (base : Parts) (before : List Said) (rest : List ℕ) → Says (said_by_tag reader base before duration_tag rest)
 duration_tag_says reader base before rest =
-    says_then (mended fault.BadDuration (duration_of (before_first (λ b. b == 44) rest))) _ (λ nanos. λ b lines. refl)
+    says_then (mended fault.BadDuration (duration_of (before_first is_comma rest))) _ (λ nanos. λ b lines. refl)
 
 goes : (base : Parts) (before : List Said) (o : Outcome Said) → Says o → progress_at base (with_said before o) ≡ with_standing (progress_at base before) (standing_at (with_said before o))
 goes base before (Ok said) h = h base before

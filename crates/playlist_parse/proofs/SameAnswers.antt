@@ -8,7 +8,8 @@ use Rattle.url.specs.Parts.{Parts}
 use Rattle.playlist_model.specs.declared.FaultKind.{FaultKind}
 use Rattle.playlist_model.specs.declared.FaultKind.TheVariants as fault
 use Rattle.playlist_model.specs.Lines.{Kind, ignored, uri, tag, kind_of, has_control}
-use Rattle.playlist_model.specs.Said.{Name, sequence_tag, version_tag, target_tag, discontinuity_sequence_tag, type_tag, ended_tag, independent_tag, frames_tag, master_tag, duration_tag, byte_range_tag, discontinuity_tag, key_tag, init_section_tag, time_tag, date_range_tag, unknown_tag, Said, version, target, sequence, discontinuity_sequence, playlist_type, ended, discontinuity, no_keys, key, media, Reader, over, number, version_of, playlist_type_of, uri_of, key_said, init_section_said, Outcome, ◌>>=◌, refuse_if}
+use Rattle.spec_words.specs.Outcomes.{◌>>=◌, refuse_if}
+use Rattle.playlist_model.specs.Said.{Name, sequence_tag, version_tag, target_tag, discontinuity_sequence_tag, type_tag, ended_tag, independent_tag, frames_tag, master_tag, duration_tag, byte_range_tag, discontinuity_tag, key_tag, init_section_tag, time_tag, date_range_tag, unknown_tag, Said, version, target, sequence, discontinuity_sequence, playlist_type, ended, discontinuity, no_keys, key, media, Reader, over, number, version_of, playlist_type_of, uri_of, key_said, init_section_said, Outcome}
 use Rattle.playlist_model.specs.LookBack.{is_media, is_discontinuity, count, byte_range_from, keys_at, put_key}
 use Rattle.playlist_model.specs.Inner.Heading.{Heading, heading_at}
 use Rattle.playlist_model.specs.Reading.{has, passes, needs_iv, name_of, within_formats, with_ivs, said_by_tag, said_by_uri, said_by_kind, said_by}

@@ -1,16 +1,17 @@
 -- Tags and their names.
 use Rattle.std.proofs.Common.{◌≡◌, ℕ, List, [], ◌∷◌, refl, sym, ap, subst, true, false}
-use Rattle.std.specs.Prelude.{◌≢◌, Bool, Some, None, Result, bytes_eq, if◌then◌else◌}
+use Rattle.std.specs.Prelude.{◌≢◌, Bool, Some, None, Result, Ok, Err, MatchResult, bytes_eq, if◌then◌else◌}
 use Rattle.std.specs.List.{find}
 use Rattle.std.proofs.lemmas.Slice.Eq.{bytes_eq-Decides}
 use Rattle.playlist_model.specs.declared.FaultKind.{FaultKind}
+use Rattle.playlist_model.specs.declared.FaultKind.TheVariants as fault
 use Rattle.playlist_model.specs.Lines.{tag}
-use Rattle.playlist_model.specs.Said.{Name, unknown_tag}
+use Rattle.playlist_model.specs.Said.{Said, Name, unknown_tag, Outcome}
 use Rattle.playlist_model.specs.Reading.{names, name_found, name_of, said_by_kind, said_by_tag, limited}
 use Rattle.playlist_parse.specs.declared.tag.Tag.{Tag}
 use Rattle.playlist_parse.specs.declared.tag.Tag.TheVariants.{Unknown}
 use Rattle.playlist_parse.specs.Inner.LineViews.{tag_view}
-use Rattle.playlist_parse.specs.Inner.Progress.{Progress, TakesLine}
+use Rattle.playlist_parse.specs.Inner.Progress.{Progress, TakesLine, TakesTag, TakesTagExactly}
 
 -- the text is no row's name
 abbrev pub NoneIs : List ℕ → List (List ℕ × Bool × Name) → Type 0
@@ -32,6 +33,15 @@ unnamed text colon n = sym (ap (name_found colon) (no_row text names n))
 pub flagged : (found : Tag) (colon : Bool) → tag_view (if colon then Unknown else found) ≡ name_found colon (Some ([], true, tag_view found))
 flagged found true = refl
 flagged found false = refl
+
+weaker : (result : Result (Unit {0}) FaultKind) (P : Type 0) (o : Outcome Said)
+    → MatchResult result (λ _. P) (λ e. o ≡ Err e) → MatchResult result (λ _. P) (λ e. e ≢ fault.OutOfMemory → o ≡ Err e)
+weaker (Ok x) P o h = h
+weaker (Err e) P o h = λ _. h
+
+-- what takes a tag with no memory, takes it
+pub exactly : (name : Name) (rest : List ℕ) (old new : Progress) (result : Result (Unit {0}) FaultKind) → TakesTagExactly name rest old new result → TakesTag name rest old new result
+exactly name rest old new result takes = λ before e. weaker result _ (said_by_tag limited old.base before name rest) (takes before e)
 
 -- what a tag of this name does, the tag does whose text has it
 pub takes_named : (text rest : List ℕ) (colon : Bool) (name : Name) (old new : Progress) (result : Result (Unit {0}) FaultKind) → name ≡ name_of text colon → TakesLine (λ base before. said_by_tag limited base before name rest) old new result → TakesLine (λ base before. said_by_kind limited base before (tag text rest colon)) old new result

@@ -3,7 +3,8 @@ use Rattle.std.proofs.Common.{◌≡◌, ℕ, Bool, true, false, refl, ap, ◌�
 use Rattle.std.specs.Prelude.{not, is_none, unwrap_or, List, if◌then◌else◌}
 use Rattle.playlist_model.specs.declared.FaultKind.{FaultKind}
 use Rattle.playlist_model.specs.declared.FaultKind.TheVariants as fault
-use Rattle.playlist_model.specs.Said.{Said, Outcome, refuse_if}
+use Rattle.spec_words.specs.Outcomes.{refuse_if}
+use Rattle.playlist_model.specs.Said.{Said, Outcome}
 use Rattle.playlist_model.specs.Reading.{are_mixed, whole_fault, playlist_of}
 use Rattle.playlist_parse.specs.Inner.Progress.{Progress, progress_at, playlist_from}
 

@@ -1,5 +1,6 @@
 -- What a reader answers.
-use Rattle.std.specs.Prelude.{◌≡◌, ◌≢◌, Result, Ok, Err, MatchResult}
+use Rattle.std.specs.Prelude.{◌≡◌, ◌≢◌, ℕ, List, ◌∷◌, codes, Result, Ok, Err, MatchResult}
+use Rattle.std.specs.Str.Lines.{lines}
 use Rattle.playlist_model.specs.declared.FaultKind.TheVariants.{OutOfMemory}
 use Rattle.playlist_model.specs.Reading.{Fault}
 
@@ -8,3 +9,7 @@ abbrev pub Answers : {A : Type 0} → Result A Fault → Result A Fault → Type
 Answers result outcome =
     MatchResult result (λ x. outcome ≡ Ok x)
     (λ e. (e.kind ≢ OutOfMemory → outcome ≡ Err e) × (e.kind ≡ OutOfMemory → e.line ≡ 0))
+
+-- the first line isn't EXTM3U (4.3.1.1)
+abbrev pub HasNoHeader : List ℕ → Type 0
+HasNoHeader text = (later : List (List ℕ)) → lines text ≢ (codes "#EXTM3U" ∷ later)

@@ -1,6 +1,7 @@
 -- What lines say, whatever holds their texts.
 use Rattle.std.specs.Prelude.{ℕ, ◌+◌, Bool, ◌==◌, List, map, length}
 use Rattle.std.specs.List.{slice_split}
+use Rattle.spec_words.specs.Bytes.{line_feed}
 use Rattle.playlist_model.specs.Lines.{Kind, ignored, uri, tag, placed_from}
 use Rattle.playlist_parse.specs.declared.line.Line.{Line}
 use Rattle.playlist_parse.specs.declared.line.LineKind.{LineKind}
@@ -23,7 +24,7 @@ abbrev pub with_end : ℕ × List ℕ → (ℕ × ℕ) × List ℕ
 with_end placed = ((placed.0, placed.0 + length placed.1), placed.1)
 
 abbrev pub is_feed : ℕ → Bool
-is_feed b = b == 10
+is_feed b = b == line_feed
 
 -- the lines of a text that begins at a place, each with its own
 abbrev pub lines_from : ℕ → List ℕ → List ((ℕ × ℕ) × List ℕ)

@@ -2,7 +2,8 @@
 ghost use Rattle.std.specs.Prelude.{◌≡◌, IfOk, option_map};
 ghost use Rattle.attr_list.specs.Attributes.{attribute};
 ghost use Rattle.playlist_model.specs.Refusals.{Gives};
-ghost use Rattle.playlist_model.specs.Said.{optional, time_of, length_of, value_of, date_range_said, date_range};
+ghost use Rattle.spec_words.specs.Outcomes.{optional};
+ghost use Rattle.playlist_model.specs.Said.{time_of, length_of, value_of, date_range_said, date_range};
 ghost use Rattle.playlist_model.specs.Reading.{limited};
 ghost use Rattle.segment_state.specs.Attributes.{pairs_of};
 
@@ -67,7 +68,8 @@ fn duration_of(attributes: &AttrList<'_>, name: &str) -> Result<Option<Nanos>, F
 
 // The value of an attribute.
 fn copied(alloc: Global, attributes: &AttrList<'_>, name: &str) -> Result<Option<Text>, AllocError>
-    ensures { IfOk result (λ text. text ≡ option_map value_of (attribute (pairs_of attributes.now) name.now)) }
+    ensures { IfOk result
+        (λ text. text ≡ option_map value_of (attribute (pairs_of attributes.now) name.now)) }
 {
     let Some(attribute) = attributes.get(name) else {
         return Ok(None);

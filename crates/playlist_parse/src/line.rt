@@ -45,7 +45,10 @@ fn is_blank(line: &str) -> bool
 // A text's two parts around its first colon: as `split_once`, by vectors, since names of tags are long.
 #[inline(always)]
 fn cut_at_colon(text: &str) -> Option<(&str, &str)>
-    ensures { MatchOption result (position_or_len is_colon text.now ≡ length text.now) (λ parts. (position_or_len is_colon text.now < length text.now) × (parts.0.now ≡ before_first is_colon text.now) × (parts.1.now ≡ after_first is_colon text.now)) }
+    ensures { MatchOption result (position_or_len is_colon text.now ≡ length text.now)
+        (λ parts. (position_or_len is_colon text.now < length text.now)
+        × (parts.0.now ≡ before_first is_colon text.now)
+        × (parts.1.now ≡ after_first is_colon text.now)) }
 {
     match memchr(b':', text.as_bytes()) {
         None => None,
@@ -122,7 +125,8 @@ fn line_at(start: usize, text: &str) -> Line<'_>
 fn last_line(start: usize, rest: &str) -> Option<Line<'_>>
     requires bound { start + length rest.now < 2 ^ 64 }
     requires last { position_or_len is_feed rest.now ≡ length rest.now }
-    ensures { MatchOption result (lines_from start rest.now ≡ []) (λ line. lines_from start rest.now ≡ line_view line ∷ []) }
+    ensures { MatchOption result (lines_from start rest.now ≡ [])
+        (λ line. lines_from start rest.now ≡ line_view line ∷ []) }
 {
     if rest.is_empty() {
         return None;
@@ -133,7 +137,10 @@ fn last_line(start: usize, rest: &str) -> Option<Line<'_>>
 // A text's two parts around its first line feed: as `split_once`, by vectors, since the search takes most of the time.
 #[inline(always)]
 fn cut_at_feed(text: &str) -> Option<(&str, &str)>
-    ensures { MatchOption result (position_or_len is_feed text.now ≡ length text.now) (λ parts. (position_or_len is_feed text.now < length text.now) × (parts.0.now ≡ before_first is_feed text.now) × (parts.1.now ≡ after_first is_feed text.now)) }
+    ensures { MatchOption result (position_or_len is_feed text.now ≡ length text.now)
+        (λ parts. (position_or_len is_feed text.now < length text.now)
+        × (parts.0.now ≡ before_first is_feed text.now)
+        × (parts.1.now ≡ after_first is_feed text.now)) }
 {
     match memchr(b'\n', text.as_bytes()) {
         None => None,
@@ -284,7 +291,8 @@ impl<'a> Lines<'a> {
 
     /// The lines after `front`, if the text that is left begins so and `front` ends with a line feed.
     pub(crate) fn after(&self, front: &str) -> Option<Lines<'a>>
-        ensures { MatchOption result (Unit {0}) (λ later. map line_text self.now ≡ lines front.now ++ map line_text later) }
+        ensures { MatchOption result (Unit {0})
+            (λ later. map line_text self.now ≡ lines front.now ++ map line_text later) }
     {
         if !ends_in_feed(front) {
             return None;
@@ -299,7 +307,8 @@ impl<'a> Lines<'a> {
     /// The next line, if there is one, without the LF or the CR LF that ends it (RFC 8216, section 4.1).
     #[inline(always)]
     pub fn next(&mut self) -> Option<Line<'a>>
-        ensures { MatchOption result ((self.old ≡ []) × (self.new ≡ [])) (λ line. self.old ≡ line_view line ∷ self.new) }
+        ensures { MatchOption result ((self.old ≡ []) × (self.new ≡ []))
+            (λ line. self.old ≡ line_view line ∷ self.new) }
     {
         let start = self.start;
         let rest = self.rest;

@@ -1,14 +1,14 @@
 //! A playlist as far as it has been read, and what each tag adds to it.
-ghost use Rattle.std.specs.Prelude.{◌≡◌, [], ◌∷◌, ◌++◌, true, false, not, length, Some, None, Ok, Err, IfOk, OnOk, MatchOption, is_none, unwrap_or};
+ghost use Rattle.std.specs.Prelude.{◌≡◌, [], ◌∷◌, ◌++◌, true, false, length, Some, None, Ok, Err, IfOk, OnOk, MatchOption};
 ghost use Rattle.std.specs.List.{list_any, list_all};
-ghost use Rattle.playlist_model.specs.Reading.{said_by, said_by_kind, said_by_tag, said_by_uri, has_init_section, are_mixed};
+ghost use Rattle.playlist_model.specs.Reading.{said_by, said_by_kind, said_by_uri, has_init_section, are_mixed};
 ghost use Rattle.playlist_model.specs.Lines as kinds;
 ghost use Rattle.playlist_model.specs.Lines.{has_control};
 ghost use Rattle.playlist_model.specs.Said as said;
-ghost use Rattle.playlist_model.specs.Said.{number, version_of, playlist_type_of, refuse_if};
+ghost use Rattle.playlist_model.specs.Said.{number, version_of, playlist_type_of};
 ghost use Rattle.playlist_model.specs.Reading.{limited};
 ghost use Rattle.segment_state.specs.Continued.{IsStop};
-ghost use Rattle.playlist_parse.specs.Inner.Progress.{progress_at, playlist_from, IsLineAgain, TakesLine, Ends};
+ghost use Rattle.playlist_parse.specs.Inner.Progress.{progress_at, playlist_from, target_owed, IsLineAgain, TakesLine, TakesTag, TakesTagExactly, Ends};
 ghost use Rattle.playlist_parse.specs.Inner.Source.{gone_to};
 
 use crate::date_range::date_range_of;
@@ -67,7 +67,16 @@ impl Model for ReadHeading {
 
     ghost Value = { Heading };
 
-    ghost view = { λ a. record { version = a.version; target_duration = a.target_duration; playlist_type = a.playlist_type; independent_segments = a.independent_segments; end_list = a.end_list; has_sequence = a.has_sequence; has_discontinuity_sequence = a.has_discontinuity_sequence; has_media = a.has_media } };
+    ghost view = { λ a. record {
+      version = a.version;
+      target_duration = a.target_duration;
+      playlist_type = a.playlist_type;
+      independent_segments = a.independent_segments;
+      end_list = a.end_list;
+      has_sequence = a.has_sequence;
+      has_discontinuity_sequence = a.has_discontinuity_sequence;
+      has_media = a.has_media;
+    } };
 }
 
 fn is_same_number(a: Option<u64>, b: Option<u64>) -> bool
@@ -212,7 +221,8 @@ impl<'a> Progress<'a> {
     #[inline(always)]
     pub fn line(&mut self, line: &'a str, is_plain: bool) -> Result<(), FaultKind>
         requires { is_plain ≡ true → has_control line.now ≡ false }
-        ensures { TakesLine (λ base before. said_by limited base before line.now) self.old self.new result }
+        ensures { TakesLine
+            (λ base before. said_by limited base before line.now) self.old self.new result }
     {
         if has_control_in(line, is_plain) {
             return Err(FaultKind::Control);
@@ -267,7 +277,8 @@ impl<'a> Progress<'a> {
     #[inline(never)]
     fn other_line(&mut self, line: &'a str) -> Result<(), FaultKind>
         requires { has_control line.now ≡ false }
-        ensures { TakesLine (λ base before. said_by limited base before line.now) self.old self.new result }
+        ensures { TakesLine
+            (λ base before. said_by limited base before line.now) self.old self.new result }
     {
         match kind_of(line) {
             LineKind::Ignored => Ok(()),
@@ -277,7 +288,8 @@ impl<'a> Progress<'a> {
     }
 
     fn uri(&mut self, reference: &str) -> Result<(), FaultKind>
-        ensures { TakesLine (λ base before. said_by_uri limited base before reference.now) self.old self.new result }
+        ensures { TakesLine
+            (λ base before. said_by_uri limited base before reference.now) self.old self.new result }
     {
         let segment = self.state.take_segment(reference)?;
         self.has_media = true;
@@ -288,7 +300,8 @@ impl<'a> Progress<'a> {
     // Takes the tag `name`, with `rest` after its colon if it has one; EXT-X-I-FRAMES-ONLY is refused (RFC 8216,
     // section 4.3.3.6).
     fn tag(&mut self, name: &str, rest: &'a str, colon: bool) -> Result<(), FaultKind>
-        ensures { TakesLine (λ base before. said_by_kind limited base before (kinds.tag name.now rest.now colon)) self.old self.new result }
+        ensures { TakesLine
+            (λ base before. said_by_kind limited base before (kinds.tag name.now rest.now colon)) self.old self.new result }
     {
         match tag_of(name, colon) {
             Tag::Inf => self.duration(rest),
@@ -315,48 +328,48 @@ impl<'a> Progress<'a> {
     }
 
     fn duration(&mut self, rest: &'a str) -> Result<(), FaultKind>
-        ensures { TakesLine (λ base before. said_by_tag limited base before said.duration_tag rest.now) self.old self.new result }
+        ensures { TakesTag said.duration_tag rest.now self.old self.new result }
     {
         self.state.duration_tag(rest)
     }
 
     fn discontinuity(&mut self) -> Result<(), FaultKind>
-        ensures { TakesLine (λ base before. said_by_tag limited base before said.discontinuity_tag []) self.old self.new result }
+        ensures { TakesTag said.discontinuity_tag [] self.old self.new result }
     {
         self.state.discontinuity()
     }
 
     // EXT-X-BYTERANGE (4.3.2.2)
     fn byte_range(&mut self, rest: &str) -> Result<(), FaultKind>
-        ensures { TakesLine (λ base before. said_by_tag limited base before said.byte_range_tag rest.now) self.old self.new result }
+        ensures { TakesTag said.byte_range_tag rest.now self.old self.new result }
     {
         self.state.byte_range_tag(rest)
     }
 
     // EXT-X-KEY (4.3.2.4)
     fn key(&mut self, rest: &str) -> Result<(), FaultKind>
-        ensures { TakesLine (λ base before. said_by_tag limited base before said.key_tag rest.now) self.old self.new result }
+        ensures { TakesTag said.key_tag rest.now self.old self.new result }
     {
         self.state.key_tag(rest)
     }
 
     // EXT-X-MAP (4.3.2.5)
     fn init_section(&mut self, rest: &str) -> Result<(), FaultKind>
-        ensures { TakesLine (λ base before. said_by_tag limited base before said.init_section_tag rest.now) self.old self.new result }
+        ensures { TakesTag said.init_section_tag rest.now self.old self.new result }
     {
         self.state.init_section_tag(rest)
     }
 
     // EXT-X-PROGRAM-DATE-TIME (4.3.2.6)
     fn time(&mut self, rest: &str) -> Result<(), FaultKind>
-        ensures { TakesLine (λ base before. said_by_tag limited base before said.time_tag rest.now) self.old self.new result }
+        ensures { TakesTag said.time_tag rest.now self.old self.new result }
     {
         self.state.time_tag(rest)
     }
 
     // EXT-X-DATERANGE (4.3.2.7)
     fn date_range(&mut self, rest: &str) -> Result<(), FaultKind>
-        ensures { TakesLine (λ base before. said_by_tag limited base before said.date_range_tag rest.now) self.old self.new result }
+        ensures { TakesTag said.date_range_tag rest.now self.old self.new result }
     {
         let date_range = date_range_of(self.alloc, rest)?;
         self.date_ranges.push(date_range)?;
@@ -365,7 +378,7 @@ impl<'a> Progress<'a> {
 
     // EXT-X-VERSION (4.3.1.2)
     fn version(&mut self, rest: &str) -> Result<(), FaultKind>
-        ensures { TakesLine (λ base before. said_by_tag limited base before said.version_tag rest.now) self.old self.new result }
+        ensures { TakesTagExactly said.version_tag rest.now self.old self.new result }
     {
         if self.version.is_some() {
             return Err(FaultKind::Repeated);
@@ -377,7 +390,7 @@ impl<'a> Progress<'a> {
     // EXT-X-TARGETDURATION (RFC 8216, section 4.3.3.1), which comes once, as each tag of the whole playlist (section
     // 4.3.3).
     fn target(&mut self, rest: &str) -> Result<(), FaultKind>
-        ensures { TakesLine (λ base before. said_by_tag limited base before said.target_tag rest.now) self.old self.new result }
+        ensures { TakesTagExactly said.target_tag rest.now self.old self.new result }
     {
         if self.target_duration.is_some() {
             return Err(FaultKind::Repeated);
@@ -388,7 +401,7 @@ impl<'a> Progress<'a> {
 
     // EXT-X-MEDIA-SEQUENCE (4.3.3.2)
     fn sequence(&mut self, rest: &str) -> Result<(), FaultKind>
-        ensures { TakesLine (λ base before. said_by_tag limited base before said.sequence_tag rest.now) self.old self.new result }
+        ensures { TakesTagExactly said.sequence_tag rest.now self.old self.new result }
     {
         if self.has_sequence {
             return Err(FaultKind::Repeated);
@@ -403,7 +416,7 @@ impl<'a> Progress<'a> {
 
     // EXT-X-DISCONTINUITY-SEQUENCE (4.3.3.3)
     fn discontinuity_sequence(&mut self, rest: &str) -> Result<(), FaultKind>
-        ensures { TakesLine (λ base before. said_by_tag limited base before said.discontinuity_sequence_tag rest.now) self.old self.new result }
+        ensures { TakesTagExactly said.discontinuity_sequence_tag rest.now self.old self.new result }
     {
         if self.has_discontinuity_sequence {
             return Err(FaultKind::Repeated);
@@ -418,7 +431,7 @@ impl<'a> Progress<'a> {
 
     // EXT-X-PLAYLIST-TYPE (4.3.3.5)
     fn playlist_type(&mut self, rest: &str) -> Result<(), FaultKind>
-        ensures { TakesLine (λ base before. said_by_tag limited base before said.type_tag rest.now) self.old self.new result }
+        ensures { TakesTagExactly said.type_tag rest.now self.old self.new result }
     {
         if self.playlist_type.is_some() {
             return Err(FaultKind::Repeated);
@@ -429,7 +442,7 @@ impl<'a> Progress<'a> {
 
     // EXT-X-ENDLIST (4.3.3.4)
     fn end(&mut self) -> Result<(), FaultKind>
-        ensures { TakesLine (λ base before. said_by_tag limited base before said.ended_tag []) self.old self.new result }
+        ensures { TakesTagExactly said.ended_tag [] self.old self.new result }
     {
         if self.end_list {
             return Err(FaultKind::Repeated);
@@ -441,7 +454,7 @@ impl<'a> Progress<'a> {
     // The target duration, if the text as a whole has no fault: EXT-X-TARGETDURATION is required (RFC 8216, section
     // 4.3.3.1).
     fn target_of_whole(&self) -> Result<u64, FaultKind>
-        ensures { result ≡ refuse_if (is_none self.now.heading.target_duration) FaultKind.NoTarget (refuse_if (not self.now.heading.has_media) FaultKind.NoSegments (refuse_if (are_mixed self.now.segments) FaultKind.MixedMaps (Ok (unwrap_or self.now.heading.target_duration 0)))) }
+        ensures { result ≡ target_owed self.now }
     {
         let Some(target) = self.target_duration else {
             return Err(FaultKind::NoTarget);
@@ -510,7 +523,8 @@ impl<'a> Progress<'a> {
 
     /// What stands here, where no tag of the next segment does.
     pub fn stop(&self) -> Result<Option<Stop>, AllocError>
-        ensures { IfOk result (λ stop. MatchOption stop (Unit {0}) (λ stop. IsStop self.now.standing stop)) }
+        ensures { IfOk result
+            (λ stop. MatchOption stop (Unit {0}) (λ stop. IsStop self.now.standing stop)) }
     {
         self.state.stop()
     }
@@ -531,7 +545,9 @@ impl<'a> Progress<'a> {
         date_ranges: &[DateRange],
         segments: &[Segment],
     ) -> Result<bool, AllocError>
-        ensures gone { IfOk result (λ done. done ≡ true → self.new ≡ gone_to self.old heading.now stop.now date_ranges.now segments.now) }
+        ensures gone { IfOk result
+            (λ done. done ≡ true
+            → self.new ≡ gone_to self.old heading.now stop.now date_ranges.now segments.now) }
         ensures kept { IfOk result (λ done. done ≡ false → self.new ≡ self.old) }
     {
         if !self.state.go_to(stop)? {

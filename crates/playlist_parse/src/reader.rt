@@ -1,12 +1,13 @@
 //! The reader: from bytes to a playlist, or its first fault.
-ghost use Rattle.std.specs.Prelude.{◌≡◌, ◌+◌, ◌^◌, ◌<◌, ℕ, List, [], ◌∷◌, map, length, true, Ok, Err, IfOk, OnOk, MatchResult};
+ghost use Rattle.std.specs.Prelude.{◌≡◌, ◌+◌, ◌^◌, ◌<◌, ◌≤◌, false, ℕ, List, [], ◌∷◌, map, length, true, Ok, Err, IfOk, OnOk, MatchResult};
 ghost use Rattle.url.specs.Parts.{Parts};
 ghost use Rattle.std.specs.List.{list_all};
 ghost use Rattle.playlist_model.specs.Said.{nothing};
 ghost use Rattle.playlist_model.specs.Reading.{reading, said_by, said_from, and_whole};
 ghost use Rattle.playlist_model.specs.Reading.{limited};
 ghost use Rattle.playlist_parse.specs.Inner.LineViews.{is_free, line_text};
-ghost use Rattle.playlist_parse.specs.Answers.{Answers};
+ghost use Rattle.playlist_parse.specs.Answers.{Answers, HasNoHeader};
+ghost use Rattle.std.specs.Str.{is_utf8};
 ghost use Rattle.playlist_parse.specs.Inner.Answers.{fault_at};
 ghost use Rattle.playlist_parse.specs.Inner.Progress.{Ends};
 ghost use Rattle.playlist_parse.specs.Inner.Reached.{Reached, Faulted, Reads, left_in};
@@ -98,7 +99,9 @@ pub fn read_all<'a>(reading: &mut Reading<'a>, is_plain: bool) -> Result<(), Pla
 /// The playlist of `reading`, whose lines are all read, or a fault of the whole text (RFC 8216, sections 4.3.2.5 and
 /// 4.3.3.1), at the line 0.
 pub fn playlist_of(reading: Reading<'_>) -> Result<Playlist, PlaylistFault>
-    ensures answer { (base : Parts) (all : List (List ℕ)) → Reached base reading.entry.progress reading.entry.number [] all → Answers result (and_whole (said_from (said_by limited base) (nothing ∷ []) all)) }
+    ensures answer { (base : Parts) (all : List (List ℕ))
+        → Reached base reading.entry.progress reading.entry.number [] all
+        → Answers result (and_whole (said_from (said_by limited base) (nothing ∷ []) all)) }
     ensures whole { IfOk result (λ playlist. Ends reading.entry.progress (Ok playlist)) }
 {
     match reading.progress.playlist() {
@@ -130,7 +133,8 @@ fn read_lines<'a>(
 ) -> Result<Playlist, PlaylistFault>
     requires few { length lines < 2 ^ 63 }
     requires plain { is_plain ≡ true → list_all is_free (map line_text lines) ≡ true }
-    ensures { Answers result (and_whole (said_from (said_by limited base.now) (nothing ∷ []) (map line_text lines.entry))) }
+    ensures { Answers result (and_whole (said_from (said_by limited base.now) (nothing
+        ∷ []) (map line_text lines.entry))) }
 {
     // (in variables of its own: a value behind a reference keeps none of its fields in registers)
     let mut progress = Progress::new(alloc, base);
@@ -159,7 +163,15 @@ fn read_lines<'a>(
 /// read(alloc, b"#EXTM3U\n#EXTINF:6,\ns0.ts\n", &base)                            Err: P18 NoTarget
 /// ```
 pub fn read(alloc: Global, bytes: &[u8], base: &Base) -> Result<Playlist, PlaylistFault>
-    ensures { Answers result (reading limited base.now bytes.now) }
+    ensures answer { Answers result (reading limited base.now bytes.now) }
+
+    // These faults are answered whatever memory there is.
+    ensures utf8 { is_utf8 bytes.now ≡ false
+        → result ≡ Err (record { kind = FaultKind.NotUtf8; line = 0 }) }
+    ensures long { is_utf8 bytes.now ≡ true → MAX_BYTES < length bytes.now
+        → result ≡ Err (record { kind = FaultKind.TooLong; line = 0 }) }
+    ensures header { is_utf8 bytes.now ≡ true → length bytes.now ≤ MAX_BYTES
+        → HasNoHeader bytes.now → result ≡ Err (record { kind = FaultKind.NoHeader; line = 1 }) }
 {
     let text = match text_of(bytes) {
         Ok(text) => text,

@@ -1,13 +1,14 @@
 //! A text that is read with what was kept of the last one: the lines that stand in both are taken over, and not read again.
-ghost use Rattle.std.specs.Prelude.{◌≡◌, ◌+◌, ◌^◌, ◌<◌, ℕ, List, [], ◌∷◌, map, length, take, drop, true, false, Some, None, IfOk, OnOk, MatchOption};
+ghost use Rattle.std.specs.Prelude.{◌≡◌, ◌+◌, ◌^◌, ◌<◌, ◌≤◌, ℕ, List, [], ◌∷◌, map, length, take, drop, true, false, Some, None, Err, IfOk, OnOk, MatchOption};
 ghost use Rattle.std.specs.List.{list_all};
+ghost use Rattle.std.specs.Str.{is_utf8};
 ghost use Rattle.std.specs.Str.Lines.{lines};
 ghost use Rattle.url.specs.Parts.{Parts};
 ghost use Rattle.playlist_model.specs.Said.{nothing};
 ghost use Rattle.playlist_model.specs.Reading.{reading, limited, said_by, said_from, and_whole};
 ghost use Rattle.playlist_parse.specs.Inner.LineViews.{is_free, line_text};
 ghost use Rattle.playlist_parse.specs.Inner.Reached.{Reached, LeadsTo, Reads, left_in};
-ghost use Rattle.playlist_parse.specs.Answers.{Answers};
+ghost use Rattle.playlist_parse.specs.Answers.{Answers, HasNoHeader};
 ghost use Rattle.playlist_parse.specs.KeptLines.{WasRead};
 ghost use Rattle.playlist_parse.specs.Inner.Source.{Agree, TakesOver, IsSourceOf, Grown, gone_after};
 ghost use Rattle.playlist_parse.specs.Kept.{AnswersRead, AreTaken, IsSource, IsKept, last_segments};
@@ -109,7 +110,8 @@ fn number_after(here: u64, there: u64, end: u64) -> Option<u64>
 // The lines after a header, read up to `most` segments; none where a line has a fault.
 fn front_of<'a>(alloc: Global, text: &'a str, base: &'a Base, most: usize) -> Option<Reading<'a>>
     requires { length (lines text.now) < 2 ^ 63 }
-    ensures { MatchOption result (Unit {0}) (λ front. Reached base.now front.progress front.number (left_in front) (lines text.now)) }
+    ensures { MatchOption result (Unit {0})
+        (λ front. Reached base.now front.progress front.number (left_in front) (lines text.now)) }
 {
     let mut front = reading_of(alloc, base, Lines::new(text));
     match read_some(&mut front, false, most) {
@@ -147,7 +149,8 @@ fn copy_after(
     source: &Source,
     last: &Playlist,
 ) -> Result<bool, AllocError>
-    ensures gone { IfOk result (λ done. done ≡ true → here.new ≡ gone_after here.old there.now source.now last.now) }
+    ensures gone { IfOk result
+        (λ done. done ≡ true → here.new ≡ gone_after here.old there.now source.now last.now) }
     ensures kept { IfOk result (λ done. done ≡ false → here.new ≡ here.old) }
 {
     let date_ranges = up_to(last.date_ranges.as_slice(), source.date_ranges);
@@ -167,8 +170,10 @@ fn take_over<'a>(
     last: &Playlist,
 ) -> Result<Range<usize>, AllocError>
     ensures reached { OnOk result (TakesOver front.now source.now last.now reading.old reading.new) }
-    ensures plain { OnOk result (list_all is_free (left_in reading.old) ≡ true → list_all is_free (left_in reading.new) ≡ true) }
-    ensures taken { IfOk result (λ taken. AreTaken last.now.segments reading.new.progress.segments taken.start taken.end) }
+    ensures plain { OnOk result (list_all is_free (left_in reading.old) ≡ true
+        → list_all is_free (left_in reading.new) ≡ true) }
+    ensures taken { IfOk result
+        (λ taken. AreTaken last.now.segments reading.new.progress.segments taken.start taken.end) }
 {
     if !agrees(&reading.progress, &front.progress)? {
         return Ok(0..0);
@@ -199,8 +204,10 @@ fn take_over_from<'a>(
 ) -> Result<Range<usize>, AllocError>
     requires { WasRead base.now source.now last.now }
     ensures reached { OnOk result (LeadsTo base.now reading.old reading.new) }
-    ensures plain { OnOk result (list_all is_free (left_in reading.old) ≡ true → list_all is_free (left_in reading.new) ≡ true) }
-    ensures taken { IfOk result (λ taken. AreTaken last.now.segments reading.new.progress.segments taken.start taken.end) }
+    ensures plain { OnOk result (list_all is_free (left_in reading.old) ≡ true
+        → list_all is_free (left_in reading.new) ≡ true) }
+    ensures taken { IfOk result
+        (λ taken. AreTaken last.now.segments reading.new.progress.segments taken.start taken.end) }
 {
     let Some(most) = place_in(last, &reading.progress) else {
         return Ok(0..0);
@@ -222,8 +229,10 @@ fn take_over_kept<'a>(
 ) -> Result<Range<usize>, AllocError>
     requires { IsSource base.now last.now source.now }
     ensures reached { OnOk result (LeadsTo base.now reading.old reading.new) }
-    ensures plain { OnOk result (list_all is_free (left_in reading.old) ≡ true → list_all is_free (left_in reading.new) ≡ true) }
-    ensures taken { IfOk result (λ taken. AreTaken last.now.segments reading.new.progress.segments taken.start taken.end) }
+    ensures plain { OnOk result (list_all is_free (left_in reading.old) ≡ true
+        → list_all is_free (left_in reading.new) ≡ true) }
+    ensures taken { IfOk result
+        (λ taken. AreTaken last.now.segments reading.new.progress.segments taken.start taken.end) }
 {
     match source {
         Some(source) => take_over_from(alloc, reading, base, source, last),
@@ -242,8 +251,10 @@ fn take_over_last<'a>(
 ) -> Result<Range<usize>, AllocError>
     requires { IsKept base.now last.now source.now }
     ensures reached { OnOk result (LeadsTo base.now reading.old reading.new) }
-    ensures plain { OnOk result (list_all is_free (left_in reading.old) ≡ true → list_all is_free (left_in reading.new) ≡ true) }
-    ensures taken { IfOk result (λ taken. AreTaken (last_segments last.now) reading.new.progress.segments taken.start taken.end) }
+    ensures plain { OnOk result (list_all is_free (left_in reading.old) ≡ true
+        → list_all is_free (left_in reading.new) ≡ true) }
+    ensures taken { IfOk result
+        (λ taken. AreTaken (last_segments last.now) reading.new.progress.segments taken.start taken.end) }
 {
     match last {
         Some(last) => take_over_kept(alloc, reading, base, source, last),
@@ -253,7 +264,9 @@ fn take_over_last<'a>(
 
 // What is kept of a text, all of whose lines are read; none where tags of a further segment stand at its end.
 fn source_of(alloc: Global, text: &str, reading: &Reading<'_>) -> Result<Option<Source>, AllocError>
-    ensures { IfOk result (λ source. MatchOption source (Unit {0}) (λ source. IsSourceOf text.now reading.now.progress reading.now.number source)) }
+    ensures { IfOk result
+        (λ source. MatchOption source (Unit {0})
+        (λ source. IsSourceOf text.now reading.now.progress reading.now.number source)) }
 {
     let Some(stop) = reading.progress.stop()? else {
         return Ok(None);
@@ -284,11 +297,13 @@ fn read_front<'a>(
 ) -> Result<Range<usize>, PlaylistFault>
     requires few { length (left_in reading.old) < 2 ^ 63 }
     requires plain { is_plain ≡ true → list_all is_free (left_in reading.old) ≡ true }
-    requires begun { (all : List (List ℕ)) → Reached base.now reading.old.progress reading.old.number all all }
+    requires begun { (all : List (List ℕ))
+        → Reached base.now reading.old.progress reading.old.number all all }
     requires kept { IsKept base.now last.now source.now }
     ensures reached { Reads base.now reading.old result reading.new }
     ensures none_left { OnOk result (reading.new.lines ≡ []) }
-    ensures taken { IfOk result (λ taken. AreTaken (last_segments last.now) reading.new.progress.segments taken.start taken.end) }
+    ensures taken { IfOk result
+        (λ taken. AreTaken (last_segments last.now) reading.new.progress.segments taken.start taken.end) }
 {
     match read_some(reading, is_plain, 1) {
         Ok(()) => {}
@@ -313,8 +328,12 @@ fn read_tail<'a>(
 ) -> Result<Playlist, PlaylistFault>
     requires few { reading.number + length (lines tail.now) < 2 ^ 64 }
     requires plain { is_plain ≡ true → list_all is_free (lines tail.now) ≡ true }
-    ensures answer { (base : Parts) (all : List (List ℕ)) → Reached base reading.entry.progress reading.entry.number (lines tail.entry.now) all → Answers result (and_whole (said_from (said_by limited base) (nothing ∷ []) all)) }
-    ensures grown { (base : Parts) (all : List (List ℕ)) → Reached base reading.entry.progress reading.entry.number (lines tail.entry.now) all → IfOk result (Grown reading.entry.progress) }
+    ensures answer { (base : Parts) (all : List (List ℕ))
+        → Reached base reading.entry.progress reading.entry.number (lines tail.entry.now) all
+        → Answers result (and_whole (said_from (said_by limited base) (nothing ∷ []) all)) }
+    ensures grown { (base : Parts) (all : List (List ℕ))
+        → Reached base reading.entry.progress reading.entry.number (lines tail.entry.now) all
+        → IfOk result (Grown reading.entry.progress) }
 {
     let mut reading = reading;
     reading.lines = Lines::new(tail);
@@ -337,9 +356,11 @@ fn read_body<'a>(
     requires few { length (lines body.now) < 2 ^ 63 }
     requires plain { is_plain ≡ true → list_all is_free (lines body.now) ≡ true }
     requires kept { IsKept base.now last.now source.now }
-    ensures answer { AnswersRead result (and_whole (said_from (said_by limited base.now) (nothing ∷ []) (lines body.entry.now))) }
+    ensures answer { AnswersRead result (and_whole (said_from (said_by limited base.now) (nothing
+        ∷ []) (lines body.entry.now))) }
     ensures source { IfOk result (λ read. IsSource base.now read.playlist read.source) }
-    ensures taken { IfOk result (λ read. AreTaken (last_segments last.now) read.playlist.segments read.taken.start read.taken.end) }
+    ensures taken { IfOk result
+        (λ read. AreTaken (last_segments last.now) read.playlist.segments read.taken.start read.taken.end) }
 {
     let cut = cut_after_segments(body);
     let mut reading = reading_of(alloc, base, Lines::new(cut.front));
@@ -374,8 +395,18 @@ pub fn read_after(
 ) -> Result<Read, PlaylistFault>
     requires { IsKept base.now last.now source.now }
     ensures answer { AnswersRead result (reading limited base.now bytes.now) }
+
+    // These faults are answered whatever memory there is.
+    ensures utf8 { is_utf8 bytes.now ≡ false
+        → result ≡ Err (record { kind = FaultKind.NotUtf8; line = 0 }) }
+    ensures long { is_utf8 bytes.now ≡ true → MAX_BYTES < length bytes.now
+        → result ≡ Err (record { kind = FaultKind.TooLong; line = 0 }) }
+    ensures header { is_utf8 bytes.now ≡ true → length bytes.now ≤ MAX_BYTES
+        → HasNoHeader bytes.now → result ≡ Err (record { kind = FaultKind.NoHeader; line = 1 }) }
+
     ensures source { IfOk result (λ read. IsSource base.now read.playlist read.source) }
-    ensures taken { IfOk result (λ read. AreTaken (last_segments last.now) read.playlist.segments read.taken.start read.taken.end) }
+    ensures taken { IfOk result
+        (λ read. AreTaken (last_segments last.now) read.playlist.segments read.taken.start read.taken.end) }
 {
     let text = match text_of(bytes) {
         Ok(text) => text,

@@ -10,7 +10,8 @@ use Rattle.fixed_duration.specs.Duration.{duration_of}
 use Rattle.playlist_model.specs.declared.FaultKind.TheVariants as fault
 use Rattle.playlist_model.specs.declared.DateRange.{DateRange}
 use Rattle.date_times.specs.Instant.{instant_of}
-use Rattle.playlist_model.specs.Said.{mended, or_fault, required, optional, some_value, value_if, time_of, length_of, Said, Reader, date_range, Outcome, ◌>>=◌, date_range_of, date_range_said}
+use Rattle.spec_words.specs.Outcomes.{mended, or_fault, optional, some_value, ◌>>=◌}
+use Rattle.playlist_model.specs.Said.{required, value_if, time_of, length_of, Said, Reader, date_range, Outcome, date_range_of, date_range_said}
 use Rattle.playlist_model.specs.Reading.{limited, unlimited}
 use Rattle.writable.specs.Fitting.{if_some, is_clean, says_date_range, date_range_fits}
 use Rattle.playlist_write.specs.Inner.DateRangeParts.{is_id, says_time, says_duration, is_date_range}

@@ -29,7 +29,8 @@ use Rattle.playlist_model.specs.Lines.{has_control, kind_of, uri}
 use Rattle.playlist_model.specs.Inner.Lines.{is_printable}
 use Rattle.playlist_model.specs.Uri.{has_scheme, is_scheme_byte}
 use Rattle.date_times.specs.Instant.{in_range, instant_of}
-use Rattle.playlist_model.specs.Said.{Said, version, target, sequence, discontinuity_sequence, playlist_type, ended, independent, duration, byte_range, discontinuity, no_keys, key, init_section, time, date_range, media, Outcome, ◌>>=◌, refuse_if, or_fault, duration_said, byte_range_of, byte_range_end_fits, uri_of, some_value, iv_of, optional, required, quoted_of, set_key, key_said, init_section_said, init_section_byte_range, number, version_of, date_range_said}
+use Rattle.spec_words.specs.Outcomes.{◌>>=◌, refuse_if, or_fault, some_value, optional}
+use Rattle.playlist_model.specs.Said.{Said, version, target, sequence, discontinuity_sequence, playlist_type, ended, independent, duration, byte_range, discontinuity, no_keys, key, init_section, time, date_range, media, Outcome, duration_said, byte_range_of, byte_range_end_fits, uri_of, iv_of, required, quoted_of, set_key, key_said, init_section_said, init_section_byte_range, number, version_of, date_range_said}
 use Rattle.playlist_model.specs.Carried.{after_commas, carried}
 use Rattle.playlist_model.specs.Reading.{said_by, unlimited, passes, said_by_kind, within_formats, needs_iv, with_ivs, is_set, has}
 use Rattle.playlist_model.specs.LookBack.{discontinuity_at, own_duration, media_sequence_at, byte_range_at, keys_at, the_version, the_target, the_sequence, the_discontinuity_sequence, the_type, is_media, is_discontinuity, is_ended}

@@ -1,6 +1,7 @@
--- The text of a playlist. Each line ends with a line feed (10).
+-- The text of a playlist. Each line ends with a line feed.
 use Rattle.std.specs.Prelude.{ℕ, ◌-◌, Bool, List, [], ◌∷◌, ◌++◌, map, codes, replicate, ℤ, Option, Some, None, if◌then◌else◌}
 use Rattle.std.specs.List.{flat_map}
+use Rattle.spec_words.specs.Bytes.{line_feed}
 use Rattle.playlist_model.specs.declared.Key.{Key}
 use Rattle.playlist_model.specs.declared.ByteRange.{ByteRange}
 use Rattle.playlist_model.specs.declared.InitSection.{InitSection}
@@ -97,7 +98,7 @@ header_owed p = numbers_owed p ++ (type_owed p.playlist_type ++ independent_owed
 
 -- a line ends with a line feed
 abbrev pub with_feed : List ℕ → List ℕ
-with_feed line = line ++ 10 ∷ []
+with_feed line = line ++ line_feed ∷ []
 
 -- the line that says this, and those that say these
 unfoldable pub line_of : Said → List ℕ

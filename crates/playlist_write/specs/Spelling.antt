@@ -1,7 +1,7 @@
 -- How what a line says is written (RFC 8216, section 4.3).
--- Bytes of ASCII: 44 is the comma, 48 `0`, 64 `@` and 120 `x`.
 use Rattle.std.specs.Prelude.{ℕ, true, false, List, [], ◌∷◌, ◌++◌, codes, Option, Some, None, bytes_eq, if◌then◌else◌}
 use Rattle.std.specs.Fmt.{decimal}
+use Rattle.spec_words.specs.Bytes.{comma, digit_zero, at_sign, small_x}
 use Rattle.fixed_duration.specs.Duration.{duration_text}
 use Rattle.attr_list.specs.Attributes.{Pair, attributes_text}
 use Rattle.playlist_model.specs.declared.PlaylistKind.{PlaylistKind}
@@ -13,7 +13,7 @@ use Rattle.date_times.specs.Times.{time_text}
 use Rattle.date_times.specs.Digits.{fixed_digits}
 
 abbrev pub byte_range_text : ℕ → ℕ → List ℕ
-byte_range_text length offset = decimal length ++ 64 ∷ decimal offset
+byte_range_text length offset = decimal length ++ at_sign ∷ decimal offset
 
 -- ---- attributes (4.2)
 
@@ -25,7 +25,7 @@ in_quotes name value = record { name = name; value = value; quoted = true }
 
 -- `0x` and 32 digits
 abbrev pub iv_text : ℕ → List ℕ
-iv_text iv = 48 ∷ 120 ∷ fixed_digits 16 32 iv
+iv_text iv = digit_zero ∷ small_x ∷ fixed_digits 16 32 iv
 
 abbrev pub iv_pairs : Option ℕ → List Pair
 iv_pairs None = []
@@ -55,7 +55,7 @@ type_text Vod = codes "VOD"
 
 abbrev pub offset_text : Option ℕ → List ℕ
 offset_text None = []
-offset_text (Some offset) = 64 ∷ decimal offset
+offset_text (Some offset) = at_sign ∷ decimal offset
 
 -- a key's other attributes stand as they are after these
 abbrev pub key_text : Key → List ℕ
@@ -75,7 +75,7 @@ spelled (discontinuity_sequence n) = codes "#EXT-X-DISCONTINUITY-SEQUENCE:" ++ d
 spelled (playlist_type kind) = codes "#EXT-X-PLAYLIST-TYPE:" ++ type_text kind
 spelled ended = codes "#EXT-X-ENDLIST"
 spelled independent = codes "#EXT-X-INDEPENDENT-SEGMENTS"
-spelled (duration nanos title) = codes "#EXTINF:" ++ (duration_text nanos ++ 44 ∷ title)
+spelled (duration nanos title) = codes "#EXTINF:" ++ (duration_text nanos ++ comma ∷ title)
 spelled (byte_range length offset) = codes "#EXT-X-BYTERANGE:" ++ (decimal length ++ offset_text offset)
 spelled discontinuity = codes "#EXT-X-DISCONTINUITY"
 spelled no_keys = codes "#EXT-X-KEY:METHOD=NONE"

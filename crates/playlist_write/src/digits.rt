@@ -1,5 +1,6 @@
 //! Initialisation vectors as they are written (RFC 8216, section 4.3.2.4).
 ghost use Rattle.std.specs.Prelude.{◌≡◌, ◌++◌, ◌∷◌, [], ◌<◌, ◌≤◌, ◌+◌, take, codes, OnOk, string_bytes};
+ghost use Rattle.spec_words.specs.Bytes.{line_feed};
 ghost use Rattle.date_times.specs.Digits.{fixed_digits};
 ghost use Rattle.fixed_duration.specs.Appended.{Appends};
 
@@ -104,7 +105,8 @@ pub fn push_quote_and_iv(out: &mut String, iv: u128) -> Result<(), AllocError>
 
 /// Appends to `out` what `push_quote_and_iv` does of `iv`, and a line feed. Fails only if an allocation fails.
 pub fn push_last_iv(out: &mut String, iv: u128) -> Result<(), AllocError>
-    ensures { Appends result out.old out.new (codes "\",IV=0x" ++ (fixed_digits 16 32 iv ++ 10 ∷ [])) }
+    ensures { Appends result out.old out.new (codes "\",IV=0x"
+        ++ (fixed_digits 16 32 iv ++ line_feed ∷ [])) }
 {
     let mut bytes = ZERO;
     put_iv(&mut bytes, iv);

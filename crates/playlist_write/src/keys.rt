@@ -1,5 +1,6 @@
 //! Key tags and map tags (RFC 8216, sections 4.3.2.4 and 4.3.2.5).
 ghost use Rattle.std.specs.Prelude.{◌≡◌, ◌∷◌, ◌++◌, [], codes, filter, ◌&&◌, not};
+ghost use Rattle.spec_words.specs.Bytes.{line_feed, quote};
 ghost use Rattle.attr_list.specs.Attributes.{pair_spelling};
 ghost use Rattle.playlist_write.specs.Spelling.{in_quotes, iv_pairs, format_pairs, part_pairs};
 ghost use Rattle.playlist_model.specs.Carried.{after_commas};
@@ -29,7 +30,7 @@ fn push_quoted(out: &mut String, name: &str, value: &str) -> Result<(), AllocErr
 
 // Appends the closing quote of a value, and then the initialisation vector where there is one.
 fn push_iv(out: &mut String, iv: Option<u128>) -> Result<(), AllocError>
-    ensures { Appends result out.old out.new (34 ∷ after_commas (iv_pairs iv)) }
+    ensures { Appends result out.old out.new (quote ∷ after_commas (iv_pairs iv)) }
 {
     match iv {
         Some(iv) => push_quote_and_iv(out, iv),
@@ -39,7 +40,7 @@ fn push_iv(out: &mut String, iv: Option<u128>) -> Result<(), AllocError>
 
 // The same, and ends the line.
 fn push_iv_and_feed(out: &mut String, iv: Option<u128>) -> Result<(), AllocError>
-    ensures { Appends result out.old out.new (34 ∷ after_commas (iv_pairs iv) ++ 10 ∷ []) }
+    ensures { Appends result out.old out.new (quote ∷ after_commas (iv_pairs iv) ++ line_feed ∷ []) }
 {
     match iv {
         Some(iv) => push_last_iv(out, iv),
@@ -59,7 +60,8 @@ fn push_format(out: &mut String, format: &str) -> Result<(), AllocError>
 
 // Appends the front of a key tag, up to its URI.
 fn push_method(out: &mut String, method: &str) -> Result<(), AllocError>
-    ensures { Appends result out.old out.new (codes "#EXT-X-KEY:METHOD=" ++ (method.now ++ codes ",URI=\"")) }
+    ensures { Appends result out.old out.new (codes "#EXT-X-KEY:METHOD="
+        ++ (method.now ++ codes ",URI=\"")) }
 {
     // Most keys have this method.
     if method == "AES-128" {
@@ -159,7 +161,9 @@ fn has_same_iv(one: &KeyRef<'_>, other: &KeyRef<'_>) -> bool
 
 // Whether a key differs from the one before by its initialisation vector, and not by its format.
 fn has_next_iv(old: &KeyRef<'_>, new: &KeyRef<'_>) -> bool
-    ensures { result ≡ (is_identity old.now && (is_identity new.now && not (same_option same_number new.now.iv old.now.iv))) }
+    ensures { result
+        ≡ (is_identity old.now
+        && (is_identity new.now && not (same_option same_number new.now.iv old.now.iv))) }
 {
     is_identity(old) && is_identity(new) && !has_same_iv(new, old)
 }

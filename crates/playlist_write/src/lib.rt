@@ -83,7 +83,9 @@ impl From<SinkFailed> for WriteFault {
 
 // The lines before the date ranges, in a text with so much room.
 fn front_of(alloc: Global, room: usize, playlist: &OutPlaylist<'_>) -> Result<String, AllocError>
-    ensures { IfOk result (λ text. string_bytes text ≡ with_feed (codes "#EXTM3U") ++ said_text (header_owed playlist.now)) }
+    ensures { IfOk result
+        (λ text. string_bytes text
+        ≡ with_feed (codes "#EXTM3U") ++ said_text (header_owed playlist.now)) }
 {
     let mut text = String::with_capacity(alloc, room)?;
     push_line(&mut text, "#EXTM3U")?;
@@ -96,8 +98,10 @@ fn write_end<S: Sink>(held: &mut String, ended: bool, sink: &mut S) -> Result<()
     ensures ok { OnOk result (Appends (S.contents sink.old) (S.contents sink.new) (string_bytes held.old ++ said_text (ended_owed ended))) }
     ensures err { OnErr result (TookFront (S.contents sink.old) (S.contents sink.new) (string_bytes held.old ++ said_text (ended_owed ended))) }
     ensures unfailed { OnOk result (NoneFailed (S.failed sink.old) (S.failed sink.new)) }
-    ensures io { IsErrOf result WriteFault.Io → FailedAtLast (S.failed sink.old) (S.failed sink.new) }
-    ensures memory { IsErrOf result WriteFault.OutOfMemory → NoneFailed (S.failed sink.old) (S.failed sink.new) }
+    ensures io { IsErrOf result WriteFault.Io
+        → FailedAtLast (S.failed sink.old) (S.failed sink.new) }
+    ensures memory { IsErrOf result WriteFault.OutOfMemory
+        → NoneFailed (S.failed sink.old) (S.failed sink.new) }
 {
     push_end(held, ended)?;
     Ok(hand_out(held.as_bytes(), sink)?)
@@ -112,8 +116,10 @@ fn write_text<S: Sink>(
     ensures ok { OnOk result (Appends (S.contents sink.old) (S.contents sink.new) (playlist_text playlist.now)) }
     ensures err { OnErr result (TookFront (S.contents sink.old) (S.contents sink.new) (playlist_text playlist.now)) }
     ensures unfailed { OnOk result (NoneFailed (S.failed sink.old) (S.failed sink.new)) }
-    ensures io { IsErrOf result WriteFault.Io → FailedAtLast (S.failed sink.old) (S.failed sink.new) }
-    ensures memory { IsErrOf result WriteFault.OutOfMemory → NoneFailed (S.failed sink.old) (S.failed sink.new) }
+    ensures io { IsErrOf result WriteFault.Io
+        → FailedAtLast (S.failed sink.old) (S.failed sink.new) }
+    ensures memory { IsErrOf result WriteFault.OutOfMemory
+        → NoneFailed (S.failed sink.old) (S.failed sink.new) }
 {
     let mut held = front_of(alloc, PIECE_ROOM, playlist)?;
     write_date_ranges(&mut held, playlist.date_ranges.as_slice(), sink)?;
@@ -145,8 +151,10 @@ pub fn write<S: Sink>(
 
     // The sink is blamed exactly where a write failed or took nothing, and that write is the last: never for a failed allocation.
     ensures unfailed { OnOk result (NoneFailed (S.failed sink.old) (S.failed sink.new)) }
-    ensures io { IsErrOf result WriteFault.Io → FailedAtLast (S.failed sink.old) (S.failed sink.new) }
-    ensures memory { IsErrOf result WriteFault.OutOfMemory → NoneFailed (S.failed sink.old) (S.failed sink.new) }
+    ensures io { IsErrOf result WriteFault.Io
+        → FailedAtLast (S.failed sink.old) (S.failed sink.new) }
+    ensures memory { IsErrOf result WriteFault.OutOfMemory
+        → NoneFailed (S.failed sink.old) (S.failed sink.new) }
 {
     write_text(alloc, playlist, sink)
 }

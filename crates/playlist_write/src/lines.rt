@@ -1,5 +1,6 @@
 //! Parts of lines.
 ghost use Rattle.std.specs.Prelude.{◌≡◌, ◌++◌, [], ◌∷◌, OnOk, string_bytes, decimal};
+ghost use Rattle.spec_words.specs.Bytes.{line_feed};
 ghost use Rattle.playlist_write.specs.Spelling.{byte_range_text};
 ghost use Rattle.playlist_write.specs.Owed.{with_feed};
 ghost use Rattle.fixed_duration.specs.Appended.{Appends};
@@ -19,7 +20,7 @@ pub fn push_number(out: &mut String, number: u64) -> Result<(), AllocError>
 
 /// Appends a line feed to `out`. Fails only if an allocation fails.
 pub fn push_feed(out: &mut String) -> Result<(), AllocError>
-    ensures { Appends result out.old out.new (10 ∷ []) }
+    ensures { Appends result out.old out.new (line_feed ∷ []) }
 {
     out.push('\n')
 }

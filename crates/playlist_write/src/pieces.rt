@@ -49,8 +49,10 @@ pub fn write_date_ranges<S: Sink>(
     ensures ok { OnOk result (TookAllBut (S.contents sink.old) (S.contents sink.new) (string_bytes held.new) (string_bytes held.old ++ date_ranges_text date_ranges.now)) }
     ensures err { OnErr result (TookFront (S.contents sink.old) (S.contents sink.new) (string_bytes held.old ++ date_ranges_text date_ranges.now)) }
     ensures unfailed { OnOk result (NoneFailed (S.failed sink.old) (S.failed sink.new)) }
-    ensures io { IsErrOf result WriteFault.Io → FailedAtLast (S.failed sink.old) (S.failed sink.new) }
-    ensures memory { IsErrOf result WriteFault.OutOfMemory → NoneFailed (S.failed sink.old) (S.failed sink.new) }
+    ensures io { IsErrOf result WriteFault.Io
+        → FailedAtLast (S.failed sink.old) (S.failed sink.new) }
+    ensures memory { IsErrOf result WriteFault.OutOfMemory
+        → NoneFailed (S.failed sink.old) (S.failed sink.new) }
 {
     for date_range in date_ranges {
         push_date_range(held, date_range.as_str())?;
@@ -70,8 +72,10 @@ pub fn write_segments<S: Sink>(
     ensures ok { OnOk result (TookAllBut (S.contents sink.old) (S.contents sink.new) (string_bytes held.new) (string_bytes held.old ++ said_text (segments_owed none_yet segments.entry))) }
     ensures err { OnErr result (TookFront (S.contents sink.old) (S.contents sink.new) (string_bytes held.old ++ said_text (segments_owed none_yet segments.entry))) }
     ensures unfailed { OnOk result (NoneFailed (S.failed sink.old) (S.failed sink.new)) }
-    ensures io { IsErrOf result WriteFault.Io → FailedAtLast (S.failed sink.old) (S.failed sink.new) }
-    ensures memory { IsErrOf result WriteFault.OutOfMemory → NoneFailed (S.failed sink.old) (S.failed sink.new) }
+    ensures io { IsErrOf result WriteFault.Io
+        → FailedAtLast (S.failed sink.old) (S.failed sink.new) }
+    ensures memory { IsErrOf result WriteFault.OutOfMemory
+        → NoneFailed (S.failed sink.old) (S.failed sink.new) }
 {
     let mut segments = segments;
     let mut times = TimeWriter::new();

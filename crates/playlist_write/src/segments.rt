@@ -1,6 +1,7 @@
 //! The lines of segments (RFC 8216, section 4.3.2).
 ghost use Rattle.std.specs.Prelude.{◌≡◌, ◌++◌, ◌∷◌, [], OnOk, string_bytes, replicate, Some};
 ghost use Rattle.std.specs.Option.{option_copied};
+ghost use Rattle.spec_words.specs.Bytes.{comma};
 ghost use Rattle.playlist_model.specs.Said as Said;
 ghost use Rattle.playlist_model.specs.Same.{same_option, same_init_section};
 ghost use Rattle.playlist_write.specs.Owed.{none_yet, line_of, with_feed, said_text, changed_init_section, init_section_owed, keys_then, time_owed, byte_range_owed, media_owed, segment_owed, segments_owed};
@@ -113,7 +114,7 @@ fn push_time_tag(
 
 // Ends the line of a duration with the title.
 fn push_title(out: &mut String, title: &str) -> Result<(), AllocError>
-    ensures { Appends result out.old out.new (44 ∷ with_feed title.now) }
+    ensures { Appends result out.old out.new (comma ∷ with_feed title.now) }
 {
     // Most segments have none.
     if title.is_empty() {

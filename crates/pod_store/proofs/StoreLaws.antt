@@ -8,7 +8,8 @@ use Rattle.playlist_model.specs.LookBack.{or_earlier}
 use Rattle.pod_store.specs.Pods.{Pod, Decision}
 use Rattle.pod_store.specs.declared.Decisions.TheVariants.{Breaks, Withdraw, Fallback, NoFallback}
 use Rattle.pod_store.specs.declared.fault.DecisionKind.TheVariants.{Used, Full, Unknown}
-use Rattle.pod_store.specs.Outcome.{Outcome, refuse_if, fault_at, nowhere}
+use Rattle.spec_words.specs.Outcomes.{refuse_if}
+use Rattle.pod_store.specs.Outcome.{Outcome, fault_at, nowhere}
 use Rattle.pod_store.specs.Store.{Entry, Store, with_entries, has_id, entry_for, own_pod, pod_for, is_used, is_used_entry, has_own, is_named, is_named_if_any, names_used, count_with, put, without, marked_used, with_used, with_all, withdrawn, copied_last, with_copy, with_copies, adopted, is_one_of, is_held, held_in_use, kept_in_use}
 use Rattle.pod_store.proofs.Copies.{none_there, entry_in, pod_if, pod_at, copies_pod, other_stands, entry_stays}
 use Rattle.pod_store.specs.Laws.{Call, decide, keep_in_use, accepted, after_call, after_calls, are_distinct, StaysSmall, UsedPodsStay, LastPodStands, KeepingIsAdopting, pod_in, pod_given, pod_left, pod_after}

@@ -8,13 +8,13 @@ use Rattle.std.proofs.lemmas.Bool.Decides.{nat_tests}
 use Rattle.std.proofs.lemmas.List.{take-append-drop}
 use Rattle.std.proofs.lemmas.Slice.Eq.{bytes_eq-Decides}
 use Rattle.std.proofs.lemmas.Str.{IsUtf8-from_ascii, is_utf8-from_IsUtf8}
-use Rattle.attr_list.specs.Attributes.{is_name_byte, ends_plain}
+use Rattle.attr_list.specs.Attributes.{is_quote, is_name_byte, ends_plain}
 use Rattle.attr_list.proofs.Elements.{all_from, none_from}
 use Rattle.playlist_model.specs.declared.ByteRange.{ByteRange}
 use Rattle.playlist_model.specs.declared.InitSection.{InitSection}
 use Rattle.playlist_model.specs.declared.Key.{Key}
 use Rattle.playlist_model.specs.Inner.Lines.{is_printable}
-use Rattle.pod_store.specs.Pods.{PodSegment, Ad, is_quote, is_uri_byte, goes_on_from, is_web, is_uri, is_method}
+use Rattle.pod_store.specs.Pods.{PodSegment, Ad, is_uri_byte, goes_on_from, is_web, is_uri, is_method}
 use Rattle.playlist_model.specs.Reading.{needs_iv}
 use Rattle.playlist_model.specs.Uri.{has_scheme}
 use Rattle.playlist_model.proofs.Printable.{ascii, printable_has_no_control}

@@ -1,4 +1,3 @@
-pub mod Outcome
 pub mod WorkedExamples
 pub mod Store
 pub mod Kept

@@ -7,7 +7,8 @@ use Rattle.pod_store.specs.declared.fault.DecisionFault.{DecisionFault}
 use Rattle.pod_store.specs.declared.fault.DecisionKind.TheVariants.{Used, Full, Unknown}
 use Rattle.pod_store.specs.declared.Decisions.{Decisions}
 use Rattle.pod_store.specs.declared.Decisions.TheVariants.{Breaks, Withdraw, Fallback, NoFallback}
-use Rattle.pod_store.specs.Outcome.{Outcome, nowhere, fault_at, refuse_if, Refuses}
+use Rattle.spec_words.specs.Outcomes.{refuse_if}
+use Rattle.pod_store.specs.Outcome.{Outcome, nowhere, fault_at, Refuses}
 
 -- a break with its pod: one that a decision gave it, or a copy of the fallback that it was entered with; and whether the
 -- break is used

@@ -1,11 +1,12 @@
 //! The store of decided breaks.
-ghost use Rattle.std.specs.Prelude.{◌≡◌, ℕ, List, ◌+◌, ◌==◌, ◌≤◌, ◌<◌, ◌^◌, map, filter, fold, length, option_map, is_some, true, false, OnOk, OnErr, IfOk, IfErr};
+ghost use Rattle.std.specs.Prelude.{◌≡◌, ◌+◌, ◌==◌, ◌≤◌, ◌<◌, map, filter, fold, length, is_some, true, false, OnOk, OnErr, IfOk, IfErr};
 ghost use Rattle.std.specs.List.{list_all, list_any};
 ghost use Rattle.std.specs.Option.{option_copied};
 ghost use Rattle.pod_store.specs.Pods.{init_section_fits, segment_fits, ad_fits, pod_fits};
-ghost use Rattle.pod_store.specs.Store.{nothing_decided, with_entries, names_used, put, without, entry_for, has_own, own_pod, pod_for, is_one_of, fits, is_empty, is_used, is_named, is_named_if_any, with_all, withdrawn, decided, held_in_use, with_used, with_copy, with_copies, adopted, kept_in_use, count_with, is_new_decision, Changes, ChangesExactly};
+ghost use Rattle.pod_store.specs.Store.{nothing_decided, with_entries, names_used, put, entry_for, has_own, own_pod, pod_for, fits, is_empty, is_used, is_named_if_any, with_all, withdrawn, decided, with_copy, with_copies, adopted, kept_in_use, is_new_decision, Changes, ChangesExactly};
 ghost use Rattle.pod_store.specs.Inner.Store.{GrowsBy};
 ghost use Rattle.pod_store.specs.Outcome.{no_memory};
+ghost use Rattle.spec_words.specs.Outcomes.{Tells};
 
 use crate::fault::{DecisionFault, DecisionKind, Place};
 use crate::kept::{
@@ -188,12 +189,6 @@ impl PodStore {
         }
     }
 
-    fn remove(&mut self, id: &str)
-        ensures { self.new ≡ with_entries self.old (without id.now self.old.entries) }
-    {
-        remove(&mut self.kept, id);
-    }
-
     fn is_any_used(&self, decisions: &[Decision]) -> bool
         ensures { result ≡ list_any (names_used self.now) decisions.now }
     {
@@ -223,16 +218,10 @@ impl PodStore {
         count
     }
 
-    fn count_named(&self) -> usize
-        ensures value { result ≡ length (filter is_named self.now.entries) }
-        ensures small { result < 2 ^ 63 }
-    {
-        count_named(&self.kept)
-    }
-
     // Keeps the pods of these breaks, where there is memory.
     fn put_all(&mut self, decisions: Vec<Decision>) -> Result<(), AllocError>
-        ensures ok { OnOk result (self.new ≡ with_entries self.old (fold put self.old.entries decisions.items)) }
+        ensures ok { OnOk result (self.new
+            ≡ with_entries self.old (fold put self.old.entries decisions.items)) }
         ensures err { OnErr result (self.new ≡ self.old) }
     {
         let shared = shared(self.alloc, decisions)?;
@@ -243,12 +232,13 @@ impl PodStore {
 
     // The breaks have these pods.
     fn decide_all(&mut self, decisions: Vec<Decision>) -> Result<(), DecisionFault>
-        ensures { Changes self.old self.new result (with_all self.old decisions.items) }
+        ensures changes { Changes self.old self.new result (with_all self.old decisions.items) }
+        ensures told { Tells result (with_all self.old decisions.items) }
     {
         if self.is_any_used(decisions.as_slice()) {
             return Err(Place::nowhere().fault(DecisionKind::Used));
         }
-        if self.count_new(decisions.as_slice()) + self.count_named() > MAX_PODS {
+        if self.count_new(decisions.as_slice()) + count_named(&self.kept) > MAX_PODS {
             return Err(Place::nowhere().fault(DecisionKind::Full));
         }
         self.put_all(decisions)?;
@@ -276,7 +266,10 @@ impl PodStore {
     /// store.pod_for("b2")              None, as there is no fallback
     /// ```
     pub fn decide(&mut self, decisions: Decisions) -> Result<(), DecisionFault>
-        ensures { Changes self.old self.new result (decided self.old decisions) }
+        ensures changes { Changes self.old self.new result (decided self.old decisions) }
+
+        // Each fault of the decisions is answered whatever memory there is.
+        ensures told { Tells result (decided self.old decisions) }
     {
         match decisions {
             Decisions::Breaks(breaks) => self.decide_all(breaks.into_vec()),
@@ -300,16 +293,8 @@ impl PodStore {
         if self.is_used(id) {
             return Err(Place::nowhere().fault(DecisionKind::Used));
         }
-        self.remove(id);
+        remove(&mut self.kept, id);
         Ok(())
-    }
-
-    // Marks a break that has a pod of its own as used. False where it has none.
-    fn mark_used(&mut self, id: &str) -> bool
-        ensures value { result ≡ has_own self.old id.now }
-        ensures store { self.new ≡ with_used id.now self.old }
-    {
-        mark(&mut self.kept, id)
     }
 
     // A copy of the fallback, where there is one, is the pod of a break that has none of its own.
@@ -330,11 +315,13 @@ impl PodStore {
     /// which is its own then. `false` if it has neither. `OutOfMemory` only if an allocation fails; the store is then
     /// as it was.
     pub fn adopt(&mut self, id: &str) -> Result<bool, DecisionFault>
-        ensures ok { IfOk result (λ there. (there ≡ is_some (pod_for self.old id.now)) × (self.new ≡ adopted self.old id.now)) }
+        ensures ok { IfOk result
+            (λ there. (there ≡ is_some (pod_for self.old id.now))
+            × (self.new ≡ adopted self.old id.now)) }
         ensures err { IfErr result (λ e. (e ≡ no_memory) × (self.new ≡ self.old)) }
     {
         if self.has_own(id) {
-            self.mark_used(id);
+            mark(&mut self.kept, id);
             return Ok(true);
         }
         let there = self.fallback().is_some();
@@ -369,17 +356,7 @@ impl PodStore {
         }
     }
 
-    #[tactic(auto, using(crate::proofs::InUse::seen_alike))]
-    // Drops the pods of the used breaks that are none of these, and marks those of the others that are these as used. The set
-    // has the same IDs.
-    fn drop_others(&mut self, ids: &[Shared<Text>], set: &IdSet<'_>)
-        requires { (id : List ℕ) → is_one_of set.now id ≡ is_one_of ids.now id }
-        ensures { self.new ≡ with_entries self.old (held_in_use ids.now self.old.entries) }
-    {
-        keep_in_use(&mut self.kept, set);
-    }
-
-    #[tactic(auto, using(crate::proofs::Copies::fallback_stands))]
+    #[tactic(auto, using(crate::proofs::Copies::fallback_stands, crate::proofs::InUse::seen_alike))]
     /// The breaks `ids` are in use from now on, and no others. Each of them that has no pod of its own keeps a copy
     /// of the fallback, if there is one; the pods of used breaks that aren't among `ids` are dropped. Fails only if
     /// an allocation fails; the store is then as it was.
@@ -389,7 +366,7 @@ impl PodStore {
     {
         let set = IdSet::of(self.alloc, *self.kept.hasher(), ids)?;
         self.copy_fallback(ids)?;
-        self.drop_others(ids, &set);
+        keep_in_use(&mut self.kept, &set);
         Ok(())
     }
 }

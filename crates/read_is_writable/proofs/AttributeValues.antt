@@ -8,7 +8,8 @@ use Rattle.attr_list.specs.Attributes.{Pair, is_named, is_name, is_name_byte, is
 use Rattle.attr_list.proofs.Elements.{all_from}
 use Rattle.attr_list.proofs.Grammar.{pairs_are, pieces_joined}
 use Rattle.playlist_model.specs.declared.FaultKind.TheVariants as fault
-use Rattle.playlist_model.specs.Said.{Outcome, attributes, required, optional, some_value, value_if, quoted_of}
+use Rattle.spec_words.specs.Outcomes.{optional, some_value}
+use Rattle.playlist_model.specs.Said.{Outcome, attributes, required, value_if, quoted_of}
 use Rattle.playlist_model.specs.Carried.{after_commas, carried, is_key_attribute}
 use Rattle.playlist_model.specs.Inner.Lines.{is_printable}
 use Rattle.playlist_model.proofs.Carried.{others_are}

@@ -8,7 +8,8 @@ use Rattle.attr_list.specs.Attributes.{attribute}
 use Rattle.playlist_model.specs.declared.DateRange.{DateRange}
 use Rattle.playlist_model.specs.declared.FaultKind.{FaultKind}
 use Rattle.playlist_model.specs.Lines.{Kind, ignored, uri, tag, kind_of, has_control}
-use Rattle.playlist_model.specs.Said.{Name, date_range_tag, unknown_tag, Said, nothing, date_range, Outcome, refuse_if, Reader, attributes, required, optional, time_of, length_of, date_range_said}
+use Rattle.spec_words.specs.Outcomes.{refuse_if, optional}
+use Rattle.playlist_model.specs.Said.{Name, date_range_tag, unknown_tag, Said, nothing, date_range, Outcome, Reader, attributes, required, time_of, length_of, date_range_said}
 use Rattle.playlist_model.specs.LookBack.{is_media, date_ranges_of}
 use Rattle.playlist_model.specs.Reading.{name_of, said_by_tag, said_by_kind, said_by, said_from}
 use Rattle.read_is_writable.specs.Read.{IsSaid}

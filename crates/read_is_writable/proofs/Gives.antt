@@ -2,7 +2,8 @@
 use Rattle.std.proofs.Common.{◌≡◌, Bool, true, false, cond, refl, ap, ◌∙◌, sym}
 use Rattle.std.specs.Prelude.{Result, Ok, Err, Option, Some, None}
 use Rattle.playlist_model.specs.declared.FaultKind.{FaultKind}
-use Rattle.playlist_model.specs.Said.{Outcome, ◌>>=◌, or_fault, mended, refuse_if}
+use Rattle.spec_words.specs.Outcomes.{◌>>=◌, or_fault, mended, refuse_if}
+use Rattle.playlist_model.specs.Said.{Outcome}
 
 -- each answer passes this test
 pub record Gives {A : Type 0} (p : A → Bool) (o : Outcome A) : Type 0 where

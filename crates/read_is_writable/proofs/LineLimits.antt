@@ -9,7 +9,8 @@ use Rattle.playlist_model.specs.declared.Key.{Key}
 use Rattle.playlist_model.specs.declared.FaultKind.{FaultKind}
 use Rattle.playlist_model.specs.declared.FaultKind.TheVariants as fault
 use Rattle.playlist_model.specs.Lines.{Kind, ignored, uri, tag, kind_of, has_control}
-use Rattle.playlist_model.specs.Said.{Name, key_tag, init_section_tag, date_range_tag, unknown_tag, Said, no_keys, key, media, nothing, Outcome, ◌>>=◌, mended, refuse_if, over, attributes, key_said, init_section_said, date_range_said}
+use Rattle.spec_words.specs.Outcomes.{◌>>=◌, mended, refuse_if}
+use Rattle.playlist_model.specs.Said.{Name, key_tag, init_section_tag, date_range_tag, unknown_tag, Said, no_keys, key, media, nothing, Outcome, over, attributes, key_said, init_section_said, date_range_said}
 use Rattle.playlist_model.specs.LookBack.{keys_at, count, is_media}
 use Rattle.playlist_model.specs.Reading.{name_of, within_formats, with_ivs, said_by_tag, said_by_uri, said_by_kind, said_by, unlimited, limited}
 use Rattle.read_is_writable.specs.Limits.{has_few, tag_keeps, kind_keeps, line_keeps}

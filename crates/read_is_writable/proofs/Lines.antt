@@ -11,7 +11,8 @@ use Rattle.attr_list.specs.Numbers.{decimal_of}
 use Rattle.date_times.specs.Instant.{instant_of, in_range}
 use Rattle.playlist_model.specs.declared.FaultKind.TheVariants as fault
 use Rattle.playlist_model.specs.Lines.{Kind, ignored, uri, tag, kind_of, has_control, is_blank, is_tag, is_comment, is_colon}
-use Rattle.playlist_model.specs.Said.{Name, sequence_tag, version_tag, target_tag, discontinuity_sequence_tag, type_tag, ended_tag, independent_tag, frames_tag, master_tag, duration_tag, byte_range_tag, discontinuity_tag, key_tag, init_section_tag, time_tag, date_range_tag, unknown_tag, Said, nothing, version, target, sequence, discontinuity_sequence, playlist_type, ended, independent, duration, byte_range, discontinuity, no_keys, init_section, time, media, Outcome, or_fault, mended, number, version_of, playlist_type_of, byte_range_of, duration_said, key_said, init_section_said, date_range_said, attributes, required, optional, iv_of, quoted_of, uri_of, init_section_byte_range, time_of, length_of, set_key, byte_range_end_fits, key, date_range}
+use Rattle.spec_words.specs.Outcomes.{or_fault, mended, optional}
+use Rattle.playlist_model.specs.Said.{Name, sequence_tag, version_tag, target_tag, discontinuity_sequence_tag, type_tag, ended_tag, independent_tag, frames_tag, master_tag, duration_tag, byte_range_tag, discontinuity_tag, key_tag, init_section_tag, time_tag, date_range_tag, unknown_tag, Said, nothing, version, target, sequence, discontinuity_sequence, playlist_type, ended, independent, duration, byte_range, discontinuity, no_keys, init_section, time, media, Outcome, number, version_of, playlist_type_of, byte_range_of, duration_said, key_said, init_section_said, date_range_said, attributes, required, iv_of, quoted_of, uri_of, init_section_byte_range, time_of, length_of, set_key, byte_range_end_fits, key, date_range}
 use Rattle.playlist_model.specs.LookBack.{the_version, the_target, the_sequence, the_discontinuity_sequence, the_type, is_media, is_discontinuity, is_ended, own_duration, byte_range_at, keys_at, discontinuity_at, media_sequence_at}
 use Rattle.playlist_model.specs.Reading.{name_of, has, is_set, passes, needs_iv, said_by_tag, said_by_kind, said_by, said_from, at_line, Fault, unlimited}
 use Rattle.playlist_write.specs.WellFormed.{is_word, duration_fits}

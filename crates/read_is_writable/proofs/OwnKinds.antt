@@ -7,7 +7,8 @@ use Rattle.fixed_duration.specs.Duration.{duration_of}
 use Rattle.attr_list.specs.Attributes.{attribute}
 use Rattle.date_times.specs.Instant.{instant_of}
 use Rattle.playlist_model.specs.declared.FaultKind.TheVariants as fault
-use Rattle.playlist_model.specs.Said.{Name, sequence_tag, version_tag, target_tag, discontinuity_sequence_tag, type_tag, ended_tag, independent_tag, frames_tag, master_tag, duration_tag, byte_range_tag, discontinuity_tag, key_tag, init_section_tag, time_tag, date_range_tag, unknown_tag, Said, nothing, version, target, sequence, discontinuity_sequence, playlist_type, ended, independent, duration, byte_range, discontinuity, no_keys, key, init_section, time, date_range, media, or_fault, mended, Reader, over, number, version_of, playlist_type_of, byte_range_of, attributes, required, optional, iv_of, quoted_of, uri_of, init_section_byte_range, time_of, length_of, key_said, init_section_said, date_range_said}
+use Rattle.spec_words.specs.Outcomes.{or_fault, mended, optional}
+use Rattle.playlist_model.specs.Said.{Name, sequence_tag, version_tag, target_tag, discontinuity_sequence_tag, type_tag, ended_tag, independent_tag, frames_tag, master_tag, duration_tag, byte_range_tag, discontinuity_tag, key_tag, init_section_tag, time_tag, date_range_tag, unknown_tag, Said, nothing, version, target, sequence, discontinuity_sequence, playlist_type, ended, independent, duration, byte_range, discontinuity, no_keys, key, init_section, time, date_range, media, Reader, over, number, version_of, playlist_type_of, byte_range_of, attributes, required, iv_of, quoted_of, uri_of, init_section_byte_range, time_of, length_of, key_said, init_section_said, date_range_said}
 use Rattle.playlist_model.specs.LookBack.{the_version, the_target, the_sequence, the_discontinuity_sequence, the_type, is_media, is_discontinuity, is_ended, count, own_duration, byte_range_at, keys_at, discontinuity_at, media_sequence_at}
 use Rattle.playlist_model.specs.Reading.{has, is_set, passes, needs_iv, said_by_tag, said_by_uri}
 use Rattle.read_is_writable.proofs.Gives.{Gives, answers, fails, refused, chosen, bound, after}

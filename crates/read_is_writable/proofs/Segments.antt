@@ -6,7 +6,8 @@ use Rattle.std.proofs.lemmas.Bool.{and_parts, and_from}
 use Rattle.std.proofs.lemmas.List.Folds.{list_all-append}
 use Rattle.std.specs.Result.{result_unwrap_or}
 use Rattle.date_times.specs.Instant.{in_range}
-use Rattle.playlist_model.specs.Said.{Said, duration, time, media, byte_range, date_range, refuse_if, byte_range_end_fits}
+use Rattle.spec_words.specs.Outcomes.{refuse_if}
+use Rattle.playlist_model.specs.Said.{Said, duration, time, media, byte_range, date_range, byte_range_end_fits}
 use Rattle.playlist_model.specs.LookBack.{or_earlier, latest, the_duration, the_time, is_media, since_media, own_duration, segments_of, segment_at, the_byte_range, own_byte_range, Extent, byte_range_here, byte_range_from, last_extent, media_sequence_at, date_ranges_of}
 use Rattle.playlist_model.specs.declared.FaultKind.TheVariants as fault
 use Rattle.writable.specs.Fitting.{if_some, is_clean, byte_range_fits}

@@ -9,7 +9,8 @@ use Rattle.attr_list.specs.Attributes.{Pair, is_value}
 use Rattle.attr_list.specs.Numbers.{decimal_of, hex_of}
 use Rattle.playlist_model.specs.declared.FaultKind.TheVariants as fault
 use Rattle.playlist_model.specs.Uri.{has_scheme, can_be_written, joined, resolved}
-use Rattle.playlist_model.specs.Said.{or_fault, value_if, iv_of, quoted_of, uri_of, byte_range_of, init_section_byte_range, byte_range_end_fits}
+use Rattle.spec_words.specs.Outcomes.{or_fault}
+use Rattle.playlist_model.specs.Said.{value_if, iv_of, quoted_of, uri_of, byte_range_of, init_section_byte_range, byte_range_end_fits}
 use Rattle.playlist_model.specs.Carried.{after_commas, carried}
 use Rattle.writable.specs.Fitting.{if_some, is_clean, value_fits, method_fits, iv_fits, byte_range_fits}
 use Rattle.writable.proofs.Hexadecimal.{hex_is_iv}

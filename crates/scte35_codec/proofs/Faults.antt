@@ -1,5 +1,5 @@
 -- Which faults reading the parts of a section can give.
-use Rattle.std.proofs.Common.{◌≡◌, ◌≢◌, ℕ, zero, suc, ◌+◌, ◌%◌, ◌^◌, Bool, true, false, cond, not, eqb, ltb, List, length, drop, Result, Ok, Err, refl, subst, ◌∙◌, inl, inr}
+use Rattle.std.proofs.Common.{◌≡◌, ◌≢◌, ℕ, zero, suc, ◌+◌, ◌%◌, ◌^◌, Bool, true, false, cond, not, eqb, ltb, List, length, drop, Result, Ok, Err, refl, subst, ◌∙◌}
 use Rattle.std.specs.Prelude.{IfErr}
 use Rattle.std.proofs.lemmas.Bool.{and_parts}
 use Rattle.scte35_codec.specs.declared.info.SpliceInfo.{SpliceInfo}
@@ -8,7 +8,8 @@ use Rattle.scte35_codec.specs.Hexadecimal.{is_marked, are_pairs, is_hex_text, he
 use Rattle.scte35_codec.proofs.Hexadecimals.{pairs_decode}
 use Rattle.scte35_codec.specs.declared.fault.SpliceFault.{SpliceFault}
 use Rattle.scte35_codec.specs.declared.fault.SpliceFault.TheVariants.{NotHex, TooShort, TableId, Length, Protocol, Encrypted, CommandLength, OutOfMemory, TooLarge}
-use Rattle.scte35_codec.specs.Reading.{◌>>=◌, Stops, Gives, number_at, bytes_at, bit, specified_time_at, time_at, optional_time_at, component_at, components_at, target_at, optional_duration_at, body_at, optional_body_at, insert_at, whole_insert_at, unmeasured_at, measured_of, command_at, ending_at, tail_at, contents_of, number_in, reading}
+use Rattle.spec_words.specs.Outcomes.{◌>>=◌, Refuses}
+use Rattle.scte35_codec.specs.Reading.{Gives, number_at, bytes_at, bit, specified_time_at, time_at, optional_time_at, component_at, components_at, target_at, optional_duration_at, body_at, optional_body_at, insert_at, whole_insert_at, unmeasured_at, measured_of, command_at, ending_at, tail_at, contents_of, number_in, reading}
 
 -- a reading fails by the lengths alone
 abbrev pub ByLength : {A : Type 0} → Result A SpliceFault → Type 0
@@ -144,14 +145,18 @@ reading_faults bytes =
     (of_test (not (eqb (number_in 3 1 bytes) 0)) _ _ tt
     (of_test (bit 39 (number_in 4 5 bytes)) _ _ tt (by_length (contents_of bytes) (by_contents bytes))))))
 
-no_other : (e : SpliceFault) (r : Result Section SpliceFault) → OfBytes r → Stops e r → (e ≢ NotHex) × (e ≢ TooLarge)
-no_other e r h (inl memory) = (λ f. cc, λ f. cc)
-no_other e (Ok s) h (inr is) = absurd cc
-no_other e (Err d) h (inr is) = of_bytes d e h cc
+no_other : (e : SpliceFault) (r : Result Section SpliceFault) → OfBytes r → r ≡ Err e → (e ≢ NotHex) × (e ≢ TooLarge)
+no_other e (Ok s) h is = absurd cc
+no_other e (Err d) h is = of_bytes d e h cc
+
+-- neither is a failed allocation
+other_than : (e : SpliceFault) (r : Result Section SpliceFault) → OfBytes r → Refuses OutOfMemory e r → (e ≢ NotHex) × (e ≢ TooLarge)
+other_than e r h refused =
+    (λ f. (no_other e r h (refused (λ m. cc))).0 f, λ f. (no_other e r h (refused (λ m. cc))).1 f)
 
 pub read_faults : (bytes : List ℕ) (result : Result SpliceInfo SpliceFault) → Gives section_of result (reading bytes) → IfErr result (λ e. (e ≢ NotHex) × (e ≢ TooLarge))
 read_faults bytes (Ok info) gives = tt
-read_faults bytes (Err e) gives = no_other e (reading bytes) (reading_faults bytes) gives
+read_faults bytes (Err e) gives = other_than e (reading bytes) (reading_faults bytes) gives
 
 -- text that is hexadecimal has bytes, and so another fault
 pub hex_is_read : (text : List ℕ) → is_hex_text text ≡ true → OfBytes (reading_hex text)
@@ -165,17 +170,16 @@ pub not_hex_is : (text : List ℕ) → is_hex_text text ≡ false → reading_he
 unfolding reading_hex hex_bytes
 not_hex_is text is = rw is refl
 
-by_text : (is : Bool) (text : List ℕ) → is_hex_text text ≡ is → Stops NotHex (reading_hex text) → is_hex_text text ≡ false
-by_text true text is h = absurd ((no_other NotHex (reading_hex text) (hex_is_read text is) h).0 refl)
+by_text : (is : Bool) (text : List ℕ) → is_hex_text text ≡ is → Refuses OutOfMemory NotHex (reading_hex text) → is_hex_text text ≡ false
+by_text true text is h = absurd ((other_than NotHex (reading_hex text) (hex_is_read text is) h).0 refl)
 by_text false text is h = is
 
 pub hex_fault_is : (text : List ℕ) (result : Result SpliceInfo SpliceFault) → Gives section_of result (reading_hex text) → result ≡ Err NotHex → is_hex_text text ≡ false
 hex_fault_is text result gives e = by_text (is_hex_text text) text refl (subst (λ (r : Result SpliceInfo SpliceFault). Gives section_of r (reading_hex text)) e gives)
 
-by_kind : (is : Bool) (text : List ℕ) (e : SpliceFault) → is_hex_text text ≡ is → Stops e (reading_hex text) → e ≢ TooLarge
-by_kind true text e is h = (no_other e (reading_hex text) (hex_is_read text is) h).1
-by_kind false text e is (inl memory) = λ f. cc
-by_kind false text e is (inr h) = λ f. let n = not_hex_is text is in cc
+by_kind : (is : Bool) (text : List ℕ) (e : SpliceFault) → is_hex_text text ≡ is → Refuses OutOfMemory e (reading_hex text) → e ≢ TooLarge
+by_kind true text e is h = (other_than e (reading_hex text) (hex_is_read text is) h).1
+by_kind false text e is refused = λ f. let n = not_hex_is text is in let r : reading_hex text ≡ Err e = refused (λ m. cc) in cc
 
 pub hex_faults : (text : List ℕ) (result : Result SpliceInfo SpliceFault) → Gives section_of result (reading_hex text) → IfErr result (λ e. e ≢ TooLarge)
 hex_faults text (Ok info) gives = tt

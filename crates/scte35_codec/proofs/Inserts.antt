@@ -10,7 +10,8 @@ use Rattle.std.specs.List.{list_all}
 use Rattle.std.proofs.Common.{leb}
 use Rattle.std.proofs.lemmas.Bool.{and_from, le-leb}
 use Rattle.scte35_codec.specs.Writing.{place_fits, target_fits, duration_fits, body_fits}
-use Rattle.scte35_codec.specs.Reading.{◌>>=◌, number_at, bit, optional_time_at, components_at, target_at, optional_duration_at, body_at, optional_body_at, insert_at}
+use Rattle.spec_words.specs.Outcomes.{◌>>=◌}
+use Rattle.scte35_codec.specs.Reading.{number_at, bit, optional_time_at, components_at, target_at, optional_duration_at, body_at, optional_body_at, insert_at}
 use Rattle.scte35_codec.specs.Layout.{IsBytes}
 use Rattle.scte35_codec.proofs.Takes.{bind_ok, ok_is, flag-test, test-flag, Takes, Takes-none, Takes-then, number_takes, group_takes, Lies, Again, group_again}
 use Rattle.scte35_codec.proofs.Times.{optional_time_takes, optional_time_again, components_takes, components_again, optional_duration_takes, optional_duration_again}

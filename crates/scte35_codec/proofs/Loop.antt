@@ -1,9 +1,11 @@
 -- Reading components one after the other, as a loop does.
-use Rattle.std.proofs.Common.{◌≡◌, ℕ, suc, ◌-◌, ◌+◌, ◌≤◌, ◌<◌, Bool, List, [], ◌∷◌, ◌++◌, Option, Result, Ok, Err, refl, sym, ap, ◌∙◌, inl, inr, append_assoc, arith}
+use Rattle.std.proofs.Common.{◌≡◌, ℕ, suc, ◌-◌, ◌+◌, ◌≤◌, ◌<◌, Bool, List, [], ◌∷◌, ◌++◌, Option, Result, Ok, Err, refl, sym, ap, ◌∙◌, append_assoc, arith}
 use Rattle.std.proofs.lemmas.List.{append-nil}
 use Rattle.scte35_codec.specs.declared.fault.SpliceFault.{SpliceFault}
+use Rattle.scte35_codec.specs.declared.fault.SpliceFault.TheVariants.{OutOfMemory}
 use Rattle.scte35_codec.specs.declared.info.SpliceTime.{SpliceTime}
-use Rattle.scte35_codec.specs.Reading.{◌>>=◌, Stops, component_at, components_at}
+use Rattle.spec_words.specs.Outcomes.{◌>>=◌, Refuses}
+use Rattle.scte35_codec.specs.Reading.{component_at, components_at}
 
 abbrev pub Component : Type 0
 Component = ℕ × Option SpliceTime
@@ -24,14 +26,14 @@ goes_on immediate front count i bytes c after total lt h so_far =
     let one : with_front front (components_at immediate (count - i) bytes) ≡ with_front (front ++ c ∷ []) (components_at immediate (count - (i + 1)) after) = rw (k, h) (regroup front c (components_at immediate (count - (i + 1)) after)) in
     sym one ∙ so_far
 
-pub stops : (immediate : Bool) (fault : SpliceFault) (front : List Component) (count i : ℕ) (bytes : List ℕ) (total : Result (List Component × List ℕ) SpliceFault) → i < count → Stops fault (component_at immediate bytes)
-    → with_front front (components_at immediate (count - i) bytes) ≡ total → Stops fault total
+pub stops : (immediate : Bool) (fault : SpliceFault) (front : List Component) (count i : ℕ) (bytes : List ℕ) (total : Result (List Component × List ℕ) SpliceFault) → i < count → Refuses OutOfMemory fault (component_at immediate bytes)
+    → with_front front (components_at immediate (count - i) bytes) ≡ total → Refuses OutOfMemory fault total
 unfolding components_at
-stops immediate fault front count i bytes total lt (inl memory) so_far = inl memory
-stops immediate fault front count i bytes total lt (inr h) so_far =
+stops immediate fault front count i bytes total lt refused so_far = λ other.
+    let h : component_at immediate bytes ≡ Err fault = refused other in
     let k : count - i ≡ suc (count - (i + 1)) = omega arith in
     let one : with_front front (components_at immediate (count - i) bytes) ≡ Err fault = rw (k, h) refl in
-    inr (sym so_far ∙ one)
+    sym so_far ∙ one
 
 pub is_done : (immediate : Bool) (front : List Component) (count i : ℕ) (bytes : List ℕ) (total : Result (List Component × List ℕ) SpliceFault) → count ≤ i → with_front front (components_at immediate (count - i) bytes) ≡ total → total ≡ Ok (front, bytes)
 unfolding components_at

@@ -7,7 +7,8 @@ use Rattle.scte35_codec.specs.declared.fault.SpliceFault.TheVariants.{CommandLen
 use Rattle.scte35_codec.specs.Layout.{Content, Field, Is, width, bytes_of, Holds, IsRead}
 use Rattle.scte35_codec.specs.Section.{SpliceEvent, Command, Insert, Other, splice_insert, command_fields, command_type, IsProper, StatesLength}
 use Rattle.scte35_codec.specs.Writing.{command_fits}
-use Rattle.scte35_codec.specs.Reading.{◌>>=◌, bytes_at, insert_at, whole_insert_at, unmeasured_at, measured_of, command_at}
+use Rattle.spec_words.specs.Outcomes.{◌>>=◌}
+use Rattle.scte35_codec.specs.Reading.{bytes_at, insert_at, whole_insert_at, unmeasured_at, measured_of, command_at}
 use Rattle.scte35_codec.specs.Layout.{IsBytes}
 use Rattle.scte35_codec.proofs.Numbers.{IsBytes-drop, IsBytes-take, IsBytes-rest}
 use Rattle.scte35_codec.proofs.Fields.{Holds-join, Holds-parts}

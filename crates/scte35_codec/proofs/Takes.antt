@@ -6,7 +6,8 @@ use Rattle.scte35_codec.specs.declared.fault.SpliceFault.{SpliceFault}
 use Rattle.scte35_codec.specs.declared.fault.SpliceFault.TheVariants.{CommandLength}
 use Rattle.scte35_codec.specs.Layout.{Field, width, number, Splits, Holds, IsRead}
 use Rattle.scte35_codec.specs.Section.{flag}
-use Rattle.scte35_codec.specs.Reading.{◌>>=◌, number_at}
+use Rattle.spec_words.specs.Outcomes.{◌>>=◌}
+use Rattle.scte35_codec.specs.Reading.{number_at}
 use Rattle.scte35_codec.specs.Layout.{IsBytes}
 use Rattle.scte35_codec.proofs.Numbers.{IsBytes-drop, IsBytes-take}
 use Rattle.scte35_codec.proofs.Fields.{width-append, Holds-join, Holds-parts, number-two, number_fits}

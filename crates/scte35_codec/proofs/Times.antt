@@ -8,7 +8,8 @@ use Rattle.scte35_codec.specs.declared.info.BreakDuration.{BreakDuration}
 use Rattle.scte35_codec.specs.Layout.{Field, Is, Splits, IsRead}
 use Rattle.scte35_codec.specs.Section.{optional, time_fields, splice_time, component, break_duration, is_timed}
 use Rattle.scte35_codec.specs.Writing.{pts_fits, place_fits, duration_fits}
-use Rattle.scte35_codec.specs.Reading.{◌>>=◌, number_at, bit, time_at, specified_time_at, optional_time_at, component_at, components_at, optional_duration_at}
+use Rattle.spec_words.specs.Outcomes.{◌>>=◌}
+use Rattle.scte35_codec.specs.Reading.{number_at, bit, time_at, specified_time_at, optional_time_at, component_at, components_at, optional_duration_at}
 use Rattle.scte35_codec.specs.Layout.{IsBytes}
 use Rattle.scte35_codec.proofs.Takes.{bind_ok, ok_is, flag-test, test-flag, Takes, Takes-none, Takes-then, number_takes, group_takes, Lies, Again, group_again, first_of_five}
 use Rattle.std.proofs.lemmas.Bool.{eqb-true, eqb-false, cases_lt, lt-ltb}

@@ -11,7 +11,8 @@ use Rattle.scte35_codec.specs.declared.info.SpliceInfo.{SpliceInfo}
 use Rattle.scte35_codec.specs.Section.{section_of}
 use Rattle.scte35_codec.specs.Writing.{fits, command_fits, command_length, section_length, has_section}
 use Rattle.scte35_codec.proofs.Fits.{is_proper}
-use Rattle.scte35_codec.specs.Reading.{◌>>=◌, Gives, number_in, bit, bytes_at, number_at, command_at, ending_at, tail_at, contents_of, reading}
+use Rattle.spec_words.specs.Outcomes.{◌>>=◌}
+use Rattle.scte35_codec.specs.Reading.{Gives, number_in, bit, bytes_at, number_at, command_at, ending_at, tail_at, contents_of, reading}
 use Rattle.scte35_codec.specs.Layout.{IsBytes}
 use Rattle.scte35_codec.proofs.Numbers.{IsBytes-drop, IsBytes-take}
 use Rattle.scte35_codec.proofs.Fields.{width-append, number_fits}

@@ -3,16 +3,18 @@
 use Rattle.std.specs.Prelude.{ℕ, ◌%◌, Bool, ◌&&◌, ◌||◌, ◌==◌, List, length, drop, slice_index, Result, Ok, Err, if◌then◌else◌}
 use Rattle.std.specs.List.{list_all}
 use Rattle.std.specs.Char.{is_ascii_hexdigit}
+use Rattle.spec_words.specs.Bytes.{digit_zero, capital_x, small_x}
 use Rattle.hex.specs.declared.error.FromHexError.{FromHexError}
 use Rattle.hex.specs.Hex.{decode_of}
 use Rattle.scte35_codec.specs.declared.fault.SpliceFault.{SpliceFault}
 use Rattle.scte35_codec.specs.declared.fault.SpliceFault.TheVariants.{NotHex}
 use Rattle.scte35_codec.specs.Section.{Section}
-use Rattle.scte35_codec.specs.Reading.{◌>>=◌, reading}
+use Rattle.spec_words.specs.Outcomes.{◌>>=◌}
+use Rattle.scte35_codec.specs.Reading.{reading}
 
--- whether a text begins with `0x` or `0X`, of which 48, 120 and 88 are the bytes
+-- whether a text begins with `0x` or `0X`
 abbrev pub is_marked : List ℕ → Bool
-is_marked text = slice_index text 0 == 48 && (slice_index text 1 == 120 || slice_index text 1 == 88)
+is_marked text = slice_index text 0 == digit_zero && (slice_index text 1 == small_x || slice_index text 1 == capital_x)
 
 -- an even number of digits, in either case
 abbrev pub are_pairs : List ℕ → Bool

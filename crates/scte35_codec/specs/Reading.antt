@@ -1,5 +1,7 @@
 -- Reading a section from left to right, with the first fault that is met.
-use Rattle.std.specs.Prelude.{◌≡◌, ℕ, zero, suc, ◌+◌, ◌-◌, ◌/◌, ◌%◌, ◌^◌, Bool, true, false, not, ◌⊎◌, List, [], ◌∷◌, length, take, drop, Option, Some, None, Result, Ok, Err, nat_lt, ◌==◌, if◌then◌else◌}
+use Rattle.std.specs.Prelude.{ℕ, zero, suc, ◌+◌, ◌-◌, ◌/◌, ◌%◌, ◌^◌, Bool, true, false, not, List, [], ◌∷◌, length, take, drop, Option, Some, None, Result, Ok, Err, nat_lt, ◌==◌, if◌then◌else◌}
+use Rattle.spec_words.specs.Outcomes as outcomes
+use Rattle.spec_words.specs.Outcomes.{◌>>=◌}
 use Rattle.scte35_codec.specs.declared.fault.SpliceFault.{SpliceFault}
 use Rattle.scte35_codec.specs.declared.fault.SpliceFault.TheVariants.{TooShort, TableId, Length, Protocol, Encrypted, CommandLength, OutOfMemory}
 use Rattle.scte35_codec.specs.declared.info.SpliceTime.{SpliceTime}
@@ -7,18 +9,9 @@ use Rattle.scte35_codec.specs.declared.info.BreakDuration.{BreakDuration}
 use Rattle.scte35_codec.specs.Layout.{number}
 use Rattle.scte35_codec.specs.Section.{Target, Program, Components, Body, SpliceEvent, Command, Insert, Other, Section}
 
-infixl 10 ◌>>=◌
-abbrev pub ◌>>=◌ : {A B : Type 0} → Result A SpliceFault → (A → Result B SpliceFault) → Result B SpliceFault
-(Ok x) >>= f = f x
-(Err e) >>= f = Err e
-
--- What a function answered, seen by view, is what reading gives, unless memory ran out.
-abbrev pub Stops : {Y : Type 0} → SpliceFault → Result Y SpliceFault → Type 0
-Stops fault read = (fault ≡ OutOfMemory) ⊎ (read ≡ Err fault)
-
+-- what a function answered, seen by view, is what reading gives, a failed allocation apart
 abbrev pub Gives : {X Y : Type 0} → (X → Y) → Result X SpliceFault → Result Y SpliceFault → Type 0
-Gives view (Ok x) read = read ≡ Ok (view x)
-Gives view (Err fault) read = Stops fault read
+Gives view result read = outcomes.Gives OutOfMemory view result read
 
 -- ---- Numbers of some bytes
 

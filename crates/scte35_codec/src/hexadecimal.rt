@@ -27,7 +27,8 @@ fn are_digits(text: &[u8]) -> bool
 
 // The digits after `0x` or `0X`, where they are pairs.
 fn digits_of(text: &[u8]) -> Result<&[u8], SpliceFault>
-    ensures { MatchResult result (λ digits. digits_of text.now ≡ Ok digits.now) (λ e. digits_of text.now ≡ Err e) }
+    ensures { MatchResult result (λ digits. digits_of text.now ≡ Ok digits.now)
+        (λ e. digits_of text.now ≡ Err e) }
 {
     let [b'0', b'x' | b'X', digits @ ..] = text else {
         return Err(SpliceFault::NotHex);
@@ -55,7 +56,8 @@ fn read_few(alloc: Global, digits: &[u8]) -> Result<SpliceInfo, SpliceFault>
     requires pairs { IsTrue (are_pairs digits.now) }
     requires few { length digits.now ≤ 512 }
     ensures exact { Gives section_of result (reading_digits digits.now) }
-    ensures told { (e : SpliceFault) → reading_digits digits.now ≡ Err e → e ≢ CommandLength → result ≡ Err e }
+    ensures told { (e : SpliceFault) → reading_digits digits.now ≡ Err e → e ≢ CommandLength
+        → result ≡ Err e }
 {
     let mut buffer = [0u8; FEW];
     let few = &mut buffer[..digits.len() / 2];
@@ -67,7 +69,8 @@ fn read_few(alloc: Global, digits: &[u8]) -> Result<SpliceInfo, SpliceFault>
 fn read_many(alloc: Global, digits: &[u8]) -> Result<SpliceInfo, SpliceFault>
     requires { IsTrue (are_pairs digits.now) }
     ensures exact { Gives section_of result (reading_digits digits.now) }
-    ensures told { (e : SpliceFault) → reading_digits digits.now ≡ Err e → e ≢ CommandLength → result ≡ Err e }
+    ensures told { (e : SpliceFault) → reading_digits digits.now ≡ Err e → e ≢ CommandLength
+        → result ≡ Err e }
 {
     let count = (digits.len() / 2).min(TOO_MANY);
     let mut buffer = [0u8; TOO_MANY];
@@ -80,7 +83,8 @@ fn read_many(alloc: Global, digits: &[u8]) -> Result<SpliceInfo, SpliceFault>
 fn read_digits(alloc: Global, digits: &[u8]) -> Result<SpliceInfo, SpliceFault>
     requires { IsTrue (are_pairs digits.now) }
     ensures exact { Gives section_of result (reading_digits digits.now) }
-    ensures told { (e : SpliceFault) → reading_digits digits.now ≡ Err e → e ≢ CommandLength → result ≡ Err e }
+    ensures told { (e : SpliceFault) → reading_digits digits.now ≡ Err e → e ≢ CommandLength
+        → result ≡ Err e }
 {
     if digits.len() <= 2 * FEW {
         return read_few(alloc, digits);
@@ -91,7 +95,8 @@ fn read_digits(alloc: Global, digits: &[u8]) -> Result<SpliceInfo, SpliceFault>
 #[tactic(auto, unfolding(crate::specs::Hexadecimal::reading_hex, crate::specs::Hexadecimal::hex_bytes))]
 fn section_of_text(alloc: Global, text: &str) -> Result<SpliceInfo, SpliceFault>
     ensures exact { Gives section_of result (reading_hex text.now) }
-    ensures told { (e : SpliceFault) → reading_hex text.now ≡ Err e → e ≢ CommandLength → result ≡ Err e }
+    ensures told { (e : SpliceFault) → reading_hex text.now ≡ Err e → e ≢ CommandLength
+        → result ≡ Err e }
 {
     let digits = digits_of(text.as_bytes())?;
     read_digits(alloc, digits)
@@ -104,14 +109,18 @@ fn section_of_text(alloc: Global, text: &str) -> Result<SpliceInfo, SpliceFault>
 /// `NotHex` if `text` is not of this form; else the answer is that of [`read`] for the bytes.
 pub fn read_hex(alloc: Global, text: &str) -> Result<SpliceInfo, SpliceFault>
     // What is read is what the text's bytes say.
-    ensures found { IfOk result (λ info. (bytes : List ℕ) × (hex_bytes text.now ≡ Ok bytes) × IsSection (section_of info) bytes) }
+    ensures found { IfOk result
+        (λ info. (bytes : List ℕ) × (hex_bytes text.now ≡ Ok bytes)
+        × IsSection (section_of info) bytes) }
 
     // What the text's bytes say is read, unless memory runs out.
-    ensures only { (bytes : List ℕ) (s : Section) → hex_bytes text.now ≡ Ok bytes → IsSection s bytes → Gives section_of result (Ok s) }
+    ensures only { (bytes : List ℕ) (s : Section) → hex_bytes text.now ≡ Ok bytes
+        → IsSection s bytes → Gives section_of result (Ok s) }
 
     // Which fault it is. All but CommandLength are told whatever memory there is.
     ensures exact { Gives section_of result (reading_hex text.now) }
-    ensures told { (e : SpliceFault) → reading_hex text.now ≡ Err e → e ≢ CommandLength → result ≡ Err e }
+    ensures told { (e : SpliceFault) → reading_hex text.now ≡ Err e → e ≢ CommandLength
+        → result ≡ Err e }
     ensures not_hex { (result ≡ Err NotHex) ↔ (is_hex_text text.now ≡ false) }
     ensures fault { IfErr result (λ e. e ≢ TooLarge) }
 {

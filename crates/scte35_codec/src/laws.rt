@@ -10,18 +10,21 @@ ghost use Rattle.scte35_codec.specs.Crc.{crc_of};
 
 /// Reading finds what the layout says, no more and no less.
 pub fn reads_the_layout()
-    ensures { (bytes : List ℕ) (s : Section) → IsBytes bytes → (reading bytes ≡ Ok s) ↔ IsSection s bytes }
+    ensures { (bytes : List ℕ) (s : Section) → IsBytes bytes → (reading bytes ≡ Ok s)
+        ↔ IsSection s bytes }
 {}
 
 /// No bytes have two values.
 pub fn has_one_value()
-    ensures { (bytes : List ℕ) (s t : Section) → IsBytes bytes → IsSection s bytes → IsSection t bytes → s ≡ t }
+    ensures { (bytes : List ℕ) (s t : Section) → IsBytes bytes → IsSection s bytes
+        → IsSection t bytes → s ≡ t }
 {}
 
 /// A value is refused only where no section of at most 4,096 bytes says it, so that section_length is at
 /// most 4093.
 pub fn refuses_what_has_no_section()
-    ensures { (s : Section) (bytes : List ℕ) → IsBytes bytes → length bytes ≤ 4096 → IsSection s bytes
+    ensures { (s : Section) (bytes : List ℕ) → IsBytes bytes → length bytes ≤ 4096
+        → IsSection s bytes
         → IsTrue (has_section s) }
 {}
 

@@ -105,7 +105,8 @@ fn take_target(
     immediate: bool,
     bytes: &[u8],
 ) -> Result<(SpliceTarget, &[u8]), SpliceFault>
-    ensures { Gives (λ x. (target_of x.0, x.1.now)) result (target_at is_program immediate bytes.now) }
+    ensures { Gives (λ x. (target_of x.0, x.1.now)) result
+        (target_at is_program immediate bytes.now) }
 {
     if is_program {
         let (time, rest) = take_optional_time(immediate, bytes)?;
@@ -143,7 +144,8 @@ fn take_optional_body(
     is_cancelled: bool,
     bytes: &[u8],
 ) -> Result<(Option<InsertBody>, &[u8]), SpliceFault>
-    ensures { Gives (λ x. (bodies_of x.0, x.1.now)) result (optional_body_at is_cancelled bytes.now) }
+    ensures { Gives (λ x. (bodies_of x.0, x.1.now)) result
+        (optional_body_at is_cancelled bytes.now) }
 {
     if is_cancelled {
         return Ok((None, bytes));
@@ -275,7 +277,8 @@ fn contents(alloc: Global, bytes: &[u8]) -> Result<SpliceInfo, SpliceFault>
 #[tactic(auto, unfolding(crate::specs::Reading::reading))]
 fn section(alloc: Global, bytes: &[u8]) -> Result<SpliceInfo, SpliceFault>
     ensures exact { Gives section_of result (reading bytes.now) }
-    ensures told { (e : SpliceFault) → reading bytes.now ≡ Err e → e ≢ CommandLength → result ≡ Err e }
+    ensures told { (e : SpliceFault) → reading bytes.now ≡ Err e → e ≢ CommandLength
+        → result ≡ Err e }
 {
     if bytes.len() < SHORTEST {
         return Err(SpliceFault::TooShort);
@@ -318,7 +321,8 @@ pub fn read(alloc: Global, bytes: &[u8]) -> Result<SpliceInfo, SpliceFault>
 
     // Which fault it is. All but CommandLength are told whatever memory there is.
     ensures exact { Gives section_of result (reading bytes.now) }
-    ensures told { (e : SpliceFault) → reading bytes.now ≡ Err e → e ≢ CommandLength → result ≡ Err e }
+    ensures told { (e : SpliceFault) → reading bytes.now ≡ Err e → e ≢ CommandLength
+        → result ≡ Err e }
     ensures fault { IfErr result (λ e. (e ≢ NotHex) × (e ≢ TooLarge)) }
 {
     section(alloc, bytes)

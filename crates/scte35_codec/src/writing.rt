@@ -216,7 +216,8 @@ fn put_start(out: &mut Vec<u8>, section_length: usize) -> Result<(), AllocError>
 
 fn put_adjustment(out: &mut Vec<u8>, pts_adjustment: u64) -> Result<(), AllocError>
     requires { pts_adjustment < 2 ^ 33 }
-    ensures { OnOk result (Appends ((8, Is 0) ∷ (1, Is 0) ∷ (6, Reserved 0) ∷ (33, Is pts_adjustment) ∷ []) out.old.items out.new.items) }
+    ensures { OnOk result (Appends ((8, Is 0) ∷ (1, Is 0) ∷ (6, Reserved 0)
+        ∷ (33, Is pts_adjustment) ∷ []) out.old.items out.new.items) }
 {
     put_number(out, pts_adjustment, 6)
 }
@@ -224,7 +225,8 @@ fn put_adjustment(out: &mut Vec<u8>, pts_adjustment: u64) -> Result<(), AllocErr
 fn put_tier(out: &mut Vec<u8>, tier: u16, command_length: usize) -> Result<(), AllocError>
     requires tier { tier < 4096 }
     requires command { command_length < 4096 }
-    ensures { OnOk result (Appends ((12, Is tier) ∷ (12, Is command_length) ∷ []) out.old.items out.new.items) }
+    ensures { OnOk result (Appends ((12, Is tier) ∷ (12, Is command_length)
+        ∷ []) out.old.items out.new.items) }
 {
     put_number(out, u64::from(tier) * 4096 + command_length as u64, 3)
 }
@@ -284,7 +286,8 @@ fn front_of(alloc: Global, info: &SpliceInfo) -> Result<Vec<u8>, SpliceFault>
     ensures refused { (result ≡ Err TooLarge) ↔ (has_section (section_of info.now) ≡ false) }
     ensures fault { IfErr result (λ e. (e ≡ OutOfMemory) ⊎ (e ≡ TooLarge)) }
     ensures fits { IfOk result (λ _. IsTrue (has_section (section_of info.now))) }
-    ensures front { IfOk result (λ bytes. Appends (front_fields (section_of info.now)) [] bytes.items) }
+    ensures front { IfOk result
+        (λ bytes. Appends (front_fields (section_of info.now)) [] bytes.items) }
 {
     if !has_section(info) {
         return Err(SpliceFault::TooLarge);
@@ -307,7 +310,8 @@ pub fn write(alloc: Global, info: &SpliceInfo) -> Result<Vec<u8>, SpliceFault>
     ensures fault { IfErr result (λ e. (e ≡ OutOfMemory) ⊎ (e ≡ TooLarge)) }
 
     // What is written is the value's section, with each reserved bit as the layout has it.
-    ensures written { IfOk result (λ bytes. Holds IsWritten (written_fields (section_of info.now)) bytes.items) }
+    ensures written { IfOk result
+        (λ bytes. Holds IsWritten (written_fields (section_of info.now)) bytes.items) }
     ensures section { IfOk result (λ bytes. IsSection (section_of info.now) bytes.items) }
 
     // It is read as the same value.

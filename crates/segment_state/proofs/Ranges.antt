@@ -10,7 +10,8 @@ use Rattle.std.specs.List.{list_all, position_or_len, before_first, after_first}
 use Rattle.std.proofs.lemmas.List.{take_all}
 use Rattle.attr_list.specs.Numbers.{decimal_of, has_up_to}
 use Rattle.playlist_model.specs.declared.FaultKind.TheVariants as fault
-use Rattle.playlist_model.specs.Said.{byte_range_of, stated_byte_range, or_fault, ◌>>=◌}
+use Rattle.spec_words.specs.Outcomes.{or_fault, ◌>>=◌}
+use Rattle.playlist_model.specs.Said.{byte_range_of, stated_byte_range}
 use Rattle.playlist_model.proofs.ListTests.{none_passes, some_passes}
 
 no_at : (c : ℕ) → is_ascii_digit c ≡ true → (c == 64) ≡ false

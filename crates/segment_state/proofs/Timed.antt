@@ -5,7 +5,8 @@ use Rattle.std.specs.Option.{ok_or}
 use Rattle.url.specs.Parts.{Parts}
 use Rattle.playlist_model.specs.declared.FaultKind.TheVariants as fault
 use Rattle.date_times.specs.Instant.{instant_of}
-use Rattle.playlist_model.specs.Said.{Said, time, time_tag, or_fault, ◌>>=◌}
+use Rattle.spec_words.specs.Outcomes.{or_fault, ◌>>=◌}
+use Rattle.playlist_model.specs.Said.{Said, time, time_tag}
 use Rattle.playlist_model.specs.LookBack.{standing_at, with_said}
 use Rattle.playlist_model.specs.Reading.{said_by_tag, limited}
 use Rattle.segment_state.specs.Running.{Running, running_at}

@@ -3,7 +3,7 @@ use Rattle.std.specs.Prelude.{ℕ, Bool, List, map, Option}
 use Rattle.attr_list.specs.declared.attr.Attr.{Attr}
 use Rattle.attr_list.specs.Attributes.{Pair}
 use Rattle.attr_list.specs.Attrs.{attr_pair}
-use Rattle.playlist_model.specs.Said as said
+use Rattle.spec_words.specs.Outcomes as outcomes
 use Rattle.playlist_model.specs.Said.{Outcome, value_if}
 
 abbrev pub pairs_of : List Attr → List Pair
@@ -11,4 +11,4 @@ pairs_of attrs = map attr_pair attrs
 
 -- the value of an attribute that may be left out, which has to stand in quotes, or has to stand without
 abbrev pub optional : Bool → Option Pair → Outcome (Option (List ℕ))
-optional wanted found = said.optional (λ pair. value_if wanted pair.quoted pair.value) found
+optional wanted found = outcomes.optional (λ pair. value_if wanted pair.quoted pair.value) found

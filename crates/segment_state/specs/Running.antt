@@ -1,9 +1,10 @@
 -- A state, and what a line does to it.
-use Rattle.std.specs.Prelude.{◌≡◌, List, ◌∷◌, Result, Ok, Err, MatchResult, IsOk}
+use Rattle.std.specs.Prelude.{◌≡◌, ℕ, List, ◌∷◌, Result, Ok, Err, MatchResult, IsOk}
 use Rattle.url.specs.Parts.{Parts}
 use Rattle.playlist_model.specs.declared.FaultKind.{FaultKind}
 use Rattle.playlist_model.specs.declared.Segment.{Segment}
-use Rattle.playlist_model.specs.Said.{Said, media, Outcome}
+use Rattle.playlist_model.specs.Said.{Said, Name, media, Outcome}
+use Rattle.playlist_model.specs.Reading.{limited, said_by_tag}
 use Rattle.playlist_model.specs.LookBack.{Standing, standing_at, with_said, segment_at}
 use Rattle.playlist_model.specs.Refusals.{Refuses}
 
@@ -36,6 +37,14 @@ TakesExactly outcome old new result =
     MatchResult result
     (λ _. IsOk (outcome old.base before) × (new ≡ running_at old.base (with_said before (outcome old.base before))))
     (λ e. (outcome old.base before ≡ Err e) × (new ≡ old))
+
+-- the same of the tag of this name, with this after its colon
+abbrev pub TakesTag : Name → List ℕ → Running → Running → Result (Unit {0}) FaultKind → Type 0
+TakesTag name rest old new result = Takes (λ base before. said_by_tag limited base before name rest) old new result
+
+abbrev pub TakesTagExactly : Name → List ℕ → Running → Running → Result (Unit {0}) FaultKind → Type 0
+TakesTagExactly name rest old new result =
+    TakesExactly (λ base before. said_by_tag limited base before name rest) old new result
 
 -- what Takes says of a URI line, which gives a segment: the one that stands there
 abbrev pub TakesSegment : (Parts → List Said → Outcome Said) → Running → Running → Result Segment FaultKind → Type 0

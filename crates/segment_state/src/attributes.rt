@@ -3,7 +3,8 @@ ghost use Rattle.std.specs.Prelude.{option_map};
 ghost use Rattle.attr_list.specs.Attributes.{attribute};
 ghost use Rattle.playlist_model.specs.Said.{attributes, required};
 ghost use Rattle.playlist_model.specs.Reading.{limited};
-ghost use Rattle.playlist_model.specs.Refusals.{Gives, GivesExactly};
+ghost use Rattle.spec_words.specs.Outcomes.{GivesExactly};
+ghost use Rattle.playlist_model.specs.Refusals.{Gives};
 ghost use Rattle.segment_state.specs.Attributes.{pairs_of, optional};
 
 use attr_list::{AttrFault, AttrList};
@@ -29,7 +30,8 @@ pub fn optional<'a>(
     name: &str,
     quoted: bool,
 ) -> Result<Option<&'a str>, FaultKind>
-    ensures { GivesExactly (option_map (λ value. value.now)) result (optional quoted (attribute (pairs_of list.now) name.now)) }
+    ensures { GivesExactly (option_map
+        (λ value. value.now)) result (optional quoted (attribute (pairs_of list.now) name.now)) }
 {
     let Some(attr) = list.get(name) else {
         return Ok(None);
@@ -44,7 +46,8 @@ pub fn optional<'a>(
 /// `BadAttributes` exactly if it is, and in quotes though it isn't `quoted` by its type, or without though it is (RFC
 /// 8216, section 4.2). Takes no memory.
 pub fn required<'a>(list: &AttrList<'a>, name: &str, quoted: bool) -> Result<&'a str, FaultKind>
-    ensures { GivesExactly (λ value. value.now) result (required quoted (attribute (pairs_of list.now) name.now)) }
+    ensures { GivesExactly
+        (λ value. value.now) result (required quoted (attribute (pairs_of list.now) name.now)) }
 {
     optional(list, name, quoted)?.ok_or(FaultKind::MissingAttribute)
 }

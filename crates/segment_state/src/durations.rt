@@ -1,7 +1,8 @@
 //! The durations and titles of a playlist's segments (RFC 8216, 4.3.2.1), of which most are the same.
 ghost use Rattle.std.specs.Prelude.{◌≡◌, false, Some, None, Ok, Err, IfOk, IfErr, OnOk, OnErr, MatchResult, MatchOption};
 ghost use Rattle.std.specs.List.{before_first, after_first};
-ghost use Rattle.std.specs.Prelude.{◌==◌};
+ghost use Rattle.attr_list.specs.Attributes.{is_comma};
+ghost use Rattle.spec_words.specs.Outcomes.{Tells};
 ghost use Rattle.playlist_model.specs.Said.{duration, duration_said};
 ghost use Rattle.playlist_model.specs.Refusals.{Gives, Refuses};
 ghost use Rattle.segment_state.specs.Kept.{IsDue};
@@ -98,8 +99,8 @@ impl<'a> SecondsReader<'a> {
 
 // What stands before the first comma and after it. Without one the whole text stands before it.
 fn parts_at_comma(text: &str) -> (&str, &str)
-    ensures front { result.0.now ≡ before_first (λ b. b == 44) text.now }
-    ensures back { result.1.now ≡ after_first (λ b. b == 44) text.now }
+    ensures front { result.0.now ≡ before_first is_comma text.now }
+    ensures back { result.1.now ≡ after_first is_comma text.now }
 {
     text.split_once(',').unwrap_or((text, ""))
 }
@@ -136,6 +137,7 @@ impl<'a> Durations<'a> {
     // What EXTINF states by itself: a duration, and a title after the comma (RFC 8216, section 4.3.2.1).
     fn parsed(&mut self, text: &'a str) -> Result<(Nanos, Shared<ShortText>), FaultKind>
         ensures said { Gives (λ own. duration own.0 own.1) result (duration_said text.now) }
+        ensures told { Tells result (duration_said text.now) }
         ensures kept { self.new ≡ self.old }
     {
         match self.seconds.read(text) {
@@ -161,6 +163,7 @@ impl<'a> Durations<'a> {
     fn read_other(&mut self, text: &'a str) -> Result<(), FaultKind>
         ensures due { OnOk result (IsDue text.now self.new) }
         ensures err { IfErr result (λ e. Refuses e (duration_said text.now)) }
+        ensures told { Tells result (duration_said text.now) }
         ensures kept { OnErr result (self.new ≡ self.old) }
     {
         let own = self.parsed(text)?;
@@ -175,6 +178,7 @@ impl<'a> Durations<'a> {
     pub fn read(&mut self, text: &'a str) -> Result<(), FaultKind>
         ensures due { OnOk result (IsDue text.now self.new) }
         ensures err { IfErr result (λ e. Refuses e (duration_said text.now)) }
+        ensures told { Tells result (duration_said text.now) }
         ensures kept { OnErr result (self.new ≡ self.old) }
     {
         match &self.said {
@@ -226,7 +230,8 @@ impl<'a> Durations<'a> {
     /// The duration and the title that the next segment has.
     #[inline]
     pub fn own(&self) -> Result<Option<(Nanos, Shared<ShortText>)>, AllocError>
-        ensures { IfOk result (λ own. own ≡ self.now) }
+        ensures value { IfOk result (λ own. own ≡ self.now) }
+        ensures none { self.now ≡ None → result ≡ Ok None }
     {
         match &self.said {
             Some((nanos, title)) if self.is_due => Ok(Some((*nanos, title.clone()?))),

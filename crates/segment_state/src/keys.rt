@@ -29,7 +29,8 @@ fn others_count(keys: &[Key], format: &str) -> usize
 
 fn remove_format(keys: &mut Vec<Key>, format: &str)
     ensures items { keys.new.items ≡ without_format format.now keys.old.items }
-    ensures room { vec_len keys.old < vec_capacity keys.old → vec_len keys.new < vec_capacity keys.new }
+    ensures room { vec_len keys.old < vec_capacity keys.old
+        → vec_len keys.new < vec_capacity keys.new }
 {
     keys.retain(|other| format != other.format.as_str());
 }

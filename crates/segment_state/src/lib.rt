@@ -5,11 +5,12 @@
 ghost use Rattle.std.specs.Prelude.{◌≡◌, ◌+◌, ◌^◌, ◌<◌, ◌≤◌, [], map, Some, None, Ok, Err, IfOk, MatchOption, nat_lt, length};
 ghost use Rattle.std.specs.Option.{SomeIff};
 ghost use Rattle.playlist_model.specs.LookBack.{byte_range_from, byte_range_after, extent_with};
-ghost use Rattle.playlist_model.specs.Reading.{limited, said_by_tag, said_by_uri};
+ghost use Rattle.playlist_model.specs.Reading.{limited, said_by_uri};
 ghost use Rattle.playlist_model.specs.Said as said;
-ghost use Rattle.playlist_model.specs.Said.{uri_of};
+ghost use Rattle.spec_words.specs.Outcomes.{Tells};
+ghost use Rattle.playlist_model.specs.Said.{uri_of, duration_said};
 ghost use Rattle.playlist_model.specs.Refusals.{Gives};
-ghost use Rattle.segment_state.specs.Running.{running_at, Follows, Takes, TakesExactly, TakesSegment};
+ghost use Rattle.segment_state.specs.Running.{running_at, Follows, TakesTag, TakesTagExactly, TakesSegment};
 ghost use Rattle.segment_state.specs.Inner.Running.{after_segment, segment_from};
 ghost use Rattle.segment_state.specs.Views.{extent_after};
 ghost use Rattle.segment_state.specs.Repeated.{IsLineOf, IsRepeated};
@@ -123,7 +124,7 @@ impl<'a> ReaderState<'a> {
     /// A discontinuity before the next segment (4.3.2.3). `BadValue` where its number passes 2^64 - 1. Takes no
     /// memory.
     pub fn discontinuity(&mut self) -> Result<(), FaultKind>
-        ensures { TakesExactly (λ base before. said_by_tag limited base before said.discontinuity_tag []) self.old self.new result }
+        ensures { TakesTagExactly said.discontinuity_tag [] self.old self.new result }
     {
         let Some(total) = self.discontinuity_count.checked_add(1) else {
             return Err(FaultKind::BadValue);
@@ -139,7 +140,10 @@ impl<'a> ReaderState<'a> {
     /// Takes `rest`, the value of EXTINF: the duration and the title of the next segment (RFC 8216, section 4.3.2.1).
     /// `BadDuration` if it states none; `OutOfMemory` only if an allocation fails.
     pub fn duration_tag(&mut self, rest: &'a str) -> Result<(), FaultKind>
-        ensures { Takes (λ base before. said_by_tag limited base before said.duration_tag rest.now) self.old self.new result }
+        ensures takes { TakesTag said.duration_tag rest.now self.old self.new result }
+
+        // The fault is answered whatever memory there is.
+        ensures told { Tells result (duration_said rest.now) }
     {
         self.durations.read(rest)
     }
@@ -175,7 +179,7 @@ impl<'a> ReaderState<'a> {
     /// METHOD, URI, IV and KEYFORMAT, `BadUri`, `TooMany` if 17 formats would be in force; `OutOfMemory` only if an
     /// allocation fails.
     pub fn key_tag(&mut self, rest: &str) -> Result<(), FaultKind>
-        ensures { Takes (λ base before. said_by_tag limited base before said.key_tag rest.now) self.old self.new result }
+        ensures { TakesTag said.key_tag rest.now self.old self.new result }
     {
         match key_said(self.alloc, self.references.base(), rest)? {
             KeyTag::End => self.keys = Keys::none(),
@@ -189,7 +193,7 @@ impl<'a> ReaderState<'a> {
     /// `MissingAttribute` or `BadAttributes` for URI, `BadAttributes` or `BadRange` for BYTERANGE, `BadUri`,
     /// `MapWithoutIv` if a key of METHOD AES-128 has no IV; `OutOfMemory` only if an allocation fails.
     pub fn init_section_tag(&mut self, rest: &str) -> Result<(), FaultKind>
-        ensures { Takes (λ base before. said_by_tag limited base before said.init_section_tag rest.now) self.old self.new result }
+        ensures { TakesTag said.init_section_tag rest.now self.old self.new result }
     {
         let tag = init_section_said(self.alloc, self.references.base(), rest)?;
         if is_iv_needed(&self.keys) {
@@ -207,7 +211,7 @@ impl<'a> ReaderState<'a> {
     /// Takes `rest`, the value of EXT-X-BYTERANGE: the byte range of the next segment, in bytes (RFC 8216, section
     /// 4.3.2.2). `BadRange` if it states none, or its end passes 2^64 - 1. Takes no memory.
     pub fn byte_range_tag(&mut self, rest: &str) -> Result<(), FaultKind>
-        ensures { TakesExactly (λ base before. said_by_tag limited base before said.byte_range_tag rest.now) self.old self.new result }
+        ensures { TakesTagExactly said.byte_range_tag rest.now self.old self.new result }
     {
         self.byte_range = Some(byte_range_of(rest)?);
         Ok(())
@@ -216,7 +220,7 @@ impl<'a> ReaderState<'a> {
     /// Takes `rest`, the value of EXT-X-PROGRAM-DATE-TIME: the instant at which the next segment begins (RFC 8216,
     /// section 4.3.2.6). Of several, the last counts. `BadTime` if it states none. Takes no memory.
     pub fn time_tag(&mut self, rest: &str) -> Result<(), FaultKind>
-        ensures { TakesExactly (λ base before. said_by_tag limited base before said.time_tag rest.now) self.old self.new result }
+        ensures { TakesTagExactly said.time_tag rest.now self.old self.new result }
     {
         let Ok(instant) = self.times.read(rest) else {
             return Err(FaultKind::BadTime);
@@ -234,14 +238,16 @@ impl<'a> ReaderState<'a> {
 
     // The next segment's Media Sequence Number (RFC 8216, section 4.3.3.2); none from 2^64 on.
     fn number(&self) -> Option<u64>
-        ensures { SomeIff result (self.now.standing.media_sequence + self.now.standing.media_count < 2 ^ 64) (self.now.standing.media_sequence + self.now.standing.media_count) }
+        ensures { SomeIff result (self.now.standing.media_sequence + self.now.standing.media_count
+            < 2 ^ 64) (self.now.standing.media_sequence + self.now.standing.media_count) }
     {
         self.media_sequence.checked_add(self.media_count)
     }
 
     // The byte range of a segment of this resource here.
     fn next_byte_range(&self, uri: &str) -> Result<Option<ByteRange>, FaultKind>
-        ensures { result ≡ byte_range_from self.now.standing.byte_range uri.now self.now.standing.extent }
+        ensures { result
+            ≡ byte_range_from self.now.standing.byte_range uri.now self.now.standing.extent }
     {
         match self.byte_range {
             None => Ok(None),
@@ -252,7 +258,8 @@ impl<'a> ReaderState<'a> {
 
     // The next segment's Discontinuity Sequence Number (RFC 8216, section 4.3.3.3).
     fn discontinuity_number(&self) -> u64
-        ensures { result ≡ self.now.standing.discontinuity_sequence + self.now.standing.discontinuity_count }
+        ensures { result
+            ≡ self.now.standing.discontinuity_sequence + self.now.standing.discontinuity_count }
     {
         self.discontinuity_sequence + self.discontinuity_count
     }
@@ -274,7 +281,8 @@ impl<'a> ReaderState<'a> {
         own: (Nanos, Shared<ShortText>),
     ) -> Result<Segment, AllocError>
         requires { number ≡ self.now.standing.media_sequence + self.now.standing.media_count }
-        ensures { IfOk result (λ segment. segment ≡ segment_from self.now.standing uri byte_range own) }
+        ensures { IfOk result
+            (λ segment. segment ≡ segment_from self.now.standing uri byte_range own) }
     {
         let (duration, title) = own;
         Ok(Segment {
@@ -319,7 +327,14 @@ impl<'a> ReaderState<'a> {
     /// state.take_segment("s1.ts")    Err(FaultKind::NoDuration)
     /// ```
     pub fn take_segment(&mut self, reference: &str) -> Result<Segment, FaultKind>
-        ensures { TakesSegment (λ base before. said_by_uri limited base before reference.now) self.old self.new result }
+        ensures takes { TakesSegment
+            (λ base before. said_by_uri limited base before reference.now) self.old self.new result }
+
+        // These two faults are answered whatever memory there is.
+        ensures full { self.old.standing.media_count ≡ MAX_SEGMENTS
+            → result ≡ Err FaultKind.TooMany }
+        ensures no_duration { self.old.standing.media_count < MAX_SEGMENTS
+            → self.old.standing.duration ≡ None → result ≡ Err FaultKind.NoDuration }
     {
         if self.is_full() {
             return Err(FaultKind::TooMany);
@@ -364,7 +379,8 @@ impl<'a> ReaderState<'a> {
 
 // What is kept of a segment for the next one's byte range, where it is a part of its resource (4.3.2.2).
 fn last_part(segment: &Segment) -> Result<Option<Part>, AllocError>
-    ensures { IfOk result (λ last. extent_after last ≡ extent_with segment.now.uri segment.now.byte_range) }
+    ensures { IfOk result
+        (λ last. extent_after last ≡ extent_with segment.now.uri segment.now.byte_range) }
 {
     let Some(byte_range) = segment.byte_range else {
         return Ok(None);

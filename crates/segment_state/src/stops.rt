@@ -107,7 +107,8 @@ impl<'a> ReaderState<'a> {
 
     /// What stands here, where no tag of the next segment does.
     pub fn stop(&self) -> Result<Option<Stop>, AllocError>
-        ensures { IfOk result (λ stop. MatchOption stop (Unit {0}) (λ stop. IsStop self.now.standing stop)) }
+        ensures { IfOk result
+            (λ stop. MatchOption stop (Unit {0}) (λ stop. IsStop self.now.standing stop)) }
     {
         if !self.is_between() {
             return Ok(None);
@@ -160,7 +161,8 @@ impl<'a> ReaderState<'a> {
     )
         requires few { media_count ≤ MAX_SEGMENTS }
         requires room { self.old.standing.discontinuity_sequence + discontinuity_count < 2 ^ 64 }
-        ensures { self.new ≡ taken_at self.old media_count discontinuity_count keys init_section (extent_after last) }
+        ensures { self.new
+            ≡ taken_at self.old media_count discontinuity_count keys init_section (extent_after last) }
     {
         self.media_count = media_count;
         self.discontinuity_count = discontinuity_count;
@@ -176,7 +178,10 @@ impl<'a> ReaderState<'a> {
     /// Goes to `stop`, a later place, with what is in force there. False if the first numbers of this playlist don't
     /// lead there. Fails only if an allocation fails. The state is as it was after either.
     pub fn go_to(&mut self, stop: &Stop) -> Result<bool, AllocError>
-        ensures reached { IfOk result (λ done. done ≡ true → IsReached self.old.standing stop.now × (self.new ≡ record self.old { standing = stopped_at self.old.standing stop.now })) }
+        ensures reached { IfOk result
+            (λ done. done ≡ true
+            → IsReached self.old.standing stop.now
+            × (self.new ≡ record self.old { standing = stopped_at self.old.standing stop.now })) }
         ensures kept { IfOk result (λ done. done ≡ false → self.new ≡ self.old) }
         ensures failed { OnErr result (self.new ≡ self.old) }
     {

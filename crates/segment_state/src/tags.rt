@@ -1,8 +1,10 @@
 //! What a key, map or byte range tag says by itself (RFC 8216, 4.3.2.2, 4.3.2.4, 4.3.2.5).
 ghost use Rattle.std.specs.Prelude.{◌≡◌, codes};
 ghost use Rattle.attr_list.specs.Attributes.{attribute};
+ghost use Rattle.spec_words.specs.Outcomes as outcomes;
 ghost use Rattle.playlist_model.specs.Said as said;
-ghost use Rattle.playlist_model.specs.Said.{iv_of, key_tag_said, uri_of, set_key, key_said, init_section_said, init_section_byte_range, byte_range_of, stated_byte_range, or_fault};
+ghost use Rattle.spec_words.specs.Outcomes.{or_fault};
+ghost use Rattle.playlist_model.specs.Said.{iv_of, key_tag_said, uri_of, set_key, key_said, init_section_said, init_section_byte_range, byte_range_of, stated_byte_range};
 ghost use Rattle.attr_list.specs.Numbers.{decimal_of};
 ghost use Rattle.playlist_model.specs.Reading.{limited};
 ghost use Rattle.playlist_model.specs.Refusals.{Gives};
@@ -61,7 +63,7 @@ fn shared_uri(alloc: Global, base: &Base, reference: &str) -> Result<Shared<Text
 
 // The IV of a key tag, where it states one.
 fn iv_of(list: &AttrList<'_>) -> Result<Option<u128>, FaultKind>
-    ensures { result ≡ said.optional iv_of (attribute (pairs_of list.now) (codes "IV")) }
+    ensures { result ≡ outcomes.optional iv_of (attribute (pairs_of list.now) (codes "IV")) }
 {
     let Some(value) = optional(list, "IV", false)? else {
         return Ok(None);
@@ -136,7 +138,8 @@ fn stated_byte_range(length: u64, offset: u64) -> Result<(u64, Option<u64>), Fau
 
 // The part of its resource that an initialisation section is: it begins at 0 where it states no offset.
 fn init_section_byte_range(list: &AttrList<'_>) -> Result<Option<ByteRange>, FaultKind>
-    ensures { result ≡ said.optional init_section_byte_range (attribute (pairs_of list.now) (codes "BYTERANGE")) }
+    ensures { result
+        ≡ outcomes.optional init_section_byte_range (attribute (pairs_of list.now) (codes "BYTERANGE")) }
 {
     let Some(value) = optional(list, "BYTERANGE", true)? else {
         return Ok(None);

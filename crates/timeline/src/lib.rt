@@ -41,7 +41,9 @@ fn earlier(nanos: i128, duration: u64) -> i128
 
 // The first time that is stated from this segment on, less the durations before it.
 fn reckoned_here(segment: &Segment, after: Option<i128>) -> Option<i128>
-    ensures { result ≡ option_map clamped (or_earlier segment.now.program_date_time (option_map (λ nanos. nanos -ℤ pos segment.now.duration) after)) }
+    ensures { result
+        ≡ option_map clamped (or_earlier segment.now.program_date_time (option_map
+        (λ nanos. nanos -ℤ pos segment.now.duration) after)) }
 {
     if let Some(time) = segment.program_date_time {
         return Some(i128::from(time.0).max(FIRST_INSTANT - 1));
@@ -55,7 +57,8 @@ fn reckoned_here(segment: &Segment, after: Option<i128>) -> Option<i128>
 // When a segment begins (RFC 8216, section 4.3.2.6): at its stated time, else when the one before it ended, else
 // back from the first time that is stated later.
 fn begins_at(ended: Option<i128>, segment: &Segment, reckoned: Option<i128>) -> OptionalInstant
-    ensures { result ≡ bounded (or_earlier segment.now.program_date_time (or_earlier ended reckoned)) }
+    ensures { result
+        ≡ bounded (or_earlier segment.now.program_date_time (or_earlier ended reckoned)) }
 {
     OptionalInstant::from_nanos(nanos_of(segment.program_date_time).or(ended).or(reckoned))
 }
@@ -111,8 +114,10 @@ fn kept_of(alloc: Global, segments: &[Segment]) -> Result<Vec<Option<i128>>, All
 #[tactic(auto, using(crate::proofs::Kept::popped_first, crate::proofs::Kept::popped_others, crate::proofs::Kept::none_first, crate::proofs::Kept::none_others))]
 // What is reckoned of the first of some segments, of which this is kept; then it is of the others.
 fn pop_reckoned(kept: &mut Vec<Option<i128>>) -> Option<i128>
-    ensures first { (s : Segment) (later : List Segment) → IsKept kept.old.items (s ∷ later) → result ≡ reckoned (s ∷ later) }
-    ensures others { (s : Segment) (later : List Segment) → IsKept kept.old.items (s ∷ later) → IsKept kept.new.items later }
+    ensures first { (s : Segment) (later : List Segment) → IsKept kept.old.items (s ∷ later)
+        → result ≡ reckoned (s ∷ later) }
+    ensures others { (s : Segment) (later : List Segment) → IsKept kept.old.items (s ∷ later)
+        → IsKept kept.new.items later }
 {
     match kept.pop() {
         Some(reckoned) => reckoned,
@@ -166,7 +171,9 @@ impl<'a> Beginnings<'a> {
     /// Where the next segment begins, if there is one. Where an allocation fails, all are still to come.
     #[inline(always)]
     pub fn next(&mut self) -> Result<Option<OptionalInstant>, AllocError>
-        ensures next { IfOk result (λ next. MatchOption next ((self.old ≡ []) × (self.new ≡ [])) (λ begun. self.old ≡ begun ∷ self.new)) }
+        ensures next { IfOk result
+            (λ next. MatchOption next ((self.old ≡ []) × (self.new ≡ []))
+            (λ begun. self.old ≡ begun ∷ self.new)) }
         ensures refused { IfErr result (λ _. self.new ≡ self.old) }
     {
         let (segments, ended) = (self.segments, self.ended);

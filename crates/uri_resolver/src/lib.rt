@@ -121,7 +121,8 @@ impl Base {
     /// base.resolve("http://b.example/s0.ts")    Ok("http://b.example/s0.ts")
     /// ```
     pub fn new(alloc: Global, text: &str) -> Result<Base, BaseFault>
-        ensures { MatchResult result (λ base. base_of text.now ≡ Some base) (λ e. RefusesBase e (base_of text.now)) }
+        ensures { MatchResult result (λ base. base_of text.now ≡ Some base)
+            (λ e. RefusesBase e (base_of text.now)) }
     {
         let url = match Url::parse(alloc, text) {
             Ok(url) => url,
@@ -146,7 +147,8 @@ impl Base {
     // What stands before this reference, where it is plain.
     #[inline(always)]
     fn front_of(&self, reference: &str) -> Option<&str>
-        ensures { IfSome (option_copied result) (λ front. resolved self.now reference.now ≡ Some (front ++ reference.now)) }
+        ensures { IfSome (option_copied result)
+            (λ front. resolved self.now reference.now ≡ Some (front ++ reference.now)) }
     {
         if let Some(directory) = &self.directory {
             if is_relative(reference) {
@@ -164,7 +166,9 @@ impl Base {
     // The same of a reference before which no plain text is put.
     #[inline(never)]
     fn resolve_other(&self, reference: &str) -> Result<String, BaseFault>
-        ensures { MatchResult result (λ text. resolved self.now reference.now ≡ Some (string_bytes text)) (λ e. RefusesUri e (resolved self.now reference.now)) }
+        ensures { MatchResult result
+            (λ text. resolved self.now reference.now ≡ Some (string_bytes text))
+            (λ e. RefusesUri e (resolved self.now reference.now)) }
     {
         if has_scheme(reference) {
             return Ok(String::from_str(self.alloc, reference)?);
@@ -185,7 +189,9 @@ impl Base {
     /// joins): `reference` itself if it begins with a scheme, else its join to the base. `BadUri` exactly if the join
     /// fails, or has no scheme, a quote or a control character; `OutOfMemory` only if an allocation fails.
     pub fn resolve(&self, reference: &str) -> Result<String, BaseFault>
-        ensures { MatchResult result (λ text. resolved self.now reference.now ≡ Some (string_bytes text)) (λ e. RefusesUri e (resolved self.now reference.now)) }
+        ensures { MatchResult result
+            (λ text. resolved self.now reference.now ≡ Some (string_bytes text))
+            (λ e. RefusesUri e (resolved self.now reference.now)) }
     {
         if let Some(front) = self.front_of(reference) {
             return Ok(joined(self.alloc, front, reference)?);
@@ -197,7 +203,8 @@ impl Base {
     /// takes no memory of its own if it is short.
     #[inline(always)]
     pub fn resolve_short(&self, reference: &str) -> Result<ShortText, BaseFault>
-        ensures { MatchResult result (λ text. resolved self.now reference.now ≡ Some text) (λ e. RefusesUri e (resolved self.now reference.now)) }
+        ensures { MatchResult result (λ text. resolved self.now reference.now ≡ Some text)
+            (λ e. RefusesUri e (resolved self.now reference.now)) }
     {
         if let Some(front) = self.front_of(reference) {
             return Ok(ShortText::joined(self.alloc, front, reference)?);

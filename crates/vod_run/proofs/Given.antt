@@ -13,7 +13,8 @@ use Rattle.pod_store.specs.declared.fault.DecisionFault.{DecisionFault}
 use Rattle.pod_store.specs.declared.fault.DecisionKind.{DecisionKind}
 use Rattle.pod_store.specs.declared.fault.DecisionKind.TheVariants.{OutOfMemory as NoRoom}
 use Rattle.decision_files.specs.Decided.{decisions_of}
-use Rattle.pod_store.specs.Outcome.{Outcome, ◌>>=◌}
+use Rattle.spec_words.specs.Outcomes.{◌>>=◌}
+use Rattle.pod_store.specs.Outcome.{Outcome}
 use Rattle.pod_store.specs.Store.{Store, nothing_decided}
 use Rattle.pod_store.specs.Store.{decided as after_decisions}
 use Rattle.channel_spec.specs.declared.fault.RefreshFault.{RefreshFault}

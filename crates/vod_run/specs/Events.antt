@@ -4,7 +4,8 @@ use Rattle.pod_store.specs.declared.fault.DecisionFault.{DecisionFault}
 use Rattle.pod_store.specs.declared.fault.DecisionKind.{DecisionKind}
 use Rattle.pod_store.specs.declared.fault.DecisionKind.TheVariants.{OutOfMemory as NoMemory}
 use Rattle.pod_store.specs.declared.Decisions.{Decisions}
-use Rattle.pod_store.specs.Outcome.{Outcome, ◌>>=◌}
+use Rattle.spec_words.specs.Outcomes.{◌>>=◌}
+use Rattle.pod_store.specs.Outcome.{Outcome}
 use Rattle.decision_files.specs.Decided.{decisions_of}
 use Rattle.pod_store.specs.Store.{nothing_decided}
 use Rattle.pod_store.specs.Store.{decided as after_decisions}

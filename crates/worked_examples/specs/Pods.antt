@@ -9,7 +9,8 @@ use Rattle.pod_store.specs.declared.fault.DecisionKind.{DecisionKind}
 use Rattle.pod_store.specs.declared.fault.DecisionKind.TheVariants as fault
 use Rattle.pod_store.specs.FaultTexts.{fault_text}
 use Rattle.pod_store.specs.declared.fault.Place.{Place}
-use Rattle.pod_store.specs.Outcome.{Outcome, ◌>>=◌, no_memory}
+use Rattle.spec_words.specs.Outcomes.{◌>>=◌}
+use Rattle.pod_store.specs.Outcome.{Outcome, no_memory}
 use Rattle.pod_store.specs.Pods.{PodSegment, Ad, Pod, Decision, is_id, is_uri, is_method, is_format, pod_fits, total}
 use Rattle.pod_store.specs.Rules.{ads_keep}
 use Rattle.pod_store.specs.Store.{Entry, Store, nothing_decided, decided, pod_for, fits, kept_in_use}

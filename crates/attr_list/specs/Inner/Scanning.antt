@@ -1,6 +1,7 @@
 -- What proofs and inner functions say with the definitions of `Scanning`.
 use Rattle.attr_list.specs.Scanning.{first_piece}
 use Rattle.std.specs.Prelude.{◌≡◌, ℕ, Bool, true, false, not, List, [], ◌∷◌, ◌++◌, Option, Some, None, Err, IsTrue, if◌then◌else◌}
+use Rattle.spec_words.specs.Bytes.{equals}
 use Rattle.attr_list.specs.declared.AttrFault.{AttrFault}
 use Rattle.attr_list.specs.declared.AttrFault.TheVariants.{BadName, NoEquals}
 use Rattle.attr_list.specs.Attributes.{Pair, is_comma, is_quote, is_name, is_value, is_pair, pair_spelling, piece_name, has_equals, value_spelling, value_of}
@@ -16,7 +17,7 @@ begins_quoted (b ∷ bytes) = is_quote b
 
 -- the text is a name, `=` and the rest
 abbrev pub IsNamed : List ℕ → List ℕ → List ℕ → Type 0
-IsNamed text name rest = IsTrue (is_name name) × (text ≡ name ++ 61 ∷ rest)
+IsNamed text name rest = IsTrue (is_name name) × (text ≡ name ++ equals ∷ rest)
 
 -- what is wrong with a piece before its value
 abbrev pub name_fault : List ℕ → Option AttrFault

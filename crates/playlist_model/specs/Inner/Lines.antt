@@ -1,6 +1,11 @@
 -- What proofs and inner functions say with the definitions of `Lines`.
 use Rattle.std.specs.Prelude.{ℕ, Bool, ◌&&◌, nat_le, nat_lt}
+use Rattle.spec_words.specs.Bytes.{space}
+
+-- the control character after the printable ones
+abbrev pub delete : ℕ
+delete = 127
 
 -- an ASCII character that is no control character
 abbrev pub is_printable : ℕ → Bool
-is_printable b = nat_le 32 b && nat_lt b 127
+is_printable b = nat_le space b && nat_lt b delete

@@ -1,16 +1,17 @@
 -- How far a playlist has been read.
-use Rattle.std.specs.Prelude.{◌≡◌, ◌≢◌, ℕ, unwrap_or, List, None, Some, Result, Ok, IsOk, ◌∷◌, map, false, MatchResult}
+use Rattle.std.specs.Prelude.{◌≡◌, ◌≢◌, ℕ, not, false, is_none, unwrap_or, List, ◌∷◌, map, None, Some, Result, Ok, Err, IsOk, MatchResult}
+use Rattle.spec_words.specs.Outcomes.{refuse_if}
 use Rattle.url.specs.Parts.{Parts}
 use Rattle.playlist_model.specs.declared.FaultKind.{FaultKind}
-use Rattle.playlist_model.specs.declared.FaultKind.TheVariants.{OutOfMemory}
+use Rattle.playlist_model.specs.declared.FaultKind.TheVariants.{OutOfMemory, NoTarget, NoSegments, MixedMaps}
 use Rattle.playlist_model.specs.declared.DateRange.{DateRange}
 use Rattle.playlist_model.specs.declared.Segment.{Segment}
 use Rattle.playlist_model.specs.declared.Playlist.{Playlist}
 use Rattle.playlist_model.specs.Refusals.{Refuses}
-use Rattle.playlist_model.specs.Said.{Said, Outcome}
+use Rattle.playlist_model.specs.Said.{Said, Name, Outcome}
 use Rattle.playlist_model.specs.LookBack.{Standing, standing_at, segments_of, date_ranges_of, with_said}
 use Rattle.playlist_model.specs.Lines.{has_control}
-use Rattle.playlist_model.specs.Reading.{whole_fault, playlist_of, said_by, limited}
+use Rattle.playlist_model.specs.Reading.{limited, said_by, said_by_tag, are_mixed, whole_fault, playlist_of}
 use Rattle.playlist_parse.specs.Inner.LineViews.{line_text}
 use Rattle.playlist_model.specs.Inner.Heading.{Heading, heading_at}
 
@@ -39,6 +40,26 @@ TakesLine outcome old new result =
     MatchResult result
     (λ _. IsOk (outcome old.base before) × (new ≡ progress_at old.base (with_said before (outcome old.base before))))
     (λ e. Refuses e (outcome old.base before))
+
+-- the same of the tag of this name, with this after its colon
+abbrev pub TakesTag : Name → List ℕ → Progress → Progress → Result (Unit {0}) FaultKind → Type 0
+TakesTag name rest old new result = TakesLine (λ base before. said_by_tag limited base before name rest) old new result
+
+-- and of one that takes no memory: the fault is always the tag's own
+abbrev pub TakesTagExactly : Name → List ℕ → Progress → Progress → Result (Unit {0}) FaultKind → Type 0
+TakesTagExactly name rest old new result =
+    (before : List Said) → old ≡ progress_at old.base before →
+    MatchResult result
+    (λ _. IsOk (said_by_tag limited old.base before name rest)
+    × (new ≡ progress_at old.base (with_said before (said_by_tag limited old.base before name rest))))
+    (λ e. said_by_tag limited old.base before name rest ≡ Err e)
+
+-- the target duration, or the fault of the whole text
+abbrev pub target_owed : Progress → Outcome ℕ
+target_owed p =
+    refuse_if (is_none p.heading.target_duration) NoTarget
+    (refuse_if (not p.heading.has_media) NoSegments
+    (refuse_if (are_mixed p.segments) MixedMaps (Ok (unwrap_or p.heading.target_duration 0))))
 
 -- the next of these lines is passed, and what it says is read
 pub record IsLineAgain (lines later : List ((ℕ × ℕ) × List ℕ)) (old new : Progress) : Type 0 where

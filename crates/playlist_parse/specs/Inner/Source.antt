@@ -1,6 +1,7 @@
 -- What is kept of a text that was read up to a URI line, and how lines that stand in it go on elsewhere.
 use Rattle.std.specs.Prelude.{◌≡◌, ℕ, ◌+◌, ◌^◌, ◌<◌, ◌≤◌, true, List, [], ◌∷◌, ◌++◌, take, drop, length, Ok}
 use Rattle.std.specs.Str.Lines.{lines}
+use Rattle.spec_words.specs.Bytes.{line_feed}
 use Rattle.url.specs.Parts.{Parts}
 use Rattle.playlist_model.specs.declared.Playlist.{Playlist}
 use Rattle.playlist_model.specs.declared.DateRange.{DateRange}
@@ -18,7 +19,7 @@ use Rattle.playlist_parse.specs.declared.reader.Reading.{Reading}
 -- a text that ends with a line feed
 pub record EndsInFeed (text : List ℕ) : Type 0 where
   pub front : List ℕ
-  pub is : text ≡ front ++ 10 ∷ []
+  pub is : text ≡ front ++ line_feed ∷ []
 
 -- what the tags of the whole playlist say in kept lines
 abbrev pub heading_in : Source → Heading

@@ -1,12 +1,13 @@
 -- Parts of a key's line, for the functions that write it.
 use Rattle.std.specs.Prelude.{ℕ, Bool, List, [], ◌∷◌, ◌++◌, codes, bytes_eq}
+use Rattle.spec_words.specs.Bytes.{line_feed, quote}
 use Rattle.playlist_model.specs.declared.Key.{Key}
 use Rattle.playlist_model.specs.Carried.{after_commas}
 use Rattle.playlist_write.specs.Spelling.{iv_pairs, format_pairs}
 
 -- what stands after the URI
 abbrev pub rest_of : Key → List ℕ
-rest_of k = (34 ∷ after_commas (iv_pairs k.iv)) ++ (after_commas (format_pairs k.format) ++ (k.other_attributes ++ 10 ∷ []))
+rest_of k = (quote ∷ after_commas (iv_pairs k.iv)) ++ (after_commas (format_pairs k.format) ++ (k.other_attributes ++ line_feed ∷ []))
 
 -- the key has the format that goes without saying
 abbrev pub is_identity : Key → Bool

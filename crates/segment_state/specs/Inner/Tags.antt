@@ -2,7 +2,8 @@
 use Rattle.std.specs.Prelude.{List, length, Ok}
 use Rattle.playlist_model.specs.declared.FaultKind.TheVariants as fault
 use Rattle.playlist_model.specs.declared.Key.{Key}
-use Rattle.playlist_model.specs.Said.{Said, init_section, Outcome, refuse_if, over}
+use Rattle.spec_words.specs.Outcomes.{refuse_if}
+use Rattle.playlist_model.specs.Said.{Said, init_section, Outcome, over}
 use Rattle.playlist_model.specs.LookBack.{put_key}
 use Rattle.playlist_model.specs.Reading.{limited}
 use Rattle.segment_state.specs.declared.tags.InitSectionTag.{InitSectionTag}

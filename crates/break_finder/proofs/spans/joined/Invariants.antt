@@ -1,9 +1,15 @@
-use Rattle.std.proofs.Common.{ℕ, List, ◌++◌}
+use Rattle.std.proofs.Common.{ℕ, ◌-◌, ◌≤◌, List, ◌++◌, length}
 use Rattle.std.specs.List.{All}
 use Rattle.break_finder.specs.Entrances.{Entrance, Tells}
 use Rattle.break_finder.proofs.spans.joined.Given as goal
 
-abbrev pub invariant-loop : goal.invariant-loop
-invariant-loop l =
-    (tolerance : ℕ) (before after : List Entrance) → All (Tells tolerance before) l.fn.ours → All (Tells tolerance after) l.fn.theirs
-    → All (Tells tolerance before) l.ours × (All (Tells tolerance after) l.theirs × All (Tells tolerance (before ++ after)) l.done.items)
+abbrev pub invariant-loop-ours : goal.invariant-loop-ours
+invariant-loop-ours l = record {
+  tells :
+      (tolerance : ℕ) (before after : List Entrance) → All (Tells tolerance before) l.fn.ours → All (Tells tolerance after) l.fn.theirs
+      → All (Tells tolerance before) l.ours × (All (Tells tolerance after) l.theirs × All (Tells tolerance (before ++ after)) l.done.items);
+  few : length l.done.items ≤ l.most;
+}
+
+abbrev pub decreases-loop-ours : goal.decreases-loop-ours
+decreases-loop-ours l = l.most - length l.done.items

@@ -4,8 +4,8 @@ use Rattle.std.proofs.lemmas.Grind.{common_steps}
 use Rattle.break_finder.proofs.SpanLaws.{three_tell}
 use Rattle.break_finder.proofs.spans.spans_of_one.Goals as goal
 
-pub returns : goal.returns
-returns c =
+pub returns-clause-tells : goal.returns-clause-tells
+returns-clause-tells c =
     let before = c.closed_span-before.result in
     let within = c.open_span-within.result in
     let after = c.closed_span-after.result in

@@ -1,7 +1,7 @@
 use Rattle.std.proofs.Common.{◌≡◌, ◌≤◌, [], map, length}
 use Rattle.std.specs.Prelude.{sum}
 use Rattle.serde_json.specs.View.{view}
-use Rattle.pod_store.specs.Outcome.{each_after}
+use Rattle.spec_words.specs.Outcomes.{each_after}
 use Rattle.pod_store.specs.Pods.{segment_count}
 use Rattle.decision_files.specs.Decided.{next_ad}
 use Rattle.decision_files.proofs.ads.ads_of.Given as goal

@@ -1,6 +1,6 @@
 use Rattle.std.proofs.Common.{◌≡◌, ◌≤◌, ◌+◌, [], map, length}
 use Rattle.serde_json.specs.View.{view}
-use Rattle.pod_store.specs.Outcome.{each_after}
+use Rattle.spec_words.specs.Outcomes.{each_after}
 use Rattle.decision_files.specs.Decided.{next_segment}
 use Rattle.decision_files.proofs.segments.segments_of.Given as goal
 

@@ -1,6 +1,7 @@
 use Rattle.std.proofs.Common.{◌≡◌, subst, sym, ap, ◌∙◌}
 use Rattle.scte35_codec.specs.Section.{section_of}
-use Rattle.scte35_codec.specs.Reading.{Gives, reading, ◌>>=◌}
+use Rattle.spec_words.specs.Outcomes.{◌>>=◌}
+use Rattle.scte35_codec.specs.Reading.{Gives, reading}
 use Rattle.scte35_codec.specs.Hexadecimal.{decoded}
 use Rattle.scte35_codec.specs.Inner.Hexadecimal.{reading_digits}
 use Rattle.scte35_codec.proofs.hexadecimal.read_few.Goals as goal

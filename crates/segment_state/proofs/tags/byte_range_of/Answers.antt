@@ -1,7 +1,8 @@
 use Rattle.std.proofs.Common.{rules, sym, ◌≡◌, ◌∙◌}
 use Rattle.attr_list.specs.Numbers.{decimal_of}
 use Rattle.playlist_model.specs.declared.FaultKind.TheVariants as fault
-use Rattle.playlist_model.specs.Said.{or_fault, stated_byte_range, ◌>>=◌}
+use Rattle.spec_words.specs.Outcomes.{or_fault, ◌>>=◌}
+use Rattle.playlist_model.specs.Said.{stated_byte_range}
 use Rattle.segment_state.proofs.Ranges.{decimal_byte_range, no_byte_range, byte_range_with_offset}
 use Rattle.segment_state.proofs.tags.byte_range_of.Goals as goal
 

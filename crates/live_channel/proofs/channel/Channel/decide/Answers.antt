@@ -11,7 +11,7 @@ pub invariant_of-self : goal.invariant_of-self
 invariant_of-self c =
     let i = c.self.inside in
     let g = said_alone c.args.bytes.now c.in_ok-decisions.decisions c.in_ok-decisions.ensures c.know_pods.ensures in
-    let a = decide_answered i.base i.tolerance i.state (text_in i.written) i.state.store c.decide.new.self c.args.bytes.now c.in_ok-decisions.decisions c.decide.result g c.in_ok-decisions.ensures c.decide.ensures c.self.invariant.0 c.self.invariant.1 in
+    let a = decide_answered i.base i.tolerance i.state (text_in i.written) i.state.store c.decide.new.self c.args.bytes.now c.in_ok-decisions.decisions c.decide.result g c.in_ok-decisions.ensures.said c.decide.ensures.changes c.self.invariant.0 c.self.invariant.1 in
     let new = record i.state { store = c.decide.new.self } in
     let same = still (channel_with i.base i.tolerance i.state (text_in i.written)) (channel_with i.base i.tolerance new (text_in i.written)) c.decide.result (after_bytes i.state.store c.args.bytes.now) a.changes in
     (a.stands, a.decided, c.self.invariant.2, laid_still (kept_in i.state) (kept_in new) i.written same c.self.invariant.3, c.self.invariant.4)
@@ -20,14 +20,14 @@ pub returns-clause-changes : goal.returns-clause-changes
 returns-clause-changes c =
     let i = c.self.inside in
     let g = said_alone c.args.bytes.now c.in_ok-decisions.decisions c.in_ok-decisions.ensures c.know_pods.ensures in
-    let a = decide_answered i.base i.tolerance i.state (text_in i.written) i.state.store c.decide.new.self c.args.bytes.now c.in_ok-decisions.decisions c.decide.result g c.in_ok-decisions.ensures c.decide.ensures c.self.invariant.0 c.self.invariant.1 in
+    let a = decide_answered i.base i.tolerance i.state (text_in i.written) i.state.store c.decide.new.self c.args.bytes.now c.in_ok-decisions.decisions c.decide.result g c.in_ok-decisions.ensures.said c.decide.ensures.changes c.self.invariant.0 c.self.invariant.1 in
     subst (λ (x : Channel). ChangesStore x (channel_with i.base i.tolerance (record i.state { store = c.decide.new.self }) (text_in i.written)) c.decide.result (after_bytes x.kept.store c.args.bytes.now)) c.self.view_is a.changes
 
 pub returns-clause-answer : goal.returns-clause-answer
 returns-clause-answer c =
     let i = c.self.inside in
     let g = said_alone c.args.bytes.now c.in_ok-decisions.decisions c.in_ok-decisions.ensures c.know_pods.ensures in
-    let a = decide_answered i.base i.tolerance i.state (text_in i.written) i.state.store c.decide.new.self c.args.bytes.now c.in_ok-decisions.decisions c.decide.result g c.in_ok-decisions.ensures c.decide.ensures c.self.invariant.0 c.self.invariant.1 in
+    let a = decide_answered i.base i.tolerance i.state (text_in i.written) i.state.store c.decide.new.self c.args.bytes.now c.in_ok-decisions.decisions c.decide.result g c.in_ok-decisions.ensures.said c.decide.ensures.changes c.self.invariant.0 c.self.invariant.1 in
     subst (λ (x : Channel). Decides x c.args.bytes.now c.decide.result) c.self.view_is (
     decides (channel_with i.base i.tolerance i.state (text_in i.written)) (channel_with i.base i.tolerance (record i.state { store = c.decide.new.self }) (text_in i.written)) c.args.bytes.now c.decide.result a.changes)
 
@@ -35,5 +35,5 @@ pub returns-clause-stands : goal.returns-clause-stands
 returns-clause-stands c =
     let i = c.self.inside in
     let g = said_alone c.args.bytes.now c.in_ok-decisions.decisions c.in_ok-decisions.ensures c.know_pods.ensures in
-    let a = decide_answered i.base i.tolerance i.state (text_in i.written) i.state.store c.decide.new.self c.args.bytes.now c.in_ok-decisions.decisions c.decide.result g c.in_ok-decisions.ensures c.decide.ensures c.self.invariant.0 c.self.invariant.1 in
+    let a = decide_answered i.base i.tolerance i.state (text_in i.written) i.state.store c.decide.new.self c.args.bytes.now c.in_ok-decisions.decisions c.decide.result g c.in_ok-decisions.ensures.said c.decide.ensures.changes c.self.invariant.0 c.self.invariant.1 in
     subst (λ (x : Channel). StandsOn x (decided c.args.bytes.now) c.decide.result (channel_with i.base i.tolerance (record i.state { store = c.decide.new.self }) (text_in i.written))) c.self.view_is a.on

@@ -1,7 +1,7 @@
-use Rattle.std.proofs.Common.{sym, ap, ◌∙◌}
+use Rattle.std.proofs.Common.{[], sym, ap, ◌∙◌}
 use Rattle.playlist_model.specs.Said as said
 use Rattle.playlist_parse.specs.Inner.LineViews.{tag_view}
-use Rattle.playlist_parse.proofs.TagNames.{takes_named}
+use Rattle.playlist_parse.proofs.TagNames.{takes_named, exactly}
 use Rattle.playlist_parse.proofs.progress.Progress.tag.Goals as goal
 
 pub returns-in-Inf : goal.returns-in-Inf
@@ -17,32 +17,32 @@ returns-in-Discontinuity c =
 pub returns-in-Version : goal.returns-in-Version
 returns-in-Version c =
     takes_named c.args.name.now c.args.rest.now c.args.colon said.version_tag c.args.self.now c.version.new.self c.version.result (sym (ap tag_view c.in-Version.is) ∙ c.tag_of.ensures)
-    c.version.ensures
+    (exactly said.version_tag c.args.rest.now c.args.self.now c.version.new.self c.version.result c.version.ensures)
 
 pub returns-in-TargetDuration : goal.returns-in-TargetDuration
 returns-in-TargetDuration c =
     takes_named c.args.name.now c.args.rest.now c.args.colon said.target_tag c.args.self.now c.target.new.self c.target.result (sym (ap tag_view c.in-TargetDuration.is) ∙ c.tag_of.ensures)
-    c.target.ensures
+    (exactly said.target_tag c.args.rest.now c.args.self.now c.target.new.self c.target.result c.target.ensures)
 
 pub returns-in-MediaSequence : goal.returns-in-MediaSequence
 returns-in-MediaSequence c =
     takes_named c.args.name.now c.args.rest.now c.args.colon said.sequence_tag c.args.self.now c.sequence.new.self c.sequence.result (sym (ap tag_view c.in-MediaSequence.is) ∙ c.tag_of.ensures)
-    c.sequence.ensures
+    (exactly said.sequence_tag c.args.rest.now c.args.self.now c.sequence.new.self c.sequence.result c.sequence.ensures)
 
 pub returns-in-DiscontinuitySequence : goal.returns-in-DiscontinuitySequence
 returns-in-DiscontinuitySequence c =
     takes_named c.args.name.now c.args.rest.now c.args.colon said.discontinuity_sequence_tag c.args.self.now c.discontinuity_sequence.new.self c.discontinuity_sequence.result (sym (ap tag_view c.in-DiscontinuitySequence.is) ∙ c.tag_of.ensures)
-    c.discontinuity_sequence.ensures
+    (exactly said.discontinuity_sequence_tag c.args.rest.now c.args.self.now c.discontinuity_sequence.new.self c.discontinuity_sequence.result c.discontinuity_sequence.ensures)
 
 pub returns-in-PlaylistType : goal.returns-in-PlaylistType
 returns-in-PlaylistType c =
     takes_named c.args.name.now c.args.rest.now c.args.colon said.type_tag c.args.self.now c.playlist_type.new.self c.playlist_type.result (sym (ap tag_view c.in-PlaylistType.is) ∙ c.tag_of.ensures)
-    c.playlist_type.ensures
+    (exactly said.type_tag c.args.rest.now c.args.self.now c.playlist_type.new.self c.playlist_type.result c.playlist_type.ensures)
 
 pub returns-in-EndList : goal.returns-in-EndList
 returns-in-EndList c =
     takes_named c.args.name.now c.args.rest.now c.args.colon said.ended_tag c.args.self.now c.end.new.self c.end.result (sym (ap tag_view c.in-EndList.is) ∙ c.tag_of.ensures)
-    c.end.ensures
+    (exactly said.ended_tag [] c.args.self.now c.end.new.self c.end.result c.end.ensures)
 
 pub returns-in-ByteRange : goal.returns-in-ByteRange
 returns-in-ByteRange c =

@@ -1,0 +1,8 @@
+use Rattle.std.proofs.Common.{rules}
+use Rattle.pod_store.proofs.KeptLaws.{without_kept}
+use Rattle.pod_store.proofs.store.PodStore.withdraw.Goals as goal
+
+pub returns : goal.returns
+returns c =
+    let left = without_kept c.args.id.now c.self.inside.kept.entries c.remove.new.kept.entries c.self.inside.fallback c.args.self.now c.self.view_is c.remove.ensures in
+    search rules
