@@ -1,8 +1,9 @@
 //! Devices that count their calls, and how many of them failed.
-ghost use Rattle.std.specs.Prelude.{◌≡◌, ℕ, ◌<◌, ◌≤◌, List, None, Option, length};
+ghost use Rattle.std.specs.Prelude.{◌≡◌, ℕ, ◌<◌, ◌≤◌, length};
 ghost use Rattle.std.specs.Io.{ReadsAtMost, WritesAtMost};
 ghost use Rattle.std.specs.Io.KnownBytes.{ReadConsumes, WriteAppends};
-ghost use Rattle.byte_streams.specs.Devices.{Failures, no_failures, next_count, failures_after_read, failures_after_write};
+ghost use Rattle.byte_streams.specs.Devices.{no_failures, next_count, failures_after_read, failures_after_write};
+ghost use Rattle.byte_streams.specs.Stands.{SourceStand, SinkStand};
 
 use std::io;
 use std::io::{Read, Write};
@@ -11,53 +12,53 @@ use std::marker::Model;
 /// The room that a read offers at least.
 pub const READ_ROOM: usize = 8192;
 
+/// How many reads an input, or a request, may take.
+pub const MAX_READS: u64 = 65_536;
+
 /// What bytes come from. Its counters stay at 2^64 - 1.
 pub trait Source {
-    /// The bytes that it has left, where they are known.
-    ghost remaining: { Self → Option (List ℕ) } = { λ _. None };
-
-    /// How many of its reads failed, and whether the last one did.
-    ghost failed: { Self → Failures };
-
-    /// How many reads there were.
-    ghost called: { Self → ℕ };
+    /// How it stands: the bytes that it has left, where they are known, how many reads there were, how many of them
+    /// failed, and whether the last one did.
+    ghost stand: { Self → SourceStand };
 
     /// Puts a front of the bytes that are left into `buf`, which has room for [`READ_ROOM`], and says how many: none
     /// only at the end.
     fn read(&mut self, buf: &mut [u8]) -> io::Result<usize>
         requires { READ_ROOM ≤ length buf.old }
         ensures bound { ReadsAtMost result buf.new }
-        ensures bytes { ReadConsumes (remaining self.old) (remaining self.new) result buf.new }
-        ensures failures { failed self.new ≡ failures_after_read result (failed self.old) }
-        ensures calls { called self.new ≡ next_count (called self.old) };
+        ensures bytes { ReadConsumes (stand self.old).remaining (stand self.new).remaining result
+            buf.new }
+        ensures failures { (stand self.new).failed ≡ failures_after_read result
+            (stand self.old).failed }
+        ensures calls { (stand self.new).called ≡ next_count (stand self.old).called };
 
     /// How many reads failed.
     fn failures(&self) -> u64
-        ensures { result ≡ (failed self.now).count };
+        ensures { result ≡ (stand self.now).failed.count };
 
     /// How many reads there were.
     fn calls(&self) -> u64
-        ensures { result ≡ called self.now };
+        ensures { result ≡ (stand self.now).called };
 }
 
 /// What bytes go to. Its counter stays at 2^64 - 1.
 pub trait Sink {
-    /// The bytes that it has taken, where they are known.
-    ghost contents: { Self → Option (List ℕ) } = { λ _. None };
-
-    /// How many of its writes failed or took nothing, and whether the last one did.
-    ghost failed: { Self → Failures };
+    /// How it stands: the bytes that it has taken, where they are known, how many of its writes failed or took
+    /// nothing, and whether the last one did.
+    ghost stand: { Self → SinkStand };
 
     /// Takes a front of `buf`, which has at least one byte, and says how many.
     fn write(&mut self, buf: &[u8]) -> io::Result<usize>
         requires { 0 < length buf.now }
         ensures bound { WritesAtMost result buf.now }
-        ensures bytes { WriteAppends (contents self.old) (contents self.new) result buf.now }
-        ensures failures { failed self.new ≡ failures_after_write result (failed self.old) };
+        ensures bytes { WriteAppends (stand self.old).contents (stand self.new).contents result
+            buf.now }
+        ensures failures { (stand self.new).failed ≡ failures_after_write result
+            (stand self.old).failed };
 
     /// How many writes failed or took nothing.
     fn failures(&self) -> u64
-        ensures { result ≡ (failed self.now).count };
+        ensures { result ≡ (stand self.now).failed.count };
 }
 
 /// A reader or a writer of std, with counters.
@@ -93,11 +94,7 @@ impl<T> Counted<T> {
 }
 
 impl<R: Read> Source for Counted<R> {
-    ghost remaining = { λ c. R.remaining c.0 };
-
-    ghost failed = { λ c. c.1 };
-
-    ghost called = { λ c. c.2 };
+    ghost stand = { λ c. record { remaining = R.remaining c.0; called = c.2; failed = c.1 } };
 
     fn read(&mut self, buf: &mut [u8]) -> io::Result<usize> {
         self.calls = self.calls.saturating_add(1);
@@ -119,9 +116,7 @@ impl<R: Read> Source for Counted<R> {
 }
 
 impl<W: Write> Sink for Counted<W> {
-    ghost contents = { λ c. W.contents c.0 };
-
-    ghost failed = { λ c. c.1 };
+    ghost stand = { λ c. record { contents = W.contents c.0; failed = c.1 } };
 
     fn write(&mut self, buf: &[u8]) -> io::Result<usize> {
         let answer = self.inner.write(buf);

@@ -5,6 +5,6 @@ mod device;
 mod output;
 mod test_devices;
 
-pub use device::{Counted, READ_ROOM, Sink, Source};
+pub use device::{Counted, MAX_READS, READ_ROOM, Sink, Source};
 pub use output::{SinkFailed, hand_out};
 pub use test_devices::{TestSink, TestSource};

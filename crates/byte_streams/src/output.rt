@@ -1,8 +1,6 @@
 //! Bytes handed to a sink.
-ghost use Rattle.std.specs.Prelude.{◌≡◌, OnOk, OnErr};
-ghost use Rattle.std.specs.Io.KnownBytes.{Appends};
-ghost use Rattle.byte_streams.specs.Devices.{FailedAtLast, NoneFailed};
-ghost use Rattle.byte_streams.specs.Handed.{TookFront};
+ghost use Rattle.std.specs.Prelude.{OnOk, OnErr};
+ghost use Rattle.byte_streams.specs.Stands.{TookAll, FailedAfterFront};
 
 use crate::device::Sink;
 
@@ -19,10 +17,8 @@ pub struct SinkFailed;
 /// sink.bytes()                       b"abcdefg"
 /// ```
 pub fn hand_out<S: Sink>(bytes: &[u8], sink: &mut S) -> Result<(), SinkFailed>
-    ensures ok { OnOk result (Appends (S.contents sink.old) (S.contents sink.new) bytes.now) }
-    ensures err { OnErr result (TookFront (S.contents sink.old) (S.contents sink.new) bytes.now) }
-    ensures unfailed { OnOk result (NoneFailed (S.failed sink.old) (S.failed sink.new)) }
-    ensures failed { OnErr result (FailedAtLast (S.failed sink.old) (S.failed sink.new)) }
+    ensures ok { OnOk result (TookAll (S.stand sink.old) (S.stand sink.new) bytes.now) }
+    ensures err { OnErr result (FailedAfterFront (S.stand sink.old) (S.stand sink.new) bytes.now) }
 {
     let mut rest = bytes;
     while !rest.is_empty() {

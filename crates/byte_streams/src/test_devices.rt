@@ -1,9 +1,10 @@
 //! Devices for tests: they move few bytes at a time, and fail at a stated call.
-ghost use Rattle.std.specs.Prelude.{◌≡◌, ◌+◌, ◌-◌, ◌<◌, ◌≤◌, ◌↔◌, Some, [], drop, length, true, IsErr, IfOk, OnErr};
+ghost use Rattle.std.specs.Prelude.{◌≡◌, ◌+◌, ◌<◌, ◌≤◌, ◌↔◌, length, true, IsErr, IfOk, OnErr};
 ghost use Rattle.std.specs.Io.{ReadsAtMost, WritesAtMost};
 ghost use Rattle.std.specs.Io.KnownBytes.{ReadConsumes, WriteAppends};
-ghost use Rattle.byte_streams.specs.Devices.{no_failures, one_more, as_many, next_count, failures_after_read, failures_after_write};
-ghost use Rattle.byte_streams.specs.TestDevices.{given_count, read_fails, taken_count, write_fails};
+ghost use Rattle.byte_streams.specs.Devices.{next_count, failures_after_read, failures_after_write};
+ghost use Rattle.byte_streams.specs.TestDevices.{source_of, source_stand, given_count, read_fails, after_giving, after_failing};
+ghost use Rattle.byte_streams.specs.TestDevices.{sink_of, sink_stand, taken_count, write_fails, IsMadeAlike};
 
 use crate::device::{READ_ROOM, Sink, Source};
 use std::alloc::{AllocError, Global};
@@ -49,7 +50,7 @@ impl<'a> TestSource<'a> {
     /// `cut`. The read with the number `fail`, from 1 on, alone fails; with `fail` 0 none does.
     pub fn new(bytes: &'a [u8], most: usize, cut: usize, fail: u64) -> TestSource<'a>
         requires { 0 < most }
-        ensures { result ≡ record { bytes = bytes.now; place = 0; most = most; cut = cut; fail = fail; failures = no_failures; calls = 0 } }
+        ensures { result ≡ source_of bytes.now most cut fail }
     {
         TestSource {
             bytes,
@@ -79,24 +80,22 @@ impl<'a> TestSource<'a> {
 }
 
 impl<'a> Source for TestSource<'a> {
-    ghost remaining = { λ s. Some (drop s.place s.bytes) };
-
-    ghost failed = { λ s. s.failures };
-
-    ghost called = { λ s. s.calls };
+    ghost stand = { source_stand };
 
     fn read(&mut self, buf: &mut [u8]) -> io::Result<usize>
         requires { READ_ROOM ≤ length buf.old }
         ensures bound { ReadsAtMost result buf.new }
-        ensures bytes { ReadConsumes (Some (drop self.old.place self.old.bytes)) (Some (drop self.new.place self.new.bytes)) result buf.new }
+        ensures bytes { ReadConsumes (source_stand self.old).remaining
+            (source_stand self.new).remaining
+            result buf.new }
         ensures failures { self.new.failures ≡ failures_after_read result self.old.failures }
         ensures calls { self.new.calls ≡ next_count self.old.calls }
 
         // It fails at its stated call alone, and gives as many bytes as it may.
         ensures fails { IsErr result ↔ (read_fails self.old ≡ true) }
         ensures count { IfOk result (λ n. n ≡ given_count self.old (length buf.old)) }
-        ensures moved { IfOk result (λ n. self.new ≡ record self.old { place = self.old.place + n; failures = as_many self.old.failures; calls = next_count self.old.calls }) }
-        ensures kept { OnErr result (self.new ≡ record self.old { failures = one_more self.old.failures; calls = next_count self.old.calls }) }
+        ensures moved { IfOk result (λ n. self.new ≡ after_giving n self.old) }
+        ensures kept { OnErr result (self.new ≡ after_failing self.old) }
     {
         self.calls = self.calls.saturating_add(1);
         self.failed_last = self.calls == self.fail;
@@ -156,7 +155,7 @@ impl TestSink {
     /// `fail`, from 1 on, alone fails; with `fail` 0 none does. Fails only if an allocation fails.
     pub fn new(alloc: Global, room: usize, most: usize, fail: u64) -> Result<TestSink, AllocError>
         requires { 0 < most }
-        ensures { IfOk result (λ sink. sink ≡ record { taken = []; room = room; most = most; fail = fail; failures = no_failures; calls = 0 }) }
+        ensures { IfOk result (λ sink. sink ≡ sink_of room most fail) }
     {
         Ok(TestSink {
             bytes: Vec::with_capacity(alloc, room)?,
@@ -178,21 +177,20 @@ impl TestSink {
 }
 
 impl Sink for TestSink {
-    ghost contents = { λ s. Some s.taken };
-
-    ghost failed = { λ s. s.failures };
+    ghost stand = { sink_stand };
 
     fn write(&mut self, buf: &[u8]) -> io::Result<usize>
         requires { 0 < length buf.now }
         ensures bound { WritesAtMost result buf.now }
-        ensures bytes { WriteAppends (Some self.old.taken) (Some self.new.taken) result buf.now }
+        ensures bytes { WriteAppends (sink_stand self.old).contents (sink_stand self.new).contents
+            result buf.now }
         ensures failures { self.new.failures ≡ failures_after_write result self.old.failures }
 
         // It fails at its stated call alone, and takes as many bytes as it may.
         ensures fails { IsErr result ↔ (write_fails self.old ≡ true) }
         ensures count { IfOk result (λ n. n ≡ taken_count self.old (length buf.now)) }
         ensures calls { self.new.calls ≡ next_count self.old.calls }
-        ensures settings { (self.new.room ≡ self.old.room) × (self.new.most ≡ self.old.most) × (self.new.fail ≡ self.old.fail) }
+        ensures settings { IsMadeAlike self.old self.new }
     {
         self.calls = self.calls.saturating_add(1);
         self.failed_last = self.calls == self.fail;

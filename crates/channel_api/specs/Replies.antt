@@ -17,11 +17,12 @@ use Rattle.http_messages.specs.declared.message.Allow.{Allow}
 use Rattle.http_messages.specs.Replies.{bare, plain}
 use Rattle.channel_api.specs.declared.channel_body.BodyFault.{BodyFault}
 use Rattle.channel_api.specs.declared.channel_body.BodyFault.TheVariants as body
-use Rattle.channel_api.specs.FaultTexts.{refresh_fault_text, why_word}
+use Rattle.channel_spec.specs.FaultTexts.{refresh_fault_text}
+use Rattle.channel_api.specs.FaultTexts.{body_fault_text, why_word}
 
 -- a text and a line feed
 abbrev pub line : ℕ → List ℕ → Reply
-line status text = plain status (text ++ 10 ∷ [])
+line status text = plain status (text ++ codes "\n")
 
 abbrev pub not_found : Reply
 not_found = line 404 (codes "not found")
@@ -32,8 +33,8 @@ not_allowed allow = record (line 405 (codes "method not allowed")) { allow = Som
 -- ---- making a channel
 
 abbrev pub body_fault_reply : BodyFault → Reply
-body_fault_reply body.NotJson = line 422 (codes "J1 NotJson")
-body_fault_reply body.Shape = line 422 (codes "J2 Shape")
+body_fault_reply body.NotJson = line 422 (body_fault_text body.NotJson)
+body_fault_reply body.Shape = line 422 (body_fault_text body.Shape)
 body_fault_reply body.OutOfMemory = bare 503
 
 abbrev pub bad_base : Reply
@@ -73,9 +74,13 @@ abbrev pub live_reply : Option (List ℕ) → Reply
 live_reply None = not_found
 live_reply (Some text) = record { status = 200; allow = None; content = Some (record { media = Playlist; text = text }) }
 
--- a known ID, a tab (9), why its break is filled or not, and a line feed
+-- an ID, a tab, a word and a line feed
+abbrev pub line_of : List ℕ → List ℕ → List ℕ
+line_of id word = id ++ (codes "\t" ++ (word ++ codes "\n"))
+
+-- a known ID, and why its break is filled or not
 abbrev pub why_line : (List ℕ → Why) → List ℕ → List ℕ
-why_line reason id = id ++ 9 ∷ why_word (reason id) ++ 10 ∷ []
+why_line reason id = line_of id (why_word (reason id))
 
 abbrev pub why_text : (List ℕ → Why) → List Break → List ℕ
 why_text reason breaks = flat_map (why_line reason) (map id_of breaks)

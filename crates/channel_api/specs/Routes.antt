@@ -11,8 +11,17 @@ use Rattle.matchit.specs.declared.error.InsertError.TheVariants.{OutOfMemory}
 use Rattle.channel_api.specs.declared.routes.Resource.{Resource}
 use Rattle.channel_api.specs.declared.routes.Resource.TheVariants.{Channel, Origin, Decisions, Live, Why}
 
+abbrev pub hyphen : ℕ
+hyphen = 45
+
+abbrev pub slash : ℕ
+slash = 47
+
+abbrev pub question_mark : ℕ
+question_mark = 63
+
 abbrev pub is_name_byte : ℕ → Bool
-is_name_byte b = is_ascii_lowercase b || is_ascii_digit b || b == 45
+is_name_byte b = is_ascii_lowercase b || is_ascii_digit b || b == hyphen
 
 -- 1 to 32 of a to z, 0 to 9 and the hyphen
 abbrev pub is_channel_name : List ℕ → Bool
@@ -20,7 +29,7 @@ is_channel_name name = nat_le 1 (length name) && nat_le (length name) 32 && list
 
 -- the path of a target: all up to the first question mark
 abbrev pub path_of : List ℕ → List ℕ
-path_of target = before_first (λ b. b == 63) target
+path_of target = before_first (λ b. b == question_mark) target
 
 -- the text of a front of a path, before the name
 abbrev pub front : List ℕ
@@ -47,7 +56,7 @@ found_at path = first route_rows path
 
 -- the name in a path that has a route
 abbrev pub name_in : List ℕ → List ℕ
-name_in path = before_first (λ b. b == 47) (drop (length front) path)
+name_in path = before_first (λ b. b == slash) (drop (length front) path)
 
 abbrev pub named : List ℕ → RouteOf Resource → Option (List ℕ × Resource)
 named path route = if is_channel_name (name_in path) then Some (name_in path, route.value) else None

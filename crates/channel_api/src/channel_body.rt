@@ -1,5 +1,5 @@
 //! The body of a request that makes a channel.
-ghost use Rattle.std.specs.Prelude.{◌≡◌, Ok, Err, Some, None, IfOk, IfErr, MatchResult, option_map, option_and_then, codes};
+ghost use Rattle.std.specs.Prelude.{◌≡◌, ◌≤◌, length, Ok, Err, Some, None, IfOk, IfErr, MatchResult, option_map, option_and_then, codes};
 ghost use Rattle.serde_json.specs.View.{view};
 ghost use Rattle.serde_json.specs.Find.{get, as_str};
 ghost use Rattle.fixed_duration.specs.Duration.{duration_of};
@@ -8,6 +8,7 @@ ghost use Rattle.channel_api.specs.ChannelBody.{json_said, value_said, body_said
 use channel_spec::DEFAULT_TOLERANCE;
 use fixed_duration::Nanos;
 use playlist_model::{Text, text_of};
+use pod_store::DecisionKind;
 use serde_json::Value;
 use std::alloc::Global;
 
@@ -22,6 +23,22 @@ pub enum BodyFault {
     OutOfMemory,
 }
 
+impl BodyFault {
+    ghost use Rattle.channel_api.specs.FaultTexts.{body_fault_text};
+
+    /// The code and the name, as those of a decision file.
+    pub fn text(self) -> &'static str
+        ensures text { result.now ≡ body_fault_text self }
+        ensures short { length result.now ≤ 14 }
+    {
+        match self {
+            BodyFault::NotJson => DecisionKind::NotJson.name(),
+            BodyFault::Shape => DecisionKind::Shape.name(),
+            BodyFault::OutOfMemory => DecisionKind::OutOfMemory.name(),
+        }
+    }
+}
+
 /// What a body says.
 #[derive(Drop)]
 pub struct Wanted {
@@ -31,7 +48,8 @@ pub struct Wanted {
 
 // The text at a name, where there is one.
 fn text_at<'a>(value: &'a Value, name: &str) -> Option<&'a str>
-    ensures { option_map (λ text. text.now) result ≡ option_and_then as_str (get name.now (view value.now)) }
+    ensures { option_map (λ text. text.now) result
+        ≡ option_and_then as_str (get name.now (view value.now)) }
 {
     match value.get(name) {
         Some(found) => found.as_str(),
@@ -84,7 +102,8 @@ fn json_of(alloc: Global, body: &[u8]) -> Result<Value, BodyFault>
 
 // What a JSON value says.
 fn value_said(alloc: Global, value: &Value) -> Result<Wanted, BodyFault>
-    ensures { MatchResult result (λ w. value_said (view value.now) ≡ Ok (w.base, w.tolerance)) (λ e. RefusesBody e (value_said (view value.now))) }
+    ensures { MatchResult result (λ w. value_said (view value.now) ≡ Ok (w.base, w.tolerance))
+        (λ e. RefusesBody e (value_said (view value.now))) }
 {
     let Some(base) = text_at(value, "base") else {
         return Err(BodyFault::Shape);

@@ -2,16 +2,16 @@
 #![tactic(auto)]
 
 mod channel_body;
-mod fault_texts;
 mod named;
+mod reasons;
 mod replies;
 mod routes;
 
 pub use channel_body::{BodyFault, Wanted, read_body};
-pub use fault_texts::{FaultText, refresh_fault_text, why_word};
 pub use named::{Naming, put_named, remove_named};
+pub use reasons::why_word;
 pub use replies::{
-    body_fault_reply, line, not_allowed, not_found, push_line, refused_decisions, refused_refresh,
-    text_reply,
+    LINE_ROOM, body_fault_reply, line, not_allowed, not_found, push_line, refused_decisions,
+    refused_refresh, text_reply,
 };
 pub use routes::{Resource, Routes};

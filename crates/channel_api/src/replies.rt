@@ -1,10 +1,10 @@
 //! The replies of the edge, no channel among them.
-ghost use Rattle.std.specs.Prelude.{◌≡◌, ◌≢◌, ◌≤◌, [], ◌∷◌, ◌++◌, length, string_bytes, IfOk, IsErr, OnOk, Err};
+ghost use Rattle.std.specs.Prelude.{◌≡◌, ◌≢◌, ◌<◌, [], ◌++◌, length, string_bytes, IfOk, IsErr, OnOk, Err};
 ghost use Rattle.channel_api.specs.FaultTexts.{why_word};
-ghost use Rattle.channel_api.specs.Replies.{line, not_found, not_allowed, body_fault_reply, refresh_status, refused_refresh, decision_status, decisions_reply, text_reply};
+ghost use Rattle.channel_api.specs.Replies.{line, line_of, not_found, not_allowed, body_fault_reply, refresh_status, refused_refresh, decision_status, decisions_reply, text_reply};
 
 use crate::channel_body::BodyFault;
-use crate::fault_texts::{refresh_fault_text, why_word};
+use crate::reasons::why_word;
 use arrayvec::ArrayString;
 use break_finder::Why;
 use channel_spec::RefreshFault;
@@ -14,13 +14,16 @@ use playlist_model::{Shared, Text};
 use pod_store::{DecisionFault, DecisionKind};
 use std::alloc::{AllocError, Global};
 
+/// The most bytes of a line, with its line feed. The longest is that of a fault of a decision file.
+pub const LINE_ROOM: usize = 95;
+
 /// The reply of `status` whose body is `text`, of at most 94 bytes, and a line feed. Fails only if an allocation
 /// fails.
 pub fn line(alloc: Global, status: StatusCode, text: &str) -> Result<Reply, AllocError>
-    requires { length text.now ≤ 94 }
+    requires { length text.now < LINE_ROOM }
     ensures { IfOk result (λ reply. reply ≡ line status text.now) }
 {
-    let mut line = ArrayString::<95>::new();
+    let mut line = ArrayString::<LINE_ROOM>::new();
     line.push_str(text);
     line.push('\n');
     plain_reply(alloc, status, line.as_str())
@@ -50,9 +53,8 @@ pub fn body_fault_reply(alloc: Global, fault: BodyFault) -> Result<Reply, AllocE
     ensures memory { fault ≡ BodyFault.OutOfMemory → IsErr result }
 {
     match fault {
-        BodyFault::NotJson => line(alloc, StatusCode::UNPROCESSABLE_ENTITY, "J1 NotJson"),
-        BodyFault::Shape => line(alloc, StatusCode::UNPROCESSABLE_ENTITY, "J2 Shape"),
         BodyFault::OutOfMemory => Err(AllocError),
+        _ => line(alloc, StatusCode::UNPROCESSABLE_ENTITY, fault.text()),
     }
 }
 
@@ -71,11 +73,7 @@ fn refresh_status(fault: RefreshFault) -> StatusCode
 pub fn refused_refresh(alloc: Global, fault: RefreshFault) -> Result<Reply, AllocError>
     ensures { IfOk result (λ reply. reply ≡ refused_refresh fault) }
 {
-    line(
-        alloc,
-        refresh_status(fault),
-        refresh_fault_text(fault).as_str(),
-    )
+    line(alloc, refresh_status(fault), fault.text().as_str())
 }
 
 fn decision_status(kind: DecisionKind) -> StatusCode
@@ -98,7 +96,8 @@ pub fn refused_decisions(alloc: Global, fault: DecisionFault) -> Result<Reply, A
 /// Appends to `lines` the line of the break `id`: the ID, a tab and the word for `why`. Fails only if an allocation
 /// fails.
 pub fn push_line(lines: &mut String, id: &str, why: Why) -> Result<(), AllocError>
-    ensures { OnOk result (string_bytes lines.new ≡ string_bytes lines.old ++ (id.now ++ 9 ∷ why_word why ++ 10 ∷ [])) }
+    ensures { OnOk result (string_bytes lines.new
+        ≡ string_bytes lines.old ++ line_of id.now (why_word why)) }
 {
     lines.push_str(id)?;
     lines.push_str("\t")?;

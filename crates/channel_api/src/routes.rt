@@ -1,7 +1,7 @@
 //! What a path names.
-ghost use Rattle.std.specs.Prelude.{◌≡◌, [], drop, option_map, false, MatchOption, OnOk, IfErr};
+ghost use Rattle.std.specs.Prelude.{◌≡◌, [], drop, length, option_map, false, MatchOption, OnOk, IfErr};
 ghost use Rattle.std.specs.List.{list_all};
-ghost use Rattle.channel_api.specs.Routes.{is_name_byte, is_channel_name, path_of, route_rows, name_in, found_at, route_of, pair, IsOutOfMemory};
+ghost use Rattle.channel_api.specs.Routes.{is_name_byte, is_channel_name, path_of, route_rows, front, name_in, found_at, route_of, pair, IsOutOfMemory};
 
 use matchit::{InsertError, Router};
 use std::alloc::Global;
@@ -34,7 +34,9 @@ impl Model for Routes {
     ghost invariant = { λ r. r.router ≡ route_rows };
 }
 
-const FRONT: usize = 10;
+// How long the front of each route is, before the name. (The router says what the name took of the path by the bytes of the
+// route's text, and where the path's part is known to be UTF-8 alone: to show that takes more than to cut the path here.)
+const FRONT: usize = "/channels/".len();
 
 // The path of a target.
 fn path_of(target: &str) -> &str
@@ -48,14 +50,16 @@ fn path_of(target: &str) -> &str
 
 // What stands after the front of a path, where it may be cut there; elsewhere there is no name.
 fn after_front(path: &str) -> Option<&str>
-    ensures { MatchOption result (is_channel_name (name_in path.now) ≡ false) (λ rest. rest.now ≡ drop 10 path.now) }
+    ensures { MatchOption result (is_channel_name (name_in path.now) ≡ false)
+        (λ rest. rest.now ≡ drop (length front) path.now) }
 {
     path.get(FRONT..)
 }
 
 // The name in a path, where there can be one.
 fn name_in(path: &str) -> Option<&str>
-    ensures { MatchOption result (is_channel_name (name_in path.now) ≡ false) (λ name. name.now ≡ name_in path.now) }
+    ensures { MatchOption result (is_channel_name (name_in path.now) ≡ false)
+        (λ name. name.now ≡ name_in path.now) }
 {
     let rest = after_front(path)?;
     match rest.split_once('/') {

@@ -12,3 +12,4 @@ pub mod Unread
 pub mod Limits
 pub mod Inner
 pub mod LastWindow
+pub mod FaultTexts

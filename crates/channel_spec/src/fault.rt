@@ -1,6 +1,13 @@
-//! Why a refresh of a live playlist is refused.
-use playlist_model::{FaultKind, PlaylistFault};
+//! Why a refresh of a live playlist is refused, and how that is printed.
+ghost use Rattle.std.specs.Prelude.{◌≡◌, ◌≤◌, length, Some};
+ghost use Rattle.channel_spec.specs.FaultTexts.{refresh_fault_text};
+
+use arrayvec::ArrayString;
+use itoa::Buffer;
+use playlist_model::{FaultKind, FaultText, PlaylistFault};
 use std::alloc::AllocError;
+use std::error::Error;
+use std::fmt;
 
 /// Why a refresh of a live playlist is refused: it can't be read, or a client that holds the playlist before it may
 /// not be given it (RFC 8216, sections 4.3.3 and 6.2.1).
@@ -32,8 +39,61 @@ pub enum RefreshFault {
     OutOfMemory,
 }
 
+/// What is printed of a fault as `text`, in a value that has room for it.
+pub fn short_text<const ROOM: usize>(text: &str) -> ArrayString<ROOM>
+    requires { length text.now ≤ ROOM }
+    ensures { result.bytes ≡ text.now }
+{
+    let mut short = ArrayString::<ROOM>::new();
+    short.push_str(text);
+    short
+}
+
+// `N8 Changed`, and the number of the segment.
+fn changed(number: u64) -> FaultText
+    ensures { result.bytes ≡ refresh_fault_text (RefreshFault.Changed number) }
+{
+    let mut text = FaultText::new();
+    text.push_str("N8 Changed ");
+    text.push_str(Buffer::new().format(number));
+    text
+}
+
+impl RefreshFault {
+    /// The code and the name, and its place: `P9 BadValue line 7`, or `N8 Changed 12` with the segment's Media Sequence
+    /// Number.
+    pub fn text(self) -> FaultText
+        ensures { result.bytes ≡ refresh_fault_text self }
+    {
+        match self {
+            RefreshFault::Playlist(unread) => unread.text(),
+            RefreshFault::VersionChanged => short_text("N1 VersionChanged"),
+            RefreshFault::TargetChanged => short_text("N2 TargetChanged"),
+            RefreshFault::TypeChanged => short_text("N3 TypeChanged"),
+            RefreshFault::MapsChanged => short_text("N4 MapsChanged"),
+            RefreshFault::Back => short_text("N5 Back"),
+            RefreshFault::Gap => short_text("N6 Gap"),
+            RefreshFault::Shrunk => short_text("N7 Shrunk"),
+            RefreshFault::Changed(number) => changed(number),
+            RefreshFault::Ended => short_text("N9 Ended"),
+            RefreshFault::NumberRange => short_text("N10 NumberRange"),
+            RefreshFault::OutOfMemory => short_text("N11 OutOfMemory"),
+        }
+    }
+}
+
+/// The fault's text, as the program prints it.
+impl fmt::Display for RefreshFault {
+    ghost output = { λ fault. Some (refresh_fault_text fault) };
+
+    fn fmt<W: fmt::Write>(&self, f: &mut fmt::Formatter<W>) -> fmt::Result {
+        f.write_str(self.text().as_str())
+    }
+}
+
+impl Error for RefreshFault {}
+
 impl From<AllocError> for RefreshFault {
-    ghost use Rattle.std.specs.Prelude.{◌≡◌};
     ghost use Rattle.channel_spec.specs.declared.fault.RefreshFault.TheVariants.{OutOfMemory};
 
     ghost from_gives = { λ _ fault. fault ≡ OutOfMemory };
@@ -45,7 +105,6 @@ impl From<AllocError> for RefreshFault {
 
 /// Memory that was refused while a playlist was read is no fault of it.
 impl From<PlaylistFault> for RefreshFault {
-    ghost use Rattle.std.specs.Prelude.{◌≡◌};
     ghost use Rattle.channel_spec.specs.Unread.{fault_of_reading};
 
     ghost from_gives = { λ fault refused. refused ≡ fault_of_reading fault };

@@ -17,7 +17,7 @@ mod fault;
 mod paced_examples;
 mod worked_examples;
 
-pub use fault::RefreshFault;
+pub use fault::{RefreshFault, short_text};
 
 /// How far from the start of a break an instant may lie and still enter it, and how far before its end it must lie, where
 /// nothing else is asked: 100 ms, in nanoseconds.

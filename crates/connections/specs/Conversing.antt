@@ -1,7 +1,7 @@
 -- What a client's next bytes do.
 use Rattle.std.specs.Prelude.{◌≡◌, ℕ, ◌+◌, ◌<◌, ◌≤◌, List, ◌++◌, Option, Some, None}
 use Rattle.http_messages.specs.Requests.{IsUnfinished}
-use Rattle.http_messages.specs.Limits.{most_reads}
+use Rattle.byte_streams.specs.Fair.{most_reads}
 use Rattle.http_edge.specs.Edges.{NamedChannel}
 use Rattle.http_edge.specs.Served.{IsServed}
 use Rattle.connections.specs.declared.conversation.Conversation.{Conversation}

@@ -44,7 +44,3 @@ one_call passage calls = record { count = next_count calls.count; last = Some pa
 pub record DeviceStand : Type 0 where
   pub bytes : Option (List ℕ)
   pub calls : Calls
-
--- the same of a device, by what it says of itself
-abbrev pub device_stand : {A : Type 0} → (A → Option (List ℕ)) → (A → Calls) → A → DeviceStand
-device_stand bytes calls device = record { bytes = bytes device; calls = calls device }

@@ -108,7 +108,8 @@ impl Arrivals {
     /// Adds, after the others, the connection at `place`, whose time is up at `until`. Fails only if an allocation
     /// fails; the arrivals are then as they were.
     pub fn push(&mut self, place: usize, until: Instant) -> Result<(), AllocError>
-        ensures ok { OnOk result (self.new ≡ self.old ++ record { place = place; until = until } ∷ []) }
+        ensures ok { OnOk result (self.new ≡ self.old
+            ++ record { place = place; until = until } ∷ []) }
         ensures err { OnErr result (self.new ≡ self.old) }
     {
         self.arrivals.push(Arrival { place, until })?;

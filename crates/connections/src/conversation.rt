@@ -4,8 +4,9 @@ ghost use Rattle.http_edge.specs.declared.serving.EdgeFault.TheVariants.{TooMany
 ghost use Rattle.connections.specs.Conversing.{Goes, HasTooMany};
 ghost use Rattle.connections.specs.Inner.Giving.{IsFaultOfGiving};
 
+use byte_streams::MAX_READS;
 use http_edge::{Edge, EdgeFault, reply_to};
-use http_messages::{Arrived, Arriving, Leaving, MAX_READS};
+use http_messages::{Arrived, Arriving, Leaving};
 use std::alloc::Global;
 
 /// Where a connection stands.

@@ -14,7 +14,8 @@ const ENDING_MILLIS: u64 = 250;
 
 // So much later, or the same instant where the clock has no such one.
 fn later(now: Instant, time: Duration) -> Instant
-    ensures later { FitsClock (instant_nanos now + as_nanos time) → instant_nanos result ≡ instant_nanos now + as_nanos time }
+    ensures later { FitsClock (instant_nanos now + as_nanos time) →
+        instant_nanos result ≡ instant_nanos now + as_nanos time }
     ensures last { ¬ (FitsClock (instant_nanos now + as_nanos time)) → result ≡ now }
 {
     match now.checked_add(time) {
@@ -26,7 +27,8 @@ fn later(now: Instant, time: Duration) -> Instant
 /// Until when a client that comes at `now` may ask and be answered: 10 s later (RFC 9112, section 9.5), or `now`
 /// itself if the clock doesn't reach so far.
 pub fn serving_deadline(now: Instant) -> Instant
-    ensures later { FitsClock (instant_nanos now + serving_nanos) → instant_nanos result ≡ instant_nanos now + serving_nanos }
+    ensures later { FitsClock (instant_nanos now + serving_nanos) →
+        instant_nanos result ≡ instant_nanos now + serving_nanos }
     ensures last { ¬ (FitsClock (instant_nanos now + serving_nanos)) → result ≡ now }
 {
     later(now, Duration::from_millis(SERVING_MILLIS))
@@ -35,7 +37,8 @@ pub fn serving_deadline(now: Instant) -> Instant
 /// Until when a client whose reply is gone at `now` may close: 250 ms later, or `now` itself if the clock doesn't
 /// reach so far.
 pub fn ending_deadline(now: Instant) -> Instant
-    ensures later { FitsClock (instant_nanos now + ending_nanos) → instant_nanos result ≡ instant_nanos now + ending_nanos }
+    ensures later { FitsClock (instant_nanos now + ending_nanos) →
+        instant_nanos result ≡ instant_nanos now + ending_nanos }
     ensures last { ¬ (FitsClock (instant_nanos now + ending_nanos)) → result ≡ now }
 {
     later(now, Duration::from_millis(ENDING_MILLIS))

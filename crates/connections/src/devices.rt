@@ -1,7 +1,7 @@
 //! What comes from a client and what goes to it, where no call waits.
-ghost use Rattle.std.specs.Prelude.{◌≡◌, ◌<◌, ℕ, List, None, Some, Option, length};
+ghost use Rattle.std.specs.Prelude.{◌≡◌, ◌<◌, length};
 ghost use Rattle.std.specs.IoError.{error_kind};
-ghost use Rattle.connections.specs.Devices.{Calls, no_calls, one_call, PassesAtMost, ReadPasses, WritePasses};
+ghost use Rattle.connections.specs.Devices.{DeviceStand, no_calls, one_call, PassesAtMost, ReadPasses, WritePasses};
 ghost use Rattle.connections.specs.Inner.Passages.{would_wait, passage_of};
 
 use std::io;
@@ -21,35 +21,31 @@ pub enum Passage {
 
 /// What comes from a client. Its count of calls stays at 2^64 - 1.
 pub trait Incoming {
-    /// The bytes that it will still give, where they are known.
-    ghost remaining: { Self → Option (List ℕ) } = { λ _. None };
-
-    /// How often it was read, and what the last read came to.
-    ghost reads: { Self → Calls };
+    /// How it stands: the bytes that it will still give, where they are known, how often it was read, and what the
+    /// last read came to.
+    ghost stand: { Self → DeviceStand };
 
     /// Puts a front of the bytes that are left into `buf`, which has room for at least one, and says how many: none
     /// only at the end.
     fn read(&mut self, buf: &mut [u8]) -> Passage
         requires { 0 < length buf.old }
         ensures bound { PassesAtMost result (length buf.new) }
-        ensures bytes { ReadPasses (remaining self.old) (remaining self.new) result buf.new }
-        ensures calls { reads self.new ≡ one_call result (reads self.old) };
+        ensures bytes { ReadPasses (stand self.old).bytes (stand self.new).bytes result buf.new }
+        ensures calls { (stand self.new).calls ≡ one_call result (stand self.old).calls };
 }
 
 /// What goes to a client. Its count of calls stays at 2^64 - 1.
 pub trait Outgoing {
-    /// The bytes that it has taken, where they are known.
-    ghost contents: { Self → Option (List ℕ) } = { λ _. None };
-
-    /// How often it was written to, and what the last write came to.
-    ghost writes: { Self → Calls };
+    /// How it stands: the bytes that it has taken, where they are known, how often it was written to, and what the
+    /// last write came to.
+    ghost stand: { Self → DeviceStand };
 
     /// Takes a front of `buf`, which has at least one byte, and says how many.
     fn write(&mut self, buf: &[u8]) -> Passage
         requires { 0 < length buf.now }
         ensures bound { PassesAtMost result (length buf.now) }
-        ensures bytes { WritePasses (contents self.old) (contents self.new) result buf.now }
-        ensures calls { writes self.new ≡ one_call result (writes self.old) };
+        ensures bytes { WritePasses (stand self.old).bytes (stand self.new).bytes result buf.now }
+        ensures calls { (stand self.new).calls ≡ one_call result (stand self.old).calls };
 }
 
 /// A reader or a writer of std that answers `WouldBlock` where it would wait, with its calls.
@@ -107,9 +103,7 @@ impl<T> NonBlocking<T> {
 }
 
 impl<R: Read> Incoming for NonBlocking<R> {
-    ghost remaining = { λ d. R.remaining d.0 };
-
-    ghost reads = { λ d. d.1 };
+    ghost stand = { λ d. record { bytes = R.remaining d.0; calls = d.1 } };
 
     fn read(&mut self, buf: &mut [u8]) -> Passage {
         let passage = passage_of(self.inner.read(buf));
@@ -120,9 +114,7 @@ impl<R: Read> Incoming for NonBlocking<R> {
 }
 
 impl<W: Write> Outgoing for NonBlocking<W> {
-    ghost contents = { λ d. W.contents d.0 };
-
-    ghost writes = { λ d. d.1 };
+    ghost stand = { λ d. record { bytes = W.contents d.0; calls = d.1 } };
 
     fn write(&mut self, buf: &[u8]) -> Passage {
         let passage = passage_of(self.inner.write(buf));

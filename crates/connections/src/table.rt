@@ -42,7 +42,9 @@ impl Model for Connections {
 
     ghost view = { λ c. record { edge = c.edge; places = c.places.items } };
 
-    ghost invariant = { λ c. (c.held ≡ held_in c.places.items) × (c.held ≤ most_held) × (length c.places.items ≡ place_count) };
+    ghost invariant = { λ c.
+        (c.held ≡ held_in c.places.items) × (c.held ≤ most_held)
+        × (length c.places.items ≡ place_count) };
 }
 
 /// A table, and all its seats, of which the last is that of the first place.
@@ -197,7 +199,8 @@ impl Connections {
         ensures ok { OnOk result (Happens self.old (request_bytes seat.now piece.now) self.new) }
         ensures err { OnErr result (Happens self.old (departure seat.now) self.new) }
         ensures kind { IfErr result IsFaultOfGiving }
-        ensures many { IsErrOf result EdgeFault.TooManyReads → HasTooManyAt (at self.old seat.now) piece.now }
+        ensures many { IsErrOf result EdgeFault.TooManyReads →
+            HasTooManyAt (at self.old seat.now) piece.now }
     {
         self.has_all();
         let place = seat.place();
@@ -229,7 +232,7 @@ impl Connections {
         let Some(conversation) = self.take_out(place) else {
             return;
         };
-        let after = taken(conversation, count);
+        let after = advance(conversation, count);
         self.put_back(place, after);
     }
 
@@ -243,7 +246,7 @@ impl Connections {
 }
 
 // The connection when so many bytes of its reply are gone.
-fn taken(conversation: Conversation, count: usize) -> Conversation
+fn advance(conversation: Conversation, count: usize) -> Conversation
     requires { count ≤ length (left_of (Some conversation)) }
     ensures { Some result ≡ taken_of count (Some conversation) }
 {

@@ -1,7 +1,6 @@
 //! A client's turn: how often it is heard and told of its reply before the others are.
 ghost use Rattle.std.specs.Prelude.{◌≡◌, ◌<◌, ◌+◌, [], Some, length, true, false};
 ghost use Rattle.connections.specs.declared.devices.Passage.TheVariants.{WouldWait};
-ghost use Rattle.connections.specs.Devices.{device_stand};
 ghost use Rattle.connections.specs.Table.{at, left_of, held_in};
 ghost use Rattle.connections.specs.Limits.{most_held};
 ghost use Rattle.connections.specs.Arrivals.{is_asking};
@@ -56,12 +55,16 @@ pub fn listen<T: Incoming>(
 ) -> Turn
     requires room { 0 < length block.old }
     requires asking { is_asking (at connections.old seat.now) ≡ true }
-    ensures stays { Stays result (HasListened (device_stand T.remaining T.reads device.old) (device_stand T.remaining T.reads device.new) seat.now connections.old connections.new) }
-    ensures gone { IfGone result (λ fault. HasListenedUntil fault (device_stand T.remaining T.reads device.old) (device_stand T.remaining T.reads device.new) seat.now connections.old connections.new) }
+    ensures stays { Stays result (HasListened (T.stand device.old) (T.stand device.new)
+        seat.now connections.old connections.new) }
+    ensures gone { IfGone result (λ fault. HasListenedUntil fault (T.stand device.old)
+        (T.stand device.new)
+        seat.now connections.old connections.new) }
     ensures done { result ≡ Turn.Done → is_asking (at connections.new seat.now) ≡ false }
     ensures goes { result ≡ Turn.Goes → is_asking (at connections.new seat.now) ≡ true }
-    ensures full { result ≡ Turn.Full → most_held < held_in connections.new.places + length block.old }
-    ensures waits { result ≡ Turn.Waits → (T.reads device.new).last ≡ Some WouldWait }
+    ensures full { result ≡ Turn.Full →
+        most_held < held_in connections.new.places + length block.old }
+    ensures waits { result ≡ Turn.Waits → (T.stand device.new).calls.last ≡ Some WouldWait }
     ensures run { HasRun connections.old connections.new }
 {
     for _ in 0..READS {
@@ -83,10 +86,13 @@ pub fn listen<T: Incoming>(
 /// is left (`Done`). All that the device took is what was left, in order. `Waits` if it would wait, `Goes` after 4
 /// writes, `Failed` if the client is gone.
 pub fn speak<T: Outgoing>(device: &mut T, connections: &mut Connections, seat: &Seat<T>) -> Turn
-    ensures stays { Stays result (HasSpoken (device_stand T.contents T.writes device.old) (device_stand T.contents T.writes device.new) seat.now connections.old connections.new) }
-    ensures gone { IfGone result (λ fault. HasSpokenUntil fault (device_stand T.contents T.writes device.old) (device_stand T.contents T.writes device.new) seat.now connections.old connections.new) }
+    ensures stays { Stays result (HasSpoken (T.stand device.old) (T.stand device.new)
+        seat.now connections.old connections.new) }
+    ensures gone { IfGone result (λ fault. HasSpokenUntil fault (T.stand device.old)
+        (T.stand device.new)
+        seat.now connections.old connections.new) }
     ensures done { result ≡ Turn.Done → left_of (at connections.new seat.now) ≡ [] }
-    ensures waits { result ≡ Turn.Waits → (T.writes device.new).last ≡ Some WouldWait }
+    ensures waits { result ≡ Turn.Waits → (T.stand device.new).calls.last ≡ Some WouldWait }
     ensures room { result ≡ Turn.Full → ⊥ }
     ensures run { HasRun connections.old connections.new }
 {
@@ -106,8 +112,8 @@ pub fn speak<T: Outgoing>(device: &mut T, connections: &mut Connections, seat: &
 /// closing before that would reset the connection, and the reply with it. `Waits` if it would wait, `Goes` after 32
 /// reads of at most 8,192 bytes.
 pub fn drain<T: Incoming>(device: &mut T) -> Turn
-    ensures waits { result ≡ Turn.Waits → (T.reads device.new).last ≡ Some WouldWait }
-    ensures done { result ≡ Turn.Done → HasNoMore (T.reads device.new).last }
+    ensures waits { result ≡ Turn.Waits → (T.stand device.new).calls.last ≡ Some WouldWait }
+    ensures done { result ≡ Turn.Done → HasNoMore (T.stand device.new).calls.last }
     ensures room { result ≡ Turn.Full → ⊥ }
     ensures stays { IfGone result (λ fault. ⊥) }
 {
@@ -126,7 +132,7 @@ pub fn drain<T: Incoming>(device: &mut T) -> Turn
 /// Reads one byte of `device`, and says whether its client has sent nothing that is unread: it has ended, or would
 /// have to be waited for.
 pub fn is_read_out<T: Incoming>(device: &mut T) -> bool
-    ensures { result ≡ is_read_out (T.reads device.new).last }
+    ensures { result ≡ is_read_out (T.stand device.new).calls.last }
 {
     let mut byte = [0u8; 1];
     match device.read(&mut byte) {

@@ -5,17 +5,13 @@ ghost use Rattle.connections.specs.Limits.{most_held};
 ghost use Rattle.connections.specs.Table.{Happens, at, left_of, held_in, departure};
 ghost use Rattle.connections.specs.Runs.{HasRun};
 ghost use Rattle.connections.specs.declared.devices.Passage.TheVariants.{WouldWait};
-ghost use Rattle.connections.specs.Devices.{device_stand};
 ghost use Rattle.connections.specs.Wires.{HasHeard, HasSaid, MovedNothing, GoesHeard, GoesTold, IfFailed, IsFailed};
 
 use crate::devices::{Incoming, Outgoing, Passage};
 use crate::seats::Seat;
 use crate::table::{Connections, MAX_HELD};
-use arrayvec::ArrayVec;
 use http_edge::EdgeFault;
-
-// A reply of at most so many bytes is handed out in one write.
-const BLOCK: usize = 8192;
+use http_messages::{Block, fill};
 
 // So many bytes are written at once at the most, so that a client's turn is short.
 const MAX_WRITTEN: usize = 65_536;
@@ -35,8 +31,8 @@ pub enum Moved {
     Failed(EdgeFault),
 }
 
-// The fault of a client that goes.
-fn gone<T>(connections: &mut Connections, seat: &Seat<T>, fault: EdgeFault) -> Moved
+// Removes a client, for this fault.
+fn dismiss<T>(connections: &mut Connections, seat: &Seat<T>, fault: EdgeFault) -> Moved
     ensures removed { Happens connections.old (departure seat.now) connections.new }
     ensures fault { result ≡ Moved.Failed fault }
 {
@@ -57,14 +53,22 @@ pub fn hear<T: Incoming>(
     block: &mut [u8],
 ) -> Moved
     requires { 0 < length block.old }
-    ensures some { result ≡ Moved.Some → HasHeard (device_stand T.remaining T.reads device.old) (device_stand T.remaining T.reads device.new) seat.now connections.old connections.new }
-    ensures waits { result ≡ Moved.Waits → MovedNothing WouldWait (device_stand T.remaining T.reads device.old) (device_stand T.remaining T.reads device.new) }
+    ensures some { result ≡ Moved.Some →
+        HasHeard (T.stand device.old) (T.stand device.new)
+        seat.now connections.old connections.new }
+    ensures waits { result ≡ Moved.Waits →
+        MovedNothing WouldWait (T.stand device.old) (T.stand device.new) }
     ensures stays { result ≡ Moved.Waits → connections.new ≡ connections.old }
-    ensures full { result ≡ Moved.Full → (most_held < held_in connections.old.places + length block.old) × (connections.new ≡ connections.old) }
+    ensures full { result ≡ Moved.Full →
+        (most_held < held_in connections.old.places + length block.old)
+        × (connections.new ≡ connections.old) }
     ensures unread { result ≡ Moved.Full → device.new ≡ device.old }
     ensures moves { result ≡ Moved.Nothing → ⊥ }
-    ensures fault { IfFailed result (λ fault. GoesHeard fault (device_stand T.remaining T.reads device.old) (device_stand T.remaining T.reads device.new) (at connections.old seat.now)) }
-    ensures failed { IsFailed result → Happens connections.old (departure seat.now) connections.new }
+    ensures fault { IfFailed result (λ fault. GoesHeard fault (T.stand device.old)
+        (T.stand device.new)
+        (at connections.old seat.now)) }
+    ensures failed { IsFailed result →
+        Happens connections.old (departure seat.now) connections.new }
     ensures run { HasRun connections.old connections.new }
 {
     if block.len() > MAX_HELD - connections.held() {
@@ -73,26 +77,15 @@ pub fn hear<T: Incoming>(
     let count = match device.read(block) {
         Passage::Bytes(count) => count,
         Passage::WouldWait => return Moved::Waits,
-        Passage::HasFailed => return gone(connections, seat, EdgeFault::Read),
+        Passage::HasFailed => return dismiss(connections, seat, EdgeFault::Read),
     };
     if count == 0 {
-        return gone(connections, seat, EdgeFault::Ended);
+        return dismiss(connections, seat, EdgeFault::Ended);
     }
     match connections.give(seat, &block[..count]) {
         Ok(()) => Moved::Some,
         Err(fault) => Moved::Failed(fault),
     }
-}
-
-// Puts two texts into an empty block. Whether they fit.
-fn fill(block: &mut ArrayVec<u8, BLOCK>, head: &[u8], body: &[u8]) -> bool
-    requires { block.old.items ≡ [] }
-    ensures { result ≡ true → block.new.items ≡ head.now ++ body.now }
-{
-    if block.try_extend_from_slice(head).is_err() {
-        return false;
-    }
-    block.try_extend_from_slice(body).is_ok()
 }
 
 // The front of a text that is written at once.
@@ -104,7 +97,7 @@ fn cut(text: &[u8]) -> &[u8]
 }
 
 // A front of two texts: both, where they fit into a block, else the first that isn't empty.
-fn front<'a>(block: &'a mut ArrayVec<u8, BLOCK>, head: &'a [u8], body: &'a [u8]) -> &'a [u8]
+fn front<'a>(block: &'a mut Block, head: &'a [u8], body: &'a [u8]) -> &'a [u8]
     requires { block.old.items ≡ [] }
     ensures front { result.now ≡ take (length result.now) (head.now ++ body.now) }
     ensures some { length result.now ≡ 0 → head.now ++ body.now ≡ [] }
@@ -123,17 +116,22 @@ fn front<'a>(block: &'a mut ArrayVec<u8, BLOCK>, head: &'a [u8], body: &'a [u8])
 /// it would wait (`Waits`), or nothing is left (`Nothing`), all is as it was. A client goes (`Failed`) only if the
 /// write failed or took nothing (`Write`).
 pub fn say<T: Outgoing>(device: &mut T, connections: &mut Connections, seat: &Seat<T>) -> Moved
-    ensures some { result ≡ Moved.Some → HasSaid (device_stand T.contents T.writes device.old) (device_stand T.contents T.writes device.new) seat.now connections.old connections.new }
-    ensures waits { result ≡ Moved.Waits → MovedNothing WouldWait (device_stand T.contents T.writes device.old) (device_stand T.contents T.writes device.new) }
+    ensures some { result ≡ Moved.Some →
+        HasSaid (T.stand device.old) (T.stand device.new) seat.now connections.old connections.new }
+    ensures waits { result ≡ Moved.Waits →
+        MovedNothing WouldWait (T.stand device.old) (T.stand device.new) }
     ensures stays { result ≡ Moved.Waits → connections.new ≡ connections.old }
-    ensures nothing { result ≡ Moved.Nothing → (left_of (at connections.old seat.now) ≡ []) × (connections.new ≡ connections.old) }
+    ensures nothing { result ≡ Moved.Nothing →
+        (left_of (at connections.old seat.now) ≡ []) × (connections.new ≡ connections.old) }
     ensures unwritten { result ≡ Moved.Nothing → device.new ≡ device.old }
-    ensures fault { IfFailed result (λ fault. GoesTold fault (device_stand T.contents T.writes device.old) (device_stand T.contents T.writes device.new)) }
-    ensures failed { IsFailed result → Happens connections.old (departure seat.now) connections.new }
+    ensures fault { IfFailed result (λ fault. GoesTold fault (T.stand device.old)
+        (T.stand device.new)) }
+    ensures failed { IsFailed result →
+        Happens connections.old (departure seat.now) connections.new }
     ensures room { result ≡ Moved.Full → ⊥ }
     ensures run { HasRun connections.old connections.new }
 {
-    let mut block = ArrayVec::<u8, BLOCK>::new();
+    let mut block = Block::new();
     let (head, body) = connections.parts(seat);
     let bytes = front(&mut block, head, body);
     if bytes.is_empty() {
@@ -142,10 +140,10 @@ pub fn say<T: Outgoing>(device: &mut T, connections: &mut Connections, seat: &Se
     let count = match device.write(bytes) {
         Passage::Bytes(count) => count,
         Passage::WouldWait => return Moved::Waits,
-        Passage::HasFailed => return gone(connections, seat, EdgeFault::Write),
+        Passage::HasFailed => return dismiss(connections, seat, EdgeFault::Write),
     };
     if count == 0 {
-        return gone(connections, seat, EdgeFault::Write);
+        return dismiss(connections, seat, EdgeFault::Write);
     }
     connections.advance(seat, count);
     Moved::Some

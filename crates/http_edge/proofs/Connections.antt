@@ -1,8 +1,7 @@
 -- What a connection came to.
 use Rattle.std.proofs.Common.{◌≡◌, ℕ, Bool, true, List, refl, ap, subst, ◌∙◌, inl, inr}
-use Rattle.std.specs.Prelude.{Option, Result, Ok, Err, OnOk, OnErr, IfOk, IsErrOf}
-use Rattle.std.specs.Io.KnownBytes.{Appends}
-use Rattle.byte_streams.specs.Handed.{TookFront}
+use Rattle.std.specs.Prelude.{Result, Ok, Err, OnOk, OnErr, IfOk, IsErrOf}
+use Rattle.byte_streams.specs.Stands.{SourceStand, SinkStand, TookAll, FailedAfterFront}
 use Rattle.http_messages.specs.declared.message.Reply.{Reply}
 use Rattle.http_messages.specs.declared.receiving.Asked.{Asked}
 use Rattle.http_messages.specs.declared.receiving.Asked.TheVariants.{Request, Refused}
@@ -37,14 +36,14 @@ replies Took (Refused refusal) old new reply with_body status k f w = record {
   written = subst (λ r. Took (text_sent true r)) k.1 (subst (λ b. Took (text_sent b reply)) k.2 w);
 }
 
-module _ (so sn ko kn : Option (List ℕ)) (it : Asked) (old new : List NamedChannel) (reply : Reply) (with_body : Bool) (k : IsReplyTo it old new reply with_body) where
-  pub served_whole : (r : Result Served EdgeFault) → HasAsked so sn it → OnOk r (Appends ko kn (text_sent with_body reply))
+module _ (so sn : SourceStand) (ko kn : SinkStand) (it : Asked) (old new : List NamedChannel) (reply : Reply) (with_body : Bool) (k : IsReplyTo it old new reply with_body) where
+  pub served_whole : (r : Result Served EdgeFault) → HasAsked so sn it → OnOk r (TookAll ko kn (text_sent with_body reply))
       → IfOk r (λ (x : Served). x.status ≡ reply.status) → IfOk r (λ (x : Served). HasServed so sn ko kn old new x.status)
   served_whole (Ok x) a w f =
       record { bytes = a.bytes; text = text_sent with_body reply; given = a.given; served = serves a.bytes it old new reply with_body x.status a.asks k f; written = w }
   served_whole (Err x) a w f = tt
 
-  pub served_front : (r : Result Served EdgeFault) (fault : EdgeFault) → HasAsked so sn it → OnErr r (TookFront ko kn (text_sent with_body reply))
+  pub served_front : (r : Result Served EdgeFault) (fault : EdgeFault) → HasAsked so sn it → OnErr r (FailedAfterFront ko kn (text_sent with_body reply))
       → IsErrOf r fault → HasServedFront so sn ko kn old new
   served_front r fault a w f = record {
     bytes = a.bytes;
@@ -52,20 +51,20 @@ module _ (so sn ko kn : Option (List ℕ)) (it : Asked) (old new : List NamedCha
     status = reply.status;
     given = a.given;
     served = serves a.bytes it old new reply with_body reply.status a.asks k refl;
-    written = subst (λ x. OnErr x (TookFront ko kn (text_sent with_body reply))) f w;
+    written = subst (λ x. OnErr x (FailedAfterFront ko kn (text_sent with_body reply))) f w;
   }
 
-module _ (ko kn : Option (List ℕ)) (it : Asked) (old new : List NamedChannel) (reply : Reply) (with_body : Bool) (k : IsReplyTo it old new reply with_body) where
-  pub replied_whole : (held : Asked) → it ≡ held → (r : Result Served EdgeFault) → OnOk r (Appends ko kn (text_sent with_body reply))
+module _ (ko kn : SinkStand) (it : Asked) (old new : List NamedChannel) (reply : Reply) (with_body : Bool) (k : IsReplyTo it old new reply with_body) where
+  pub replied_whole : (held : Asked) → it ≡ held → (r : Result Served EdgeFault) → OnOk r (TookAll ko kn (text_sent with_body reply))
       → IfOk r (λ (x : Served). x.status ≡ reply.status) → IfOk r (λ (x : Served). HasRepliedWhole ko kn old new held x.status)
   replied_whole held same (Ok x) w f =
-      subst (λ q. HasRepliedWhole ko kn old new q x.status) same (replies (Appends ko kn) it old new reply with_body x.status k f w)
+      subst (λ q. HasRepliedWhole ko kn old new q x.status) same (replies (TookAll ko kn) it old new reply with_body x.status k f w)
   replied_whole held same (Err x) w f = tt
 
-  pub replied_front : (held : Asked) → it ≡ held → (r : Result Served EdgeFault) (fault : EdgeFault) → OnErr r (TookFront ko kn (text_sent with_body reply))
+  pub replied_front : (held : Asked) → it ≡ held → (r : Result Served EdgeFault) (fault : EdgeFault) → OnErr r (FailedAfterFront ko kn (text_sent with_body reply))
       → IsErrOf r fault → HasRepliedFront ko kn old new held
   replied_front held same r fault w f =
-      let took = subst (λ x. OnErr x (TookFront ko kn (text_sent with_body reply))) f w in (
+      let took = subst (λ x. OnErr x (FailedAfterFront ko kn (text_sent with_body reply))) f w in (
         reply.status,
-        subst (λ q. HasReplied (TookFront ko kn) old new q reply.status) same (replies (TookFront ko kn) it old new reply with_body reply.status k refl took),
+        subst (λ q. HasReplied (FailedAfterFront ko kn) old new q reply.status) same (replies (FailedAfterFront ko kn) it old new reply with_body reply.status k refl took),
       )

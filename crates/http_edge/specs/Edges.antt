@@ -46,3 +46,7 @@ AnswersRequest old request reply new =
 abbrev pub TakenTurn : {E : Type 0} → Turn → Table → Result Reply E → List NamedChannel → Type 0
 TakenTurn t table (Ok reply) new = (reply ≡ t.reply) × Stands new t.table
 TakenTurn t table (Err e) new = Stands new table
+
+-- whatever table they stood for, this turn of it was taken
+abbrev pub TakesTurnOf : {E : Type 0} → (Table → Turn) → List NamedChannel → Result Reply E → List NamedChannel → Type 0
+TakesTurnOf turn_of old result new = (table : Table) → Stands old table → TakenTurn (turn_of table) table result new

@@ -1,7 +1,7 @@
 -- What a connection came to.
-use Rattle.std.specs.Prelude.{◌≡◌, ℕ, ◌⊎◌, Bool, true, List, Option}
-use Rattle.std.specs.Io.KnownBytes.{Consumes, Appends}
-use Rattle.byte_streams.specs.Handed.{TookFront}
+use Rattle.std.specs.Prelude.{◌≡◌, ℕ, ◌⊎◌, Bool, true, List}
+use Rattle.std.specs.Io.KnownBytes.{Consumes}
+use Rattle.byte_streams.specs.Stands.{SourceStand, SinkStand, TookAll, FailedAfterFront}
 use Rattle.http_messages.specs.declared.message.Request.{Request}
 use Rattle.http_messages.specs.declared.message.Reply.{Reply}
 use Rattle.http_messages.specs.declared.refusal.Refusal.{Refusal}
@@ -48,21 +48,21 @@ abbrev pub IsServed : List ℕ → List NamedChannel → List NamedChannel → L
 IsServed bytes old new text status = IsAnswered bytes old new text status ⊎ IsTurnedAway bytes old new text status
 
 -- the source gave these bytes, and the sink took the text
-pub record HasServed (source_old source_new sink_old sink_new : Option (List ℕ)) (old new : List NamedChannel) (status : ℕ) : Type 0 where
+pub record HasServed (source_old source_new : SourceStand) (sink_old sink_new : SinkStand) (old new : List NamedChannel) (status : ℕ) : Type 0 where
   pub bytes : List ℕ
   pub text : List ℕ
-  pub given : Consumes source_old source_new bytes
+  pub given : Consumes source_old.remaining source_new.remaining bytes
   pub served : IsServed bytes old new text status
-  pub written : Appends sink_old sink_new text
+  pub written : TookAll sink_old sink_new text
 
 -- the same, but the sink failed after a front of the text
-pub record HasServedFront (source_old source_new sink_old sink_new : Option (List ℕ)) (old new : List NamedChannel) : Type 0 where
+pub record HasServedFront (source_old source_new : SourceStand) (sink_old sink_new : SinkStand) (old new : List NamedChannel) : Type 0 where
   pub bytes : List ℕ
   pub text : List ℕ
   pub status : ℕ
-  pub given : Consumes source_old source_new bytes
+  pub given : Consumes source_old.remaining source_new.remaining bytes
   pub served : IsServed bytes old new text status
-  pub written : TookFront sink_old sink_new text
+  pub written : FailedAfterFront sink_old sink_new text
 
 -- ---- what is answered of all that a source holds
 
@@ -84,9 +84,9 @@ HasReplied Took old new (asked.Request request) status = HasAnswered Took old ne
 HasReplied Took old new (asked.Refused refusal) status = HasTurnedAway Took old new refusal status
 
 -- the reply's text is written as a whole
-abbrev pub HasRepliedWhole : Option (List ℕ) → Option (List ℕ) → List NamedChannel → List NamedChannel → Asked → ℕ → Type 0
-HasRepliedWhole sink_old sink_new = HasReplied (Appends sink_old sink_new)
+abbrev pub HasRepliedWhole : SinkStand → SinkStand → List NamedChannel → List NamedChannel → Asked → ℕ → Type 0
+HasRepliedWhole sink_old sink_new = HasReplied (TookAll sink_old sink_new)
 
--- a front of it is
-abbrev pub HasRepliedFront : Option (List ℕ) → Option (List ℕ) → List NamedChannel → List NamedChannel → Asked → Type 0
-HasRepliedFront sink_old sink_new old new it = (status : ℕ) × HasReplied (TookFront sink_old sink_new) old new it status
+-- a front of it is, and then the sink failed
+abbrev pub HasRepliedFront : SinkStand → SinkStand → List NamedChannel → List NamedChannel → Asked → Type 0
+HasRepliedFront sink_old sink_new old new it = (status : ℕ) × HasReplied (FailedAfterFront sink_old sink_new) old new it status

@@ -17,7 +17,8 @@ pub struct Answer {
 /// Fails only if an allocation fails, and leaves `edge` as it was. (A request that memory doesn't suffice for has a
 /// reply, 503.)
 pub fn reply_to(alloc: Global, edge: &mut Edge, asked: Asked) -> Result<Answer, AllocError>
-    ensures ok { IfOk result (λ answer. IsReplyTo asked edge.old edge.new answer.reply answer.with_body) }
+    ensures ok { IfOk result (λ answer. IsReplyTo asked edge.old edge.new answer.reply
+        answer.with_body) }
     ensures err { OnErr result (edge.new ≡ edge.old) }
 {
     match asked {

@@ -3,8 +3,9 @@ ghost use Rattle.std.specs.Prelude.{◌≡◌, []};
 ghost use Rattle.live_channel.specs.Channel.{refreshed, decided, Represents as IsChannelOf};
 ghost use Rattle.channel_api.specs.ChannelBody.{body_said};
 ghost use Rattle.http_edge.specs.Replies.{refresh_owed, decisions_owed, live_owed, why_owed};
-ghost use Rattle.http_edge.specs.Table.{Table, turn_at, is_method, made, added, removed, event_turn, read_turn, given_at};
-ghost use Rattle.http_edge.specs.Edges.{Stands, TakenTurn};
+ghost use Rattle.http_edge.specs.Table.{turn_at, is_method, made, added, removed, read_turn, given_at};
+ghost use Rattle.http_edge.specs.Edges.{TakesTurnOf};
+ghost use Rattle.http_edge.specs.Inner.Events.{event_at};
 
 use crate::events::{decide, live, refresh};
 use crate::replies::{channel_fault_reply, why_reply};
@@ -67,7 +68,8 @@ impl Channels {
         resource: Resource,
         request: &Request,
     ) -> Result<Reply, AllocError>
-        ensures { (table : Table) → Stands self.old table → TakenTurn (turn_at table request.now name.now resource) table result self.new }
+        ensures { TakesTurnOf (λ table. turn_at table request.now name.now resource)
+            self.old result self.new }
     {
         match resource {
             Resource::Channel => self.on_channel(name, request),
@@ -79,7 +81,8 @@ impl Channels {
     }
 
     fn on_channel(&mut self, name: &str, request: &Request) -> Result<Reply, AllocError>
-        ensures { (table : Table) → Stands self.old table → TakenTurn (turn_at table request.now name.now Resource.Channel) table result self.new }
+        ensures { TakesTurnOf (λ table. turn_at table request.now name.now Resource.Channel)
+            self.old result self.new }
     {
         if is_method(request, "PUT") {
             return self.make(name, request.body.as_slice());
@@ -91,7 +94,8 @@ impl Channels {
     }
 
     fn on_origin(&mut self, name: &str, request: &Request) -> Result<Reply, AllocError>
-        ensures { (table : Table) → Stands self.old table → TakenTurn (turn_at table request.now name.now Resource.Origin) table result self.new }
+        ensures { TakesTurnOf (λ table. turn_at table request.now name.now Resource.Origin)
+            self.old result self.new }
     {
         if is_method(request, "PUT") {
             return self.refresh(name, request.body.as_slice());
@@ -100,7 +104,8 @@ impl Channels {
     }
 
     fn on_decisions(&mut self, name: &str, request: &Request) -> Result<Reply, AllocError>
-        ensures { (table : Table) → Stands self.old table → TakenTurn (turn_at table request.now name.now Resource.Decisions) table result self.new }
+        ensures { TakesTurnOf (λ table. turn_at table request.now name.now Resource.Decisions)
+            self.old result self.new }
     {
         if is_method(request, "PUT") {
             return self.decide(name, request.body.as_slice());
@@ -109,7 +114,8 @@ impl Channels {
     }
 
     fn on_live(&self, name: &str, request: &Request) -> Result<Reply, AllocError>
-        ensures { (table : Table) → Stands self.now table → TakenTurn (turn_at table request.now name.now Resource.Live) table result self.now }
+        ensures { TakesTurnOf (λ table. turn_at table request.now name.now Resource.Live)
+            self.now result self.now }
     {
         if is_method(request, "GET") {
             return self.live(name);
@@ -118,7 +124,8 @@ impl Channels {
     }
 
     fn on_why(&self, name: &str, request: &Request) -> Result<Reply, AllocError>
-        ensures { (table : Table) → Stands self.now table → TakenTurn (turn_at table request.now name.now Resource.Why) table result self.now }
+        ensures { TakesTurnOf (λ table. turn_at table request.now name.now Resource.Why)
+            self.now result self.now }
     {
         if is_method(request, "GET") {
             return self.why(name);
@@ -127,7 +134,8 @@ impl Channels {
     }
 
     fn make(&mut self, name: &str, body: &[u8]) -> Result<Reply, AllocError>
-        ensures { (table : Table) → Stands self.old table → TakenTurn (made table name.now (body_said body.now)) table result self.new }
+        ensures { TakesTurnOf (λ table. made table name.now (body_said body.now)) self.old result
+            self.new }
     {
         let alloc = self.alloc;
         let wanted = match read_body(alloc, body) {
@@ -144,7 +152,8 @@ impl Channels {
     // (RFC 9110, section 15.6.4).
     fn add(&mut self, name: &str, channel: Channel) -> Result<Reply, AllocError>
         requires { IsChannelOf channel [] }
-        ensures { (table : Table) → Stands self.old table → TakenTurn (added table name.now channel.base channel.tolerance) table result self.new }
+        ensures { TakesTurnOf (λ table. added table name.now channel.base channel.tolerance)
+            self.old result self.new }
     {
         let alloc = self.alloc;
         match put_named(alloc, &mut self.by_name, MAX_CHANNELS, name, channel)? {
@@ -155,7 +164,8 @@ impl Channels {
     }
 
     fn remove(&mut self, name: &str) -> Result<Reply, AllocError>
-        ensures { (table : Table) → Stands self.old table → TakenTurn (removed table name.now (given_at name.now table)) table result self.new }
+        ensures { TakesTurnOf (λ table. removed table name.now (given_at name.now table))
+            self.old result self.new }
     {
         if !remove_named(&mut self.by_name, name) {
             return not_found(self.alloc);
@@ -164,7 +174,8 @@ impl Channels {
     }
 
     fn refresh(&mut self, name: &str, body: &[u8]) -> Result<Reply, AllocError>
-        ensures { (table : Table) → Stands self.old table → TakenTurn (event_turn table name.now (refreshed body.now) (refresh_owed body.now) (given_at name.now table)) table result self.new }
+        ensures { TakesTurnOf (event_at name.now (refreshed body.now) (refresh_owed body.now))
+            self.old result self.new }
     {
         let alloc = self.alloc;
         let Some(channel) = self.by_name.get_mut(name) else {
@@ -174,7 +185,8 @@ impl Channels {
     }
 
     fn decide(&mut self, name: &str, body: &[u8]) -> Result<Reply, AllocError>
-        ensures { (table : Table) → Stands self.old table → TakenTurn (event_turn table name.now (decided body.now) (decisions_owed body.now) (given_at name.now table)) table result self.new }
+        ensures { TakesTurnOf (event_at name.now (decided body.now) (decisions_owed body.now))
+            self.old result self.new }
     {
         let alloc = self.alloc;
         let Some(channel) = self.by_name.get_mut(name) else {
@@ -184,7 +196,8 @@ impl Channels {
     }
 
     fn live(&self, name: &str) -> Result<Reply, AllocError>
-        ensures { (table : Table) → Stands self.now table → TakenTurn (read_turn table live_owed (given_at name.now table)) table result self.now }
+        ensures { TakesTurnOf (λ table. read_turn table live_owed (given_at name.now table))
+            self.now result self.now }
     {
         let Some(channel) = self.by_name.get(name) else {
             return not_found(self.alloc);
@@ -193,7 +206,8 @@ impl Channels {
     }
 
     fn why(&self, name: &str) -> Result<Reply, AllocError>
-        ensures { (table : Table) → Stands self.now table → TakenTurn (read_turn table why_owed (given_at name.now table)) table result self.now }
+        ensures { TakesTurnOf (λ table. read_turn table why_owed (given_at name.now table))
+            self.now result self.now }
     {
         let Some(channel) = self.by_name.get(name) else {
             return not_found(self.alloc);

@@ -1,7 +1,7 @@
 //! The edge: requests on channels, each applied as a whole.
 ghost use Rattle.std.specs.Prelude.{[], IfOk};
-ghost use Rattle.http_edge.specs.Table.{Table, turn};
-ghost use Rattle.http_edge.specs.Edges.{RepresentsRequests, AnswersRequest, Stands, TakenTurn};
+ghost use Rattle.http_edge.specs.Table.{turn};
+ghost use Rattle.http_edge.specs.Edges.{RepresentsRequests, AnswersRequest, TakesTurnOf};
 
 use crate::channels::Channels;
 use channel_api::{Routes, not_found};
@@ -65,7 +65,7 @@ impl Edge {
     }
 
     fn answered(&mut self, request: &Request) -> Result<Reply, AllocError>
-        ensures { (table : Table) → Stands self.old table → TakenTurn (turn table request.now) table result self.new }
+        ensures { TakesTurnOf (λ table. turn table request.now) self.old result self.new }
     {
         let Some((name, resource)) = self.routes.find(request.target.as_str()) else {
             return not_found(self.alloc);

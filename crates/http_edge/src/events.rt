@@ -26,7 +26,8 @@ fn is_out_of_memory(fault: RefreshFault) -> bool
 /// Gives `body`, the origin's playlist, to `channel`. The reply is 204, or 422 or 409 with the fault. Fails only if
 /// an allocation fails; `channel` is then as it was.
 pub fn refresh(alloc: Global, channel: &mut Channel, body: &[u8]) -> Result<Reply, AllocError>
-    ensures { TakesEvent channel.old (refreshed body.now) (refresh_owed body.now) result channel.new }
+    ensures { TakesEvent channel.old (refreshed body.now) (refresh_owed body.now) result
+        channel.new }
 {
     match channel.refresh(alloc, body) {
         Ok(_) => Ok(Reply::bare(StatusCode::NO_CONTENT)),
@@ -42,7 +43,8 @@ pub fn refresh(alloc: Global, channel: &mut Channel, body: &[u8]) -> Result<Repl
 /// Gives `body`, a decision file, to `channel`. The reply is 204, or 422 or 409 with the fault. Fails only if an
 /// allocation fails; `channel` is then as it was.
 pub fn decide(alloc: Global, channel: &mut Channel, body: &[u8]) -> Result<Reply, AllocError>
-    ensures { TakesEvent channel.old (decided body.now) (decisions_owed body.now) result channel.new }
+    ensures { TakesEvent channel.old (decided body.now) (decisions_owed body.now) result
+        channel.new }
 {
     match channel.decide(alloc, body) {
         Ok(()) => Ok(Reply::bare(StatusCode::NO_CONTENT)),

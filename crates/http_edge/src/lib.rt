@@ -10,7 +10,7 @@ mod replies;
 mod serving;
 
 pub use answering::{Answer, reply_to};
-pub use channel_api::{FaultText, refresh_fault_text, why_word};
+pub use channel_api::why_word;
 pub use channels::MAX_CHANNELS;
 pub use edge::Edge;
 pub use serving::{EdgeFault, Served, serve};

@@ -17,17 +17,15 @@ pub fn channel_fault_reply(alloc: Global, fault: ChannelFault) -> Result<Reply, 
     ensures memory { fault ≡ ChannelFault.OutOfMemory → IsErr result }
 {
     match fault {
-        ChannelFault::BadBase => line(alloc, StatusCode::UNPROCESSABLE_ENTITY, "C1 BadBase"),
-        ChannelFault::BadTolerance => {
-            line(alloc, StatusCode::UNPROCESSABLE_ENTITY, "C2 BadTolerance")
-        }
         ChannelFault::OutOfMemory => Err(AllocError),
+        _ => line(alloc, StatusCode::UNPROCESSABLE_ENTITY, fault.text()),
     }
 }
 
 // A line for each known break.
 fn why_lines(alloc: Global, channel: &Channel) -> Result<String, AllocError>
-    ensures lines { IfOk result (λ lines. string_bytes lines ≡ why_text (explained channel.now.kept) channel.now.kept.breaks) }
+    ensures lines { IfOk result (λ lines. string_bytes lines
+        ≡ why_text (explained channel.now.kept) channel.now.kept.breaks) }
     ensures memory { IsErr result → channel.now.kept.breaks ≢ [] }
 {
     let mut lines = String::new(alloc);
@@ -45,7 +43,8 @@ fn why_lines(alloc: Global, channel: &Channel) -> Result<String, AllocError>
 /// The reply with a line for each break that `channel` knows: its ID, and why it is filled or not. Fails only if an
 /// allocation fails, and takes no memory if no break is known.
 pub fn why_reply(alloc: Global, channel: &Channel) -> Result<Reply, AllocError>
-    ensures reply { IfOk result (λ reply. reply ≡ text_reply (why_text (explained channel.now.kept) channel.now.kept.breaks)) }
+    ensures reply { IfOk result (λ reply. reply
+        ≡ text_reply (why_text (explained channel.now.kept) channel.now.kept.breaks)) }
     ensures memory { IsErr result → channel.now.kept.breaks ≢ [] }
 {
     let lines = why_lines(alloc, channel)?;

@@ -1,12 +1,8 @@
 //! One connection, one request, one reply.
-ghost use Rattle.std.specs.Prelude.{◌≡◌, ◌≢◌, ◌≤◌, Some, Err, OnOk, OnErr, IfOk, IfErr, IfSome, IsErrOf};
-ghost use Rattle.std.specs.Io.KnownBytes.{Appends};
-ghost use Rattle.byte_streams.specs.Handed.{TookFront};
-ghost use Rattle.byte_streams.specs.Stands.{source_stand, sink_stand};
+ghost use Rattle.std.specs.Prelude.{◌≡◌, ◌≢◌, Some, OnOk, OnErr, IfOk, IfErr, IsErrOf};
+ghost use Rattle.byte_streams.specs.Stands.{TookAll, FailedAfterFront};
 ghost use Rattle.http_messages.specs.declared.receiving.Asked.{Asked as Question};
-ghost use Rattle.http_messages.specs.Requests.{IsUnfinished};
-ghost use Rattle.http_messages.specs.Limits.{most_reads};
-ghost use Rattle.http_messages.specs.Received.{Holds, HasEnded, HasGivenPart, IsWholeAtLastRead};
+ghost use Rattle.http_messages.specs.Received.{Holds, HoldsFront, HasEnded, HasGivenPart, IsWholeAtLastRead};
 ghost use Rattle.http_messages.specs.Replies.{text_sent};
 ghost use Rattle.byte_streams.specs.Fair.{IsFairToSource, IsFairToSink, GaveAtEachButLast};
 ghost use Rattle.http_edge.specs.FaultTexts.{edge_fault_text};
@@ -94,11 +90,13 @@ impl From<ReceiveFault> for EdgeFault {
 
 // Writes a reply, or as much of it as the sink takes.
 fn put<K: Sink>(reply: &Reply, with_body: bool, sink: &mut K) -> Result<Served, EdgeFault>
-    ensures ok { OnOk result (Appends (K.contents sink.old) (K.contents sink.new) (text_sent with_body reply.now)) }
+    ensures ok { OnOk result (TookAll (K.stand sink.old) (K.stand sink.new)
+        (text_sent with_body reply.now)) }
     ensures status { IfOk result (λ served. served.status ≡ reply.now.status) }
-    ensures write { OnErr result (TookFront (K.contents sink.old) (K.contents sink.new) (text_sent with_body reply.now)) }
+    ensures write { OnErr result (FailedAfterFront (K.stand sink.old) (K.stand sink.new)
+        (text_sent with_body reply.now)) }
     ensures kind { IfErr result (λ e. e ≡ EdgeFault.Write) }
-    ensures sink { IsFairToSink EdgeFault.Write result (sink_stand K.contents K.failed sink.old) (sink_stand K.contents K.failed sink.new) }
+    ensures sink { IsFairToSink EdgeFault.Write result (K.stand sink.old) (K.stand sink.new) }
 {
     match send(reply, with_body, sink) {
         Ok(()) => Ok(Served {
@@ -118,31 +116,43 @@ pub fn serve<S: Source, K: Sink>(
     source: &mut S,
     sink: &mut K,
 ) -> Result<Served, EdgeFault>
-    ensures ok { IfOk result (λ served. HasServed (S.remaining source.old) (S.remaining source.new) (K.contents sink.old) (K.contents sink.new) edge.old edge.new served.status) }
+    ensures ok { IfOk result (λ served. HasServed (S.stand source.old) (S.stand source.new)
+        (K.stand sink.old) (K.stand sink.new) edge.old edge.new served.status) }
 
     // However the source cuts its bytes: what all that it holds asks is answered, and it doesn't end where that is a whole
     // request.
-    ensures whole { (it : Question) → Holds (S.remaining source.old) it → IfOk result (λ served. HasRepliedWhole (K.contents sink.old) (K.contents sink.new) edge.old edge.new it served.status) }
-    ensures whole_front { (it : Question) → Holds (S.remaining source.old) it → IsErrOf result EdgeFault.Write → HasRepliedFront (K.contents sink.old) (K.contents sink.new) edge.old edge.new it }
-    ensures held { IsErrOf result EdgeFault.Ended → IfSome (S.remaining source.old) IsUnfinished }
+    ensures whole { (it : Question) → Holds (S.stand source.old) it →
+        IfOk result (λ served. HasRepliedWhole
+        (K.stand sink.old) (K.stand sink.new) edge.old edge.new it served.status) }
+    ensures whole_front { (it : Question) → Holds (S.stand source.old) it →
+        IsErrOf result EdgeFault.Write → HasRepliedFront
+        (K.stand sink.old) (K.stand sink.new) edge.old edge.new it }
+    ensures held { IsErrOf result EdgeFault.Ended → HoldsFront (S.stand source.old) }
 
     // Where the sink failed it took a front of the reply, and the request stands.
-    ensures write { IsErrOf result EdgeFault.Write → HasServedFront (S.remaining source.old) (S.remaining source.new) (K.contents sink.old) (K.contents sink.new) edge.old edge.new }
+    ensures write { IsErrOf result EdgeFault.Write →
+        HasServedFront (S.stand source.old) (S.stand source.new)
+        (K.stand sink.old) (K.stand sink.new) edge.old edge.new }
 
     // After any other fault nothing was done and nothing written.
     ensures unchanged { IfErr result (λ e. e ≢ EdgeFault.Write → edge.new ≡ edge.old) }
     ensures nothing { IfErr result (λ e. e ≢ EdgeFault.Write → sink.new ≡ sink.old) }
-    ensures ended { IsErrOf result EdgeFault.Ended → HasEnded (S.remaining source.old) (S.remaining source.new) }
-    ensures unfinished { IsErrOf result EdgeFault.TooManyReads → HasGivenPart (S.remaining source.old) (S.remaining source.new) }
+    ensures ended { IsErrOf result EdgeFault.Ended →
+        HasEnded (S.stand source.old) (S.stand source.new) }
+    ensures unfinished { IsErrOf result EdgeFault.TooManyReads →
+        HasGivenPart (S.stand source.old) (S.stand source.new) }
 
     // Nothing is read past it: no read follows the one that makes the request whole, or shows that it is refused.
-    ensures nothing_past { IfOk result (λ _. IsWholeAtLastRead S.remaining S.called source.old source.new) }
-    ensures nothing_past_front { IsErrOf result EdgeFault.Write → IsWholeAtLastRead S.remaining S.called source.old source.new }
+    ensures nothing_past { IfOk result (λ _. IsWholeAtLastRead S.stand source.old source.new) }
+    ensures nothing_past_front { IsErrOf result EdgeFault.Write →
+        IsWholeAtLastRead S.stand source.old source.new }
 
     // A device is blamed exactly where it failed, and is left alone then; the source is at its end too.
-    ensures source { IsFairToSource EdgeFault.Read EdgeFault.TooManyReads most_reads result (source_stand S.remaining S.called S.failed source.old) (source_stand S.remaining S.called S.failed source.new) }
-    ensures to_end { IsErrOf result EdgeFault.Ended → GaveAtEachButLast (source_stand S.remaining S.called S.failed source.old) (source_stand S.remaining S.called S.failed source.new) }
-    ensures sink { IsFairToSink EdgeFault.Write result (sink_stand K.contents K.failed sink.old) (sink_stand K.contents K.failed sink.new) }
+    ensures source { IsFairToSource EdgeFault.Read EdgeFault.TooManyReads result
+        (S.stand source.old) (S.stand source.new) }
+    ensures to_end { IsErrOf result EdgeFault.Ended →
+        GaveAtEachButLast (S.stand source.old) (S.stand source.new) }
+    ensures sink { IsFairToSink EdgeFault.Write result (K.stand sink.old) (K.stand sink.new) }
 {
     let asked = receive(alloc, source)?;
     let answer = reply_to(alloc, edge, asked)?;

@@ -1,7 +1,8 @@
 -- What bytes ask, and what they ask with more after them.
 use Rattle.std.proofs.Common.{◌≡◌, ℕ, List, [], ◌++◌, take, sym, ap, subst, ◌∙◌, inl, inr, arith, length-append, true≢false, append_assoc}
-use Rattle.std.specs.Prelude.{Option, Some, None}
+use Rattle.std.specs.Prelude.{Option, Some, None, IsSomeAnd}
 use Rattle.std.specs.Io.KnownBytes.{Consumes}
+use Rattle.byte_streams.specs.Stands.{SourceStand}
 use Rattle.std.proofs.KnownBytes.{Consumes-trans}
 use Rattle.std.proofs.lemmas.List.{take-append-le, append-nil}
 use Rattle.httparse.specs.Grammar.{RequestHead}
@@ -80,16 +81,19 @@ asked_one bytes (asked.Refused one) (asked.Refused other) a b = ap asked.Refused
 -- ---- what a source held
 
 -- the bytes before, and those of the last read
-pub has_asked : (old mid new : Option (List ℕ)) (before block bytes seen : List ℕ) (it : Asked) → Consumes old mid before → Consumes mid new block
+pub has_asked : (old mid new : SourceStand) (before block bytes seen : List ℕ) (it : Asked) → Consumes old.remaining mid.remaining before → Consumes mid.remaining new.remaining block
     → bytes ≡ before ++ block → seen ≡ bytes → IsAsked seen it → HasAsked old new it
 has_asked old mid new before block bytes seen it first then joined same a = record {
   bytes = bytes;
-  given = subst (Consumes old new) (sym joined) (Consumes-trans old mid new before block first then);
+  given = subst (Consumes old.remaining new.remaining) (sym joined) (Consumes-trans old.remaining mid.remaining new.remaining before block first then);
   asks = subst (λ l. IsAsked l it) same a;
 }
 
-pub held_is_asked : (old new : Option (List ℕ)) (one other : Asked) → HasAsked old new one → Holds old other → one ≡ other
-held_is_asked None new one other a h = absurd h
-held_is_asked (Some input) None one other a h = absurd a.given
-held_is_asked (Some input) (Some rest) one other a h =
-    asked_one input one other (subst (λ l. IsAsked l one) (sym a.given) (asked_more a.bytes rest one a.asks)) h
+all_asked : (old new : Option (List ℕ)) (bytes : List ℕ) (one other : Asked) → Consumes old new bytes → IsAsked bytes one → IsSomeAnd old (λ all. IsAsked all other) → one ≡ other
+all_asked None new bytes one other given a h = absurd h
+all_asked (Some input) None bytes one other given a h = absurd given
+all_asked (Some input) (Some rest) bytes one other given a h =
+    asked_one input one other (subst (λ l. IsAsked l one) (sym given) (asked_more bytes rest one a)) h
+
+pub held_is_asked : (old new : SourceStand) (one other : Asked) → HasAsked old new one → Holds old other → one ≡ other
+held_is_asked old new one other a h = all_asked old.remaining new.remaining a.bytes one other a.given a.asks h

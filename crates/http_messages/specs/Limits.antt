@@ -12,7 +12,3 @@ field_limit = 64
 -- the most bytes of a body: 4 MiB
 abbrev pub body_limit : ℕ
 body_limit = 4194304
-
--- the most reads that a request may take
-abbrev pub most_reads : ℕ
-most_reads = 65536

@@ -1,7 +1,8 @@
 -- What was read of a request.
-use Rattle.std.specs.Prelude.{◌≡◌, ℕ, List, drop, length, Option, Some, None}
+use Rattle.std.specs.Prelude.{◌≡◌, ℕ, List, drop, length, IfSome, IsSomeAnd}
 use Rattle.std.specs.Io.KnownBytes.{Consumes, IsAtEnd}
 use Rattle.byte_streams.specs.Devices.{next_count}
+use Rattle.byte_streams.specs.Stands.{SourceStand}
 use Rattle.httparse.specs.Grammar.{RequestHead, print_request}
 use Rattle.http_messages.specs.declared.head.Head.{Head}
 use Rattle.http_messages.specs.declared.receiving.Asked.{Asked}
@@ -13,32 +14,35 @@ IsAsked bytes (asked.Request request) = Asks bytes request
 IsAsked bytes (asked.Refused refusal) = IsRefusedFor bytes refusal
 
 -- the bytes that a source holds are known, and they ask this
-abbrev pub Holds : Option (List ℕ) → Asked → Type 0
-Holds None asked = ⊥
-Holds (Some bytes) asked = IsAsked bytes asked
+abbrev pub Holds : SourceStand → Asked → Type 0
+Holds source asked = IsSomeAnd source.remaining (λ bytes. IsAsked bytes asked)
+
+-- the bytes that a source holds, where they are known, are a front of what may still be a request
+abbrev pub HoldsFront : SourceStand → Type 0
+HoldsFront source = IfSome source.remaining IsUnfinished
 
 -- the source gave these bytes, and they ask this
-pub record HasAsked (old new : Option (List ℕ)) (asked : Asked) : Type 0 where
+pub record HasAsked (old new : SourceStand) (asked : Asked) : Type 0 where
   pub bytes : List ℕ
-  pub given : Consumes old new bytes
+  pub given : Consumes old.remaining new.remaining bytes
   pub asks : IsAsked bytes asked
 
 -- the source gave bytes that are no whole request
-pub record HasGivenPart (old new : Option (List ℕ)) : Type 0 where
+pub record HasGivenPart (old new : SourceStand) : Type 0 where
   pub bytes : List ℕ
-  pub given : Consumes old new bytes
+  pub given : Consumes old.remaining new.remaining bytes
   pub unfinished : IsUnfinished bytes
 
 -- and has no more
-pub record HasEnded (old new : Option (List ℕ)) : Type 0 where
+pub record HasEnded (old new : SourceStand) : Type 0 where
   pub part : HasGivenPart old new
-  pub ended : IsAtEnd new
+  pub ended : IsAtEnd new.remaining
 
 -- the last read alone made it whole: what had been read before is a front of what may still be a request
-pub record IsWholeAtLastRead {S : Type 0} (remaining : S → Option (List ℕ)) (called : S → ℕ) (old new : S) : Type 0 where
+pub record IsWholeAtLastRead {S : Type 0} (stand : S → SourceStand) (old new : S) : Type 0 where
   pub before_last : S
-  pub part : HasGivenPart (remaining old) (remaining before_last)
-  pub last : called new ≡ next_count (called before_last)
+  pub part : HasGivenPart (stand old) (stand before_last)
+  pub last : (stand new).called ≡ next_count (stand before_last).called
 
 -- ---- on the way
 

@@ -45,7 +45,7 @@ refusal_reply refusal = plain (refusal_status refusal) (refusal_text refusal)
 
 -- the end of a line
 abbrev pub crlf : List ℕ
-crlf = 13 ∷ 10 ∷ []
+crlf = codes "\r\n"
 
 -- the standard reason phrase, empty where there is none
 unfoldable pub reason_of : ℕ → List ℕ

@@ -90,7 +90,8 @@ fn body_of_length(value: &[u8]) -> Framing
 }
 
 fn has_coding(fields: &[Header<'_>]) -> bool
-    ensures { result ≡ list_any (is_named (codes "transfer-encoding")) (map header_parts fields.now) }
+    ensures { result ≡ list_any (is_named (codes "transfer-encoding"))
+        (map header_parts fields.now) }
 {
     for field in fields {
         if is_named(field, "transfer-encoding") {
@@ -102,7 +103,8 @@ fn has_coding(fields: &[Header<'_>]) -> bool
 
 // The length that `fields` state: that of the one Content-Length (RFC 9112, section 6.3).
 fn stated_by(fields: &[Header<'_>]) -> Framing
-    ensures { result ≡ stated_by (filter (is_named (codes "content-length")) (map header_parts fields.now)) }
+    ensures { result ≡ stated_by
+        (filter (is_named (codes "content-length")) (map header_parts fields.now)) }
 {
     let mut said = Framing::Refused(Refusal::LengthRequired);
     let mut any = false;

@@ -5,5 +5,6 @@ ghost use Rattle.http_messages.specs.Received.{IsAsked};
 
 /// Bytes ask at most one request, or are refused for one reason, and never both.
 pub fn bytes_ask_one_thing()
-    ensures { (bytes : List ℕ) (one other : Question) → IsAsked bytes one → IsAsked bytes other → one ≡ other }
+    ensures { (bytes : List ℕ) (one other : Question) → IsAsked bytes one → IsAsked bytes other →
+        one ≡ other }
 {}

@@ -1,10 +1,8 @@
 //! A request, read from a source.
 ghost use Rattle.std.specs.Prelude.{◌≡◌, ◌≤◌, ◌+◌, List, ℕ, length, take, drop, Some, Ok, Err, IfOk, IfErr, IfSome, IsErrOf};
-ghost use Rattle.byte_streams.specs.Stands.{source_stand};
 ghost use Rattle.http_messages.specs.declared.receiving.Asked.{Asked as Question};
 ghost use Rattle.http_messages.specs.Requests.{IsUnfinished};
-ghost use Rattle.http_messages.specs.Limits.{most_reads};
-ghost use Rattle.http_messages.specs.Received.{IsHeadAt, Holds, HasAsked, HasEnded, HasGivenPart, IsWholeAtLastRead};
+ghost use Rattle.http_messages.specs.Received.{IsHeadAt, Holds, HoldsFront, HasAsked, HasEnded, HasGivenPart, IsWholeAtLastRead};
 ghost use Rattle.http_messages.specs.Inner.Received.{IsJudgedAs, IsStep};
 ghost use Rattle.byte_streams.specs.Fair.{IsFairToSource, GaveAtEachButLast};
 
@@ -12,11 +10,8 @@ use crate::arriving::{Arrived, Arriving};
 use crate::head::{Framing, Head, HeadRead, MAX_HEAD_BYTES, read_head};
 use crate::message::{Body, Request};
 use crate::refusal::Refusal;
-use byte_streams::{READ_ROOM, Source};
+use byte_streams::{MAX_READS, READ_ROOM, Source};
 use std::alloc::{AllocError, AllocFailed, Global};
-
-/// How many reads a request may take.
-pub const MAX_READS: u64 = 65_536;
 
 /// What was asked.
 #[derive(Drop)]
@@ -117,7 +112,11 @@ pub(crate) fn look(alloc: Global, bytes: &[u8], head: Option<Head>) -> Result<St
 /// The request of `head`, at the front of `bytes`, whose body is the next `count` bytes.
 pub(crate) fn request_of(bytes: Vec<u8>, head: Head, count: usize) -> Request
     requires { head.len + count ≤ length bytes.items }
-    ensures { result ≡ record { method = head.method; target = head.target; body = take count (drop head.len bytes.items) } }
+    ensures { result ≡ record {
+      method = head.method;
+      target = head.target;
+      body = take count (drop head.len bytes.items);
+    } }
 {
     let end = head.len + count;
     Request {
@@ -139,21 +138,26 @@ pub(crate) fn request_of(bytes: Vec<u8>, head: Head, count: usize) -> Request
 /// }
 /// ```
 pub fn receive<S: Source>(alloc: Global, source: &mut S) -> Result<Asked, ReceiveFault>
-    ensures asked { IfOk result (λ asked. HasAsked (S.remaining source.old) (S.remaining source.new) asked) }
-    ensures ended { IsErrOf result ReceiveFault.Ended → HasEnded (S.remaining source.old) (S.remaining source.new) }
-    ensures unfinished { IsErrOf result ReceiveFault.TooManyReads → HasGivenPart (S.remaining source.old) (S.remaining source.new) }
+    ensures asked { IfOk result (HasAsked (S.stand source.old) (S.stand source.new)) }
+    ensures ended { IsErrOf result ReceiveFault.Ended →
+        HasEnded (S.stand source.old) (S.stand source.new) }
+    ensures unfinished { IsErrOf result ReceiveFault.TooManyReads →
+        HasGivenPart (S.stand source.old) (S.stand source.new) }
 
     // However the source cuts its bytes: what all that it holds asks is answered, and it doesn't end where that is a whole
     // request.
-    ensures whole { (it : Question) → Holds (S.remaining source.old) it → IfOk result (λ asked. asked ≡ it) }
-    ensures held { IsErrOf result ReceiveFault.Ended → IfSome (S.remaining source.old) IsUnfinished }
+    ensures whole { (it : Question) → Holds (S.stand source.old) it →
+        IfOk result (λ asked. asked ≡ it) }
+    ensures held { IsErrOf result ReceiveFault.Ended → HoldsFront (S.stand source.old) }
 
     // Nothing is read past it: no read follows the one that makes the request whole, or shows that it is refused.
-    ensures nothing_past { IfOk result (λ _. IsWholeAtLastRead S.remaining S.called source.old source.new) }
+    ensures nothing_past { IfOk result (λ _. IsWholeAtLastRead S.stand source.old source.new) }
 
     // A source is blamed exactly where it failed, and is left alone then, and at its end too.
-    ensures source { IsFairToSource ReceiveFault.Read ReceiveFault.TooManyReads most_reads result (source_stand S.remaining S.called S.failed source.old) (source_stand S.remaining S.called S.failed source.new) }
-    ensures to_end { IsErrOf result ReceiveFault.Ended → GaveAtEachButLast (source_stand S.remaining S.called S.failed source.old) (source_stand S.remaining S.called S.failed source.new) }
+    ensures source { IsFairToSource ReceiveFault.Read ReceiveFault.TooManyReads result
+        (S.stand source.old) (S.stand source.new) }
+    ensures to_end { IsErrOf result ReceiveFault.Ended →
+        GaveAtEachButLast (S.stand source.old) (S.stand source.new) }
 {
     let mut arriving = Arriving::new(alloc);
     let mut block = [0u8; READ_ROOM];

@@ -1,49 +1,33 @@
 //! A reply, written to a sink.
-ghost use Rattle.std.specs.Prelude.{◌≡◌, ◌++◌, [], true, OnOk, OnErr};
-ghost use Rattle.std.specs.Io.KnownBytes.{Appends};
-ghost use Rattle.byte_streams.specs.Devices.{FailedAtLast, NoneFailed};
-ghost use Rattle.byte_streams.specs.Handed.{TookFront};
-ghost use Rattle.http_messages.specs.Replies.{head_text, text_sent, body_sent, sends_body};
+ghost use Rattle.std.specs.Prelude.{◌≡◌, ◌++◌, OnOk, OnErr};
+ghost use Rattle.byte_streams.specs.Stands.{TookAll, FailedAfterFront};
+ghost use Rattle.http_messages.specs.Replies.{text_sent, body_sent, sends_body};
 
+use crate::block::{Block, fill};
 use crate::message::Reply;
 use crate::reply_head::head_of;
-use arrayvec::ArrayVec;
 use byte_streams::{Sink, SinkFailed, hand_out};
 use http::Method;
 
-// A reply of at most so many bytes is handed out in one write.
-const BLOCK: usize = 8192;
-
 // Hands out a head and then a body.
 fn hand_out_both<K: Sink>(head: &[u8], body: &[u8], sink: &mut K) -> Result<(), SinkFailed>
-    ensures ok { OnOk result (Appends (K.contents sink.old) (K.contents sink.new) (head.now ++ body.now)) }
-    ensures err { OnErr result (TookFront (K.contents sink.old) (K.contents sink.new) (head.now ++ body.now)) }
-    ensures unfailed { OnOk result (NoneFailed (K.failed sink.old) (K.failed sink.new)) }
-    ensures failed { OnErr result (FailedAtLast (K.failed sink.old) (K.failed sink.new)) }
+    ensures ok { OnOk result (TookAll (K.stand sink.old) (K.stand sink.new)
+        (head.now ++ body.now)) }
+    ensures err { OnErr result (FailedAfterFront (K.stand sink.old) (K.stand sink.new)
+        (head.now ++ body.now)) }
 {
     hand_out(head, sink)?;
     hand_out(body, sink)
 }
 
-// Puts two texts into an empty block. Whether they fit.
-fn fill(block: &mut ArrayVec<u8, BLOCK>, head: &[u8], body: &[u8]) -> bool
-    requires { block.old.items ≡ [] }
-    ensures { result ≡ true → block.new.items ≡ head.now ++ body.now }
-{
-    if block.try_extend_from_slice(head).is_err() {
-        return false;
-    }
-    block.try_extend_from_slice(body).is_ok()
-}
-
 // Hands out a head and a body, in one write where a block has room for both.
 fn hand_out_at_once<K: Sink>(head: &[u8], body: &[u8], sink: &mut K) -> Result<(), SinkFailed>
-    ensures ok { OnOk result (Appends (K.contents sink.old) (K.contents sink.new) (head.now ++ body.now)) }
-    ensures err { OnErr result (TookFront (K.contents sink.old) (K.contents sink.new) (head.now ++ body.now)) }
-    ensures unfailed { OnOk result (NoneFailed (K.failed sink.old) (K.failed sink.new)) }
-    ensures failed { OnErr result (FailedAtLast (K.failed sink.old) (K.failed sink.new)) }
+    ensures ok { OnOk result (TookAll (K.stand sink.old) (K.stand sink.new)
+        (head.now ++ body.now)) }
+    ensures err { OnErr result (FailedAfterFront (K.stand sink.old) (K.stand sink.new)
+        (head.now ++ body.now)) }
 {
-    let mut block = ArrayVec::<u8, BLOCK>::new();
+    let mut block = Block::new();
     if fill(&mut block, head, body) {
         return hand_out(block.as_slice(), sink);
     }
@@ -67,10 +51,10 @@ pub(crate) fn body_sent(reply: &Reply, with_body: bool) -> &[u8]
 /// Writes `reply` to `sink`, with its body if `with_body`. `SinkFailed` if a write fails or takes nothing: `sink` has
 /// then taken a front of it. Takes no memory.
 pub fn send<K: Sink>(reply: &Reply, with_body: bool, sink: &mut K) -> Result<(), SinkFailed>
-    ensures ok { OnOk result (Appends (K.contents sink.old) (K.contents sink.new) (text_sent with_body reply.now)) }
-    ensures err { OnErr result (TookFront (K.contents sink.old) (K.contents sink.new) (text_sent with_body reply.now)) }
-    ensures unfailed { OnOk result (NoneFailed (K.failed sink.old) (K.failed sink.new)) }
-    ensures failed { OnErr result (FailedAtLast (K.failed sink.old) (K.failed sink.new)) }
+    ensures ok { OnOk result (TookAll (K.stand sink.old) (K.stand sink.new)
+        (text_sent with_body reply.now)) }
+    ensures err { OnErr result (FailedAfterFront (K.stand sink.old) (K.stand sink.new)
+        (text_sent with_body reply.now)) }
 {
     let head = head_of(reply);
     let body = body_sent(reply, with_body);

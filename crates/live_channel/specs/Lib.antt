@@ -3,3 +3,4 @@ pub mod ChannelLaws
 pub mod GivenLaws
 pub mod Inner
 pub mod LastText
+pub mod FaultTexts

@@ -1,5 +1,5 @@
 //! A live channel: what it keeps, and what holds of it whatever it was given.
-ghost use Rattle.std.specs.Prelude.{◌≡◌, ◌<◌, ◌≤◌, ℕ, List, [], Some, None, IfOk, IsErrOf, IsSome, option_map, slice_get};
+ghost use Rattle.std.specs.Prelude.{◌≡◌, ◌<◌, ◌≤◌, ℕ, List, [], Some, None, IfOk, IsErrOf, IsSome, length, option_map, slice_get};
 ghost use Rattle.std.specs.Option.{option_copied};
 ghost use Rattle.playlist_model.specs.Uri.{base_of};
 ghost use Rattle.live_channel.specs.Channel.{decided, withdrawn, ChangesStore, ChangesStoreExactly, after_bytes, StandsOn, AlwaysStandsOn, Represents, Decides, Withdraws, Writes, Refreshes, Knows, Explains, explained};
@@ -23,11 +23,14 @@ use playlist_parse::{Read, Source};
 use playlist_write::resumed::WrittenText;
 use pod_store::{DecisionFault, PodStore};
 use std::alloc::{AllocError, Global};
+use std::error::Error;
+use std::fmt;
 use std::hash::RandomState;
 use std::marker::Model;
 use uri_resolver::{Base, BaseFault};
 
-/// What an accepted refresh did.
+/// What an accepted refresh did. `adsplice` drops it: the test driver prints it, and so may a program of one's own
+/// (docs/LIBRARY.md).
 #[derive(Clone, Copy, PartialEq, Eq, Debug)]
 pub struct Refreshed {
     /// The first media sequence number that is written.
@@ -75,6 +78,35 @@ pub enum ChannelFault {
     /// C3: an allocation failed.
     OutOfMemory,
 }
+
+impl ChannelFault {
+    ghost use Rattle.live_channel.specs.FaultTexts.{channel_fault_text};
+
+    /// The code and the name, as `C1 BadBase`.
+    pub fn text(self) -> &'static str
+        ensures text { result.now ≡ channel_fault_text self }
+        ensures short { length result.now ≤ 15 }
+    {
+        match self {
+            ChannelFault::BadBase => "C1 BadBase",
+            ChannelFault::BadTolerance => "C2 BadTolerance",
+            ChannelFault::OutOfMemory => "C3 OutOfMemory",
+        }
+    }
+}
+
+/// The fault's code and name.
+impl fmt::Display for ChannelFault {
+    ghost use Rattle.live_channel.specs.FaultTexts.{channel_fault_text};
+
+    ghost output = { λ fault. Some (channel_fault_text fault) };
+
+    fn fmt<W: fmt::Write>(&self, f: &mut fmt::Formatter<W>) -> fmt::Result {
+        f.write_str(self.text())
+    }
+}
+
+impl Error for ChannelFault {}
 
 // Why a break is filled or not, where this playlist was accepted last.
 fn why_after(knowledge: &Knowledge, store: &PodStore, last: &Playlist, id: &str) -> Why

@@ -40,7 +40,8 @@ fn push_iv(out: &mut String, iv: Option<u128>) -> Result<(), AllocError>
 
 // The same, and ends the line.
 fn push_iv_and_feed(out: &mut String, iv: Option<u128>) -> Result<(), AllocError>
-    ensures { Appends result out.old out.new (quote ∷ after_commas (iv_pairs iv) ++ line_feed ∷ []) }
+    ensures { Appends result out.old out.new
+        (quote ∷ after_commas (iv_pairs iv) ++ line_feed ∷ []) }
 {
     match iv {
         Some(iv) => push_last_iv(out, iv),
@@ -115,7 +116,8 @@ fn push_keys(out: &mut String, keys: &Keys) -> Result<(), AllocError>
 }
 
 fn push_new_keys(out: &mut String, old: &Keys, new: &Keys) -> Result<(), AllocError>
-    ensures { Appends result out.old out.new (said_text (set_tags (filter (is_new_key old.now) new.now))) }
+    ensures { Appends result out.old out.new
+        (said_text (set_tags (filter (is_new_key old.now) new.now))) }
 {
     for key in new.iter() {
         if is_new_key(old, &key) {

@@ -95,13 +95,18 @@ fn front_of(alloc: Global, room: usize, playlist: &OutPlaylist<'_>) -> Result<St
 
 // Adds the end to what is held, and hands all of it out.
 fn write_end<S: Sink>(held: &mut String, ended: bool, sink: &mut S) -> Result<(), WriteFault>
-    ensures ok { OnOk result (Appends (S.contents sink.old) (S.contents sink.new) (string_bytes held.old ++ said_text (ended_owed ended))) }
-    ensures err { OnErr result (TookFront (S.contents sink.old) (S.contents sink.new) (string_bytes held.old ++ said_text (ended_owed ended))) }
-    ensures unfailed { OnOk result (NoneFailed (S.failed sink.old) (S.failed sink.new)) }
+    ensures ok { OnOk result
+        (Appends (S.stand sink.old).contents (S.stand sink.new).contents
+        (string_bytes held.old ++ said_text (ended_owed ended))) }
+    ensures err { OnErr result
+        (TookFront (S.stand sink.old).contents (S.stand sink.new).contents
+        (string_bytes held.old ++ said_text (ended_owed ended))) }
+    ensures unfailed { OnOk result
+        (NoneFailed (S.stand sink.old).failed (S.stand sink.new).failed) }
     ensures io { IsErrOf result WriteFault.Io
-        → FailedAtLast (S.failed sink.old) (S.failed sink.new) }
+        → FailedAtLast (S.stand sink.old).failed (S.stand sink.new).failed }
     ensures memory { IsErrOf result WriteFault.OutOfMemory
-        → NoneFailed (S.failed sink.old) (S.failed sink.new) }
+        → NoneFailed (S.stand sink.old).failed (S.stand sink.new).failed }
 {
     push_end(held, ended)?;
     Ok(hand_out(held.as_bytes(), sink)?)
@@ -113,13 +118,18 @@ fn write_text<S: Sink>(
     playlist: &OutPlaylist<'_>,
     sink: &mut S,
 ) -> Result<(), WriteFault>
-    ensures ok { OnOk result (Appends (S.contents sink.old) (S.contents sink.new) (playlist_text playlist.now)) }
-    ensures err { OnErr result (TookFront (S.contents sink.old) (S.contents sink.new) (playlist_text playlist.now)) }
-    ensures unfailed { OnOk result (NoneFailed (S.failed sink.old) (S.failed sink.new)) }
+    ensures ok { OnOk result
+        (Appends (S.stand sink.old).contents (S.stand sink.new).contents
+        (playlist_text playlist.now)) }
+    ensures err { OnErr result
+        (TookFront (S.stand sink.old).contents (S.stand sink.new).contents
+        (playlist_text playlist.now)) }
+    ensures unfailed { OnOk result
+        (NoneFailed (S.stand sink.old).failed (S.stand sink.new).failed) }
     ensures io { IsErrOf result WriteFault.Io
-        → FailedAtLast (S.failed sink.old) (S.failed sink.new) }
+        → FailedAtLast (S.stand sink.old).failed (S.stand sink.new).failed }
     ensures memory { IsErrOf result WriteFault.OutOfMemory
-        → NoneFailed (S.failed sink.old) (S.failed sink.new) }
+        → NoneFailed (S.stand sink.old).failed (S.stand sink.new).failed }
 {
     let mut held = front_of(alloc, PIECE_ROOM, playlist)?;
     write_date_ranges(&mut held, playlist.date_ranges.as_slice(), sink)?;
@@ -142,19 +152,24 @@ pub fn write<S: Sink>(
     playlist: &OutPlaylist<'_>,
     sink: &mut S,
 ) -> Result<(), WriteFault>
-    ensures ok { OnOk result (Appends (S.contents sink.old) (S.contents sink.new) (playlist_text playlist.now)) }
-    ensures err { OnErr result (TookFront (S.contents sink.old) (S.contents sink.new) (playlist_text playlist.now)) }
+    ensures ok { OnOk result
+        (Appends (S.stand sink.old).contents (S.stand sink.new).contents
+        (playlist_text playlist.now)) }
+    ensures err { OnErr result
+        (TookFront (S.stand sink.old).contents (S.stand sink.new).contents
+        (playlist_text playlist.now)) }
 
     // The text of a playlist that is well formed is read as that playlist, whatever the base.
     ensures denotes { well_formed playlist.now ≡ true
         → (base : Parts) → Denotes base (playlist_text playlist.now) (denoted playlist.now) }
 
     // The sink is blamed exactly where a write failed or took nothing, and that write is the last: never for a failed allocation.
-    ensures unfailed { OnOk result (NoneFailed (S.failed sink.old) (S.failed sink.new)) }
+    ensures unfailed { OnOk result
+        (NoneFailed (S.stand sink.old).failed (S.stand sink.new).failed) }
     ensures io { IsErrOf result WriteFault.Io
-        → FailedAtLast (S.failed sink.old) (S.failed sink.new) }
+        → FailedAtLast (S.stand sink.old).failed (S.stand sink.new).failed }
     ensures memory { IsErrOf result WriteFault.OutOfMemory
-        → NoneFailed (S.failed sink.old) (S.failed sink.new) }
+        → NoneFailed (S.stand sink.old).failed (S.stand sink.new).failed }
 {
     write_text(alloc, playlist, sink)
 }

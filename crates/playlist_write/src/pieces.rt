@@ -23,10 +23,16 @@ pub const PIECE_ROOM: usize = PIECE_BYTES + 4_096;
 
 // Hands out what is held, once it is a piece, and then holds nothing.
 fn hand_out_piece<S: Sink>(held: &mut String, sink: &mut S) -> Result<(), SinkFailed>
-    ensures ok { OnOk result (TookAllBut (S.contents sink.old) (S.contents sink.new) (string_bytes held.new) (string_bytes held.old)) }
-    ensures err { OnErr result (TookFront (S.contents sink.old) (S.contents sink.new) (string_bytes held.old)) }
-    ensures unfailed { OnOk result (NoneFailed (S.failed sink.old) (S.failed sink.new)) }
-    ensures failed { OnErr result (FailedAtLast (S.failed sink.old) (S.failed sink.new)) }
+    ensures ok { OnOk result
+        (TookAllBut (S.stand sink.old).contents (S.stand sink.new).contents (string_bytes held.new)
+        (string_bytes held.old)) }
+    ensures err { OnErr result
+        (TookFront (S.stand sink.old).contents (S.stand sink.new).contents
+        (string_bytes held.old)) }
+    ensures unfailed { OnOk result
+        (NoneFailed (S.stand sink.old).failed (S.stand sink.new).failed) }
+    ensures failed { OnErr result
+        (FailedAtLast (S.stand sink.old).failed (S.stand sink.new).failed) }
 
     // Less than a piece is held then.
     ensures short { OnOk result (length (string_bytes held.new) < PIECE_BYTES) }
@@ -46,13 +52,18 @@ pub fn write_date_ranges<S: Sink>(
     date_ranges: &[TextRef<'_>],
     sink: &mut S,
 ) -> Result<(), WriteFault>
-    ensures ok { OnOk result (TookAllBut (S.contents sink.old) (S.contents sink.new) (string_bytes held.new) (string_bytes held.old ++ date_ranges_text date_ranges.now)) }
-    ensures err { OnErr result (TookFront (S.contents sink.old) (S.contents sink.new) (string_bytes held.old ++ date_ranges_text date_ranges.now)) }
-    ensures unfailed { OnOk result (NoneFailed (S.failed sink.old) (S.failed sink.new)) }
+    ensures ok { OnOk result
+        (TookAllBut (S.stand sink.old).contents (S.stand sink.new).contents (string_bytes held.new)
+        (string_bytes held.old ++ date_ranges_text date_ranges.now)) }
+    ensures err { OnErr result
+        (TookFront (S.stand sink.old).contents (S.stand sink.new).contents
+        (string_bytes held.old ++ date_ranges_text date_ranges.now)) }
+    ensures unfailed { OnOk result
+        (NoneFailed (S.stand sink.old).failed (S.stand sink.new).failed) }
     ensures io { IsErrOf result WriteFault.Io
-        → FailedAtLast (S.failed sink.old) (S.failed sink.new) }
+        → FailedAtLast (S.stand sink.old).failed (S.stand sink.new).failed }
     ensures memory { IsErrOf result WriteFault.OutOfMemory
-        → NoneFailed (S.failed sink.old) (S.failed sink.new) }
+        → NoneFailed (S.stand sink.old).failed (S.stand sink.new).failed }
 {
     for date_range in date_ranges {
         push_date_range(held, date_range.as_str())?;
@@ -69,13 +80,18 @@ pub fn write_segments<S: Sink>(
     segments: StitchedItems<'_>,
     sink: &mut S,
 ) -> Result<(), WriteFault>
-    ensures ok { OnOk result (TookAllBut (S.contents sink.old) (S.contents sink.new) (string_bytes held.new) (string_bytes held.old ++ said_text (segments_owed none_yet segments.entry))) }
-    ensures err { OnErr result (TookFront (S.contents sink.old) (S.contents sink.new) (string_bytes held.old ++ said_text (segments_owed none_yet segments.entry))) }
-    ensures unfailed { OnOk result (NoneFailed (S.failed sink.old) (S.failed sink.new)) }
+    ensures ok { OnOk result
+        (TookAllBut (S.stand sink.old).contents (S.stand sink.new).contents (string_bytes held.new)
+        (string_bytes held.old ++ said_text (segments_owed none_yet segments.entry))) }
+    ensures err { OnErr result
+        (TookFront (S.stand sink.old).contents (S.stand sink.new).contents
+        (string_bytes held.old ++ said_text (segments_owed none_yet segments.entry))) }
+    ensures unfailed { OnOk result
+        (NoneFailed (S.stand sink.old).failed (S.stand sink.new).failed) }
     ensures io { IsErrOf result WriteFault.Io
-        → FailedAtLast (S.failed sink.old) (S.failed sink.new) }
+        → FailedAtLast (S.stand sink.old).failed (S.stand sink.new).failed }
     ensures memory { IsErrOf result WriteFault.OutOfMemory
-        → NoneFailed (S.failed sink.old) (S.failed sink.new) }
+        → NoneFailed (S.stand sink.old).failed (S.stand sink.new).failed }
 {
     let mut segments = segments;
     let mut times = TimeWriter::new();

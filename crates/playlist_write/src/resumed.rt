@@ -81,7 +81,9 @@ fn push_next<'a>(
     before: &InForce<'a>,
     next: &OutSegment<'a>,
 ) -> Result<InForce<'a>, AllocError>
-    ensures text { OnOk result (string_bytes out.new ≡ string_bytes out.old ++ said_text (segment_owed before.now next.now)) }
+    ensures text { OnOk result
+        (string_bytes out.new ≡ string_bytes out.old
+        ++ said_text (segment_owed before.now next.now)) }
     ensures force { IfOk result (λ f. f ≡ after_segment before.now next.now) }
 {
     push_segment(
@@ -103,7 +105,9 @@ fn push_first<'a>(
     segments: StitchedItems<'a>,
     most: usize,
 ) -> Result<InForce<'a>, AllocError>
-    ensures text { OnOk result (string_bytes out.new ≡ string_bytes out.old ++ said_text (segments_owed before.entry (take most segments.entry))) }
+    ensures text { OnOk result
+        (string_bytes out.new ≡ string_bytes out.old
+        ++ said_text (segments_owed before.entry (take most segments.entry))) }
     ensures force { IfOk result (λ f. f ≡ after_segments before.entry (take most segments.entry)) }
 {
     let mut segments = segments;
@@ -128,7 +132,9 @@ fn push_all<'a>(
     before: InForce<'a>,
     segments: StitchedItems<'a>,
 ) -> Result<InForce<'a>, AllocError>
-    ensures text { OnOk result (string_bytes out.new ≡ string_bytes out.old ++ said_text (segments_owed before.entry segments.entry)) }
+    ensures text { OnOk result
+        (string_bytes out.new ≡ string_bytes out.old
+        ++ said_text (segments_owed before.entry segments.entry)) }
     ensures force { IfOk result (λ f. f ≡ after_segments before.entry segments.entry) }
 {
     let mut segments = segments;
@@ -248,7 +254,8 @@ pub fn front_length(
 
 // The lines of a text's segments, less their first `length` bytes.
 fn lines_after(last: &WrittenText, length: usize) -> Option<&str>
-    ensures { IfSome result (λ lines. lines.now ≡ drop (last.now.from + length) (take last.now.till last.now.text)) }
+    ensures { IfSome result
+        (λ lines. lines.now ≡ drop (last.now.from + length) (take last.now.till last.now.text)) }
 {
     let from = last.from.checked_add(length)?;
     let (lines, _) = last.text.as_str().split_at_checked(last.till)?;
@@ -265,10 +272,18 @@ fn joined(
     lines: &str,
     fresh: StitchedItems<'_>,
 ) -> Result<WrittenText, AllocError>
-    ensures text { IfOk result (λ w. w.text ≡ front_text playlist.now ++ ((said_text (segments_owed none_yet (take 1 playlist.now.segments)) ++ (lines.now ++ said_text (segments_owed (current_of last.now) fresh.entry))) ++ said_text (ended_owed playlist.now.end_list))) }
+    ensures text { IfOk result
+        (λ w. w.text ≡ front_text playlist.now
+        ++ ((said_text (segments_owed none_yet (take 1 playlist.now.segments))
+        ++ (lines.now ++ said_text (segments_owed (current_of last.now) fresh.entry)))
+        ++ said_text (ended_owed playlist.now.end_list))) }
     ensures from { IfOk result (λ w. w.from ≡ length (front_text playlist.now)) }
-    ensures till { IfOk result (λ w. w.till ≡ length (front_text playlist.now ++ (said_text (segments_owed none_yet (take 1 playlist.now.segments)) ++ (lines.now ++ said_text (segments_owed (current_of last.now) fresh.entry))))) }
-    ensures end { IfOk result (λ w. current_of w ≡ after_segments (current_of last.now) fresh.entry) }
+    ensures till { IfOk result
+        (λ w. w.till ≡ length (front_text playlist.now
+        ++ (said_text (segments_owed none_yet (take 1 playlist.now.segments))
+        ++ (lines.now ++ said_text (segments_owed (current_of last.now) fresh.entry))))) }
+    ensures end { IfOk result
+        (λ w. current_of w ≡ after_segments (current_of last.now) fresh.entry) }
 {
     let mut text = all_before(alloc, playlist)?;
     let from = length_of(&text);

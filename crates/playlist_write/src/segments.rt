@@ -50,7 +50,8 @@ fn changed_init_section<'a>(
     current: Option<&InitSection>,
     init_section: &'a Option<Shared<InitSection>>,
 ) -> Option<&'a InitSection>
-    ensures { option_copied result ≡ changed_init_section (option_copied current.entry) init_section.now }
+    ensures { option_copied result
+        ≡ changed_init_section (option_copied current.entry) init_section.now }
 {
     match init_section {
         Some(new) => {
@@ -81,7 +82,8 @@ fn push_changed_init_section(
     keys: &Keys,
     changed: Option<&InitSection>,
 ) -> Result<(), AllocError>
-    ensures { Appends result out.old out.new (said_text (init_section_owed keys.now (option_copied changed.entry))) }
+    ensures { Appends result out.old out.new
+        (said_text (init_section_owed keys.now (option_copied changed.entry))) }
 {
     if let Some(init_section) = changed {
         push_key_tags(out, keys, &init_section.keys)?;
@@ -136,7 +138,8 @@ pub fn push_duration(out: &mut String, duration: Nanos, title: &str) -> Result<(
 }
 
 fn push_byte_range_line(out: &mut String, byte_range: ByteRange) -> Result<(), AllocError>
-    ensures { Appends result out.old out.new (line_of (Said.byte_range byte_range.length (Some byte_range.offset))) }
+    ensures { Appends result out.old out.new
+        (line_of (Said.byte_range byte_range.length (Some byte_range.offset))) }
 {
     out.push_str("#EXT-X-BYTERANGE:")?;
     push_byte_range(out, byte_range)?;

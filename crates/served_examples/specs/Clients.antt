@@ -1,9 +1,8 @@
 -- Many clients at once: who is given up for whom, what was said and taken, and the limits.
-use Rattle.std.specs.Prelude.{ℕ, ◌-◌, ◌^◌, true, false, List, [], ◌∷◌, codes, Option, Some, None}
+use Rattle.std.specs.Prelude.{ℕ, ◌-◌, ◌^◌, true, false, List, [], ◌∷◌, codes, Some, None}
 use Rattle.std.specs.declared.time.Instant.{Instant}
-use Rattle.byte_streams.specs.Devices.{Failures, one_more}
-use Rattle.byte_streams.specs.Stands.{source_stand, sink_stand}
-use Rattle.connections.specs.Devices.{Calls, one_call, device_stand}
+use Rattle.byte_streams.specs.Devices.{one_more}
+use Rattle.connections.specs.Devices.{one_call}
 use Rattle.connections.specs.declared.devices.Passage.TheVariants.{WouldWait, HasFailed}
 use Rattle.connections.specs.declared.arrivals.Arrival.{Arrival}
 use Rattle.connections.specs.declared.conversation.Conversation.TheVariants.{Asking, Answering}
@@ -78,22 +77,3 @@ abbrev pub FailuresAreCounted : Type 0
 FailuresAreCounted = Gives one_more (
     (record { count = 5; last = false }, record { count = 6; last = true })
     ∷ (record { count = 2 ^ 64 - 1; last = true }, record { count = 2 ^ 64 - 1; last = true }) ∷ [])
-
--- a device that is told by a number: it has that byte, was called as often, and failed as often
-abbrev pub byte_of : ℕ → Option (List ℕ)
-byte_of n = Some (n ∷ [])
-
-abbrev pub calls_of : ℕ → Calls
-calls_of n = record { count = n; last = None }
-
-abbrev pub failures_of : ℕ → Failures
-failures_of n = record { count = n; last = true }
-
-abbrev pub DevicesStand : Type 0
-DevicesStand = Gives (device_stand byte_of calls_of) ((5, record { bytes = Some (5 ∷ []); calls = record { count = 5; last = None } }) ∷ [])
-
-abbrev pub SourcesStand : Type 0
-SourcesStand = Gives (source_stand byte_of (λ (n : ℕ). n) failures_of) ((5, record { remaining = Some (5 ∷ []); called = 5; failed = record { count = 5; last = true } }) ∷ [])
-
-abbrev pub SinksStand : Type 0
-SinksStand = Gives (sink_stand byte_of failures_of) ((5, record { contents = Some (5 ∷ []); failed = record { count = 5; last = true } }) ∷ [])

@@ -6,7 +6,7 @@ use Rattle.http_messages.specs.declared.message.ContentType.TheVariants.{Playlis
 use Rattle.http_messages.specs.declared.refusal.Refusal.TheVariants.{BadRequest, LengthRequired, TooLarge}
 use Rattle.http_messages.specs.declared.head.Framing.{Framing}
 use Rattle.http_messages.specs.declared.head.Framing.TheVariants.{Body, Refused}
-use Rattle.http_messages.specs.Limits.{head_limit, field_limit, body_limit, most_reads}
+use Rattle.http_messages.specs.Limits.{head_limit, field_limit, body_limit}
 use Rattle.http_messages.specs.Requests.{Field, framing_of, framing_said}
 use Rattle.http_messages.specs.Replies.{bare, plain, refusal_reply, sends_body, text_sent}
 use Rattle.channel_api.specs.declared.routes.Resource.TheVariants.{Channel, Origin, Decisions, Live, Why}
@@ -64,7 +64,7 @@ BodiesAreFramed = Gives framing (
 
 -- docs/OPERATING.md: 16,384 bytes and 64 fields of a head, 4,194,304 bytes of a body, 65,536 reads
 abbrev pub MessagesAreLimited : Type 0
-MessagesAreLimited = Gives (λ (n : ℕ). n) ((head_limit, 16384) ∷ (field_limit, 64) ∷ (body_limit, 4194304) ∷ (most_reads, 65536) ∷ [])
+MessagesAreLimited = Gives (λ (n : ℕ). n) ((head_limit, 16384) ∷ (field_limit, 64) ∷ (body_limit, 4194304) ∷ [])
 
 -- each line with CR and LF
 abbrev pub lines : List (List ℕ) → List ℕ

@@ -16,7 +16,7 @@ use Rattle.playlist_model.specs.declared.Key.{Key}
 use Rattle.read_is_writable.specs.Read.{uris_are_text}
 use Rattle.vod_run.specs.Events as vod
 use Rattle.vod_run.specs.Given.{given_by}
-use Rattle.vod_run.specs.Runs.{most_reads}
+use Rattle.byte_streams.specs.Fair.{most_reads}
 use Rattle.vod_run.specs.Vod.{read_under, told_with}
 use Rattle.worked_examples.specs.Channels.{b, decide_b, plays, segments}
 use Rattle.worked_examples.specs.Playlists.{text}

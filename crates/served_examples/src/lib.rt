@@ -5,7 +5,7 @@
 
 ghost use Rattle.served_examples.specs.Requests.{NamesAreChecked, QueriesArePassedOver, RoutesAreFound, OtherPathsAreNone, BodiesAreFramed, HeadsAreFramed, MessagesAreLimited, RepliesAreWritten, HeadsAreSent, HeadRepliesAreWritten};
 ghost use Rattle.served_examples.specs.Answers.{ChannelsAreMade, RefreshesAreAnswered, PlaylistsAreRead, DecisionsAreAnswered, ReasonsAreAnswered, TablesAreLimited, ChannelsAreApart, RequestsAreServed, RequestsWereAsked, RequestsWereAnswered};
-ghost use Rattle.served_examples.specs.Clients.{ClientsAreLimited, PlacesAreGiven, RepliesAreGivenUpLast, RoomIsGiven, BytesAreHeld, RepliesAreLeft, BytesAreTaken, VisitsAreCounted, WordsAreSaid, TakenIsCounted, PiecesAreJoined, CallsAreCounted, FailuresAreCounted, DevicesStand, SourcesStand, SinksStand};
+ghost use Rattle.served_examples.specs.Clients.{ClientsAreLimited, PlacesAreGiven, RepliesAreGivenUpLast, RoomIsGiven, BytesAreHeld, RepliesAreLeft, BytesAreTaken, VisitsAreCounted, WordsAreSaid, TakenIsCounted, PiecesAreJoined, CallsAreCounted, FailuresAreCounted};
 ghost use Rattle.served_examples.specs.Kept.{StatesAreMeant, StoresAreReplaced, TextsAreKept, RefreshesAreOwed, LackOfMemoryIsSeen, DecisionsAreStored};
 ghost use Rattle.served_examples.specs.Runs.{ReadsAreLimited, FilesAreTold, FilesAreGiven, BytesAreTold, UrisAreText, InputsAreReadUnderBases, RunsAreTold};
 
@@ -52,9 +52,6 @@ pub fn clients_have_their_values()
     ensures pieces_are_joined { PiecesAreJoined }
     ensures calls_are_counted { CallsAreCounted }
     ensures failures_are_counted { FailuresAreCounted }
-    ensures devices_stand { DevicesStand }
-    ensures sources_stand { SourcesStand }
-    ensures sinks_stand { SinksStand }
 {}
 
 /// A run over one playlist, and what a channel was given.

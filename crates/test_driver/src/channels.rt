@@ -1,7 +1,7 @@
 //! Live channels, and the events that go to them.
 use crate::escapes::bytes_of;
 use fixed_duration::Nanos;
-use http_edge::{refresh_fault_text, why_word};
+use http_edge::why_word;
 use live_channel::{Channel, ChannelFault, RefreshFault, Refreshed};
 use std::alloc::Global;
 use std::hash::RandomState;
@@ -39,15 +39,6 @@ fn new_channel(alloc: Global, hashing: RandomState, words: &str) -> Result<Chann
     Channel::new(alloc, hashing, base, tolerance)
 }
 
-// The line of a channel that can't be made.
-fn channel_fault(fault: ChannelFault) -> &'static str {
-    match fault {
-        ChannelFault::BadBase => "C1 BadBase",
-        ChannelFault::BadTolerance => "C2 BadTolerance",
-        ChannelFault::OutOfMemory => "C3 OutOfMemory",
-    }
-}
-
 /// Makes a channel as `words` say, to which events then go, and adds it to `channels`. Prints `ok` or the fault.
 /// `hashing`: the keys for tables of IDs.
 pub(crate) fn print_made(
@@ -63,7 +54,7 @@ pub(crate) fn print_made(
             channels.made.push(channel)?;
             println!(rt; "ok")
         }
-        Err(fault) => println!(rt; "{}", channel_fault(fault)),
+        Err(fault) => println!(rt; "{fault}"),
     }
 }
 
@@ -92,7 +83,7 @@ fn print_refreshed(rt: &impl Print, outcome: Result<Refreshed, RefreshFault>) ->
             "ok {} {} {}",
             done.media_sequence, done.segments, done.fresh
         ),
-        Err(fault) => println!(rt; "{}", refresh_fault_text(fault)),
+        Err(fault) => println!(rt; "{fault}"),
     }
 }
 

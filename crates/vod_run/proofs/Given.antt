@@ -1,11 +1,12 @@
 -- What a channel makes of a decision file and of one refresh.
-use Rattle.std.proofs.Common.{◌≡◌, ℕ, ◌==◌, Bool, true, false, cond, not, ◌&&◌, List, [], ◌∷◌, ◌++◌, refl, ap, sym, ◌∙◌, subst}
-use Rattle.std.specs.Prelude.{Option, Some, None, Ok, Err}
+use Rattle.std.proofs.Common.{◌≡◌, ℕ, Bool, true, false, not, List, [], ◌∷◌, ◌++◌, refl, ap, sym, ◌∙◌, subst}
+use Rattle.std.specs.Prelude.{◌≢◌, Option, Some, None, Ok, Err, IsSome}
 use Rattle.std.specs.List.{list_all}
 use Rattle.url.specs.Parts.{Parts}
 use Rattle.playlist_model.specs.declared.Playlist.{Playlist}
-use Rattle.playlist_model.specs.declared.PlaylistFault.{PlaylistFault}
 use Rattle.playlist_model.specs.LookBack.{or_earlier}
+use Rattle.playlist_model.specs.Uri.{base_of}
+use Rattle.byte_streams.specs.Stands.{SourceStand, GaveAll}
 use Rattle.playlist_model.specs.Reading.{reading, limited}
 use Rattle.stitcher.specs.Stitched.{fits}
 use Rattle.pod_store.specs.declared.Decisions.{Decisions}
@@ -21,15 +22,18 @@ use Rattle.channel_spec.specs.declared.fault.RefreshFault.{RefreshFault}
 use Rattle.channel_spec.specs.declared.fault.RefreshFault.TheVariants.{Playlist as Unreadable, NumberRange as PassesRange, OutOfMemory as NoMemory}
 use Rattle.channel_spec.specs.Kept.{Kept}
 use Rattle.channel_spec.specs.Live as live
-use Rattle.channel_spec.specs.Live.{Event, Told, told, refusal, number_range_fault, succession_fault, last_playlist, list_of, after_refresh, window_after}
+use Rattle.channel_spec.specs.Live.{Told, told, refusal, number_range_fault, succession_fault, last_playlist, list_of, after_refresh, window_after}
 use Rattle.channel_spec.specs.Successor.{fault_if}
+use Rattle.channel_spec.specs.Limits.{default_tolerance}
 use Rattle.live_channel.specs.declared.channel.Refreshed.{Refreshed}
-use Rattle.live_channel.specs.Channel.{Channel, Given, Reading, decided, decisions_in, told_by, Represents, ChangesStore, after_bytes, with_store, refreshed_with, fresh_after, answer_read, owed_answer, judged, AnswersAs, AnswersUnless, AnswersRefresh}
-use Rattle.vod_run.specs.declared.fault.VodFault.TheVariants.{Playlist as PlaylistOf, OutOfMemory}
+use Rattle.live_channel.specs.Channel.{Channel, Given, Reading, decided, decisions_in, told_by, Represents, ChangesStore, after_bytes, with_store, refreshed_with, fresh_after, answer_read, owed_answer, judged, AnswersAs, AnswersRefresh}
+use Rattle.vod_run.specs.declared.fault.VodFault.{VodFault}
+use Rattle.vod_run.specs.declared.fault.VodFault.TheVariants.{BadBase, Decision, Read, TooManyReads, OutOfMemory}
 use Rattle.vod_run.specs.Events.{first_decided, events_of, fault_by, fault_of_decisions}
 use Rattle.vod_run.specs.Inner.Events.{RefusesDecisions}
 use Rattle.vod_run.specs.Given.{given_by, fault_of_refresh}
-use Rattle.vod_run.specs.Inner.Given.{HasDecided, IsRefreshed, RefusesRefresh}
+use Rattle.vod_run.specs.Vod.{IsInOrder}
+use Rattle.vod_run.specs.Inner.Given.{IsDecided, IsOfBeginning, IsRefreshed, RefusesRefresh, RefreshesFrom, RefusesInput, RefusesFrom}
 
 -- ---- the decision file
 
@@ -45,13 +49,14 @@ module _ (bytes : List ℕ) (old new : Channel) (s : Represents old []) where
   from_none : after_bytes old.kept.store bytes ≡ (decisions_of bytes >>= after_decisions nothing_decided)
   from_none = ap (λ (k : Kept). after_bytes k.store bytes) s.kept
 
-  pub has_decided : (after_bytes old.kept.store bytes ≡ Ok new.kept.store) × (new ≡ with_store old new.kept.store)
-      → ((given : List Given) → Represents old given → Represents new (decided bytes ∷ given)) → HasDecided (Some bytes) old new
-  has_decided h on = record {
+  pub has_decided : (base : List ℕ) → base_of base ≡ Some old.base → old.tolerance ≡ default_tolerance
+      → (after_bytes old.kept.store bytes ≡ Ok new.kept.store) × (new ≡ with_store old new.kept.store)
+      → ((given : List Given) → Represents old given → Represents new (decided bytes ∷ given)) → IsDecided base (Some bytes) new
+  has_decided base b t h on = record {
+    base = b ∙ ap (λ (c : Channel). Some c.base) (sym h.1);
+    tolerance = ap (λ (c : Channel). c.tolerance) h.1 ∙ t;
     said = tells (decisions_of bytes) new.kept.store (sym from_none ∙ h.0);
     stands = on [] s;
-    base = ap (λ (c : Channel). c.base) h.1;
-    tolerance = ap (λ (c : Channel). c.tolerance) h.1;
   }
 
   pub undecided : (e : DecisionFault) → ChangesStore old new (Err e) (after_bytes old.kept.store bytes) → RefusesDecisions (fault_of_decisions e) (events_of (Some bytes))
@@ -60,6 +65,18 @@ module _ (bytes : List ℕ) (old new : Channel) (s : Represents old []) where
       by : (kind : DecisionKind) → e.kind ≡ kind → RefusesDecisions (fault_by e kind) (events_of (Some bytes))
       by NoRoom is = tt
       by _ is = tells_no (decisions_of bytes) e (sym from_none ∙ h.1 (λ same. let k = ap (λ (d : DecisionFault). d.kind) same in absurd (cc)))
+
+-- its faults come after those of the base
+pub in_decisions : {A : Type 0} (e : VodFault) (o : Outcome A) → RefusesDecisions e o → IsOfBeginning e
+in_decisions BadBase o h = tt
+in_decisions (Decision fault) o h = tt
+in_decisions OutOfMemory o h = tt
+in_decisions _ o h = absurd h
+
+pub after_base : (e : VodFault) (base : List ℕ) (file : Option (List ℕ)) → IsSome (base_of base) → RefusesDecisions e (events_of file) → IsInOrder e base file
+after_base (Decision fault) base file some h = (some, h)
+after_base OutOfMemory base file some h = tt
+after_base _ base file some h = absurd h
 
 -- ---- the refresh
 
@@ -117,3 +134,31 @@ module _ (c : Channel) (bytes : List ℕ) (given : List Given) where
     pub refuses_refresh : (f : RefreshFault) (new : Channel) → AnswersRefresh c bytes given (Err f) new → RefusesRefresh (fault_of_refresh f) c bytes given
     refuses_refresh NoMemory new h = tt
     refuses_refresh f new h = owed_fault f h.answer
+
+-- ---- the input of a source as the refresh
+
+module _ (source_old source_new : SourceStand) (c : Channel) (input : List ℕ) (given : GaveAll source_old source_new input) where
+  pub refreshes : (done : Refreshed) (new : Channel) → ((events : List Given) → Represents c events → AnswersRefresh c input events (Ok done) new) → RefreshesFrom source_old source_new c new
+  refreshes done new h = record {
+    input = input;
+    given = given;
+    refreshed = λ file s. is_refreshed c input (given_by file) done new (h (given_by file) s);
+  }
+
+  refused : (f : RefreshFault) (new : Channel) → ((events : List Given) → Represents c events → AnswersRefresh c input events (Err f) new) → RefusesInput (fault_of_refresh f) source_old source_new c
+  refused f new h = record {
+    input = input;
+    given = given;
+    refused = λ file s. refuses_refresh c input (given_by file) (none_before c.base c.tolerance file) f new (h (given_by file) s);
+  }
+
+  pub refuses : (f : RefreshFault) (new : Channel) → ((events : List Given) → Represents c events → AnswersRefresh c input events (Err f) new) → RefusesFrom (fault_of_refresh f) source_old source_new c
+  refuses (Unreadable fault) new h = refused (Unreadable fault) new h
+  refuses NoMemory new h = tt
+  refuses f new h = refused f new h
+
+-- a refresh is none of reading its input
+pub no_read : (f : RefreshFault) → (fault_of_refresh f ≢ Read) × (fault_of_refresh f ≢ TooManyReads)
+no_read (Unreadable fault) = (λ same. absurd (cc), λ same. absurd (cc))
+no_read NoMemory = (λ same. absurd (cc), λ same. absurd (cc))
+no_read f = (λ same. absurd (cc), λ same. absurd (cc))

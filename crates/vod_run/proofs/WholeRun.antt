@@ -1,11 +1,9 @@
 -- What a run comes to: a channel that was given the decision file, if there is one, and then one refresh.
 use Rattle.std.proofs.Common.{◌≡◌, ℕ, List, [], ◌∷◌, ◌++◌, cond, refl, ap, sym, ◌∙◌, subst, rules}
 use Rattle.std.specs.Prelude.{Option, Some, None, Result, Ok, Err, OnOk, IfErr, IsErrOf, IsOk, IsSome, ◌≢◌, is_ok, is_some, is_none, option_map, unwrap_or}
-use Rattle.std.specs.Io.KnownBytes.{Appends}
 use Rattle.std.specs.Result.{IsErrAnd}
 use Rattle.url.specs.Parts.{Parts}
-use Rattle.byte_streams.specs.Handed.{TookFront}
-use Rattle.byte_streams.specs.Stands.{GaveAll, SourceStand, SinkStand}
+use Rattle.byte_streams.specs.Stands.{GaveAll, SourceStand, SinkStand, TookAll, FailedAfterFront}
 use Rattle.playlist_model.specs.declared.Playlist.{Playlist}
 use Rattle.playlist_model.specs.Reading.{Fault, reading, limited, Denotes}
 use Rattle.playlist_model.specs.Uri.{base_of}
@@ -14,7 +12,7 @@ use Rattle.channel_spec.specs.declared.fault.RefreshFault.TheVariants.{NumberRan
 use Rattle.channel_spec.specs.Live.{Event, Told, told, refusal, after_refresh, last_playlist, owed_for}
 use Rattle.owed_is_denoted.specs.Owed.{owed_text}
 use Rattle.live_channel.specs.Channel as channel
-use Rattle.live_channel.specs.Channel.{Channel, Given, readable, refreshed, told_by, WritesOwed}
+use Rattle.live_channel.specs.Channel.{Channel, readable, refreshed, told_by, WritesOwed}
 use Rattle.live_channel.proofs.Steps.{channel_writes}
 use Rattle.channel_spec.specs.Limits.{default_tolerance}
 use Rattle.vod_run.specs.declared.fault.VodFault.{VodFault}
@@ -23,7 +21,7 @@ use Rattle.vod_run.specs.Given.{given_by, IsGivenAll}
 use Rattle.vod_run.specs.Inner.Given.{IsDecided, IsRefreshed, PassesItsRange, RefreshesFrom, RefusesInput, RefusesFrom}
 use Rattle.vod_run.specs.Events.{events_of}
 use Rattle.byte_streams.specs.Fair.{IsFairToSource, IsFairToSink}
-use Rattle.vod_run.specs.Runs.{most_reads, IfAtEnd, OnEnd}
+use Rattle.vod_run.specs.Runs.{IfAtEnd, OnEnd}
 use Rattle.vod_run.specs.Vod.{told_with, IsInOrder, IsOfVod, HasRead, HasJudged, Writes, WritesFront}
 
 -- what a channel writes where this playlist was accepted last
@@ -43,7 +41,7 @@ module _ (base : List ℕ) (file : Option (List ℕ)) (c : Channel) (d : IsDecid
   pub judged_before : IsSome (base_of base) × IsOk (events_of file)
   judged_before = (ap is_some d.base, ap is_ok d.said)
 
-  module _ (old new : Option (List ℕ)) (input : List ℕ) (g : GaveAll old new input) where
+  module _ (old new : SourceStand) (input : List ℕ) (g : GaveAll old new input) where
     has_read : (r : Result Playlist Fault) → reading limited c.base input ≡ r → HasRead base old new r
     has_read r h = record { input = input; given = g; read = ap (option_map (λ x. reading limited x input)) d.base ∙ ap Some h }
 
@@ -78,17 +76,17 @@ module _ (base : List ℕ) (file : Option (List ℕ)) (c : Channel) (d : IsDecid
       owes : (unwrap_or then.text [] ≡ owed_text (told_with events p) p) × ((other : Parts) → Denotes other (owed_text (told_with events p) p) (owed_for (told_with events p) p))
       owes = owed_so (told_with events p) p then.text last_is (subst (λ t. WritesOwed t then.text) told_then (channel_writes then (refreshed input ∷ given_by file) r.stands))
 
-      wrote : (sink_old sink_new : Option (List ℕ)) → Appends sink_old sink_new (unwrap_or then.text []) → Writes base file old new sink_old sink_new
+      wrote : (sink_old sink_new : SinkStand) → TookAll sink_old sink_new (unwrap_or then.text []) → Writes base file old new sink_old sink_new
       unfolding accepted judged
-      wrote sink_old sink_new w = record { accepted = accepted; written = subst (Appends sink_old sink_new) owes.0 w; denotes = owes.1 }
+      wrote sink_old sink_new w = record { accepted = accepted; written = subst (TookAll sink_old sink_new) owes.0 w; denotes = owes.1 }
 
-      wrote_front : (sink_old sink_new : Option (List ℕ)) → TookFront sink_old sink_new (unwrap_or then.text []) → WritesFront base file old new sink_old sink_new
+      wrote_front : (sink_old sink_new : SinkStand) → FailedAfterFront sink_old sink_new (unwrap_or then.text []) → WritesFront base file old new sink_old sink_new
       unfolding accepted judged
-      wrote_front sink_old sink_new w = record { accepted = accepted; written = subst (TookFront sink_old sink_new) owes.0 w }
+      wrote_front sink_old sink_new w = record { accepted = accepted; written = subst (FailedAfterFront sink_old sink_new) owes.0 w }
 
-  module _ (old new : Option (List ℕ)) where
+  module _ (old new : SourceStand) where
     -- the sink took what the channel writes, or a front of it
-    pub writes : (then : Channel) → RefreshesFrom old new c then → (sink_old sink_new : Option (List ℕ)) → Appends sink_old sink_new (unwrap_or then.text [])
+    pub writes : (then : Channel) → RefreshesFrom old new c then → (sink_old sink_new : SinkStand) → TookAll sink_old sink_new (unwrap_or then.text [])
         → Writes base file old new sink_old sink_new
     writes then r = wrote old new r.input r.given then (r.refreshed file d.stands)
 
@@ -104,7 +102,7 @@ module _ (base : List ℕ) (file : Option (List ℕ)) (c : Channel) (d : IsDecid
           stands = refreshed.stands;
         }
 
-    pub writes_front : (then : Channel) → RefreshesFrom old new c then → (sink_old sink_new : Option (List ℕ)) → TookFront sink_old sink_new (unwrap_or then.text [])
+    pub writes_front : (then : Channel) → RefreshesFrom old new c then → (sink_old sink_new : SinkStand) → FailedAfterFront sink_old sink_new (unwrap_or then.text [])
         → WritesFront base file old new sink_old sink_new
     writes_front then r = wrote_front old new r.input r.given then (r.refreshed file d.stands)
 
@@ -133,7 +131,7 @@ is_one e f same = search rules
 still : {A B : Type 0} (e f : VodFault) → IsErrOf {T = A} (Err e) f → IsErrOf {T = B} (Err e) f
 still e f is = let same : e ≡ f = cc in is_one e f same
 
-pub in_order : (old new : Option (List ℕ)) (c : Channel) (e : VodFault) (base : List ℕ) (file : Option (List ℕ)) → RefusesFrom e old new c
+pub in_order : (old new : SourceStand) (c : Channel) (e : VodFault) (base : List ℕ) (file : Option (List ℕ)) → RefusesFrom e old new c
     → IsSome (base_of base) × IsOk (events_of file) → IsInOrder e base file
 in_order old new c (PlaylistOf fault) base file h k = k
 in_order old new c NumberRange base file h k = k
@@ -142,7 +140,7 @@ in_order old new c TooManyReads base file h k = k
 in_order old new c OutOfMemory base file h k = tt
 in_order old new c _ base file h k = absurd h
 
-pub of_input : (old new : Option (List ℕ)) (c : Channel) (e : VodFault) → RefusesFrom e old new c → IsOfVod e
+pub of_input : (old new : SourceStand) (c : Channel) (e : VodFault) → RefusesFrom e old new c → IsOfVod e
 of_input old new c (PlaylistOf fault) h = tt
 of_input old new c NumberRange h = tt
 of_input old new c Read h = tt
@@ -150,7 +148,7 @@ of_input old new c TooManyReads h = tt
 of_input old new c OutOfMemory h = tt
 of_input old new c _ h = absurd h
 
-pub no_write : (old new : Option (List ℕ)) (c : Channel) (e : VodFault) → RefusesFrom e old new c → e ≢ Write
+pub no_write : (old new : SourceStand) (c : Channel) (e : VodFault) → RefusesFrom e old new c → e ≢ Write
 no_write old new c e h same = subst (λ x. RefusesFrom x old new c) same h
 
 pub number_range_of : {A P : Type 0} (r : Result A VodFault) (e : VodFault) → IsErrAnd r (λ d. d ≡ e) → (e ≡ NumberRange → P) → IsErrOf r NumberRange → P
@@ -158,7 +156,7 @@ number_range_of (Ok x) e h f is = absurd h
 number_range_of (Err d) e h f is = let same : d ≡ NumberRange = cc in f (sym h ∙ same)
 
 abbrev pub FairToSource : {A : Type 0} → Result A VodFault → SourceStand → SourceStand → Type 0
-FairToSource r old new = IsFairToSource Read TooManyReads most_reads r old new
+FairToSource r old new = IsFairToSource Read TooManyReads r old new
 
 abbrev pub FairToSink : {A : Type 0} → Result A VodFault → SinkStand → SinkStand → Type 0
 FairToSink r old new = IsFairToSink Write r old new

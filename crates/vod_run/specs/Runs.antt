@@ -1,11 +1,7 @@
 -- What a run says of the end of its input.
-use Rattle.std.specs.Prelude.{ℕ, Result, Ok, Err}
+use Rattle.std.specs.Prelude.{Result, Ok, Err}
 use Rattle.vod_run.specs.declared.fault.VodFault.{VodFault}
 use Rattle.vod_run.specs.declared.fault.VodFault.TheVariants.{Playlist, NumberRange, Write}
-
--- how many reads an input may take
-abbrev pub most_reads : ℕ
-most_reads = 65536
 
 -- where a run came to the end of its input: it wrote, or the fault is one of what was read, or of writing
 abbrev pub IfAtEnd : VodFault → Type 0 → Type 0

@@ -1,12 +1,10 @@
 -- What a run from an input to an output did.
 use Rattle.std.specs.Prelude.{◌≡◌, ℕ, List, ◌∷◌, Option, Some, None, option_map, Result, Ok, Err, IsOk, IsSome}
-use Rattle.std.specs.Io.KnownBytes.{Appends}
 use Rattle.url.specs.Parts.{Parts}
 use Rattle.playlist_model.specs.declared.Playlist.{Playlist}
 use Rattle.playlist_model.specs.Reading.{Fault, Denotes, reading, limited}
 use Rattle.playlist_model.specs.Uri.{base_of}
-use Rattle.byte_streams.specs.Handed.{TookFront}
-use Rattle.byte_streams.specs.Stands.{GaveAll}
+use Rattle.byte_streams.specs.Stands.{SourceStand, SinkStand, GaveAll, TookAll, FailedAfterFront}
 use Rattle.channel_spec.specs.declared.fault.RefreshFault.{RefreshFault}
 use Rattle.channel_spec.specs.Live.{Event, refreshed, Told, told, refusal, owed_for}
 use Rattle.channel_spec.specs.Limits.{default_tolerance}
@@ -20,13 +18,13 @@ abbrev pub read_under : List ℕ → List ℕ → Option (Result Playlist Fault)
 read_under base input = option_map (λ b. reading limited b input) (base_of base)
 
 -- the source gave an input to its end, of which this is read under the base
-pub record HasRead (base : List ℕ) (old new : Option (List ℕ)) (outcome : Result Playlist Fault) : Type 0 where
+pub record HasRead (base : List ℕ) (old new : SourceStand) (outcome : Result Playlist Fault) : Type 0 where
   pub input : List ℕ
   pub given : GaveAll old new input
   pub read : read_under base input ≡ Some outcome
 
 -- the decision file, if any, tells these events, a playlist was read, and this is why it is refused, if it is
-pub record HasJudged (base : List ℕ) (file old new : Option (List ℕ)) (outcome : Option RefreshFault) : Type 0 where
+pub record HasJudged (base : List ℕ) (file : Option (List ℕ)) (old new : SourceStand) (outcome : Option RefreshFault) : Type 0 where
   pub events : List Event
   pub decided : events_of file ≡ Ok events
   pub playlist : Playlist
@@ -39,16 +37,16 @@ told_with events playlist = told default_tolerance (refreshed playlist ∷ event
 
 -- a playlist was read and accepted, and the sink took its owed text. Under every base that text denotes the playlist that
 -- was read with the window of the stitched list in place of its segments
-pub record Writes (base : List ℕ) (file source_old source_new sink_old sink_new : Option (List ℕ)) : Type 0 where
+pub record Writes (base : List ℕ) (file : Option (List ℕ)) (source_old source_new : SourceStand) (sink_old sink_new : SinkStand) : Type 0 where
   pub accepted : HasJudged base file source_old source_new None
-  pub written : Appends sink_old sink_new (owed_text (told_with accepted.events accepted.playlist) accepted.playlist)
+  pub written : TookAll sink_old sink_new (owed_text (told_with accepted.events accepted.playlist) accepted.playlist)
   pub denotes : (other : Parts) →
       Denotes other (owed_text (told_with accepted.events accepted.playlist) accepted.playlist) (owed_for (told_with accepted.events accepted.playlist) accepted.playlist)
 
--- a playlist was read and accepted, and the sink took a front of its owed text
-pub record WritesFront (base : List ℕ) (file source_old source_new sink_old sink_new : Option (List ℕ)) : Type 0 where
+-- a playlist was read and accepted, and the sink took a front of its owed text, and failed
+pub record WritesFront (base : List ℕ) (file : Option (List ℕ)) (source_old source_new : SourceStand) (sink_old sink_new : SinkStand) : Type 0 where
   pub accepted : HasJudged base file source_old source_new None
-  pub written : TookFront sink_old sink_new (owed_text (told_with accepted.events accepted.playlist) accepted.playlist)
+  pub written : FailedAfterFront sink_old sink_new (owed_text (told_with accepted.events accepted.playlist) accepted.playlist)
 
 -- the base is judged first, then the decision file: what stands before a fault is well
 abbrev pub IsInOrder : VodFault → List ℕ → Option (List ℕ) → Type 0

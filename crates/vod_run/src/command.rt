@@ -4,7 +4,7 @@ ghost use Rattle.std.specs.Option.{option_copied};
 ghost use Rattle.pod_store.specs.declared.fault.DecisionFault.{DecisionFault};
 ghost use Rattle.vod_run.specs.Events.{events_of};
 ghost use Rattle.playlist_model.specs.Uri.{base_of};
-ghost use Rattle.byte_streams.specs.Stands.{source_stand, sink_stand, WasHanded};
+ghost use Rattle.byte_streams.specs.Stands.{WasHanded};
 ghost use Rattle.vod_run.specs.Printed.{fault_line, Succeeds, FailsAndPrints};
 
 use crate::fault::VodFault;
@@ -15,11 +15,14 @@ use std::alloc::Global;
 use std::hash::RandomState;
 use std::mem::forget;
 
+// The most bytes of a fault's line, with its line feed. The longest is that of a fault of a decision file.
+const LINE_ROOM: usize = 95;
+
 // A fault's line. It lies in the value itself, since there may be no memory left for it.
-fn fault_line(fault: VodFault) -> ArrayString<95>
+fn fault_line(fault: VodFault) -> ArrayString<LINE_ROOM>
     ensures { result.bytes ≡ fault_line fault }
 {
-    let mut line = ArrayString::<95>::new();
+    let mut line = ArrayString::<LINE_ROOM>::new();
     line.push_str(fault.text().as_str());
     line.push('\n');
     line
@@ -27,7 +30,7 @@ fn fault_line(fault: VodFault) -> ArrayString<95>
 
 // Writes a fault's line, as far as the sink takes it.
 fn print_fault<F: Sink>(fault: VodFault, faults: &mut F)
-    ensures { WasHanded (sink_stand F.contents F.failed faults.old) (sink_stand F.contents F.failed faults.new) (fault_line fault) }
+    ensures { WasHanded (F.stand faults.old) (F.stand faults.new) (fault_line fault) }
 {
     let line = fault_line(fault);
     let _ = hand_out(line.as_str().as_bytes(), faults);
@@ -46,20 +49,20 @@ pub fn command_vod<S: Source, K: Sink, F: Sink>(
     faults: &mut F,
 ) -> u8
     ensures status { result ≤ 1 }
-    ensures ok { result ≡ 0 → Succeeds base.now (option_copied decisions.entry)
-        (source_stand S.remaining S.called S.failed input.old) (source_stand S.remaining S.called S.failed input.new)
-        (sink_stand K.contents K.failed output.old) (sink_stand K.contents K.failed output.new) }
+    ensures ok { result ≡ 0 →
+        Succeeds base.now (option_copied decisions.entry) (S.stand input.old) (S.stand input.new)
+        (K.stand output.old) (K.stand output.new) }
     ensures quiet { result ≡ 0 → faults.new ≡ faults.old }
 
     // 1 only where `vod` answers a fault, and then its line is printed.
     ensures fault { result ≡ 1 → FailsAndPrints base.now (option_copied decisions.entry)
-        (source_stand S.remaining S.called S.failed input.old) (source_stand S.remaining S.called S.failed input.new)
-        (sink_stand K.contents K.failed output.old) (sink_stand K.contents K.failed output.new)
-        (sink_stand F.contents F.failed faults.old) (sink_stand F.contents F.failed faults.new) }
+        (S.stand input.old) (S.stand input.new) (K.stand output.old) (K.stand output.new)
+        (F.stand faults.old) (F.stand faults.new) }
 
     // The base and the decision file are judged before anything is read.
     ensures unread { base_of base.now ≡ None → input.new ≡ input.old }
-    ensures undecided { (fault : DecisionFault) → events_of (option_copied decisions.entry) ≡ Err fault → input.new ≡ input.old }
+    ensures undecided { (fault : DecisionFault) →
+        events_of (option_copied decisions.entry) ≡ Err fault → input.new ≡ input.old }
 {
     match vod(alloc, hashing, input, output, base, decisions) {
         Ok(channel) => {

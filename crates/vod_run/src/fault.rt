@@ -1,9 +1,11 @@
 //! Why no playlist was written, or not the whole of it.
-ghost use Rattle.std.specs.Prelude.{◌≡◌, ◌≤◌, length, Some};
+ghost use Rattle.std.specs.Prelude.{◌≡◌, Some};
 ghost use Rattle.vod_run.specs.FaultTexts.{vod_fault_text};
 ghost use Rattle.vod_run.specs.Events.{fault_of_decisions};
 
-use live_channel::RefreshFault;
+use byte_streams::SinkFailed;
+use channel_spec::short_text;
+use live_channel::{ChannelFault, RefreshFault};
 use playlist_model::PlaylistFault;
 use pod_store::{DecisionFault, DecisionFaultText, DecisionKind};
 use std::alloc::{AllocError, AllocFailed};
@@ -51,6 +53,30 @@ impl<T: Drop> From<AllocFailed<T>> for VodFault {
     }
 }
 
+/// Why no channel is made: its tolerance is the default, so that it is made for its base alone or not.
+impl From<ChannelFault> for VodFault {
+    ghost use Rattle.vod_run.specs.Given.{fault_of_channel};
+
+    ghost from_gives = { λ fault e. e ≡ fault_of_channel fault };
+
+    fn from(fault: ChannelFault) -> VodFault {
+        match fault {
+            ChannelFault::OutOfMemory => VodFault::OutOfMemory,
+            _ => VodFault::BadBase,
+        }
+    }
+}
+
+impl From<SinkFailed> for VodFault {
+    ghost use Rattle.vod_run.specs.declared.fault.VodFault.TheVariants.{Write};
+
+    ghost from_gives = { λ _ e. e ≡ Write };
+
+    fn from(_: SinkFailed) -> VodFault {
+        VodFault::Write
+    }
+}
+
 /// Why decisions say nothing or are not taken; every failed allocation is one fault.
 impl From<DecisionFault> for VodFault {
     ghost use Rattle.vod_run.specs.Events.{fault_of_decisions};
@@ -81,30 +107,20 @@ impl From<RefreshFault> for VodFault {
     }
 }
 
-// A text that has room.
-fn short(text: &str) -> DecisionFaultText
-    requires { length text.now ≤ 94 }
-    ensures { result.bytes ≡ text.now }
-{
-    let mut short = DecisionFaultText::new();
-    short.push_str(text);
-    short
-}
-
 impl VodFault {
     /// What the program prints of the fault, without its line feed.
     pub fn text(self) -> DecisionFaultText
         ensures { result.bytes ≡ vod_fault_text self }
     {
         match self {
-            VodFault::BadBase => short("C1 BadBase"),
+            VodFault::BadBase => short_text(ChannelFault::BadBase.text()),
             VodFault::Decision(fault) => fault.text(),
-            VodFault::Playlist(fault) => short(fault.text().as_str()),
-            VodFault::NumberRange => short("N10 NumberRange"),
-            VodFault::Read => short("cannot read input"),
-            VodFault::TooManyReads => short("E3 TooManyReads"),
-            VodFault::Write => short("cannot write output"),
-            VodFault::OutOfMemory => short("E5 OutOfMemory"),
+            VodFault::Playlist(fault) => short_text(fault.text().as_str()),
+            VodFault::NumberRange => short_text(RefreshFault::NumberRange.text().as_str()),
+            VodFault::Read => short_text("cannot read input"),
+            VodFault::TooManyReads => short_text("E3 TooManyReads"),
+            VodFault::Write => short_text("cannot write output"),
+            VodFault::OutOfMemory => short_text("E5 OutOfMemory"),
         }
     }
 }

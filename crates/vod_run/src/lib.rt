@@ -8,5 +8,4 @@ mod run;
 
 pub use command::command_vod;
 pub use fault::VodFault;
-pub use input::MAX_READS;
 pub use run::vod;

@@ -1,82 +1,26 @@
 //! One input, one playlist: the order of a run.
-ghost use Rattle.std.specs.Prelude.{◌≡◌, ◌≢◌, Ok, Err, Some, None, [], OnOk, IfOk, IfErr, IsErrOf, unwrap_or};
+ghost use Rattle.std.specs.Prelude.{◌≡◌, ◌≢◌, Err, Some, None, [], OnOk, OnErr, IfOk, IfErr, IsErrOf, unwrap_or};
 ghost use Rattle.std.specs.Option.{option_copied};
-ghost use Rattle.std.specs.Io.KnownBytes.{Appends};
-ghost use Rattle.byte_streams.specs.Handed.{TookFront};
 ghost use Rattle.playlist_model.specs.Uri.{base_of};
 ghost use Rattle.playlist_model.specs.Reading.{Fault};
 ghost use Rattle.channel_spec.specs.declared.fault.RefreshFault.TheVariants.{NumberRange};
-ghost use Rattle.live_channel.specs.Channel.{Represents};
 ghost use Rattle.pod_store.specs.declared.fault.DecisionFault.{DecisionFault};
 ghost use Rattle.vod_run.specs.Events.{events_of};
-ghost use Rattle.vod_run.specs.Inner.Events.{RefusesDecisions};
 ghost use Rattle.vod_run.specs.Given.{IsGivenAll};
-ghost use Rattle.vod_run.specs.Inner.Given.{IsNew, HasDecided, IsDecided, IsOfBeginning, IsOfRefresh, Refreshes, RefusesBytes, RefreshesFrom, RefusesFrom};
+ghost use Rattle.vod_run.specs.Inner.Given.{IsDecided, IsOfBeginning, RefreshesFrom, RefusesFrom};
 ghost use Rattle.vod_run.specs.Vod.{IsInOrder, IsOfVod, HasJudged, HasRead, Writes, WritesFront};
-ghost use Rattle.byte_streams.specs.Stands.{source_stand, sink_stand};
+ghost use Rattle.byte_streams.specs.Stands.{TookAll, FailedAfterFront};
 ghost use Rattle.byte_streams.specs.Fair.{IsFairToSource, IsFairToSink, GaveAtEachButLast};
-ghost use Rattle.vod_run.specs.Runs.{most_reads, OnEnd};
+ghost use Rattle.vod_run.specs.Runs.{OnEnd};
 
 use crate::fault::VodFault;
 use crate::input::read_input;
 use byte_streams::{Sink, Source, hand_out};
 use channel_spec::DEFAULT_TOLERANCE;
 use fixed_duration::Nanos;
-use live_channel::{Channel, ChannelFault};
+use live_channel::Channel;
 use std::alloc::Global;
 use std::hash::RandomState;
-
-fn new_channel(alloc: Global, hashing: RandomState, base: &str) -> Result<Channel, VodFault>
-    ensures ok { IfOk result (IsNew base.now) }
-    ensures err { IfErr result (λ e. e ≢ VodFault.OutOfMemory → (e ≡ VodFault.BadBase) × (base_of base.now ≡ None)) }
-{
-    match Channel::new(alloc, hashing, base, Nanos(DEFAULT_TOLERANCE)) {
-        Ok(channel) => Ok(channel),
-        Err(ChannelFault::OutOfMemory) => Err(VodFault::OutOfMemory),
-        Err(_) => Err(VodFault::BadBase),
-    }
-}
-
-// Gives a channel the decision file, where there is one.
-fn decide(alloc: Global, channel: &mut Channel, file: Option<&[u8]>) -> Result<(), VodFault>
-    requires { Represents channel.old [] }
-    ensures ok { OnOk result (HasDecided (option_copied file.entry) channel.old channel.new) }
-    ensures err { IfErr result (λ e. RefusesDecisions e (events_of (option_copied file.entry))) }
-{
-    let Some(bytes) = file else {
-        return Ok(());
-    };
-    match channel.decide(alloc, bytes) {
-        Ok(()) => Ok(()),
-        Err(fault) => Err(VodFault::from(fault)),
-    }
-}
-
-// Gives a channel its one refresh, and the input up: its memory is given back before the text is written.
-fn refresh(alloc: Global, channel: &mut Channel, input: Vec<u8>) -> Result<(), VodFault>
-    ensures ok { OnOk result (Refreshes channel.old input.items channel.new) }
-    ensures kind { IfErr result IsOfRefresh }
-    ensures err { IfErr result (λ e. RefusesBytes e channel.old input.items) }
-{
-    match channel.refresh_owned(alloc, input) {
-        Ok(_) => Ok(()),
-        Err(fault) => Err(VodFault::from(fault)),
-    }
-}
-
-// Hands out the text that a channel writes, if there is one.
-fn hand_text<K: Sink>(channel: &Channel, sink: &mut K) -> Result<(), VodFault>
-    ensures ok { OnOk result (Appends (K.contents sink.old) (K.contents sink.new) (unwrap_or channel.now.text [])) }
-    ensures err { IsErrOf result VodFault.Write → TookFront (K.contents sink.old) (K.contents sink.new) (unwrap_or channel.now.text []) }
-    ensures kind { IfErr result (λ e. e ≡ VodFault.Write) }
-    ensures sink { IsFairToSink VodFault.Write result (sink_stand K.contents K.failed sink.old) (sink_stand K.contents K.failed sink.new) }
-{
-    let text = channel.playlist().unwrap_or(&[]);
-    match hand_out(text, sink) {
-        Ok(()) => Ok(()),
-        Err(_) => Err(VodFault::Write),
-    }
-}
 
 // The channel of a base, which was given the decision file, where there is one.
 fn decided_channel(
@@ -89,26 +33,44 @@ fn decided_channel(
     ensures kind { IfErr result IsOfBeginning }
     ensures order { IfErr result (λ e. IsInOrder e base.now (option_copied decisions.entry)) }
 {
-    let mut channel = new_channel(alloc, hashing, base)?;
-    match decide(alloc, &mut channel, decisions) {
-        Ok(()) => Ok(channel),
-        Err(fault) => Err(fault),
-    }
+    let mut channel = Channel::new(alloc, hashing, base, Nanos(DEFAULT_TOLERANCE))?;
+    let Some(file) = decisions else {
+        return Ok(channel);
+    };
+    channel.decide(alloc, file)?;
+    Ok(channel)
 }
 
-// Gives a channel the input of a source, read to its end, as its one refresh.
+// Gives a channel the input of a source, read to its end, as its one refresh: its memory is given back before the text is
+// written.
 fn refresh_from<S: Source>(
     alloc: Global,
     source: &mut S,
     channel: &mut Channel,
 ) -> Result<(), VodFault>
-    ensures ok { OnOk result (RefreshesFrom (S.remaining source.old) (S.remaining source.new) channel.old channel.new) }
-    ensures err { IfErr result (λ e. RefusesFrom e (S.remaining source.old) (S.remaining source.new) channel.old) }
-    ensures source { IsFairToSource VodFault.Read VodFault.TooManyReads most_reads result (source_stand S.remaining S.called S.failed source.old) (source_stand S.remaining S.called S.failed source.new) }
-    ensures to_end { OnEnd result (GaveAtEachButLast (source_stand S.remaining S.called S.failed source.old) (source_stand S.remaining S.called S.failed source.new)) }
+    ensures ok { OnOk result (RefreshesFrom (S.stand source.old) (S.stand source.new)
+        channel.old channel.new) }
+    ensures err { IfErr result (λ e. RefusesFrom e (S.stand source.old) (S.stand source.new)
+        channel.old) }
+    ensures source { IsFairToSource VodFault.Read VodFault.TooManyReads result
+        (S.stand source.old) (S.stand source.new) }
+    ensures to_end { OnEnd result (GaveAtEachButLast (S.stand source.old) (S.stand source.new)) }
 {
     let input = read_input(alloc, source)?;
-    refresh(alloc, channel, input)
+    channel.refresh_owned(alloc, input)?;
+    Ok(())
+}
+
+// Hands out the text that a channel writes, if there is one.
+fn hand_text<K: Sink>(channel: &Channel, sink: &mut K) -> Result<(), VodFault>
+    ensures ok { OnOk result (TookAll (K.stand sink.old) (K.stand sink.new)
+        (unwrap_or channel.now.text [])) }
+    ensures err { OnErr result (FailedAfterFront (K.stand sink.old) (K.stand sink.new)
+        (unwrap_or channel.now.text [])) }
+    ensures kind { IfErr result (λ e. e ≡ VodFault.Write) }
+    ensures sink { IsFairToSink VodFault.Write result (K.stand sink.old) (K.stand sink.new) }
+{
+    Ok(hand_out(channel.playlist().unwrap_or(&[]), sink)?)
 }
 
 #[tactic(auto, using(crate::proofs::Known::known_bytes))]
@@ -132,11 +94,15 @@ pub fn vod<S: Source, K: Sink>(
     base: &str,
     decisions: Option<&[u8]>,
 ) -> Result<Channel, VodFault>
-    ensures ok { OnOk result (Writes base.now (option_copied decisions.entry) (S.remaining source.old) (S.remaining source.new) (K.contents sink.old) (K.contents sink.new)) }
-    ensures channel { IfOk result (IsGivenAll base.now (option_copied decisions.entry) (S.remaining source.old) (S.remaining source.new)) }
+    ensures ok { OnOk result (Writes base.now (option_copied decisions.entry)
+        (S.stand source.old) (S.stand source.new) (K.stand sink.old) (K.stand sink.new)) }
+    ensures channel { IfOk result (IsGivenAll base.now (option_copied decisions.entry)
+        (S.stand source.old) (S.stand source.new)) }
 
     // Where the sink failed it took a front of the text, and else nothing.
-    ensures write { IsErrOf result VodFault.Write → WritesFront base.now (option_copied decisions.entry) (S.remaining source.old) (S.remaining source.new) (K.contents sink.old) (K.contents sink.new) }
+    ensures write { IsErrOf result VodFault.Write →
+        WritesFront base.now (option_copied decisions.entry)
+        (S.stand source.old) (S.stand source.new) (K.stand sink.old) (K.stand sink.new) }
     ensures nothing { IfErr result (λ e. e ≢ VodFault.Write → sink.new ≡ sink.old) }
 
     ensures kind { IfErr result IsOfVod }
@@ -144,16 +110,21 @@ pub fn vod<S: Source, K: Sink>(
     // The base is judged first and the decision file next, before anything is read.
     ensures order { IfErr result (λ e. IsInOrder e base.now (option_copied decisions.entry)) }
     ensures unread { base_of base.now ≡ None → source.new ≡ source.old }
-    ensures undecided { (fault : DecisionFault) → events_of (option_copied decisions.entry) ≡ Err fault → source.new ≡ source.old }
+    ensures undecided { (fault : DecisionFault) →
+        events_of (option_copied decisions.entry) ≡ Err fault → source.new ≡ source.old }
 
     // The whole input is judged before anything is written.
-    ensures playlist { IfErr result (λ e. (fault : Fault) → e ≡ VodFault.Playlist fault → HasRead base.now (S.remaining source.old) (S.remaining source.new) (Err fault)) }
-    ensures number_range { IsErrOf result VodFault.NumberRange → HasJudged base.now (option_copied decisions.entry) (S.remaining source.old) (S.remaining source.new) (Some NumberRange) }
+    ensures playlist { IfErr result (λ e. (fault : Fault) → e ≡ VodFault.Playlist fault →
+        HasRead base.now (S.stand source.old) (S.stand source.new) (Err fault)) }
+    ensures number_range { IsErrOf result VodFault.NumberRange →
+        HasJudged base.now (option_copied decisions.entry)
+        (S.stand source.old) (S.stand source.new) (Some NumberRange) }
 
     // A device is blamed exactly where it failed, and is left alone then; the source is at its end too.
-    ensures source { IsFairToSource VodFault.Read VodFault.TooManyReads most_reads result (source_stand S.remaining S.called S.failed source.old) (source_stand S.remaining S.called S.failed source.new) }
-    ensures to_end { OnEnd result (GaveAtEachButLast (source_stand S.remaining S.called S.failed source.old) (source_stand S.remaining S.called S.failed source.new)) }
-    ensures sink { IsFairToSink VodFault.Write result (sink_stand K.contents K.failed sink.old) (sink_stand K.contents K.failed sink.new) }
+    ensures source { IsFairToSource VodFault.Read VodFault.TooManyReads result
+        (S.stand source.old) (S.stand source.new) }
+    ensures to_end { OnEnd result (GaveAtEachButLast (S.stand source.old) (S.stand source.new)) }
+    ensures sink { IsFairToSink VodFault.Write result (K.stand sink.old) (K.stand sink.new) }
 {
     let mut channel = decided_channel(alloc, hashing, base, decisions)?;
     refresh_from(alloc, source, &mut channel)?;

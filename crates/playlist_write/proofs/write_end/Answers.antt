@@ -3,4 +3,4 @@ use Rattle.playlist_write.proofs.write_end.Goals as goal
 
 pub returns-in_err-push_end-clause-err : goal.returns-in_err-push_end-clause-err
 returns-in_err-push_end-clause-err g c =
-    on_err c.from_residual.result _ (front_taken _ _ _ _ (none_taken (g.S.Sink.contents c.args.sink.now) _))
+    on_err c.from_residual.result _ (front_taken _ _ _ _ (none_taken (g.S.Sink.stand c.args.sink.now).contents _))

@@ -1,10 +1,10 @@
 -- What proofs and inner functions say with the definitions of `Given`.
 use Rattle.vod_run.specs.Given.{given_by}
-use Rattle.std.specs.Prelude.{◌≡◌, ℕ, List, [], ◌∷◌, Option, Some, None, Ok, Err}
+use Rattle.std.specs.Prelude.{◌≡◌, ℕ, List, ◌∷◌, Option, Some, None, Ok, Err}
 use Rattle.playlist_model.specs.declared.Playlist.{Playlist}
 use Rattle.playlist_model.specs.Reading.{reading, limited}
 use Rattle.playlist_model.specs.Uri.{base_of}
-use Rattle.byte_streams.specs.Stands.{GaveAll}
+use Rattle.byte_streams.specs.Stands.{SourceStand, GaveAll}
 use Rattle.channel_spec.specs.declared.fault.RefreshFault.TheVariants.{NumberRange as PassesRange}
 use Rattle.channel_spec.specs.Live.{refusal}
 use Rattle.channel_spec.specs.Limits.{default_tolerance}
@@ -15,20 +15,7 @@ use Rattle.vod_run.specs.declared.fault.VodFault.TheVariants.{BadBase, Decision,
 use Rattle.vod_run.specs.Events.{events_of}
 use Rattle.vod_run.specs.Inner.Vod.{IsOfReading}
 
--- the channel was given nothing
-pub record IsNew (text : List ℕ) (c : Channel) : Type 0 where
-  pub base : base_of text ≡ Some c.base
-  pub tolerance : c.tolerance ≡ default_tolerance
-  pub stands : Represents c []
-
 -- ---- the decision file
-
--- the file tells what the channel makes of it
-pub record HasDecided (file : Option (List ℕ)) (old new : Channel) : Type 0 where
-  pub said : events_of file ≡ Ok (channel.events_of new.base (given_by file))
-  pub stands : Represents new (given_by file)
-  pub base : new.base ≡ old.base
-  pub tolerance : new.tolerance ≡ old.tolerance
 
 -- the channel of a base, which was given the decision file, if there is one
 pub record IsDecided (text : List ℕ) (file : Option (List ℕ)) (c : Channel) : Type 0 where
@@ -68,13 +55,6 @@ RefusesRefresh NumberRange old bytes given = PassesItsRange old bytes given
 RefusesRefresh OutOfMemory old bytes given = Unit {0}
 RefusesRefresh _ old bytes given = ⊥
 
--- a fault of the refresh
-abbrev pub IsOfRefresh : VodFault → Type 0
-IsOfRefresh (PlaylistOf fault) = Unit {0}
-IsOfRefresh NumberRange = Unit {0}
-IsOfRefresh OutOfMemory = Unit {0}
-IsOfRefresh _ = ⊥
-
 -- whatever the file was
 abbrev pub Refreshes : Channel → List ℕ → Channel → Type 0
 Refreshes old bytes new = (file : Option (List ℕ)) → Represents old (given_by file) → IsRefreshed old bytes (given_by file) new
@@ -85,19 +65,19 @@ RefusesBytes e old bytes = (file : Option (List ℕ)) → Represents old (given_
 -- ---- the input of a source as the refresh
 
 -- the source gave an input to its end, and the channel is refreshed by it
-pub record RefreshesFrom (source_old source_new : Option (List ℕ)) (old new : Channel) : Type 0 where
+pub record RefreshesFrom (source_old source_new : SourceStand) (old new : Channel) : Type 0 where
   pub input : List ℕ
   pub given : GaveAll source_old source_new input
   pub refreshed : Refreshes old input new
 
 -- the source gave an input to its end, which has this fault
-pub record RefusesInput (e : VodFault) (source_old source_new : Option (List ℕ)) (old : Channel) : Type 0 where
+pub record RefusesInput (e : VodFault) (source_old source_new : SourceStand) (old : Channel) : Type 0 where
   pub input : List ℕ
   pub given : GaveAll source_old source_new input
   pub refused : RefusesBytes e old input
 
 -- the fault is one of the whole input, or of reading it
-abbrev pub RefusesFrom : VodFault → Option (List ℕ) → Option (List ℕ) → Channel → Type 0
+abbrev pub RefusesFrom : VodFault → SourceStand → SourceStand → Channel → Type 0
 RefusesFrom (PlaylistOf fault) source_old source_new old = RefusesInput (PlaylistOf fault) source_old source_new old
 RefusesFrom NumberRange source_old source_new old = RefusesInput NumberRange source_old source_new old
 RefusesFrom e source_old source_new old = IsOfReading e

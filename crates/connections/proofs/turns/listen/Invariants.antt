@@ -1,14 +1,13 @@
 use Rattle.std.proofs.Common.{◌≡◌, true}
 use Rattle.connections.specs.Table.{at}
 use Rattle.connections.specs.Arrivals.{is_asking}
-use Rattle.connections.specs.Devices.{device_stand}
 use Rattle.connections.specs.Runs.{HasRun}
 use Rattle.connections.specs.Turns.{HasListened}
 use Rattle.connections.proofs.turns.listen.Given as goal
 
 abbrev pub invariant-loop : goal.invariant-loop
 invariant-loop g l = record {
-  listened : HasListened (device_stand g.T.Incoming.remaining g.T.Incoming.reads l.fn.device) (device_stand g.T.Incoming.remaining g.T.Incoming.reads l.device) l.fn.seat l.fn.connections l.connections;
+  listened : HasListened (g.T.Incoming.stand l.fn.device) (g.T.Incoming.stand l.device) l.fn.seat l.fn.connections l.connections;
   asking : is_asking (at l.connections l.fn.seat) ≡ true;
   run : HasRun l.fn.connections l.connections;
 }

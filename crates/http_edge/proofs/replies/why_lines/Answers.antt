@@ -1,10 +1,10 @@
-use Rattle.std.proofs.Common.{◌≡◌, ◌+◌, ◌++◌, ◌∷◌, [], ◌∙◌, sym, ap, arith, map, take}
+use Rattle.std.proofs.Common.{◌≡◌, ◌+◌, ◌++◌, ◌∙◌, sym, ap, arith, map, take}
 use Rattle.std.specs.Prelude.{string_bytes}
 use Rattle.std.specs.List.{flat_map}
 use Rattle.break_finder.specs.Entering.{id_of}
 use Rattle.channel_api.specs.FaultTexts.{why_word}
 use Rattle.live_channel.specs.Channel.{explained}
-use Rattle.channel_api.specs.Replies.{why_line}
+use Rattle.channel_api.specs.Replies.{why_line, line_of}
 use Rattle.channel_api.proofs.Lines.{one_more, no_more}
 use Rattle.http_edge.proofs.replies.why_lines.Goals as goal
 
@@ -17,7 +17,7 @@ loop-id-preserved c =
     record {
       within = omega (arith, more.within, next);
       lines = c.in_ok-push_line.ensures
-          ∙ ap (λ w. string_bytes c.loop-id.lines ++ (id ++ 9 ∷ why_word w ++ 10 ∷ [])) c.explain.ensures.why
+          ∙ ap (λ w. string_bytes c.loop-id.lines ++ line_of id (why_word w)) c.explain.ensures.why
           ∙ ap (λ l. l ++ why_line (explained kept) id) c.loop-id.invariant.lines ∙ sym more.lines
           ∙ ap (λ n. flat_map (why_line (explained kept)) (map id_of (take n kept.breaks))) (sym next);
     }

@@ -10,7 +10,7 @@ use Rattle.http_messages.proofs.receiving.receive.Goals as goal
 pub returns-in-Whole-clause-asked : goal.returns-in-Whole-clause-asked
 returns-in-Whole-clause-asked g c =
     let block = take c.in-Ok.count c.read.new.buf in
-    has_asked _ _ _ c.loop.arriving block _ _ _ c.loop.invariant.given c.in-Ok.ensures.bytes.0 refl refl
+    has_asked _ (g.S.Source.stand c.loop.source) _ c.loop.arriving block _ _ _ c.loop.invariant.given c.in-Ok.ensures.bytes.0 refl refl
     (subst (IsArrived (c.loop.arriving ++ block)) c.in-Whole.is c.in_ok-asked.ensures)
 
 pub returns-in-Whole-clause-whole : goal.returns-in-Whole-clause-whole

@@ -6,10 +6,10 @@ use Rattle.http_messages.proofs.receiving.receive.Given as goal
 
 abbrev pub invariant-loop : goal.invariant-loop
 invariant-loop g l = record {
-  given : Consumes (g.S.Source.remaining l.fn.source) (g.S.Source.remaining l.source) l.arriving;
+  given : Consumes (g.S.Source.stand l.fn.source).remaining (g.S.Source.stand l.source).remaining l.arriving;
   unfinished : IsUnfinished l.arriving;
-  called : CalledAll (g.S.Source.called l.fn.source) (g.S.Source.called l.source) l.counter;
-  calls : g.S.Source.called l.source ≤ g.S.Source.called l.fn.source + l.counter;
-  failed : NoneFailed (g.S.Source.failed l.fn.source) (g.S.Source.failed l.source);
+  called : CalledAll (g.S.Source.stand l.fn.source).called (g.S.Source.stand l.source).called l.counter;
+  calls : (g.S.Source.stand l.source).called ≤ (g.S.Source.stand l.fn.source).called + l.counter;
+  failed : NoneFailed (g.S.Source.stand l.fn.source).failed (g.S.Source.stand l.source).failed;
   many : l.counter ≤ length l.arriving;
 }

@@ -6,7 +6,7 @@ use Rattle.playlist_write.proofs.pieces.write_date_ranges.Given as goal
 
 abbrev pub invariant-loop-date_range : goal.invariant-loop-date_range
 invariant-loop-date_range g l = record {
-  taken : TookAllBut (g.S.Sink.contents l.fn.sink) (g.S.Sink.contents l.sink)
+  taken : TookAllBut (g.S.Sink.stand l.fn.sink).contents (g.S.Sink.stand l.sink).contents
       (string_bytes l.held ++ date_ranges_text (drop l.date_range-index l.date_ranges)) (string_bytes l.fn.held ++ date_ranges_text l.date_ranges);
-  failed : NoneFailed (g.S.Sink.failed l.fn.sink) (g.S.Sink.failed l.sink);
+  failed : NoneFailed (g.S.Sink.stand l.fn.sink).failed (g.S.Sink.stand l.sink).failed;
 }

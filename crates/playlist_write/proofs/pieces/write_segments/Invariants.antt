@@ -7,10 +7,10 @@ use Rattle.playlist_write.proofs.pieces.write_segments.Given as goal
 
 abbrev pub invariant-loop-next : goal.invariant-loop-next
 invariant-loop-next g l = record {
-  taken : TookAllBut (g.S.Sink.contents l.fn.sink) (g.S.Sink.contents l.sink)
+  taken : TookAllBut (g.S.Sink.stand l.fn.sink).contents (g.S.Sink.stand l.sink).contents
       (string_bytes l.held ++ said_text (segments_owed (record { keys = l.keys; init_section = option_copied l.init_section }) l.segments))
       (string_bytes l.fn.held ++ said_text (segments_owed none_yet l.fn.segments));
-  failed : NoneFailed (g.S.Sink.failed l.fn.sink) (g.S.Sink.failed l.sink);
+  failed : NoneFailed (g.S.Sink.stand l.fn.sink).failed (g.S.Sink.stand l.sink).failed;
 }
 
 abbrev pub decreases-loop-next : goal.decreases-loop-next

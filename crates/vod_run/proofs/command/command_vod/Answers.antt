@@ -1,5 +1,4 @@
 use Rattle.std.proofs.Common.{ap}
-use Rattle.byte_streams.specs.Stands.{sink_stand}
 use Rattle.vod_run.proofs.WholeRun.{is_one, still_fair, still_fair_sink}
 use Rattle.vod_run.proofs.command.command_vod.Goals as goal
 
@@ -11,7 +10,7 @@ returns-in-Err-clause-fault g c one =
       failed = record {
         kind = said.kind;
         write = λ is. said.write (is_one _ _ is);
-        nothing = λ other. ap (sink_stand g.K.Sink.contents g.K.Sink.failed) (said.nothing other);
+        nothing = λ other. ap g.K.Sink.stand (said.nothing other);
         order = said.order;
         playlist = said.playlist;
         number_range = λ is. said.number_range (is_one _ _ is);

@@ -5,9 +5,9 @@ use Rattle.vod_run.proofs.input.read_input.Given as goal
 
 abbrev pub invariant-loop : goal.invariant-loop
 invariant-loop g l = record {
-  given : Consumes (g.S.Source.remaining l.fn.source) (g.S.Source.remaining l.source) l.input.items;
-  called : CalledAll (g.S.Source.called l.fn.source) (g.S.Source.called l.source) l.counter;
-  calls : g.S.Source.called l.source ≤ g.S.Source.called l.fn.source + l.counter;
-  failed : NoneFailed (g.S.Source.failed l.fn.source) (g.S.Source.failed l.source);
+  given : Consumes (g.S.Source.stand l.fn.source).remaining (g.S.Source.stand l.source).remaining l.input.items;
+  called : CalledAll (g.S.Source.stand l.fn.source).called (g.S.Source.stand l.source).called l.counter;
+  calls : (g.S.Source.stand l.source).called ≤ (g.S.Source.stand l.fn.source).called + l.counter;
+  failed : NoneFailed (g.S.Source.stand l.fn.source).failed (g.S.Source.stand l.source).failed;
   many : l.counter ≤ length l.input.items;
 }

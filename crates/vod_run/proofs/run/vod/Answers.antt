@@ -1,9 +1,9 @@
 use Rattle.std.specs.Option.{option_copied}
-use Rattle.std.proofs.Common.{refl, subst, sym, ◌∙◌}
+use Rattle.std.proofs.Common.{subst, sym, ◌∙◌}
 use Rattle.std.specs.Prelude.{◌≢◌}
-use Rattle.vod_run.specs.declared.fault.VodFault.TheVariants.{Read, TooManyReads, Write}
+use Rattle.vod_run.specs.declared.fault.VodFault.TheVariants.{Read, TooManyReads}
 use Rattle.vod_run.specs.Vod.{IsInOrder, IsOfVod}
-use Rattle.vod_run.proofs.WholeRun.{judged_before, is_one, unread, passes, writes, given_all, writes_front, handed_on, in_order, of_input, no_write, number_range_of, fair_on, fair_sink_on, write_is_no_read, write_is_no_playlist, fair_source, unused_sink, on_end, at_end}
+use Rattle.vod_run.proofs.WholeRun.{judged_before, unread, passes, writes, given_all, writes_front, handed_on, in_order, of_input, no_write, number_range_of, fair_on, fair_sink_on, write_is_no_read, write_is_no_playlist, fair_source, unused_sink, on_end, at_end}
 use Rattle.vod_run.proofs.run.vod.Goals as goal
 
 pub returns-in_err-refresh_from-clause-kind : goal.returns-in_err-refresh_from-clause-kind
@@ -45,7 +45,7 @@ returns-in_err-refresh_from-clause-sink g c =
 
 pub returns-in_err-hand_text-clause-write : goal.returns-in_err-hand_text-clause-write
 returns-in_err-hand_text-clause-write g c is =
-    writes_front c.args.base.now (option_copied c.args.decisions) c.in_ok-channel.channel c.in_ok-channel.ensures.ok _ _ c.refresh_from.new.channel c.in_ok-refresh_from.ensures.ok _ _ (c.in_err-hand_text.ensures.err (is_one c.in_err-hand_text.field-0.0 Write c.in_err-hand_text.ensures.kind))
+    writes_front c.args.base.now (option_copied c.args.decisions) c.in_ok-channel.channel c.in_ok-channel.ensures.ok _ _ c.refresh_from.new.channel c.in_ok-refresh_from.ensures.ok _ _ c.in_err-hand_text.ensures.err
 
 pub returns-in_err-hand_text-clause-nothing : goal.returns-in_err-hand_text-clause-nothing
 returns-in_err-hand_text-clause-nothing g c =
