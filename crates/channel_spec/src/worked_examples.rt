@@ -14,9 +14,12 @@ fn filled_example()
 
 /// A break that goes through the window.
 fn live_example()
-    ensures first { written (three 0 ∷ decide_b1 ∷ []) ≡ Some ((0 ∷ 0 ∷ 0 ∷ 0 ∷ []) ∷ (1000 ∷ 1 ∷ 1 ∷ 1 ∷ []) ∷ (1001 ∷ 2 ∷ 1 ∷ 0 ∷ []) ∷ []) }
-    ensures second { written (three 1 ∷ three 0 ∷ decide_b1 ∷ []) ≡ Some ((1000 ∷ 1 ∷ 1 ∷ 1 ∷ []) ∷ (1001 ∷ 2 ∷ 1 ∷ 0 ∷ []) ∷ []) }
-    ensures third { written (three 2 ∷ three 1 ∷ three 0 ∷ decide_b1 ∷ []) ≡ Some ((1000 ∷ 1 ∷ 1 ∷ 1 ∷ []) ∷ (1001 ∷ 2 ∷ 1 ∷ 0 ∷ []) ∷ (4 ∷ 3 ∷ 2 ∷ 1 ∷ []) ∷ []) }
+    ensures first { written (three 0 ∷ decide_b1 ∷ [])
+        ≡ Some ((0 ∷ 0 ∷ 0 ∷ 0 ∷ []) ∷ (1000 ∷ 1 ∷ 1 ∷ 1 ∷ []) ∷ (1001 ∷ 2 ∷ 1 ∷ 0 ∷ []) ∷ []) }
+    ensures second { written (three 1 ∷ three 0 ∷ decide_b1 ∷ [])
+        ≡ Some ((1000 ∷ 1 ∷ 1 ∷ 1 ∷ []) ∷ (1001 ∷ 2 ∷ 1 ∷ 0 ∷ []) ∷ []) }
+    ensures third { written (three 2 ∷ three 1 ∷ three 0 ∷ decide_b1 ∷ [])
+        ≡ Some ((1000 ∷ 1 ∷ 1 ∷ 1 ∷ []) ∷ (1001 ∷ 2 ∷ 1 ∷ 0 ∷ []) ∷ (4 ∷ 3 ∷ 2 ∷ 1 ∷ []) ∷ []) }
     ensures sixth { written (three 5 ∷ three 4 ∷ three 3 ∷ three 2 ∷ three 1 ∷ three 0 ∷ decide_b1 ∷ [])
         ≡ Some ((5 ∷ 4 ∷ 2 ∷ 0 ∷ []) ∷ (6 ∷ 5 ∷ 2 ∷ 0 ∷ []) ∷ (7 ∷ 6 ∷ 2 ∷ 0 ∷ []) ∷ []) }
 {}
@@ -30,12 +33,22 @@ fn shortened_example()
 
 /// Why a refresh is refused.
 fn refused_examples()
-    ensures gap { refused (refreshed (plays false [] (segments 10 5)) ∷ []) (plays false [] (segments 20 5)) ≡ Some Gap }
-    ensures back { refused (refreshed (plays false [] (segments 10 5)) ∷ []) (plays false [] (segments 9 5)) ≡ Some Back }
-    ensures shrunk { refused (refreshed (plays false [] (segments 10 5)) ∷ []) (plays false [] (segments 10 4)) ≡ Some Shrunk }
-    ensures same { refused (refreshed (plays false [] (segments 10 5)) ∷ []) (plays false [] (segments 10 5)) ≡ None }
-    ensures end_of_numbers { refused (decide_b1 ∷ []) (plays false (tag (codes "b1") 100 ∷ []) (origin 18446744073709551614 (Some (at_tenths 0)) ∷ origin 18446744073709551615 None ∷ [])) ≡ Some NumberRange }
-    ensures no_pod { refused [] (plays false (tag (codes "b1") 100 ∷ []) (origin 18446744073709551614 (Some (at_tenths 0)) ∷ origin 18446744073709551615 None ∷ [])) ≡ None }
+    ensures gap { refused (refreshed (plays false [] (segments 10 5)) ∷ [])
+        (plays false [] (segments 20 5)) ≡ Some Gap }
+    ensures back { refused (refreshed (plays false [] (segments 10 5)) ∷ [])
+        (plays false [] (segments 9 5)) ≡ Some Back }
+    ensures shrunk { refused (refreshed (plays false [] (segments 10 5)) ∷ [])
+        (plays false [] (segments 10 4)) ≡ Some Shrunk }
+    ensures same { refused (refreshed (plays false [] (segments 10 5)) ∷ [])
+        (plays false [] (segments 10 5)) ≡ None }
+    ensures end_of_numbers { refused (decide_b1 ∷ [])
+        (plays false (tag (codes "b1") 100 ∷ [])
+        (origin 18446744073709551614 (Some (at_tenths 0)) ∷ origin 18446744073709551615 None ∷ []))
+        ≡ Some NumberRange }
+    ensures no_pod { refused []
+        (plays false (tag (codes "b1") 100 ∷ [])
+        (origin 18446744073709551614 (Some (at_tenths 0)) ∷ origin 18446744073709551615 None ∷ []))
+        ≡ None }
 {}
 
 /// Instants near the start of a break.

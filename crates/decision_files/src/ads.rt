@@ -20,7 +20,8 @@ fn stated_init_section(
     place: Place,
     value: &Value,
 ) -> Result<Option<Part>, DecisionFault>
-    ensures { Gives (option_map part_of) result (optional (init_section_said place) (get (codes "map") (view value.now))) }
+    ensures { Gives (option_map part_of) result
+        (optional (init_section_said place) (get (codes "map") (view value.now))) }
 {
     match value.get("map") {
         Some(map) => Ok(Some(init_section_said(alloc, place, map)?)),

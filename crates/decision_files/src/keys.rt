@@ -169,7 +169,8 @@ pub fn keys_of(alloc: Global, key: Option<Key>) -> Result<Keys, AllocError>
 /// The initialisation section of `part`, under copies of `keys` (RFC 8216, section 4.3.2.5). Fails only if an
 /// allocation fails.
 pub fn init_section_with(keys: &Keys, part: Part) -> Result<InitSection, AllocError>
-    ensures { IfOk result (λ init_section. init_section ≡ init_section_with keys.now (part_of part)) }
+    ensures { IfOk result
+        (λ init_section. init_section ≡ init_section_with keys.now (part_of part)) }
 {
     Ok(InitSection {
         uri: part.uri,

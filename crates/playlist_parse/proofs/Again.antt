@@ -1,11 +1,11 @@
 -- A line of EXTINF that is taken again.
-use Rattle.std.proofs.Common.{◌≡◌, ℕ, ◌+◌, ◌≤◌, length, arith, Bool, true, false, List, [], ◌∷◌, ◌++◌, map, refl, ap, sym, ◌∙◌, Ok, subst}
+use Rattle.std.proofs.Common.{◌≡◌, ℕ, ◌+◌, ◌≤◌, length, arith, true, false, List, [], ◌∷◌, ◌++◌, map, refl, ap, sym, ◌∙◌, Ok, subst}
 use Rattle.std.specs.Prelude.{Result, IsOk, codes}
 use Rattle.std.specs.Str.Lines.{lines}
 use Rattle.url.specs.Parts.{Parts}
 use Rattle.playlist_model.specs.declared.FaultKind.{FaultKind}
 use Rattle.playlist_model.specs.Lines.{has_control}
-use Rattle.playlist_model.specs.Said.{Said, duration_tag, Reader}
+use Rattle.playlist_model.specs.Said.{duration_tag}
 use Rattle.playlist_model.specs.Reading.{said_by, said_by_tag, limited}
 use Rattle.segment_state.specs.Running.{Running}
 use Rattle.segment_state.specs.Repeated.{IsLineOf, IsRepeated}

@@ -12,7 +12,8 @@ use timeline::OptionalInstant;
 
 /// A key of the method AES-128, with `format`, the resource `uri` and `iv`, and no other attribute.
 pub fn key(alloc: Global, format: &str, uri: &str, iv: Option<u128>) -> Result<Key, AllocError>
-    ensures { IfOk result (λ key. key ≡ record { format = format.now; method = codes "AES-128"; uri = uri.now; iv = iv; other_attributes = [] }) }
+    ensures { IfOk result
+        (λ key. key ≡ record { format = format.now; method = codes "AES-128"; uri = uri.now; iv = iv; other_attributes = [] }) }
 {
     Ok(Key {
         format: Shared::copy_of(alloc, format)?,

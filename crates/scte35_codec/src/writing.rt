@@ -119,7 +119,8 @@ fn put_components(
     components: &[(u8, Option<SpliceTime>)],
 ) -> Result<(), AllocError>
     requires { IsTrue (list_all (λ c. time_fits c.1) components.now) }
-    ensures { OnOk result (Appends (flat_map component components.now) out.old.items out.new.items) }
+    ensures { OnOk result
+        (Appends (flat_map component components.now) out.old.items out.new.items) }
 {
     for component in components {
         put_u8(out, component.0)?;
@@ -130,7 +131,8 @@ fn put_components(
 
 fn put_target(out: &mut Vec<u8>, target: &SpliceTarget) -> Result<(), AllocError>
     requires { TargetFits (target_of target.now) }
-    ensures { OnOk result (Appends (target_fields (target_of target.now)) out.old.items out.new.items) }
+    ensures { OnOk result
+        (Appends (target_fields (target_of target.now)) out.old.items out.new.items) }
 {
     match target {
         SpliceTarget::Program(time) => put_optional_time(out, *time),
@@ -173,7 +175,8 @@ fn put_body(out: &mut Vec<u8>, body: &InsertBody) -> Result<(), AllocError>
 
 fn put_optional_body(out: &mut Vec<u8>, body: &Option<InsertBody>) -> Result<(), AllocError>
     requires { IsTrue (body_fits (bodies_of body.now)) }
-    ensures { OnOk result (Appends (optional body_fields (bodies_of body.now)) out.old.items out.new.items) }
+    ensures { OnOk result
+        (Appends (optional body_fields (bodies_of body.now)) out.old.items out.new.items) }
 {
     match body {
         None => Ok(()),
@@ -189,7 +192,8 @@ fn put_cancel(out: &mut Vec<u8>, is_cancelled: bool) -> Result<(), AllocError>
 
 fn put_insert(out: &mut Vec<u8>, insert: &SpliceInsert) -> Result<(), AllocError>
     requires { IsTrue (body_fits (bodies_of insert.now.body)) }
-    ensures { OnOk result (Appends (splice_insert (event_of insert.now)) out.old.items out.new.items) }
+    ensures { OnOk result
+        (Appends (splice_insert (event_of insert.now)) out.old.items out.new.items) }
 {
     put_u32(out, insert.event_id)?;
     put_cancel(out, insert.body.is_none())?;
@@ -199,7 +203,8 @@ fn put_insert(out: &mut Vec<u8>, insert: &SpliceInsert) -> Result<(), AllocError
 
 fn put_command(out: &mut Vec<u8>, command: &SpliceCommand) -> Result<(), AllocError>
     requires { IsTrue (command_fits (command_of command.now)) }
-    ensures { OnOk result (Appends (command_fields (command_of command.now)) out.old.items out.new.items) }
+    ensures { OnOk result
+        (Appends (command_fields (command_of command.now)) out.old.items out.new.items) }
 {
     match command {
         SpliceCommand::Insert(insert) => put_insert(out, insert),
@@ -248,7 +253,8 @@ fn put_heading(
     requires adjustment { info.now.pts_adjustment < 2 ^ 33 }
     requires tier { info.now.tier < 4096 }
     requires command { command_length < 4096 }
-    ensures { OnOk result (Appends (heading_fields (section_of info.now) command_length) out.old.items out.new.items) }
+    ensures { OnOk result
+        (Appends (heading_fields (section_of info.now) command_length) out.old.items out.new.items) }
 {
     put_adjustment(out, info.pts_adjustment)?;
     put_u8(out, info.cw_index)?;
@@ -260,7 +266,8 @@ fn put_heading(
 // What stands between the command and CRC_32.
 fn put_tail(out: &mut Vec<u8>, info: &SpliceInfo) -> Result<(), AllocError>
     requires { length info.now.descriptors.items < 2 ^ 16 }
-    ensures { OnOk result (Appends (tail_fields (section_of info.now)) out.old.items out.new.items) }
+    ensures { OnOk result
+        (Appends (tail_fields (section_of info.now)) out.old.items out.new.items) }
 {
     put_u16(out, info.descriptors.len() as u16)?;
     put_bytes(out, &info.descriptors)?;
@@ -272,7 +279,8 @@ fn put_tail(out: &mut Vec<u8>, info: &SpliceInfo) -> Result<(), AllocError>
 fn put_front(out: &mut Vec<u8>, info: &SpliceInfo, section_length: usize) -> Result<(), AllocError>
     requires fits { IsTrue (has_section (section_of info.now)) }
     requires counted { section_length ≡ counted_length (section_of info.now) }
-    ensures { OnOk result (Appends (front_fields (section_of info.now)) out.old.items out.new.items) }
+    ensures { OnOk result
+        (Appends (front_fields (section_of info.now)) out.old.items out.new.items) }
 {
     put_start(out, section_length)?;
     put_heading(out, info, command_len(&info.command))?;

@@ -212,7 +212,8 @@ impl<'a> Durations<'a> {
     /// is left after it: the next segment has its duration and its title (RFC 8216, section 4.3.2.1).
     #[inline(always)]
     pub fn again(&mut self, left: &'a str) -> Option<&'a str>
-        ensures { MatchOption result (self.new ≡ self.old) (λ later. IsTakenAgain left.now later.now self.new) }
+        ensures { MatchOption result (self.new ≡ self.old)
+            (λ later. IsTakenAgain left.now later.now self.new) }
     {
         let line = self.line?;
         let later = left.strip_prefix(line)?;

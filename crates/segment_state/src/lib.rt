@@ -169,7 +169,8 @@ impl<'a> ReaderState<'a> {
     /// `duration_tag` would, and gives what is left after it (RFC 8216, section 4.3.2.1). Takes no memory.
     #[inline(always)]
     pub fn duration_again(&mut self, left: &'a str) -> Option<&'a str>
-        ensures { MatchOption result (self.new ≡ self.old) (λ later. IsRepeated left.now later.now self.old self.new) }
+        ensures { MatchOption result (self.new ≡ self.old)
+            (λ later. IsRepeated left.now later.now self.old self.new) }
     {
         self.durations.again(left)
     }
@@ -364,9 +365,11 @@ impl<'a> ReaderState<'a> {
         own: (Nanos, Shared<ShortText>),
     ) -> Result<Segment, FaultKind>
         requires fits { self.old.standing.media_count < MAX_SEGMENTS }
-        requires number { number ≡ self.old.standing.media_sequence + self.old.standing.media_count }
+        requires number { number
+            ≡ self.old.standing.media_sequence + self.old.standing.media_count }
         requires own { self.old.standing.duration ≡ Some own }
-        ensures { TakesSegment (λ base before. said_by_uri limited base before reference.now) self.old self.new result }
+        ensures { TakesSegment
+            (λ base before. said_by_uri limited base before reference.now) self.old self.new result }
     {
         let uri = self.references.resolve_part(reference)?;
         let byte_range = self.next_byte_range(uri.as_str())?;

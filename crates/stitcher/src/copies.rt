@@ -65,7 +65,8 @@ fn no_title(alloc: Global) -> Result<Shared<ShortText>, AllocError>
 /// What the segments of `ad` share: its initialisation section, under its keys, and the empty title. Fails only if an
 /// allocation fails.
 pub fn ad_parts(alloc: Global, ad: &Ad) -> Result<AdParts, AllocError>
-    ensures { IfOk result (λ parts. parts ≡ option_map (with_keys ad.now.keys) ad.now.init_section) }
+    ensures { IfOk result
+        (λ parts. parts ≡ option_map (with_keys ad.now.keys) ad.now.init_section) }
 {
     Ok(AdParts {
         init_section: ad_init_section(alloc, ad)?,
@@ -83,7 +84,9 @@ pub fn ad_segment(
     numbers: Numbers,
 ) -> Result<Segment, AllocError>
     requires { parts.now ≡ option_map (with_keys ad.now.keys) ad.now.init_section }
-    ensures { IfOk result (λ s. (mark : Mark) (first : Bool) → s ≡ written_segment (ad_piece mark first ad.now segment.now) numbers) }
+    ensures { IfOk result
+        (λ s. (mark : Mark) (first : Bool) → s
+        ≡ written_segment (ad_piece mark first ad.now segment.now) numbers) }
 {
     Ok(Segment {
         media_sequence: numbers.media_sequence,

@@ -59,7 +59,8 @@ fn tag_of(key: &KeyRef<'_>) -> Result<KeyTag, AllocError>
 
 // A tag for each key that is not among the old ones as it is.
 fn tags_of_new(alloc: Global, old: &Keys, new: &Keys) -> Result<Vec<KeyTag>, AllocError>
-    ensures { IfOk result (λ tags. tags.items ≡ map KeyTag.Set (filter (is_new_key old.now) new.now)) }
+    ensures { IfOk result
+        (λ tags. tags.items ≡ map KeyTag.Set (filter (is_new_key old.now) new.now)) }
 {
     let mut tags = Vec::new(alloc);
     for key in new.iter() {

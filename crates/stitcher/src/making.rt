@@ -66,7 +66,8 @@ impl<'a> Model for Stitching<'a> {
 }
 
 fn numbers_of(media: u64, discontinuity: u64, steps: u64) -> Numbers
-    ensures value { result ≡ record { media_sequence = media; discontinuity_sequence = discontinuity; discontinuities = steps } }
+    ensures value { result
+        ≡ record { media_sequence = media; discontinuity_sequence = discontinuity; discontinuities = steps } }
     ensures fit { numbers_fit result ≡ true }
 {
     Numbers {
@@ -80,7 +81,8 @@ fn numbers_of(media: u64, discontinuity: u64, steps: u64) -> Numbers
 // and 4.3.3.3).
 fn next_numbers(numbers: Numbers, steps: u64) -> Result<Numbers, StitchFault>
     ensures ok { IfOk result (λ n. (n ≡ next_numbers numbers steps) × (numbers_fit n ≡ true)) }
-    ensures err { IfErr result (λ e. (e ≡ StitchFault.NumberRange) × (numbers_fit (next_numbers numbers steps) ≡ false)) }
+    ensures err { IfErr result
+        (λ e. (e ≡ StitchFault.NumberRange) × (numbers_fit (next_numbers numbers steps) ≡ false)) }
 {
     let Some(media) = numbers.media_sequence.checked_add(1) else {
         return Err(StitchFault::NumberRange);
@@ -98,8 +100,12 @@ fn last_of_run(
     later: &[MarkedSegment],
 ) -> Result<Last, StitchFault>
     requires { numbers_fit numbers ≡ true }
-    ensures ok { IfOk result (λ last. (last ≡ last_of_run numbers first.now later.now) × (list_all item_fits (kept_items numbers (first.now ∷ later.now)) ≡ true)) }
-    ensures err { IfErr result (λ e. (e ≡ StitchFault.NumberRange) × (list_all item_fits (kept_items numbers (first.now ∷ later.now)) ≡ false)) }
+    ensures ok { IfOk result
+        (λ last. (last ≡ last_of_run numbers first.now later.now)
+        × (list_all item_fits (kept_items numbers (first.now ∷ later.now)) ≡ true)) }
+    ensures err { IfErr result
+        (λ e. (e ≡ StitchFault.NumberRange)
+        × (list_all item_fits (kept_items numbers (first.now ∷ later.now)) ≡ false)) }
 {
     let mut numbers = numbers;
     let mut here = first;
@@ -247,8 +253,11 @@ impl<'a> Stitching<'a> {
     // The numbers of the next item.
     fn numbers_with(&self, steps: u64) -> Result<Numbers, StitchFault>
         requires { numbers_fit self.now.first ≡ true }
-        ensures ok { IfOk result (λ n. (n ≡ numbers_with self.now.first self.now.last steps) × (numbers_fit n ≡ true)) }
-        ensures err { IfErr result (λ e. (e ≡ StitchFault.NumberRange) × (numbers_fit (numbers_with self.now.first self.now.last steps) ≡ false)) }
+        ensures ok { IfOk result
+            (λ n. (n ≡ numbers_with self.now.first self.now.last steps) × (numbers_fit n ≡ true)) }
+        ensures err { IfErr result
+            (λ e. (e ≡ StitchFault.NumberRange)
+            × (numbers_fit (numbers_with self.now.first self.now.last steps) ≡ false)) }
     {
         match self.last {
             None => Ok(self.first),
@@ -257,7 +266,8 @@ impl<'a> Stitching<'a> {
     }
 
     fn push_ad(&mut self, segment: Segment) -> Result<(), StitchFault>
-        ensures ok { OnOk result (self.new ≡ pushed self.old segment None (segment_numbers segment) None) }
+        ensures ok { OnOk result
+            (self.new ≡ pushed self.old segment None (segment_numbers segment) None) }
         ensures err { IfErr result (λ e. e ≡ StitchFault.OutOfMemory) }
     {
         let numbers = numbers_of(
@@ -338,9 +348,13 @@ impl<'a> Stitching<'a> {
         cut: usize,
     ) -> Result<&'a [MarkedSegment], StitchFault>
         requires { numbers_fit self.old.first ≡ true }
-        ensures ok { OnOk result (Puts self.old self.new (map plain (take (unmarked_front segments.now) segments.now))) }
-        ensures left { IfOk result (λ left. left.now ≡ drop (unmarked_front segments.now) segments.now) }
-        ensures err { IfErr result (λ e. RefusesNumber e (Passes self.old (map plain (take (unmarked_front segments.now) segments.now)))) }
+        ensures ok { OnOk result
+            (Puts self.old self.new (map plain (take (unmarked_front segments.now) segments.now))) }
+        ensures left { IfOk result
+            (λ left. left.now ≡ drop (unmarked_front segments.now) segments.now) }
+        ensures err { IfErr result
+            (λ e. RefusesNumber e (Passes self.old
+            (map plain (take (unmarked_front segments.now) segments.now)))) }
     {
         let (kept, left) = segments.split_at(unmarked_front(segments));
         self.keep_in_two(alloc, kept, cut)?;
@@ -359,8 +373,11 @@ impl<'a> Stitching<'a> {
     ) -> Result<(), StitchFault>
         requires fits { numbers_fit self.old.first ≡ true }
         requires parts { parts.now ≡ option_map (with_keys ad.now.keys) ad.now.init_section }
-        ensures ok { OnOk result ((mark : Mark) → Puts self.old self.new (ad_piece mark first ad.now segment.now ∷ [])) }
-        ensures err { IfErr result (λ e. RefusesNumber e ((mark : Mark) → Passes self.old (ad_piece mark first ad.now segment.now ∷ []))) }
+        ensures ok { OnOk result
+            ((mark : Mark) → Puts self.old self.new (ad_piece mark first ad.now segment.now ∷ [])) }
+        ensures err { IfErr result
+            (λ e. RefusesNumber e ((mark : Mark)
+            → Passes self.old (ad_piece mark first ad.now segment.now ∷ []))) }
     {
         let numbers = self.numbers_with(u64::from(first))?;
         let segment = ad_segment(alloc, ad, parts, segment, numbers)?;
@@ -379,9 +396,13 @@ impl<'a> Stitching<'a> {
     ) -> Result<Part, StitchFault>
         requires fits { numbers_fit self.old.first ≡ true }
         requires parts { parts.now ≡ option_map (with_keys ad.now.keys) ad.now.init_section }
-        ensures ok { OnOk result ((mark : Mark) → Puts self.old self.new (part_here part.now (ad_piece mark first ad.now segment.now))) }
+        ensures ok { OnOk result
+            ((mark : Mark) → Puts self.old self.new
+            (part_here part.now (ad_piece mark first ad.now segment.now))) }
         ensures part { IfOk result (λ after. after ≡ part_after_one part.now segment.now.duration) }
-        ensures err { IfErr result (λ e. RefusesNumber e ((mark : Mark) → Passes self.old (part_here part.now (ad_piece mark first ad.now segment.now)))) }
+        ensures err { IfErr result
+            (λ e. RefusesNumber e ((mark : Mark)
+            → Passes self.old (part_here part.now (ad_piece mark first ad.now segment.now)))) }
     {
         if !shows_next(part) {
             return Ok(part_after(part, segment.duration));
@@ -392,9 +413,15 @@ impl<'a> Stitching<'a> {
 
     fn put_ad(&mut self, alloc: Global, ad: &Ad, part: Part) -> Result<Part, StitchFault>
         requires { numbers_fit self.old.first ≡ true }
-        ensures ok { OnOk result ((mark : Mark) → Puts self.old self.new (part_of part (ad_pieces mark ad.now ad.now.segments))) }
-        ensures part { IfOk result (λ after. (mark : Mark) → after ≡ part_after part (ad_pieces mark ad.now ad.now.segments)) }
-        ensures err { IfErr result (λ e. RefusesNumber e ((mark : Mark) → Passes self.old (part_of part (ad_pieces mark ad.now ad.now.segments)))) }
+        ensures ok { OnOk result
+            ((mark : Mark) → Puts self.old self.new
+            (part_of part (ad_pieces mark ad.now ad.now.segments))) }
+        ensures part { IfOk result
+            (λ after. (mark : Mark) → after
+            ≡ part_after part (ad_pieces mark ad.now ad.now.segments)) }
+        ensures err { IfErr result
+            (λ e. RefusesNumber e ((mark : Mark)
+            → Passes self.old (part_of part (ad_pieces mark ad.now ad.now.segments)))) }
     {
         let parts = ad_parts(alloc, ad)?;
         let Some((first, later)) = ad.segments.as_slice().split_first() else {
@@ -412,8 +439,12 @@ impl<'a> Stitching<'a> {
     // Puts a part of a pod at the end.
     fn put_pod(&mut self, alloc: Global, pod: &Pod, part: Part) -> Result<(), StitchFault>
         requires { numbers_fit self.old.first ≡ true }
-        ensures ok { OnOk result ((mark : Mark) → Puts self.old self.new (part_of part (pieces_of_ads mark pod.now.ads))) }
-        ensures err { IfErr result (λ e. RefusesNumber e ((mark : Mark) → Passes self.old (part_of part (pieces_of_ads mark pod.now.ads)))) }
+        ensures ok { OnOk result
+            ((mark : Mark) → Puts self.old self.new
+            (part_of part (pieces_of_ads mark pod.now.ads))) }
+        ensures err { IfErr result
+            (λ e. RefusesNumber e ((mark : Mark)
+            → Passes self.old (part_of part (pieces_of_ads mark pod.now.ads)))) }
     {
         let mut left = part;
         let mut rest = pod.ads();
@@ -436,8 +467,11 @@ impl<'a> Stitching<'a> {
         store: &PodStore,
     ) -> Result<(), StitchFault>
         requires { numbers_fit self.old.first ≡ true }
-        ensures ok { OnOk result (Puts self.old self.new (part_of part (pod_with id.now (pod_for store.now id.now)))) }
-        ensures err { IfErr result (λ e. RefusesNumber e (Passes self.old (part_of part (pod_with id.now (pod_for store.now id.now))))) }
+        ensures ok { OnOk result
+            (Puts self.old self.new (part_of part (pod_with id.now (pod_for store.now id.now)))) }
+        ensures err { IfErr result
+            (λ e. RefusesNumber e (Passes self.old
+            (part_of part (pod_with id.now (pod_for store.now id.now))))) }
     {
         match store.pod_for(id) {
             Some(pod) => self.put_pod(alloc, pod, part),
@@ -454,7 +488,8 @@ impl<'a> Stitching<'a> {
     ) -> Result<(), StitchFault>
         requires { numbers_fit self.old.first ≡ true }
         ensures ok { OnOk result (Puts self.old self.new (rest_on store.now rest.now)) }
-        ensures err { IfErr result (λ e. RefusesNumber e (Passes self.old (rest_on store.now rest.now))) }
+        ensures err { IfErr result
+            (λ e. RefusesNumber e (Passes self.old (rest_on store.now rest.now))) }
     {
         let Some(rest) = rest else {
             return Ok(());
@@ -475,9 +510,12 @@ impl<'a> Stitching<'a> {
         ends: &Ends,
     ) -> Result<&'a [MarkedSegment], StitchFault>
         requires { numbers_fit self.old.first ≡ true }
-        ensures ok { OnOk result (Puts self.old self.new (front_pieces store.now ends.now.so_far previous.now segments.now)) }
+        ensures ok { OnOk result
+            (Puts self.old self.new (front_pieces store.now ends.now.so_far previous.now segments.now)) }
         ensures left { IfOk result (λ left. left.now ≡ after_front segments.now) }
-        ensures err { IfErr result (λ e. RefusesNumber e (Passes self.old (front_pieces store.now ends.now.so_far previous.now segments.now))) }
+        ensures err { IfErr result
+            (λ e. RefusesNumber e (Passes self.old
+            (front_pieces store.now ends.now.so_far previous.now segments.now))) }
     {
         let Some((marked, later)) = segments.split_first() else {
             return Ok(segments);
@@ -534,8 +572,12 @@ pub fn stitch<'a>(
     ends: &Ends,
 ) -> Result<StitchedList<'a>, StitchFault>
     requires { AreDecided store.now marked.now }
-    ensures ok { IfOk result (λ v. (v ≡ stitched_segments store.now first ends.now marked.now) × (list_all item_fits v ≡ true)) }
-    ensures err { IfErr result (λ e. RefusesNumber e (list_all item_fits (stitched_segments store.now first ends.now marked.now) ≡ false)) }
+    ensures ok { IfOk result
+        (λ v. (v ≡ stitched_segments store.now first ends.now marked.now)
+        × (list_all item_fits v ≡ true)) }
+    ensures err { IfErr result
+        (λ e. RefusesNumber e (list_all item_fits
+        (stitched_segments store.now first ends.now marked.now) ≡ false)) }
 {
     stitch_at(alloc, marked, 0, store, first, ends)
 }
@@ -552,8 +594,12 @@ pub fn stitch_at<'a>(
     ends: &Ends,
 ) -> Result<StitchedList<'a>, StitchFault>
     requires { AreDecided store.now marked.now }
-    ensures ok { IfOk result (λ v. (v ≡ stitched_segments store.now first ends.now marked.now) × (list_all item_fits v ≡ true)) }
-    ensures err { IfErr result (λ e. RefusesNumber e (list_all item_fits (stitched_segments store.now first ends.now marked.now) ≡ false)) }
+    ensures ok { IfOk result
+        (λ v. (v ≡ stitched_segments store.now first ends.now marked.now)
+        × (list_all item_fits v ≡ true)) }
+    ensures err { IfErr result
+        (λ e. RefusesNumber e (list_all item_fits
+        (stitched_segments store.now first ends.now marked.now) ≡ false)) }
 {
     let mut stitching = Stitching::new(alloc, first);
     stitching.put_rest(alloc, &ends.rest, store)?;

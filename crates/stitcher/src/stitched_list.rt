@@ -99,7 +99,8 @@ fn open_stretch<'a>(cursor: &mut Cursor<'a>)
 #[inline(always)]
 fn next_here<'a>(cursor: &mut Cursor<'a>) -> Option<OutSegment<'a>>
     requires { list_all item_fits (here_items cursor.old) ≡ true }
-    ensures item { MatchOption result ((here_items cursor.old ≡ []) × (here_items cursor.new ≡ [])) (λ item. here_items cursor.old ≡ item ∷ here_items cursor.new) }
+    ensures item { MatchOption result ((here_items cursor.old ≡ []) × (here_items cursor.new ≡ []))
+        (λ item. here_items cursor.old ≡ item ∷ here_items cursor.new) }
     ensures later { cursor.new.later.now ≡ cursor.old.later.now }
 {
     let ads = cursor.ads;
@@ -141,7 +142,8 @@ impl<'a> StitchedItems<'a> {
     /// The next item, where there is one.
     #[inline(always)]
     pub fn next(&mut self) -> Option<OutSegment<'a>>
-        ensures { MatchOption result ((self.old ≡ []) × (self.new ≡ [])) (λ item. self.old ≡ item ∷ self.new) }
+        ensures { MatchOption result ((self.old ≡ []) × (self.new ≡ []))
+            (λ item. self.old ≡ item ∷ self.new) }
     {
         open_stretch(&mut self.cursor);
         next_here(&mut self.cursor)

@@ -47,6 +47,10 @@ fn discontinuity_examples()
 
 /// The last numbers that a playlist can state.
 fn last_number_examples()
-    ensures media { fitting (marked two (plain 18446744073709551615) ∷ unmarked (plain 18446744073709551614) ∷ []) ≡ false ∷ true ∷ true ∷ [] }
-    ensures discontinuity { fitting (unmarked (stepped 1 18446744073709551614 0) ∷ marked two (stepped 0 18446744073709551614 0) ∷ []) ≡ false ∷ true ∷ true ∷ [] }
+    ensures media { fitting
+        (marked two (plain 18446744073709551615) ∷ unmarked (plain 18446744073709551614) ∷ [])
+        ≡ false ∷ true ∷ true ∷ [] }
+    ensures discontinuity { fitting
+        (unmarked (stepped 1 18446744073709551614 0) ∷ marked two (stepped 0 18446744073709551614 0)
+        ∷ []) ≡ false ∷ true ∷ true ∷ [] }
 {}
