@@ -1,5 +1,3 @@
-pub mod Counted
-pub mod Dues
 pub mod Extended
 pub mod Found
 pub mod Listed
@@ -8,6 +6,7 @@ pub mod Passing
 pub mod Placed
 pub mod Ranges
 pub mod Rest
+pub mod Rising
 pub mod Runs
 pub mod ShownWith
 pub mod Sizes

@@ -1,8 +1,11 @@
 -- The segments that a channel holds, the oldest first, and what is kept, the newest first.
-use Rattle.std.proofs.Common.{◌≡◌, ℕ, ◌+◌, ◌-◌, ◌<◌, ℤ, true, cond, List, [], ◌∷◌, ◌++◌, map, length, drop, refl, ap, sym, ◌∙◌, subst, arith, append_assoc, length-append}
+use Rattle.std.proofs.Common.{◌≡◌, ℕ, ◌+◌, ◌-◌, ◌<◌, ◌≤◌, ℤ, Bool, true, false, cond, min, zero, suc, List, [], ◌∷◌, ◌++◌, map, length, drop, refl, ap, sym, ◌∙◌, subst, arith, append_assoc, length-append}
 use Rattle.std.specs.Prelude.{Option, filter, nat_lt}
 use Rattle.std.specs.List.{AllByRecursion}
+use Rattle.std.proofs.lemmas.Bool.{ltb-true, ltb-false}
 use Rattle.std.proofs.lemmas.Bool.Decides.{nat_tests}
+use Rattle.std.proofs.lemmas.List.{length-drop}
+use Rattle.std.proofs.Math.Decide.{dec_le}
 use mathlib.Core.List.{reverse_aux}
 use Rattle.playlist_model.specs.declared.Segment.{Segment}
 use Rattle.pod_store.specs.Marks.{Marked, newest_mark}
@@ -11,6 +14,8 @@ use Rattle.pod_store.specs.Store.{Store}
 use Rattle.stitcher.specs.declared.marked.MarkedSegment.{MarkedSegment as Held}
 use Rattle.stitcher.specs.StitchedSegments.{meant, mark_in, IsDecided, AreDecided}
 use Rattle.channel_spec.specs.Sound.{RiseFrom}
+use Rattle.channel_spec.specs.Successor.{first_number}
+use Rattle.channel_window.specs.Checked.{AreContiguous}
 use Rattle.channel_spec.specs.Marking.{Moment, newest_end, is_new}
 use Rattle.channel_spec.specs.Kept.{show_on, length_on}
 use Rattle.channel_window.specs.Marking.{so_far, mark_on, length_after}
@@ -68,6 +73,38 @@ rest_after n k (s ∷ later) h r =
     ap (λ b. cond b (s ∷ filter (is_after n) later) (filter (is_after n) later)) here
     ∙ ap (λ xs. s ∷ xs) (rest_after n (k + 1) later (omega (arith, h)) r.1)
 
+pub drop_all : {A : Type 0} (n : ℕ) (xs : List A) → length xs ≤ n → drop n xs ≡ []
+drop_all zero [] h = refl
+drop_all (suc n) [] h = refl
+drop_all zero (x ∷ xs) h = absurd (omega (arith, h))
+drop_all (suc n) (x ∷ xs) h = drop_all n xs (omega (arith, h))
+
+-- those after a number, where they rise by one
+after_from : (n k : ℕ) (segments : List Segment) → RiseFrom k segments → filter (is_after n) segments ≡ drop ((n + 1) - k) segments
+after_from n k [] r = sym (drop_all ((n + 1) - k) [] (omega arith))
+after_from n k (s ∷ later) r = step (nat_lt n s.media_sequence) refl (after_from n (k + 1) later r.1)
+  where
+    step : (b : Bool) → nat_lt n s.media_sequence ≡ b → filter (is_after n) later ≡ drop ((n + 1) - (k + 1)) later
+        → cond b (s ∷ filter (is_after n) later) (filter (is_after n) later) ≡ drop ((n + 1) - k) (s ∷ later)
+    step true e rec =
+        let above = ltb-true n s.media_sequence e in
+        let none : (n + 1) - k ≡ 0 = omega (arith, above, r.0) in
+        ap (λ xs. s ∷ xs) (rest_after n (k + 1) later (omega (arith, above, r.0)) r.1) ∙ sym (ap (λ m. drop m (s ∷ later)) none)
+    step false e rec =
+        let one : (n + 1) - k ≡ suc ((n + 1) - (k + 1)) = omega (arith, ltb-false n s.media_sequence e, r.0) in
+        rec ∙ sym (ap (λ m. drop m (s ∷ later)) one)
+
+pub drop_min : {A : Type 0} (n k : ℕ) (xs : List A) → k ≡ min n (length xs) → drop k xs ≡ drop n xs
+drop_min n k xs e = by (dec_le n (length xs))
+  where
+    by : Dec (n ≤ length xs) → drop k xs ≡ drop n xs
+    by (yes h) = let same : k ≡ n = omega (arith, e, h) in ap (λ m. drop m xs) same
+    by (no h) = drop_all k xs (omega (arith, e, h)) ∙ sym (drop_all n xs (omega (arith, h)))
+
+pub after_at : (n first place : ℕ) (segments : List Segment) → first ≡ first_number segments → AreContiguous segments → first ≤ n → place ≡ min ((n - first) + 1) (length segments) → drop place segments ≡ filter (is_after n) segments
+after_at n first place segments f r h e =
+    drop_min ((n + 1) - first_number segments) place segments (omega (arith, e, f, h)) ∙ sym (after_from n (first_number segments) segments r)
+
 pub same_new : (store : Store) (shown rest : List Held) (m : Held) (segments : List Segment) → shown ≡ rest ++ m ∷ [] → filter (is_new (so_far store shown)) segments ≡ filter (is_after m.segment.media_sequence) segments
 same_new store shown rest m segments e = ap (λ (before : List Marked). filter (is_new before) segments) (last_seen store shown rest m e)
 
@@ -88,12 +125,14 @@ tail_of segments front rest e =
     let n : length segments - length rest ≡ length front = let k = ap length e ∙ length-append front rest in omega (arith, k) in
     ap (λ n. drop n segments) n ∙ (ap (drop (length front)) e ∙ dropped front rest)
 
+pub tail_at : (place : ℕ) (segments : List Segment) → place ≤ length segments → IsTail (drop place segments) segments
+tail_at place segments h =
+    let n : length segments - length (drop place segments) ≡ place = omega (arith, h, length-drop place segments) in
+    ap (λ n. drop n segments) n
+
 -- and so is the whole
 pub tail_whole : (segments : List Segment) → IsTail segments segments
 tail_whole segments = tail_of segments [] segments refl
-
-pub tail_on : (segments rest later : List Segment) (s : Segment) → ((front : List Segment) × (segments ≡ front ++ rest)) → rest ≡ s ∷ later → (front : List Segment) × (segments ≡ front ++ later)
-tail_on segments rest later s t e = (t.0 ++ s ∷ [], t.1 ∙ (ap (λ xs. t.0 ++ xs) e ∙ sym (append_assoc t.0 (s ∷ []) later)))
 
 -- ---- the list
 

@@ -20,7 +20,10 @@ use Rattle.channel_spec.specs.Kept.{show_on, length_on, kept_acceptance}
 use Rattle.channel_window.specs.declared.state.ChannelState.{ChannelState}
 use Rattle.channel_window.specs.declared.showing.Showing.{Showing}
 use Rattle.channel_window.specs.Marking.{so_far, mark_on, entered_after, length_after}
+use Rattle.channel_window.specs.Checked.{AreContiguous}
+use Rattle.channel_window.specs.Listed.{RisesOn}
 use Rattle.channel_window.proofs.Extended.{newest_is_last}
+use Rattle.channel_window.proofs.Rising.{rises_on}
 use Rattle.channel_window.proofs.Listed.{seen_after, all_after, is_listed, is_decided, is_long}
 use Rattle.channel_window.specs.Showing.{kept_in, IsLastEntered, IsShown}
 
@@ -60,7 +63,7 @@ module _ (tolerance : ℕ) (state : ChannelState) (p : Playlist) (shown : List H
     (breaks_are : a.knowledge ≡ carry (record { playlist = p; carried = newest }) state.shown.knowledge) (fresh_is : fresh ≡ filter (is_new (so_far state.store shown)) p.segments)
     (ended_is : ended ≡ newest_end (so_far state.store shown)) (begun_is : begun ≡ instants_after ended fresh)
     (marked_is : marked ≡ mark_on (record { tolerance = tolerance; target_duration = p.target_duration; with_init_sections = has_init_sections p.segments; breaks = a.knowledge; store = state.store }) newest state.shown.entered fresh begun)
-    (list_is : a.list.items ≡ shown ++ marked) (entered_is : a.entered ≡ entered_after state.shown.entered marked) where
+    (list_is : a.list.items ≡ shown ++ marked) (contiguous : AreContiguous p.segments) (rises : RisesOn state.shown.list p.segments) (entered_is : a.entered ≡ entered_after state.shown.entered marked) where
   abbrev store : Store
   store = state.store
 
@@ -69,6 +72,9 @@ module _ (tolerance : ℕ) (state : ChannelState) (p : Playlist) (shown : List H
 
   decided : AreDecided store shown
   decided = subst (AreDecided store) (sym same) before
+
+  shown_rises : RisesOn shown p.segments
+  shown_rises = subst (λ xs. RisesOn xs p.segments) (sym same) rises
 
   breaks_kept : a.knowledge ≡ carry (kept_acceptance (kept_in state) p) state.shown.knowledge
   breaks_kept =
@@ -103,6 +109,7 @@ module _ (tolerance : ℕ) (state : ChannelState) (p : Playlist) (shown : List H
         ∙ ap (λ b. length_on (moment b) (so_far store state.shown.list) state.shown.entered state.shown.so_far (filter (is_new (so_far store state.shown.list)) p.segments)) breaks_kept);
     front = (marked, list_is ∙ ap (λ xs. xs ++ marked) same);
     decided = list_decided;
+    rising = rises_on (moment a.knowledge) shown newest state.shown.entered p.segments fresh begun marked a.list.items shown_rises contiguous fresh_is marked_is list_is;
   }
 
 -- the newest mark, if any, is that of the last break entered

@@ -5,7 +5,7 @@ use Rattle.std.specs.Result.{IsErrAnd}
 use Rattle.channel_spec.specs.declared.fault.RefreshFault.{RefreshFault}
 use Rattle.channel_spec.specs.declared.fault.RefreshFault.TheVariants.{NumberRange, OutOfMemory}
 use Rattle.std.specs.List.{list_all}
-use Rattle.std.proofs.lemmas.Bool.{lt-ltb, ltb-true, eqb-true}
+use Rattle.std.proofs.lemmas.Bool.{lt-ltb, ltb-true, eqb-true, eq-eqb}
 use Rattle.playlist_model.specs.declared.Playlist.{Playlist}
 use Rattle.pod_store.specs.Marks.{Mark, Marked, newest_mark}
 use Rattle.stitcher.specs.Stitched.{Numbers, Item, fits, numbered, newest_place, up_to, from_place}
@@ -18,20 +18,20 @@ use Rattle.stitcher.specs.Written.{written_item}
 use Rattle.stitcher.specs.StitchedSegments.{mark_in, mark_with, rest_from, rest_in, ends_in, item_fits, stitched_segments, AreDecided}
 use Rattle.channel_spec.specs.Successor.{first_number}
 use Rattle.channel_spec.specs.Live.{place_of, gone_before, rest_over}
-use Rattle.channel_spec.specs.Kept.{stitched_on, items_on, numbers_on, start_on, window_on}
+use Rattle.channel_spec.specs.Kept.{items_on, numbers_on, start_on, rest_on, window_on}
 use Rattle.channel_spec.specs.Inner.Kept.{ends_of}
+use Rattle.channel_spec.specs.LastWindow.{last_pieces}
 use Rattle.channel_spec.proofs.EndsLaws.{between_ends}
 use Rattle.channel_window.specs.declared.state.ChannelState.{ChannelState}
 use Rattle.channel_window.specs.Marking.{so_far, place_on}
 use Rattle.channel_window.specs.Listed.{IsFront, RefusesList}
-use Rattle.channel_window.specs.Placing.{run_count, rest_count}
-use Rattle.channel_window.specs.Inner.Placing.{HasRoom}
+use Rattle.channel_window.specs.Placing.{rest_count}
+use Rattle.channel_window.specs.Inner.Placing.{HasRoom, rest_of}
 use Rattle.channel_window.specs.Showing.{kept_in}
 use Rattle.channel_window.proofs.Listed.{newest_seen, newest_decided}
 use Rattle.channel_window.proofs.Placed.{place_is_counted}
 use Rattle.channel_window.proofs.Passing.{within, front_decided}
 use Rattle.channel_window.proofs.Rest.{window_is_stitched, number_range_is_stitched}
-use Rattle.channel_window.proofs.Runs.{list_long}
 
 -- ---- where the item of a number stands
 
@@ -39,37 +39,36 @@ pub place_found : (store : Store) (number place : ℕ) (list front : List Held) 
     → place_of number (so_far store list) ≡ place
 place_found store number place list front d f seen is = ap newest_place (sym seen) ∙ (place_is_counted store front (front_decided store list front d f) ∙ sym is)
 
--- ---- the last window
-
--- how many items it came to, no more of them than can be told
-pub written_long : (state : ChannelState) (ended : Bool) (rest : List Held) (m : Held) (before place run first most : ℕ) → state.shown.list ≡ rest ++ m ∷ [] → AreDecided state.store state.shown.list
-    → before ≡ rest_count state.store state.shown.rest → place ≡ place_on state.store None 0 0 state.shown.list → run ≡ run_count state.store ended state.shown.so_far m.mark
-    → first ≡ min (before + place) (2 ^ 64 - 1) → most ≡ min (first + run) (2 ^ 64 - 1)
-    → most ≡ min (length (stitched_on ended state.shown.so_far (so_far state.store state.shown.list) (rest_in state.store state.shown.rest))) (2 ^ 64 - 1)
-written_long state ended rest m before place run first most e d b p r f g =
-    let seen = so_far state.store state.shown.list in
-    let size = length-append (due_with ended state.shown.so_far seen) (rest_pieces (rest_in state.store state.shown.rest)) in
-    let list = list_long state.store ended state.shown.so_far state.shown.list rest m e (newest_decided state.store state.shown.list rest m e d) in
-    let at = place_is_counted state.store state.shown.list d in
-    omega (arith, size, list, at, b, p, r, f, g)
-
 -- ---- where the next one starts
 
-module _ (state : ChannelState) (p : Playlist) (list : List Held) (place : ℕ) (item : place_of (first_number p.segments) (so_far state.store list) ≡ place) where
-  abbrev number : ℕ
-  number = first_number p.segments
+module _ (state : ChannelState) (number : ℕ) (list : List Held) where
+  pub start_first : (place : ℕ) → place ≡ place_of number (so_far state.store list) → state.last ≡ None → place ≡ start_on state.last number (kept_in state) (so_far state.store list)
+  start_first place is e = is ∙ sym (ap (λ o. start_on o number (kept_in state) (so_far state.store list)) e)
 
-  pub start_first : state.last ≡ None → place ≡ start_on state.last number (kept_in state) (so_far state.store list)
-  start_first e = sym (ap (λ o. start_on o number (kept_in state) (so_far state.store list)) e ∙ item)
-
-  pub start_later : (last : Playlist) (base most start : ℕ) → state.last ≡ Some last → (number == first_number last.segments) ≡ false → base ≡ rest_count state.store state.shown.rest
-      → most ≡ min (length (stitched_on last.end_list state.shown.so_far (so_far state.store state.shown.list) (rest_in state.store state.shown.rest))) (2 ^ 64 - 1) → place + base < 2 ^ 64 → start ≡ min (place + base) most
-      → start ≡ start_on state.last number (kept_in state) (so_far state.store list)
-  start_later last base most start e other b m room is =
-      let old = length (stitched_on last.end_list state.shown.so_far (so_far state.store state.shown.list) (rest_in state.store state.shown.rest)) in
+  pub start_later : (last : Playlist) (stood start : ℕ) → state.last ≡ Some last → (number == first_number last.segments) ≡ false → stood ≡ length (last_pieces state.last (kept_in state))
+      → start ≡ min (place_of number (so_far state.store list) + rest_count state.store state.shown.rest) stood → start ≡ start_on state.last number (kept_in state) (so_far state.store list)
+  start_later last stood start e other s is =
       let here = place_of number (so_far state.store list) + rest_count state.store state.shown.rest in
-      let same : start ≡ min here old = omega (arith, item, b, m, room, is) in
-      same ∙ sym (ap (λ o. start_on o number (kept_in state) (so_far state.store list)) e ∙ ap (λ t. cond t 0 (min here old)) other)
+      let old = length (last_pieces (Some last) (kept_in state)) in
+      is ∙ ap (min here) (s ∙ ap (λ o. length (last_pieces o (kept_in state))) e)
+      ∙ sym (ap (λ o. start_on o number (kept_in state) (so_far state.store list)) e ∙ ap (λ t. cond t 0 (min here old)) other)
+
+  pub start_same : (last : Playlist) → state.last ≡ Some last → number ≡ first_number last.segments → 0 ≡ start_on state.last number (kept_in state) (so_far state.store list)
+  start_same last e same =
+      let here = place_of number (so_far state.store list) + rest_count state.store state.shown.rest in
+      let old = length (last_pieces (Some last) (kept_in state)) in
+      sym (ap (λ o. start_on o number (kept_in state) (so_far state.store list)) e ∙ ap (λ t. cond t 0 (min here old)) (eq-eqb number (first_number last.segments) same))
+
+  pub rest_later : (last : Playlist) (start : ℕ) → state.last ≡ Some last → (number == first_number last.segments) ≡ false
+      → rest_over (rest_count state.store state.shown.rest) start number (so_far state.store list) ≡ rest_on state.last number start (so_far state.store list) (rest_in state.store state.shown.rest)
+  rest_later last start e other =
+      sym (ap (λ o. rest_on o number start (so_far state.store list) (rest_in state.store state.shown.rest)) e
+      ∙ ap (λ t. cond t (rest_in state.store state.shown.rest) (rest_over (rest_count state.store state.shown.rest) start number (so_far state.store list))) other)
+
+  pub rest_same : (last : Playlist) (start : ℕ) → state.last ≡ Some last → number ≡ first_number last.segments → rest_in state.store state.shown.rest ≡ rest_on state.last number start (so_far state.store list) (rest_in state.store state.shown.rest)
+  rest_same last start e same =
+      sym (ap (λ o. rest_on o number start (so_far state.store list) (rest_in state.store state.shown.rest)) e
+      ∙ ap (λ t. cond t (rest_in state.store state.shown.rest) (rest_over (rest_count state.store state.shown.rest) start number (so_far state.store list))) (eq-eqb number (first_number last.segments) same))
 
 pub not_equal : (a b : ℕ) → (a ≡ b → ⊥) → (a == b) ≡ false
 not_equal a b h = step (a == b) refl
@@ -80,30 +79,29 @@ not_equal a b h = step (a == b) refl
 
 -- ---- the rest that it starts with
 
-pub rest_none : (base start number place before : ℕ) (seen : List Marked) → place_of number seen ≡ place → base ≡ before → place + before ≤ start → None ≡ rest_over base start number seen
-rest_none base start number place before seen item b h = step (nat_lt start (place_of number seen + base)) refl
+pub rest_none : (before start number : ℕ) (seen : List Marked) → place_of number seen + before ≤ start → None ≡ rest_over before start number seen
+rest_none before start number seen h = step (nat_lt start (place_of number seen + before)) refl
   where
-    there : Mark → MeantRest
-    there mark = record { mark = mark; place = start - (newest_place (gone_before number seen) + base) }
-
-    step : (t : Bool) → nat_lt start (place_of number seen + base) ≡ t → None ≡ cond t (option_map there (newest_mark (gone_before number seen))) None
-    step true e = absurd (omega (arith, ltb-true start (place_of number seen + base) e, item, b, h))
+    step : (t : Bool) → nat_lt start (place_of number seen + before) ≡ t → None ≡ cond t (rest_of before start (gone_before number seen)) None
+    step true e = absurd (omega (arith, ltb-true start (place_of number seen + before) e, h))
     step false e = refl
 
-pub rest_some : (store : Store) (base start number place before behind from : ℕ) (list gone rest : List Held) (m : Held) (id copy : List ℕ) → AreDecided store list → place_of number (so_far store list) ≡ place → base ≡ before → start < place + before
-    → so_far store gone ≡ gone_before number (so_far store list) → IsFront gone list → gone ≡ rest ++ m ∷ [] → m.mark ≡ Some id → copy ≡ id → behind ≡ place_on store None 0 0 gone → from ≡ start - (behind + before)
-    → option_map (rest_from from) (mark_with copy (pod_for store copy)) ≡ rest_over base start number (so_far store list)
-rest_some store base start number place before behind from list gone rest m id copy d item b h seen front cut is same counted is_from =
-    let far = so_far store list in
-    let at : newest_place (gone_before number far) ≡ behind = ap newest_place (sym seen) ∙ (place_is_counted store gone (front_decided store list gone d front) ∙ sym counted) in
-    let place_is : from ≡ start - (newest_place (gone_before number far) + base) = omega (arith, is_from, at, b) in
-    let mark : mark_with copy (pod_for store copy) ≡ newest_mark (gone_before number far) =
-    ap (λ i. mark_in store (Some i)) same ∙ (ap (mark_in store) (sym is) ∙ (sym (newest_seen store gone rest m cut) ∙ ap newest_mark seen)) in
-    let lower : nat_lt start (place_of number far + base) ≡ true = lt-ltb start (place_of number far + base) (omega (arith, h, item, b)) in
+pub rest_lower : (before start number : ℕ) (seen : List Marked) → start < place_of number seen + before → rest_of before start (gone_before number seen) ≡ rest_over before start number seen
+rest_lower before start number seen h =
+    sym (ap (λ t. cond t (rest_of before start (gone_before number seen)) None) (lt-ltb start (place_of number seen + before) h))
+
+pub rest_some : (store : Store) (start before behind from : ℕ) (gone rest : List Held) (m : Held) (id copy : List ℕ) → AreDecided store gone → gone ≡ rest ++ m ∷ [] → m.mark ≡ Some id → copy ≡ id
+    → behind ≡ place_on store None 0 0 gone → from ≡ start - (behind + before) → option_map (rest_from from) (mark_with copy (pod_for store copy)) ≡ rest_of before start (so_far store gone)
+rest_some store start before behind from gone rest m id copy d cut is same counted is_from =
+    let at : newest_place (so_far store gone) ≡ behind = place_is_counted store gone d ∙ sym counted in
+    let place_is : from ≡ start - (newest_place (so_far store gone) + before) = omega (arith, is_from, at) in
+    let mark : mark_with copy (pod_for store copy) ≡ newest_mark (so_far store gone) = ap (λ i. mark_in store (Some i)) same ∙ (ap (mark_in store) (sym is) ∙ sym (newest_seen store gone rest m cut)) in
     let there : ℕ → Mark → MeantRest = λ k mark. record { mark = mark; place = k } in
     ap (λ k. option_map (there k) (mark_with copy (pod_for store copy))) place_is
-    ∙ (ap (λ o. option_map (there (start - (newest_place (gone_before number far) + base))) o) mark
-    ∙ sym (ap (λ t. cond t (option_map (there (start - (newest_place (gone_before number far) + base))) (newest_mark (gone_before number far))) None) lower))
+    ∙ ap (option_map (there (start - (newest_place (so_far store gone) + before)))) mark
+
+pub no_rest : (store : Store) (start before : ℕ) (gone : List Held) → newest_mark (so_far store gone) ≡ None → None ≡ rest_of before start (so_far store gone)
+no_rest store start before gone e = sym (ap (option_map (λ (mark : Mark). record { mark = mark; place = start - (newest_place (so_far store gone) + before) })) e)
 
 -- ---- the window
 

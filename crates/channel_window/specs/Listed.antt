@@ -1,11 +1,13 @@
 -- What is kept, as the segments stand that a channel holds, the oldest first.
-use Rattle.std.specs.Prelude.{◌≡◌, Some, None, Bool, List, ◌∷◌, ◌++◌, [], Option, is_some}
+use Rattle.std.specs.Prelude.{◌≡◌, ◌≤◌, ◌+◌, ℕ, length, Some, None, Bool, List, ◌∷◌, ◌++◌, [], Option, is_some}
+use Rattle.playlist_model.specs.declared.Segment.{Segment}
 use Rattle.stitcher.specs.Stitched.{Numbers}
 use Rattle.stitcher.specs.declared.OutSegment.{OutSegment}
 use Rattle.stitcher.specs.declared.marked.MarkedSegment.{MarkedSegment as Held}
 use Rattle.stitcher.specs.declared.ends.Rest.{Rest}
 use Rattle.stitcher.specs.StitchedSegments.{IsDecided}
 use Rattle.pod_store.specs.Store.{Store}
+use Rattle.channel_spec.specs.Successor.{first_number}
 use Rattle.channel_spec.specs.declared.fault.RefreshFault.{RefreshFault}
 use Rattle.channel_spec.specs.declared.fault.RefreshFault.TheVariants.{NumberRange, OutOfMemory}
 
@@ -31,3 +33,18 @@ RefusesList _ OutOfRange = ⊥
 -- these stand in front of the others
 abbrev pub IsFront : List Held → List Held → Type 0
 IsFront front list = (tail : List Held) × (list ≡ front ++ tail)
+
+-- their numbers rise by one, from this number on
+abbrev pub RiseByOne : ℕ → List Held → Type 0
+RiseByOne number [] = Unit {0}
+RiseByOne number (m ∷ later) = (m.segment.media_sequence ≡ number) × RiseByOne (number + 1) later
+
+abbrev pub AreRising : List Held → Type 0
+AreRising held = (first : ℕ) × RiseByOne first held
+
+-- so do they, and a playlist of these segments leaves no number out after them
+pub record RisesOn (held : List Held) (segments : List Segment) : Type 0 where
+  pub first : ℕ
+  pub rise : RiseByOne first held
+  pub near : first_number segments ≤ first + length held
+  pub anew : length held ≡ 0 → first + length held ≡ first_number segments

@@ -10,7 +10,7 @@ use Rattle.channel_spec.specs.Kept.{Kept, kept_acceptance, kept_list, kept_lengt
 use Rattle.channel_window.specs.declared.state.ChannelState.{ChannelState}
 use Rattle.channel_window.specs.declared.showing.Showing.{Showing}
 use Rattle.channel_window.specs.Marking.{so_far}
-use Rattle.channel_window.specs.Listed.{IsFront, IsRestDecided}
+use Rattle.channel_window.specs.Listed.{AreRising, IsFront, IsRestDecided}
 
 -- what is kept in a channel's state, whose shown segments stand with the oldest first
 abbrev pub kept_in : ChannelState → Kept
@@ -34,7 +34,7 @@ abbrev pub IsLastEntered : Kept → Type 0
 IsLastEntered kept = or_earlier (last_entered kept.shown) kept.entered ≡ kept.entered
 
 -- the breaks that are known after the refresh, the segments that are shown then, those that were shown before in front, how many
--- weren't shown before, the last break entered, and how long the newest run has lasted
+-- weren't shown before, the last break entered, and how long the newest run has lasted; their numbers rise by one
 pub record IsShown (tolerance : ℕ) (state : ChannelState) (p : Playlist) (a : Showing) : Type 0 where
   pub breaks : a.knowledge ≡ carry (kept_acceptance (kept_in state) p) state.shown.knowledge
   pub list : so_far state.store a.list.items ≡ kept_list tolerance (kept_in state) p
@@ -43,3 +43,4 @@ pub record IsShown (tolerance : ℕ) (state : ChannelState) (p : Playlist) (a : 
   pub length : a.so_far ≡ kept_length tolerance (kept_in state) p
   pub front : IsFront state.shown.list a.list.items
   pub decided : AreDecided state.store a.list.items
+  pub rising : AreRising a.list.items

@@ -11,9 +11,9 @@ mod state;
 mod successor;
 mod writing;
 
-pub use listing::{count_before, from_place};
+pub use listing::{from_place, place_of_number};
 pub use marking::text_in;
-pub use placing::{place_of, rest_count, run_count};
+pub use placing::place_of;
 pub use showing::{Showing, shown_with};
 pub use state::{ChannelState, Shown};
 pub use successor::{check_successor, first_number, has_init_sections};

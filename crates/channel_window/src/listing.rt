@@ -1,5 +1,5 @@
 //! The segments that a channel holds, the oldest first: the newest of them, those of a playlist that come after it, and parts of them.
-ghost use Rattle.std.specs.Prelude.{◌≡◌, ◌≤◌, ◌+◌, ◌++◌, ℕ, true, List, Option, IfOk, length, filter, drop};
+ghost use Rattle.std.specs.Prelude.{◌≡◌, ◌≤◌, ◌-◌, ◌++◌, ℕ, IfOk, length, filter, drop, take, min};
 ghost use Rattle.pod_store.specs.Marks.{newest_mark};
 ghost use Rattle.stitcher.specs.Stitched.{up_to};
 ghost use Rattle.pod_store.specs.Store.{Store};
@@ -9,9 +9,10 @@ ghost use Rattle.channel_spec.specs.Live.{gone_before};
 ghost use Rattle.channel_spec.specs.Kept.{shown_from};
 ghost use Rattle.channel_window.specs.Checked.{AreContiguous};
 ghost use Rattle.channel_window.specs.Marking.{so_far};
-ghost use Rattle.channel_window.specs.Listed.{IsFront};
+ghost use Rattle.channel_window.specs.Listed.{AreRising, IsFront, RiseByOne};
 ghost use Rattle.channel_window.specs.Inner.Listed.{IsTail, is_after};
 
+use crate::successor::first_number;
 use playlist_model::{Items, Members, Segment, Shared};
 use std::alloc::{AllocError, Global};
 use stitcher::{MarkedSegment, SharedMark};
@@ -20,8 +21,10 @@ use stitcher::{MarkedSegment, SharedMark};
 /// The mark of the newest of the `shown` segments, which is the last; no mark if there is none. Fails only if an
 /// allocation fails.
 pub fn newest_mark(alloc: Global, shown: &[MarkedSegment]) -> Result<SharedMark, AllocError>
-    ensures mark { IfOk result (λ id. (store : Store) → newest_mark (so_far store shown.now) ≡ mark_in store id) }
-    ensures decided { IfOk result (λ id. (store : Store) → AreDecided store shown.now → IsDecided store id) }
+    ensures mark { IfOk result
+        (λ id. (store : Store) → newest_mark (so_far store shown.now) ≡ mark_in store id) }
+    ensures decided { IfOk result
+        (λ id. (store : Store) → AreDecided store shown.now → IsDecided store id) }
 {
     match shown.split_last() {
         Some((newest, _)) => newest.mark.clone(),
@@ -40,28 +43,27 @@ pub fn newest_end(shown: &[MarkedSegment]) -> Option<i128>
     }
 }
 
-#[tactic(auto, using(crate::proofs::Listed::rest_after, crate::proofs::Listed::tail_of, crate::proofs::Listed::tail_on))]
 // Those of a playlist's segments that are numbered after this: its last ones.
 fn after(number: u64, segments: &[Segment]) -> &[Segment]
     requires { AreContiguous segments.now }
     ensures value { result.now ≡ filter (is_after number) segments.now }
     ensures last { IsTail result.now segments.now }
 {
-    let mut rest = segments;
-    while let Some((segment, later)) = rest.split_first() {
-        if segment.media_sequence > number {
-            return rest;
-        }
-        rest = later;
+    let first = first_number(segments);
+    if number < first {
+        return segments;
     }
-    rest
+    let place = (number - first) as usize;
+    let later = segments.len().saturating_sub(place).saturating_sub(1);
+    segments.split_at(segments.len() - later).1
 }
 
 #[tactic(auto, using(crate::proofs::Listed::same_new, crate::proofs::Listed::all_new, crate::proofs::Listed::tail_whole))]
 /// Those `segments` of a playlist that aren't among the `shown` ones: its last ones.
 pub fn fresh_of<'a>(shown: &[MarkedSegment], segments: &'a [Segment]) -> &'a [Segment]
     requires { AreContiguous segments.now }
-    ensures value { (store : Store) → result.now ≡ filter (is_new (so_far store shown.now)) segments.now }
+    ensures value { (store : Store) → result.now
+        ≡ filter (is_new (so_far store shown.now)) segments.now }
     ensures last { IsTail result.now segments.now }
 {
     match shown.split_last() {
@@ -154,52 +156,51 @@ pub fn joined(
     Ok(list)
 }
 
-#[tactic(auto, using(crate::proofs::Counted::front_whole, crate::proofs::Counted::front_less, crate::proofs::Counted::front_seen, crate::proofs::Counted::front_stops, crate::proofs::Counted::front_ends))]
-/// The segments of `list` up to the one of the media sequence number `number`.
-pub fn front_to(number: u64, list: &[MarkedSegment]) -> &[MarkedSegment]
-    ensures seen { (store : Store) → so_far store result.now ≡ up_to number (so_far store list.now) }
-    ensures front { IsFront result.now list.now }
-{
-    let mut rest = list;
-    while let Some((newest, before)) = rest.split_last() {
-        if newest.segment.media_sequence <= number {
-            return rest;
-        }
-        rest = before;
-    }
-    rest
-}
-
-#[tactic(auto, using(crate::proofs::Counted::front_whole, crate::proofs::Counted::front_less, crate::proofs::Counted::gone_seen, crate::proofs::Counted::gone_stops, crate::proofs::Counted::gone_ends))]
-/// The segments of `list` before the media sequence number `number`.
-pub fn front_before(number: u64, list: &[MarkedSegment]) -> &[MarkedSegment]
-    ensures seen { (store : Store) → so_far store result.now ≡ gone_before number (so_far store list.now) }
-    ensures front { IsFront result.now list.now }
-{
-    let mut rest = list;
-    while let Some((newest, before)) = rest.split_last() {
-        if newest.segment.media_sequence < number {
-            return rest;
-        }
-        rest = before;
-    }
-    rest
-}
-
-#[tactic(auto, using(crate::proofs::Counted::none_counted, crate::proofs::Counted::counted_on, crate::proofs::Counted::counted_there, crate::proofs::Counted::counted_within, crate::proofs::Counted::counted_all))]
-/// How many segments of `list` come before the media sequence number `number`.
-pub fn count_before(number: u64, list: &[MarkedSegment]) -> usize
-    ensures seen { (store : Store) → so_far store (drop result list.now) ≡ shown_from number (so_far store list.now) }
+/// How many segments of `list`, whose numbers rise by one, come before the media sequence number `number`: it begins at
+/// that place, from 0.
+pub fn place_of_number(number: u64, list: &[MarkedSegment]) -> usize
+    requires { AreRising list.now }
+    ensures seen { (store : Store) → so_far store (drop result list.now)
+        ≡ shown_from number (so_far store list.now) }
+    ensures gone { (store : Store) → so_far store (take result list.now)
+        ≡ gone_before number (so_far store list.now) }
+    ensures place { (first : ℕ) → RiseByOne first list.now → result
+        ≡ min (number - first) (length list.now) }
     ensures within { result ≤ length list.now }
 {
-    let mut rest = list;
-    while let Some((newest, before)) = rest.split_last() {
-        if newest.segment.media_sequence < number {
-            return rest.len();
-        }
-        rest = before;
+    let Some(first) = list.first() else {
+        return 0;
+    };
+    let place = number.saturating_sub(first.segment.media_sequence) as usize;
+    place.min(list.len())
+}
+
+/// The segments of `list`, whose numbers rise by one, up to the one of the media sequence number `number`.
+pub fn front_to(number: u64, list: &[MarkedSegment]) -> &[MarkedSegment]
+    requires { AreRising list.now }
+    ensures seen { (store : Store) → so_far store result.now
+        ≡ up_to number (so_far store list.now) }
+    ensures front { IsFront result.now list.now }
+{
+    let Some(first) = list.first() else {
+        return list;
+    };
+    if number < first.segment.media_sequence {
+        return list.split_at(0).0;
     }
-    0
+    let place = place_of_number(number, list);
+    let later = list.len().saturating_sub(place).saturating_sub(1);
+    list.split_at(list.len() - later).0
+}
+
+/// The segments of `list`, whose numbers rise by one, before the media sequence number `number`.
+pub fn front_before(number: u64, list: &[MarkedSegment]) -> &[MarkedSegment]
+    requires { AreRising list.now }
+    ensures seen { (store : Store) → so_far store result.now
+        ≡ gone_before number (so_far store list.now) }
+    ensures front { IsFront result.now list.now }
+{
+    list.split_at(place_of_number(number, list)).0
 }
 
 /// The values of `list` from `place` on, from 0. Fails only if an allocation fails.

@@ -161,7 +161,8 @@ impl<'a> Marker<'a> {
         store: &'a PodStore,
         segments: usize,
     ) -> Result<Marker<'a>, AllocError>
-        ensures { IfOk result (λ marker. marker ≡ record { tolerance = tolerance; target_duration = playlist.now.target_duration; with_init_sections = has_init_sections playlist.now.segments; breaks = knowledge.now; store = store.now }) }
+        ensures { IfOk result
+            (λ marker. marker ≡ record { tolerance = tolerance; target_duration = playlist.now.target_duration; with_init_sections = has_init_sections playlist.now.segments; breaks = knowledge.now; store = store.now }) }
     {
         let target_duration = playlist.target_duration;
         let with_init_sections = has_init_sections(playlist.segments.as_slice());
@@ -207,7 +208,9 @@ impl<'a> Marker<'a> {
         last: Option<&str>,
         instant: Option<Instant>,
     ) -> Result<Option<Shared<Text>>, AllocError>
-        ensures entered { IfOk result (λ id. id ≡ entered (limits self.old (option_copied last.entry)) self.old.store self.old.breaks instant) }
+        ensures entered { IfOk result
+            (λ id. id ≡ entered (limits self.old
+            (option_copied last.entry)) self.old.store self.old.breaks instant) }
         ensures kept { self.new ≡ self.old }
     {
         // Most playlists have no decided break and no fallback, and then each segment comes here.
@@ -232,7 +235,8 @@ impl<'a> Marker<'a> {
 
     #[inline(always)]
     fn is_quiet(&self, instant: Option<Instant>) -> bool
-        ensures { result ≡ true → (last : Option (List ℕ)) → entered (limits self.now last) self.now.store self.now.breaks instant ≡ None }
+        ensures { result ≡ true → (last : Option (List ℕ))
+            → entered (limits self.now last) self.now.store self.now.breaks instant ≡ None }
     {
         self.entrances.is_quiet(instant)
     }
@@ -242,7 +246,8 @@ impl<'a> Marker<'a> {
     #[inline(always)]
     fn is_unmarked(&self, before: &Option<Shared<Text>>, instant: Option<Instant>) -> bool
         ensures before { result ≡ true → before.now ≡ None }
-        ensures next { result ≡ true → (last : Option (List ℕ)) → next_id self.now before.now last instant ≡ None }
+        ensures next { result ≡ true → (last : Option (List ℕ))
+            → next_id self.now before.now last instant ≡ None }
     {
         match before {
             Some(_) => false,
@@ -258,8 +263,10 @@ impl<'a> Marker<'a> {
         instant: Option<Instant>,
         duration: Nanos,
     ) -> Result<SharedMark, AllocError>
-        ensures mark { IfOk result (λ mark. mark ≡ entered (limits self.old run.old.entered) self.old.store self.old.breaks instant) }
-        ensures goes { IfOk result (λ mark. IsExtended self.old.store duration mark run.old run.new) }
+        ensures mark { IfOk result
+            (λ mark. mark ≡ entered (limits self.old run.old.entered) self.old.store self.old.breaks instant) }
+        ensures goes { IfOk result
+            (λ mark. IsExtended self.old.store duration mark run.old run.new) }
         ensures run { OnOk result (IsRun self.old run.new) }
         ensures kept { self.new ≡ self.old }
     {
@@ -283,8 +290,10 @@ impl<'a> Marker<'a> {
         duration: Nanos,
     ) -> Result<SharedMark, AllocError>
         requires { IsRun self.old run.old }
-        ensures mark { IfOk result (λ mark. mark ≡ next_id self.old run.old.before run.old.entered instant) }
-        ensures goes { IfOk result (λ mark. IsExtended self.old.store duration mark run.old run.new) }
+        ensures mark { IfOk result
+            (λ mark. mark ≡ next_id self.old run.old.before run.old.entered instant) }
+        ensures goes { IfOk result
+            (λ mark. IsExtended self.old.store duration mark run.old run.new) }
         ensures run { OnOk result (IsRun self.old run.new) }
         ensures kept { self.new ≡ self.old }
     {
@@ -308,8 +317,10 @@ impl<'a> Marker<'a> {
         instant: OptionalInstant,
     ) -> Result<MarkedSegment, AllocError>
         requires { IsRun self.old run.old }
-        ensures marked { IfOk result (λ m. m ≡ record { segment = segment; instant = instant; mark = next_id self.old run.old.before run.old.entered instant }) }
-        ensures goes { IfOk result (λ m. IsExtended self.old.store segment.duration m.mark run.old run.new) }
+        ensures marked { IfOk result
+            (λ m. m ≡ record { segment = segment; instant = instant; mark = next_id self.old run.old.before run.old.entered instant }) }
+        ensures goes { IfOk result
+            (λ m. IsExtended self.old.store segment.duration m.mark run.old run.new) }
         ensures run { OnOk result (IsRun self.old run.new) }
         ensures kept { self.new ≡ self.old }
     {
@@ -327,9 +338,15 @@ impl<'a> Marker<'a> {
         done: &mut Vec<MarkedSegment>,
     ) -> Result<(), AllocError>
         requires { IsRun self.old run.old }
-        ensures list { OnOk result (done.new.items ≡ done.old.items ++ mark_on self.old run.old.before run.old.entered segments.old instants.old) }
-        ensures entered { OnOk result (run.new.entered ≡ entered_after run.old.entered (mark_on self.old run.old.before run.old.entered segments.old instants.old)) }
-        ensures so_far { OnOk result (run.new.so_far ≡ length_after self.old.store run.old.before run.old.so_far (mark_on self.old run.old.before run.old.entered segments.old instants.old)) }
+        ensures list { OnOk result
+            (done.new.items ≡ done.old.items
+            ++ mark_on self.old run.old.before run.old.entered segments.old instants.old) }
+        ensures entered { OnOk result
+            (run.new.entered ≡ entered_after run.old.entered
+            (mark_on self.old run.old.before run.old.entered segments.old instants.old)) }
+        ensures so_far { OnOk result
+            (run.new.so_far ≡ length_after self.old.store run.old.before run.old.so_far
+            (mark_on self.old run.old.before run.old.entered segments.old instants.old)) }
     {
         while let Some(segment) = segments.next()? {
             let Some(instant) = instants.next()? else {
@@ -350,9 +367,15 @@ impl<'a> Marker<'a> {
     ) -> Result<(), AllocError>
         requires empty { is_empty self.now.store ≡ true }
         requires unmarked { run.old.before ≡ None }
-        ensures list { OnOk result (done.new.items ≡ done.old.items ++ mark_on self.now run.old.before run.old.entered segments.old instants.old) }
-        ensures entered { OnOk result (run.new.entered ≡ entered_after run.old.entered (mark_on self.now run.old.before run.old.entered segments.old instants.old)) }
-        ensures so_far { OnOk result (run.new.so_far ≡ length_after self.now.store run.old.before run.old.so_far (mark_on self.now run.old.before run.old.entered segments.old instants.old)) }
+        ensures list { OnOk result
+            (done.new.items ≡ done.old.items
+            ++ mark_on self.now run.old.before run.old.entered segments.old instants.old) }
+        ensures entered { OnOk result
+            (run.new.entered ≡ entered_after run.old.entered
+            (mark_on self.now run.old.before run.old.entered segments.old instants.old)) }
+        ensures so_far { OnOk result
+            (run.new.so_far ≡ length_after self.now.store run.old.before run.old.so_far
+            (mark_on self.now run.old.before run.old.entered segments.old instants.old)) }
     {
         while let Some(segment) = segments.next()? {
             let Some(begun) = instants.next()? else {
@@ -392,9 +415,13 @@ impl<'a> Marker<'a> {
         instants: Beginnings<'_>,
     ) -> Result<Marks, AllocError>
         requires { or_earlier newest shown.now.entered ≡ shown.now.entered }
-        ensures list { IfOk result (λ marks. marks.list.items ≡ mark_on self.entry newest shown.now.entered segments.entry instants.entry) }
-        ensures entered { IfOk result (λ marks. marks.entered ≡ entered_after shown.now.entered marks.list.items) }
-        ensures so_far { IfOk result (λ marks. marks.so_far ≡ length_after self.entry.store newest shown.now.so_far marks.list.items) }
+        ensures list { IfOk result
+            (λ marks. marks.list.items
+            ≡ mark_on self.entry newest shown.now.entered segments.entry instants.entry) }
+        ensures entered { IfOk result
+            (λ marks. marks.entered ≡ entered_after shown.now.entered marks.list.items) }
+        ensures so_far { IfOk result
+            (λ marks. marks.so_far ≡ length_after self.entry.store newest shown.now.so_far marks.list.items) }
     {
         let (mut marker, mut segments, mut instants) = (self, segments, instants);
         let mut run = marker.run_after(shown, newest)?;

@@ -2,6 +2,7 @@
 ghost use Rattle.std.specs.Prelude.{IfOk};
 ghost use Rattle.stitcher.specs.StitchedSegments.{AreDecided};
 ghost use Rattle.channel_window.specs.Checked.{AreContiguous};
+ghost use Rattle.channel_window.specs.Listed.{RisesOn};
 ghost use Rattle.channel_window.specs.Showing.{IsLastEntered, IsShown, kept_in};
 
 use crate::listing::{fresh_of, joined, last_members, list_with, newest_end, newest_mark};
@@ -40,6 +41,7 @@ pub fn shown_with(
     requires contiguous { AreContiguous playlist.now.segments }
     requires decided { AreDecided state.now.store state.now.shown.list }
     requires entered { IsLastEntered (kept_in state.now) }
+    requires rising { RisesOn state.now.shown.list playlist.now.segments }
     ensures { IfOk result (λ a. IsShown tolerance state.now playlist.now a) }
 {
     let shown = state.shown.list.as_slice();

@@ -9,17 +9,17 @@ ghost use Rattle.stitcher.specs.Written.{written_item};
 ghost use Rattle.channel_spec.specs.Kept.{items_on, numbers_on, rest_after, rest_on, start_on, stitched_on, window_on};
 ghost use Rattle.channel_spec.specs.Inner.Kept.{ends_of};
 ghost use Rattle.channel_spec.specs.LastWindow.{last_pieces};
-ghost use Rattle.channel_spec.specs.Live.{date_range_text, date_ranges_left, rest_over};
+ghost use Rattle.channel_spec.specs.Live.{date_range_text, date_ranges_left, place_of, rest_over};
 ghost use Rattle.channel_spec.specs.Successor.{first_number};
 ghost use Rattle.channel_window.specs.Marking.{place_on, so_far};
-ghost use Rattle.channel_window.specs.Listed.{IsFront, IsRestDecided, RefusesList, head_of, states_time};
+ghost use Rattle.channel_window.specs.Listed.{AreRising, IsRestDecided, RefusesList, head_of, states_time};
 ghost use Rattle.channel_window.specs.Inner.Listed.{first_alone, first_numbers_of, pod_keeps, texts_left};
 ghost use Rattle.channel_window.specs.Placing.{rest_count};
-ghost use Rattle.channel_window.specs.Inner.Placing.{HasRoom, IsWithin};
+ghost use Rattle.channel_window.specs.Inner.Placing.{HasRoom, IsWithin, rest_of};
 ghost use Rattle.channel_window.specs.Showing.{kept_in};
 
 use crate::listing::{front_before, front_to};
-use crate::placing::{place_of, rest_count, run_count};
+use crate::placing::{place_of, rest_count};
 use crate::state::ChannelState;
 use crate::successor::first_number;
 use channel_spec::RefreshFault;
@@ -40,16 +40,16 @@ fn stitched<'a>(
     ends: &Ends,
 ) -> Result<StitchedList<'a>, RefreshFault>
     requires { AreDecided store.now list.now }
-    ensures ok { IfOk result (λ v. (v ≡ stitched_segments store.now first ends.now list.now) × (list_all item_fits v ≡ true)) }
+    ensures ok { IfOk result
+        (λ v. (v ≡ stitched_segments store.now first ends.now list.now)
+        × (list_all item_fits v ≡ true)) }
     ensures room { IfOk result (λ v. length v < 2 ^ 64) }
-    ensures err { IfErr result (λ e. RefusesList e (list_all item_fits (stitched_segments store.now first ends.now list.now) ≡ false)) }
+    ensures err { IfErr result
+        (λ e. RefusesList e (list_all item_fits
+        (stitched_segments store.now first ends.now list.now) ≡ false)) }
 {
     match stitch_at(alloc, list, cut, store, first, ends) {
-        Ok(items) => {
-            // (so many can be counted)
-            let _count = items.count();
-            Ok(items)
-        }
+        Ok(items) => Ok(items),
         Err(StitchFault::NumberRange) => Err(RefreshFault::NumberRange),
         Err(StitchFault::OutOfMemory) => Err(RefreshFault::OutOfMemory),
     }
@@ -70,70 +70,42 @@ fn copied_rest(rest: &Option<Rest>) -> Result<Option<Rest>, AllocError>
 
 // What stands at the ends of the list of the segments that are shown.
 fn ends_of(rest: &Option<Rest>, ended: bool, so_far: Nanos) -> Result<Ends, AllocError>
-    ensures { IfOk result (λ ends. (store : Store) → ends_in store ends ≡ ends_of ended so_far (rest_in store rest.now)) }
+    ensures { IfOk result
+        (λ ends. (store : Store) → ends_in store ends
+        ≡ ends_of ended so_far (rest_in store rest.now)) }
 {
     let rest = copied_rest(rest)?;
     let open = if ended { None } else { Some(so_far) };
     Ok(Ends { rest, so_far: open })
 }
 
-// How many items the last window came to, from its first one on; no more of it is told than fits.
-fn written_before(state: &ChannelState, last: &Playlist) -> usize
-    requires place { place_on state.now.store None 0 0 state.now.shown.list < 2 ^ 64 }
-    requires decided { AreDecided state.now.store state.now.shown.list }
-    ensures { result ≡ min (length (stitched_on last.now.end_list state.now.shown.so_far (so_far state.now.store state.now.shown.list) (rest_in state.now.store state.now.shown.rest))) (2 ^ 64 - 1) }
-{
-    let store = &state.store;
-    let shown = state.shown.list.as_slice();
-    let before = rest_count(store, &state.shown.rest);
-    let Some((newest, _)) = shown.split_last() else {
-        return before;
-    };
-    let run = run_count(store, &newest.mark, last.end_list, state.shown.so_far);
-    before
-        .saturating_add(place_of(store, shown))
-        .saturating_add(run)
-}
-
-// Where the window starts in the stitched list of the segments that are shown, after the rest (RFC 8216, section
-// 6.2.2).
-fn start_of(state: &ChannelState, playlist: &Playlist, list: &[MarkedSegment]) -> usize
+// The place, from 0, of the item of the segment `number` of `list`, the rest before the first one apart.
+fn item_place(state: &ChannelState, number: u64, list: &[MarkedSegment]) -> usize
     requires room { HasRoom state.now.store state.now.shown.rest list.now }
-    requires front { IsFront state.now.shown.list list.now }
     requires decided { AreDecided state.now.store list.now }
-    ensures value { result ≡ start_on state.now.last (first_number playlist.now.segments) (kept_in state.now) (so_far state.now.store list.now) }
-    ensures within { (most : ℕ) → IsWithin state.now.store state.now.shown.rest list.now most → result ≤ most }
+    requires rising { AreRising list.now }
+    ensures value { result ≡ place_of number (so_far state.now.store list.now) }
+    ensures room { result + rest_count state.now.store state.now.shown.rest < 2 ^ 64 }
+    ensures within { (most : ℕ) → IsWithin state.now.store state.now.shown.rest list.now most
+        → result + rest_count state.now.store state.now.shown.rest ≤ most }
 {
-    let number = first_number(playlist.segments.as_slice());
-    let place = place_of(&state.store, front_to(number, list));
-    let Some(last) = &state.last else {
-        return place;
-    };
-    if number == first_number(last.segments.as_slice()) {
-        return 0;
-    }
-    let most = written_before(state, last);
-    (place + rest_count(&state.store, &state.shown.rest)).min(most)
+    place_of(&state.store, front_to(number, list))
 }
 
-// The rest of the pod before the first segment that is shown, where a window that starts at this place starts with it.
-fn rest_from(
-    state: &ChannelState,
-    number: u64,
+// What a window that starts at `start` has of the pod of the newest run of `gone`, the segments before it, after `before` items
+// of a rest.
+fn rest_of(
+    store: &PodStore,
+    gone: &[MarkedSegment],
+    before: usize,
     start: usize,
-    list: &[MarkedSegment],
 ) -> Result<Option<Rest>, AllocError>
-    requires room { HasRoom state.now.store state.now.shown.rest list.now }
-    requires decided { AreDecided state.now.store list.now }
-    ensures decided { IfOk result (λ rest. IsRestDecided state.now.store rest) }
-    ensures value { IfOk result (λ rest. rest_in state.now.store rest ≡ rest_over (rest_count state.now.store state.now.shown.rest) start number (so_far state.now.store list.now)) }
+    requires room { place_on store.now None 0 0 gone.now + before < 2 ^ 64 }
+    requires decided { AreDecided store.now gone.now }
+    ensures decided { IfOk result (λ rest. IsRestDecided store.now rest) }
+    ensures value { IfOk result
+        (λ rest. rest_in store.now rest ≡ rest_of before start (so_far store.now gone.now)) }
 {
-    let store = &state.store;
-    let before = rest_count(store, &state.shown.rest);
-    if start >= place_of(store, front_to(number, list)) + before {
-        return Ok(None);
-    }
-    let gone = front_before(number, list);
     let Some((newest, _)) = gone.split_last() else {
         return Ok(None);
     };
@@ -146,40 +118,82 @@ fn rest_from(
     }))
 }
 
-// The rest of a pod that a window which starts at this place starts with.
-fn rest_after(
+// Where a window starts in a stitched list, from 0, and the rest of a pod that it starts with.
+#[derive(Drop)]
+struct Start {
+    place: usize,
+    rest: Option<Rest>,
+}
+
+// The start of a window whose first segment has the number `number`, where the last window, of `stood` items, began with
+// another one: at the item of that segment, but no later than one past the last window.
+fn later_start(
     state: &ChannelState,
-    playlist: &Playlist,
-    start: usize,
+    number: u64,
     list: &[MarkedSegment],
-) -> Result<Option<Rest>, AllocError>
+    stood: usize,
+) -> Result<Start, AllocError>
     requires room { HasRoom state.now.store state.now.shown.rest list.now }
     requires decided { AreDecided state.now.store list.now }
+    requires rising { AreRising list.now }
+    ensures place { IfOk result
+        (λ s. s.place ≡ min (place_of number
+        (so_far state.now.store list.now) + rest_count state.now.store state.now.shown.rest) stood) }
+    ensures within { IfOk result
+        (λ s. (most : ℕ) → IsWithin state.now.store state.now.shown.rest list.now most
+        → s.place ≤ most) }
+    ensures decided { IfOk result (λ s. IsRestDecided state.now.store s.rest) }
+    ensures rest { IfOk result
+        (λ s. rest_in state.now.store s.rest
+        ≡ rest_over (rest_count state.now.store state.now.shown.rest) s.place number
+        (so_far state.now.store list.now)) }
+{
+    let before = rest_count(&state.store, &state.shown.rest);
+    let item = item_place(state, number, list) + before;
+    let place = item.min(stood);
+    if item <= place {
+        return Ok(Start { place, rest: None });
+    }
+    let gone = front_before(number, list);
+    let rest = rest_of(&state.store, gone, before, place)?;
+    Ok(Start { place, rest })
+}
+
+// The start of the window of `playlist` in the stitched list of `list`, after the rest (RFC 8216, section 6.2.2). The last
+// window had `stood` items.
+fn start_of(
+    state: &ChannelState,
+    playlist: &Playlist,
+    list: &[MarkedSegment],
+    stood: usize,
+) -> Result<Start, AllocError>
+    requires room { HasRoom state.now.store state.now.shown.rest list.now }
+    requires decided { AreDecided state.now.store list.now }
+    requires rising { AreRising list.now }
     requires rest { IsRestDecided state.now.store state.now.shown.rest }
-    ensures decided { IfOk result (λ rest. IsRestDecided state.now.store rest) }
-    ensures value { IfOk result (λ rest. rest_in state.now.store rest ≡ rest_on state.now.last (first_number playlist.now.segments) start (so_far state.now.store list.now) (rest_in state.now.store state.now.shown.rest)) }
+    requires stood { stood ≡ length (last_pieces state.now.last (kept_in state.now)) }
+    ensures place { IfOk result
+        (λ s. s.place ≡ start_on state.now.last (first_number playlist.now.segments)
+        (kept_in state.now) (so_far state.now.store list.now)) }
+    ensures within { IfOk result
+        (λ s. (most : ℕ) → IsWithin state.now.store state.now.shown.rest list.now most
+        → s.place ≤ most) }
+    ensures decided { IfOk result (λ s. IsRestDecided state.now.store s.rest) }
+    ensures rest { IfOk result
+        (λ s. rest_in state.now.store s.rest
+        ≡ rest_on state.now.last (first_number playlist.now.segments) s.place
+        (so_far state.now.store list.now) (rest_in state.now.store state.now.shown.rest)) }
 {
     let number = first_number(playlist.segments.as_slice());
     let Some(last) = &state.last else {
-        return Ok(None);
+        let place = item_place(state, number, list);
+        return Ok(Start { place, rest: None });
     };
     if number == first_number(last.segments.as_slice()) {
-        return copied_rest(&state.shown.rest);
+        let rest = copied_rest(&state.shown.rest)?;
+        return Ok(Start { place: 0, rest });
     }
-    rest_from(state, number, start, list)
-}
-
-// How many items the last window came to; no more of it is told than fits.
-fn stood_of(state: &ChannelState, list: &[MarkedSegment]) -> usize
-    requires room { HasRoom state.now.store state.now.shown.rest list.now }
-    requires front { IsFront state.now.shown.list list.now }
-    requires decided { AreDecided state.now.store list.now }
-    ensures { result ≡ min (length (last_pieces state.now.last (kept_in state.now))) (2 ^ 64 - 1) }
-{
-    match &state.last {
-        Some(last) => written_before(state, last),
-        None => 0,
-    }
+    Ok(later_start(state, number, list, stood)?)
 }
 
 /// The stitched list from the first item of the last window on.
@@ -189,14 +203,13 @@ pub struct PlacedList<'a> {
     pub whole: StitchedList<'a>,
     /// Where the window starts in it.
     pub start: usize,
-    /// How many of its items stood in the last window.
-    pub stood: usize,
     /// The rest of a pod that the window starts with.
     pub rest: Option<Rest>,
 }
 
 /// The stitched list of the segments `list`, which the channel of `state` shows with `playlist`, and the place in it
-/// where the window starts (RFC 8216, section 6.2.2). The newest run of a break has lasted for `lasted`.
+/// where the window starts (RFC 8216, section 6.2.2). The newest run of a break has lasted for `lasted`. The last window had
+/// `stood` items.
 /// `NumberRange` if a number would pass 2^64 - 1 (RFC 8216, sections 4.3.3.2 and 4.3.3.3); `OutOfMemory` only if an
 /// allocation fails.
 pub fn placed_of<'a>(
@@ -205,30 +218,41 @@ pub fn placed_of<'a>(
     playlist: &Playlist,
     list: &'a [MarkedSegment],
     lasted: Nanos,
+    stood: usize,
 ) -> Result<PlacedList<'a>, RefreshFault>
     requires decided { AreDecided state.now.store list.now }
-    requires front { IsFront state.now.shown.list list.now }
+    requires rising { AreRising list.now }
     requires rest { IsRestDecided state.now.store state.now.shown.rest }
-    ensures whole { IfOk result (λ w. w.whole ≡ map written_item (reverse (items_on (kept_in state.now) playlist.now (so_far state.now.store list.now) lasted))) }
-    ensures window { IfOk result (λ w. drop w.start w.whole ≡ map written_item (window_on (kept_in state.now) playlist.now (so_far state.now.store list.now) lasted)) }
-    ensures stood { IfOk result (λ w. w.stood ≡ min (length (last_pieces state.now.last (kept_in state.now))) (2 ^ 64 - 1)) }
+    requires stood { stood ≡ length (last_pieces state.now.last (kept_in state.now)) }
+    ensures whole { IfOk result
+        (λ w. w.whole ≡ map written_item
+        (reverse (items_on (kept_in state.now) playlist.now
+        (so_far state.now.store list.now) lasted))) }
+    ensures window { IfOk result
+        (λ w. drop w.start w.whole
+        ≡ map written_item (window_on (kept_in state.now) playlist.now
+        (so_far state.now.store list.now) lasted)) }
     ensures left { IfOk result (λ w. IsRestDecided state.now.store w.rest) }
-    ensures rest { IfOk result (λ w. rest_in state.now.store w.rest ≡ rest_after (kept_in state.now) playlist.now (so_far state.now.store list.now)) }
-    ensures fit { IfOk result (λ w. list_all fits (items_on (kept_in state.now) playlist.now (so_far state.now.store list.now) lasted) ≡ true) }
-    ensures err { IfErr result (λ e. RefusesList e (list_all fits (items_on (kept_in state.now) playlist.now (so_far state.now.store list.now) lasted) ≡ false)) }
+    ensures rest { IfOk result
+        (λ w. rest_in state.now.store w.rest
+        ≡ rest_after (kept_in state.now) playlist.now (so_far state.now.store list.now)) }
+    ensures fit { IfOk result
+        (λ w. list_all fits (items_on (kept_in state.now) playlist.now
+        (so_far state.now.store list.now) lasted) ≡ true) }
+    ensures err { IfErr result
+        (λ e. RefusesList e (list_all fits
+        (items_on (kept_in state.now) playlist.now (so_far state.now.store list.now) lasted)
+        ≡ false)) }
 {
     let ends = ends_of(&state.shown.rest, playlist.end_list, lasted)?;
     let first = numbers_on(&state.last, state.shown.numbers, list, &state.store, &ends)?;
     let cut = state.shown.list.len();
     let whole = stitched(alloc, list, cut, &state.store, first, &ends)?;
-    let start = start_of(state, playlist, list);
-    let rest = rest_after(state, playlist, start, list)?;
-    let stood = stood_of(state, list);
+    let start = start_of(state, playlist, list, stood)?;
     Ok(PlacedList {
         whole,
-        start,
-        stood,
-        rest,
+        start: start.place,
+        rest: start.rest,
     })
 }
 
@@ -266,7 +290,9 @@ fn is_any_timed(items: &StitchedList<'_>) -> bool
 // The numbers of a first item that a pod stands at.
 fn first_with_pod(segment: &Segment) -> Result<Numbers, RefreshFault>
     ensures ok { IfOk result (λ numbers. numbers ≡ first_alone segment.now true) }
-    ensures err { IfErr result (λ e. (e ≡ RefreshFault.NumberRange) × (nat_lt (segment.now.discontinuity_sequence + 1) (2 ^ 64) ≡ false)) }
+    ensures err { IfErr result
+        (λ e. (e ≡ RefreshFault.NumberRange)
+        × (nat_lt (segment.now.discontinuity_sequence + 1) (2 ^ 64) ≡ false)) }
 {
     let Some(discontinuity) = segment.discontinuity_sequence.checked_add(1) else {
         return Err(RefreshFault::NumberRange);
@@ -295,7 +321,9 @@ fn first_numbers(
 ) -> Result<Numbers, RefreshFault>
     requires { AreDecided store.now list.now }
     ensures ok { IfOk result (λ numbers. numbers ≡ first_numbers_of list.now) }
-    ensures err { IfErr result (λ e. RefusesList e (list_all item_fits (stitched_segments store.now (first_numbers_of list.now) ends.now list.now) ≡ false)) }
+    ensures err { IfErr result
+        (λ e. RefusesList e (list_all item_fits
+        (stitched_segments store.now (first_numbers_of list.now) ends.now list.now) ≡ false)) }
 {
     let Some(first) = list.first() else {
         return Ok(Numbers {
@@ -328,7 +356,10 @@ fn numbers_on(
 ) -> Result<Numbers, RefreshFault>
     requires { AreDecided store.now list.now }
     ensures ok { IfOk result (λ n. n ≡ numbers_on last.now numbers (so_far store.now list.now)) }
-    ensures err { IfErr result (λ e. RefusesList e (list_all item_fits (stitched_segments store.now (numbers_on last.now numbers (so_far store.now list.now)) ends.now list.now) ≡ false)) }
+    ensures err { IfErr result
+        (λ e. RefusesList e (list_all item_fits
+        (stitched_segments store.now
+        (numbers_on last.now numbers (so_far store.now list.now)) ends.now list.now) ≡ false)) }
 {
     match last {
         Some(_) => Ok(numbers),
@@ -364,7 +395,9 @@ pub fn date_ranges_left<'a>(
     ids: &[Shared<Text>],
     date_ranges: &'a [DateRange],
 ) -> Result<Vec<TextRef<'a>>, AllocError>
-    ensures { IfOk result (λ v. v.items ≡ map date_range_text (date_ranges_left (list_any states_time items.now) ids.now date_ranges.now)) }
+    ensures { IfOk result
+        (λ v. v.items ≡ map date_range_text
+        (date_ranges_left (list_any states_time items.now) ids.now date_ranges.now)) }
 {
     if !is_any_timed(items) {
         return Ok(Vec::new(alloc));

@@ -28,7 +28,7 @@ use Rattle.channel_spec.specs.LastWindow.{last_pieces, last_items}
 use Rattle.channel_spec.proofs.KeptWhole.{kept_follows, items_go_on}
 use Rattle.live_channel.specs.Channel.{Channel, Given, refreshed, readable, events_of, told_by, IsAsTyped, with_store, ChangesStore, ChangesStoreExactly}
 use Rattle.live_channel.specs.LastText.{IsLaidOut}
-use Rattle.live_channel.specs.Inner.LastText.{Stood, StoodBefore}
+use Rattle.live_channel.specs.Inner.LastText.{StoodIn, StoodBefore}
 use Rattle.live_channel.proofs.Steps.{all_given}
 
 -- ---- which lines stand again
@@ -38,32 +38,26 @@ stand_again segments w start stood len h laid front =
     let e : stood ≡ start + (stood - start) = omega (arith, h) in
     record { before = segments; gone = start; some = omega (arith, h); laid = subst (λ n. IsLaid (take n segments) w) e laid; on = refl; front = front }
 
--- a count that is told as far as it fits
-pub counted : (n k : ℕ) (segments : List OutSegment) (written : Option WrittenText) → length segments < 2 ^ 64 → k ≡ min n (2 ^ 64 - 1) → Stood n segments written → Stood k segments written
-counted n k segments None h e s = tt
-counted n k segments (Some w) h e s = subst (λ xs. IsLaid xs w) (same (dec_le n (2 ^ 64 - 1))) s
-  where
-    same : Dec (n ≤ 2 ^ 64 - 1) → take n segments ≡ take k segments
-    same (yes l) = let i : n ≡ k = omega (arith, l, e) in ap (λ m. take m segments) i
-    same (no l) = take_all n segments (omega (arith, h, l)) ∙ sym (take_all k segments (omega (arith, h, e, l)))
-
 -- ---- the last window is the front of what is stitched next
 
 length_numbered : (first : Numbers) (pieces : List Piece) → length (numbered first pieces) ≡ length pieces
 length_numbered first [] = refl
 length_numbered first (p ∷ before) = let e = length_numbered first before in omega (arith, e)
 
-stood_by : (k : Kept) (items : List Item) (w : WrittenText) → GoesOn (last_items k) items → IsLaid (map written_item (reverse (last_items k))) w → IsLaid (take (length (last_pieces k.last k)) (map written_item (reverse items))) w
+stood_by : (k : Kept) (items : List Item) (w : WrittenText) → GoesOn (last_items k) items → IsLaid (map written_item (reverse (last_items k))) w → StoodIn k items (Some w)
 stood_by k items w (more, is) h =
     let last = map written_item (reverse (last_items k)) in
     let long : length last ≡ length (last_pieces k.last k) = length-map (reverse (last_items k)) written_item ∙ (length-reverse (last_items k) ∙ length_numbered k.numbers (last_pieces k.last k)) in
     let turned : map written_item (reverse items) ≡ last ++ map written_item (reverse more) =
     ap (λ xs. map written_item (reverse xs)) is ∙ (ap (map written_item) (reverse-append more (last_items k)) ∙ map-append written_item (reverse (last_items k)) (reverse more)) in
-    subst (λ xs. IsLaid xs w) (sym (ap (take (length (last_pieces k.last k))) turned ∙ take_at last (map written_item (reverse more)) (length (last_pieces k.last k)) long)) h
+    record {
+      count = h.count ∙ long;
+      stood = subst (λ xs. IsLaid xs w) (sym (ap (take w.count) turned ∙ take_at last (map written_item (reverse more)) w.count (sym h.count))) h;
+    }
 
 pub stood_before : (base : Parts) (tolerance : ℕ) (given : List Given) (bytes : List ℕ) (p : Playlist) (k : Kept) (written : Option WrittenText) → k ≡ kept_of (told_by base tolerance given) → AllByRecursion (IsAsTyped base) given
     → reading limited base bytes ≡ Ok p → IsLaidOut k written → StoodBefore tolerance k p written
-stood_before base tolerance given bytes p k None e typed read h = λ f. tt
+stood_before base tolerance given bytes p k None e typed read h = λ f. record { count = sym (ap (λ o. length (last_pieces o k)) h); stood = tt }
 stood_before base tolerance given bytes p k (Some w) e typed read h =
     let there = kept_of (told_by base tolerance given) in
     let law = items_go_on tolerance p (events_of base given) (is_read p (can_be_written limited base bytes p read), all_given base given typed) in
@@ -97,9 +91,9 @@ laid_next base tolerance given bytes p k k' w e e' typed read follows fit laid =
 
 -- ---- decisions leave it
 
-pub laid_still : (old new : Kept) (written : Option WrittenText) → last_items new ≡ last_items old → IsLaidOut old written → IsLaidOut new written
-laid_still old new None e h = tt
-laid_still old new (Some w) e h = subst (λ xs. IsLaid (map written_item (reverse xs)) w) (sym e) h
+pub laid_still : (old new : Kept) (written : Option WrittenText) → new.last ≡ old.last → last_items new ≡ last_items old → IsLaidOut old written → IsLaidOut new written
+laid_still old new None l e h = l ∙ h
+laid_still old new (Some w) l e h = subst (λ xs. IsLaid (map written_item (reverse xs)) w) (sym e) h
 
 pieces_still : (o : Option Playlist) (k : Kept) (store : Store) → last_pieces o (record k { store = store }) ≡ last_pieces o k
 pieces_still None k store = refl

@@ -7,4 +7,5 @@ pub mod Marks
 pub mod Refreshing
 pub mod Owed
 pub mod LastEntered
+pub mod Rises
 pub mod LastText

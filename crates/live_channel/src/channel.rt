@@ -110,7 +110,8 @@ impl Error for ChannelFault {}
 
 // Why a break is filled or not, where this playlist was accepted last.
 fn why_after(knowledge: &Knowledge, store: &PodStore, last: &Playlist, id: &str) -> Why
-    ensures { result ≡ why knowledge.now id.now last.now.target_duration (has_init_sections last.now.segments) store.now (is_used store.now id.now) }
+    ensures { result ≡ why knowledge.now id.now last.now.target_duration
+        (has_init_sections last.now.segments) store.now (is_used store.now id.now) }
 {
     let with_init_sections = has_init_sections(last.segments.as_slice());
     knowledge.why(
@@ -133,9 +134,12 @@ impl Channel {
         base: &str,
         tolerance: Nanos,
     ) -> Result<Channel, ChannelFault>
-        ensures ok { IfOk result (λ c. (base_of base.now ≡ Some c.base) × (c.tolerance ≡ tolerance) × (tolerance ≤ max_tolerance) × Represents c []) }
+        ensures ok { IfOk result
+            (λ c. (base_of base.now ≡ Some c.base) × (c.tolerance ≡ tolerance)
+            × (tolerance ≤ max_tolerance) × Represents c []) }
         ensures base { IsErrOf result ChannelFault.BadBase → base_of base.now ≡ None }
-        ensures tolerance { IsErrOf result ChannelFault.BadTolerance → IsSome (base_of base.now) × (max_tolerance < tolerance) }
+        ensures tolerance { IsErrOf result ChannelFault.BadTolerance → IsSome (base_of base.now)
+            × (max_tolerance < tolerance) }
     {
         let base = match Base::new(alloc, base) {
             Ok(base) => base,
@@ -162,8 +166,10 @@ impl Channel {
     fn take(&mut self, alloc: Global, read: Read) -> Result<Refreshed, RefreshFault>
         requires read { WasRead self.old.base read.playlist }
         requires source { IsSource self.old.base read.playlist read.source }
-        requires taken { AreTaken (last_segments self.old.kept.last) read.playlist.segments read.taken.start read.taken.end }
-        ensures { (bytes : List ℕ) → IsRead self.old.base bytes read.playlist → Refreshes self.old bytes result self.new }
+        requires taken { AreTaken
+            (last_segments self.old.kept.last) read.playlist.segments read.taken.start read.taken.end }
+        ensures { (bytes : List ℕ) → IsRead self.old.base bytes read.playlist
+            → Refreshes self.old bytes result self.new }
     {
         let next = next_after(alloc, self.tolerance, &self.state, &self.written, &read)?;
         let refreshed = accept(&mut self.state, &mut self.written, read.playlist, next)?;
@@ -209,7 +215,8 @@ impl Channel {
     /// Takes `bytes`, a decision file. The faults, in this order: those of reading it (J1 to J7), then those of
     /// `PodStore::decide`; `OutOfMemory` only if an allocation fails. After a fault the channel is as it was.
     pub fn decide(&mut self, alloc: Global, bytes: &[u8]) -> Result<(), DecisionFault>
-        ensures changes { ChangesStore self.old self.new result (after_bytes self.old.kept.store bytes.now) }
+        ensures changes { ChangesStore self.old self.new result
+            (after_bytes self.old.kept.store bytes.now) }
         ensures answer { Decides self.old bytes.now result }
         ensures stands { StandsOn self.old (decided bytes.now) result self.new }
     {
@@ -221,7 +228,8 @@ impl Channel {
     /// Takes the pod of the break `id` away. `Unknown` if it has none of its own, `Used` if it is in use; the channel
     /// is then as it was. Takes no memory.
     pub fn withdraw(&mut self, id: &str) -> Result<(), DecisionFault>
-        ensures changes { ChangesStoreExactly self.old self.new result (without_break self.old.kept.store id.now) }
+        ensures changes { ChangesStoreExactly self.old self.new result
+            (without_break self.old.kept.store id.now) }
         ensures answer { Withdraws self.old id.now result }
         ensures stands { AlwaysStandsOn self.old (withdrawn id.now) self.new }
     {
@@ -255,7 +263,8 @@ impl Channel {
     #[tactic(auto, using(crate::proofs::Owed::knows))]
     /// The ID of the known break at `place`, from 0, in the order in which they became known. `None` past the last.
     pub fn known(&self, place: usize) -> Option<&str>
-        ensures place { option_map (λ id. id.now) result ≡ option_map id_of (slice_get self.now.kept.breaks place) }
+        ensures place { option_map (λ id. id.now) result
+            ≡ option_map id_of (slice_get self.now.kept.breaks place) }
         ensures owed { Knows self.now place (option_map (λ id. id.now) result) }
     {
         self.state.shown.knowledge.ids(place)

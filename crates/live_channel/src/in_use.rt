@@ -50,7 +50,8 @@ fn push_marked(
     number: u64,
     marked: &MarkedSegment,
 ) -> Result<(), AllocError>
-    ensures { OnOk result (NameTheSame marks.new.items (marks.old.items ++ mark_held number marked.now)) }
+    ensures { OnOk result
+        (NameTheSame marks.new.items (marks.old.items ++ mark_held number marked.now)) }
 {
     // Most segments have no mark.
     if marked.mark.is_none() || marked.segment.media_sequence < number {
@@ -67,7 +68,8 @@ fn marks_and_last(
     list: &[MarkedSegment],
     entered: &Option<Shared<Text>>,
 ) -> Result<Vec<Shared<Text>>, AllocError>
-    ensures { IfOk result (λ marks. NameTheSame marks.items (marks_and_last number list.now entered.now)) }
+    ensures { IfOk result
+        (λ marks. NameTheSame marks.items (marks_and_last number list.now entered.now)) }
 {
     let mut marks = Vec::new(alloc);
     let mut rest = list;
@@ -100,7 +102,8 @@ pub fn breaks_in_use(
     entered: &Option<Shared<Text>>,
     rest: &Option<Rest>,
 ) -> Result<Vec<Shared<Text>>, AllocError>
-    ensures { IfOk result (λ breaks. NameTheSame breaks.items (breaks_held number list.now entered.now rest.now)) }
+    ensures { IfOk result
+        (λ breaks. NameTheSame breaks.items (breaks_held number list.now entered.now rest.now)) }
 {
     let mut marks = marks_and_last(alloc, number, list, entered)?;
     push_rest(&mut marks, rest)?;

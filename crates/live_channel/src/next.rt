@@ -10,18 +10,18 @@ ghost use Rattle.channel_spec.specs.Kept.{items_on};
 ghost use Rattle.channel_spec.specs.Live.{date_range_text, date_ranges_left};
 ghost use Rattle.channel_window.specs.Marking.{so_far};
 ghost use Rattle.channel_window.specs.Showing.{kept_in};
-ghost use Rattle.channel_window.specs.Listed.{IsFront, IsRestDecided, RefusesList, states_time};
+ghost use Rattle.channel_window.specs.Listed.{AreRising, IsRestDecided, RefusesList, states_time};
 ghost use Rattle.owed_is_denoted.specs.Owed.{out_playlist};
 ghost use Rattle.playlist_write.specs.Laid.{IsLaid};
 ghost use Rattle.live_channel.specs.Inner.Accepting.{IsNext};
-ghost use Rattle.live_channel.specs.Inner.LastText.{Stood, StoodIn, StandIn};
+ghost use Rattle.live_channel.specs.Inner.LastText.{Stood, StoodIn, StandIn, count_in};
 
 use crate::channel::Refreshed;
 use crate::in_use::breaks_in_use;
 use channel_spec::RefreshFault;
 use channel_window::{
-    ChannelState, PlacedList, Showing, Shown, count_before, date_ranges_left, first_number,
-    from_place, head_of, placed_of,
+    ChannelState, PlacedList, Showing, Shown, date_ranges_left, first_number, from_place, head_of,
+    place_of_number, placed_of,
 };
 use playlist_model::{Items, Playlist, Shared, Text};
 use playlist_write::OutPlaylist;
@@ -54,21 +54,31 @@ pub struct Again<'a> {
     pub count: usize,
 }
 
-// Of these segments the first ones stood in the last text, so many. Which lines of it stand again, where the window starts at
-// this place in them.
+// How many segments the text that was written last has the lines of.
+fn count_in(written: &Option<WrittenText>) -> usize
+    ensures { result ≡ count_in written.now }
+{
+    match written {
+        Some(last) => last.count,
+        None => 0,
+    }
+}
+
+// The first of these segments stood in the last text. Which lines of it stand again, where the window starts at this place in
+// them.
 fn standing<'a>(
     alloc: Global,
     written: &'a Option<WrittenText>,
     whole: &StitchedList<'_>,
     start: usize,
-    stood: usize,
 ) -> Result<Option<Again<'a>>, AllocError>
-    requires { Stood stood whole.now written.now }
+    requires { Stood whole.now written.now }
     ensures { IfOk result (StandIn (drop start whole.now)) }
 {
     let Some(last) = written else {
         return Ok(None);
     };
+    let stood = last.count;
     if stood <= start {
         return Ok(None);
     }
@@ -112,7 +122,9 @@ fn text_with<'a>(
     again: &Option<Again<'_>>,
 ) -> Result<WrittenText, AllocError>
     requires { StandIn items again.now }
-    ensures text { IfOk result (λ w. w.text ≡ playlist_text (out_playlist playlist.now date_ranges.entry.items items.entry)) }
+    ensures text { IfOk result
+        (λ w. w.text ≡ playlist_text
+        (out_playlist playlist.now date_ranges.entry.items items.entry)) }
     ensures laid { IfOk result (IsLaid items.entry) }
 {
     let out = OutPlaylist {
@@ -137,7 +149,11 @@ fn text_without(
     again: &Option<Again<'_>>,
 ) -> Result<WrittenText, AllocError>
     requires { StandIn items again.now }
-    ensures text { IfOk result (λ w. w.text ≡ playlist_text (out_playlist playlist.now (map date_range_text (date_ranges_left (list_any states_time items.entry) in_use.now playlist.now.date_ranges)) items.entry)) }
+    ensures text { IfOk result
+        (λ w. w.text ≡ playlist_text
+        (out_playlist playlist.now
+        (map date_range_text (date_ranges_left
+        (list_any states_time items.entry) in_use.now playlist.now.date_ranges)) items.entry)) }
     ensures laid { IfOk result (IsLaid items.entry) }
 {
     let date_ranges = date_ranges_left(
@@ -160,25 +176,35 @@ pub fn next_of(
     playlist: &Playlist,
     showing: Showing,
 ) -> Result<NextState, RefreshFault>
-    requires stood { StoodIn (kept_in state.now) (items_on (kept_in state.now) playlist.now (so_far state.now.store showing.list.items) showing.so_far) written.now }
+    requires stood { StoodIn (kept_in state.now)
+        (items_on (kept_in state.now) playlist.now
+        (so_far state.now.store showing.list.items) showing.so_far) written.now }
     requires decided { AreDecided state.now.store showing.list.items }
-    requires front { IsFront state.now.shown.list showing.list.items }
-    requires entered { showing.entered ≡ or_earlier (last_entered (so_far state.now.store showing.list.items)) state.now.shown.entered }
+    requires rising { AreRising showing.list.items }
+    requires entered { showing.entered
+        ≡ or_earlier (last_entered
+        (so_far state.now.store showing.list.items)) state.now.shown.entered }
     requires rest { IsRestDecided state.now.store state.now.shown.rest }
-    ensures ok { IfOk result (λ next. IsNext (kept_in state.now) playlist.now showing.knowledge (so_far state.now.store showing.list.items) showing.so_far showing.fresh next) }
-    ensures err { IfErr result (λ e. RefusesList e (list_all fits (items_on (kept_in state.now) playlist.now (so_far state.now.store showing.list.items) showing.so_far) ≡ false)) }
+    ensures ok { IfOk result
+        (λ next. IsNext (kept_in state.now) playlist.now showing.knowledge
+        (so_far state.now.store showing.list.items) showing.so_far showing.fresh next) }
+    ensures err { IfErr result
+        (λ e. RefusesList e (list_all fits
+        (items_on (kept_in state.now) playlist.now
+        (so_far state.now.store showing.list.items) showing.so_far) ≡ false)) }
 {
     let number = first_number(playlist.segments.as_slice());
     let list = showing.list.as_slice();
-    let PlacedList {
-        whole,
-        start,
+    let stood = count_in(written);
+    let PlacedList { whole, start, rest } = placed_of(
+        alloc,
+        state,
+        playlist,
+        list,
+        showing.so_far,
         stood,
-        rest,
-    } = placed_of(alloc, state, playlist, list, showing.so_far)?;
-    // (so many can be counted)
-    let _count = whole.count();
-    let again = standing(alloc, written, &whole, start, stood)?;
+    )?;
+    let again = standing(alloc, written, &whole, start)?;
     let mut items = whole;
     items.leave_out(start);
     let in_use = breaks_in_use(alloc, number, list, &showing.entered, &rest)?;
@@ -190,7 +216,7 @@ pub fn next_of(
     };
     let hashing = state.store.hashing();
     let written = text_without(alloc, hashing, playlist, in_use.as_slice(), items, &again)?;
-    let gone = count_before(number, list);
+    let gone = place_of_number(number, list);
     let shown = Shown {
         knowledge: showing.knowledge,
         list: Items::from_vec(from_place(showing.list, gone)?),

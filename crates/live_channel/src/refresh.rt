@@ -10,8 +10,8 @@ ghost use Rattle.channel_window.specs.Checked.{AreContiguous};
 ghost use Rattle.playlist_parse.specs.Kept.{AreTaken, IsKept, IsSource, last_segments};
 ghost use Rattle.channel_window.specs.Showing.{AreKept, IsLastEntered, kept_in};
 ghost use Rattle.live_channel.specs.Channel.{IsContiguous};
-ghost use Rattle.live_channel.specs.Inner.Accepting.{IsAccepted, IsRead, Follows, Refused, RefusesNext, accepted_state};
-ghost use Rattle.channel_window.specs.Listed.{RefusesList};
+ghost use Rattle.live_channel.specs.Inner.Accepting.{IsAccepted, IsRead, Follows, RisesNext, Refused, RefusesNext, accepted_state};
+ghost use Rattle.channel_window.specs.Listed.{RefusesList, RisesOn};
 ghost use Rattle.live_channel.specs.Inner.LastText.{StoodIn, StoodBefore};
 ghost use Rattle.channel_window.specs.declared.state.ChannelState.{ChannelState as LiveState};
 
@@ -30,7 +30,8 @@ use uri_resolver::Base;
 // Whether the playlist that was read may follow the last one.
 fn may_follow(last: &Option<Playlist>, read: &Read) -> Result<(), RefreshFault>
     requires contiguous { IsContiguous last.now }
-    requires taken { AreTaken (last_segments last.now) read.now.playlist.segments read.now.taken.start read.now.taken.end }
+    requires taken { AreTaken
+        (last_segments last.now) read.now.playlist.segments read.now.taken.start read.now.taken.end }
     ensures { result ≡ answer_of (succession_fault last.now read.now.playlist) }
 {
     match last {
@@ -49,12 +50,16 @@ fn next_kept(
     written: &Option<WrittenText>,
     playlist: &Playlist,
 ) -> Result<NextState, RefreshFault>
-    requires stood { StoodIn (kept_in state.now) (kept_items tolerance (kept_in state.now) playlist.now) written.now }
+    requires stood { StoodIn (kept_in state.now)
+        (kept_items tolerance (kept_in state.now) playlist.now) written.now }
     requires contiguous { AreContiguous playlist.now.segments }
     requires decided { AreKept state.now.store state.now }
     requires entered { IsLastEntered (kept_in state.now) }
+    requires rising { RisesOn state.now.shown.list playlist.now.segments }
     ensures ok { IfOk result (λ a. IsAccepted tolerance (kept_in state.now) playlist.now a) }
-    ensures err { IfErr result (λ e. RefusesList e (list_all fits (kept_items tolerance (kept_in state.now) playlist.now) ≡ false)) }
+    ensures err { IfErr result
+        (λ e. RefusesList e (list_all fits (kept_items tolerance (kept_in state.now) playlist.now)
+        ≡ false)) }
 {
     let showing = shown_with(alloc, tolerance, state, playlist)?;
     next_of(alloc, state, written, playlist, showing)
@@ -74,10 +79,13 @@ pub fn next_after(
     requires contiguous { AreContiguous read.now.playlist.segments }
     requires decided { AreKept state.now.store state.now }
     requires entered { IsLastEntered (kept_in state.now) }
+    requires rising { RisesNext state.now read.now.playlist }
     requires last { IsContiguous state.now.last }
-    requires taken { AreTaken (last_segments state.now.last) read.now.playlist.segments read.now.taken.start read.now.taken.end }
+    requires taken { AreTaken
+        (last_segments state.now.last) read.now.playlist.segments read.now.taken.start read.now.taken.end }
     ensures ok { IfOk result (λ a. Follows tolerance (kept_in state.now) read.now.playlist a) }
-    ensures err { IfErr result (λ e. RefusesNext e (kept_refusal tolerance (kept_in state.now) read.now.playlist)) }
+    ensures err { IfErr result
+        (λ e. RefusesNext e (kept_refusal tolerance (kept_in state.now) read.now.playlist)) }
 {
     may_follow(&state.last, read)?;
     next_kept(alloc, tolerance, state, written, &read.playlist)
@@ -97,8 +105,10 @@ pub fn playlist_after(
     requires { IsKept base.now last.now source.now }
     ensures ok { IfOk result (λ read. IsRead base.now bytes.now read.playlist) }
     ensures source { IfOk result (λ read. IsSource base.now read.playlist read.source) }
-    ensures taken { IfOk result (λ read. AreTaken (last_segments last.now) read.playlist.segments read.taken.start read.taken.end) }
-    ensures err { IfErr result (λ e. (tolerance : ℕ) (state : LiveState) → Refused base.now tolerance state bytes.now e) }
+    ensures taken { IfOk result
+        (λ read. AreTaken (last_segments last.now) read.playlist.segments read.taken.start read.taken.end) }
+    ensures err { IfErr result
+        (λ e. (tolerance : ℕ) (state : LiveState) → Refused base.now tolerance state bytes.now e) }
 {
     let read = read_after(alloc, bytes, base, last, source)?;
     utf8_of_uris(read.playlist.segments.as_slice());
@@ -112,7 +122,8 @@ pub fn playlist_of(alloc: Global, bytes: &[u8], base: &Base) -> Result<Read, Ref
     ensures ok { IfOk result (λ read. IsRead base.now bytes.now read.playlist) }
     ensures source { IfOk result (λ read. IsSource base.now read.playlist read.source) }
     ensures taken { IfOk result (λ read. (read.taken.start ≡ 0) × (read.taken.end ≡ 0)) }
-    ensures err { IfErr result (λ e. (tolerance : ℕ) (state : LiveState) → Refused base.now tolerance state bytes.now e) }
+    ensures err { IfErr result
+        (λ e. (tolerance : ℕ) (state : LiveState) → Refused base.now tolerance state bytes.now e) }
 {
     let playlist = read(alloc, bytes, base)?;
     utf8_of_uris(playlist.segments.as_slice());

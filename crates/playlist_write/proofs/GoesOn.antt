@@ -117,8 +117,8 @@ pub record Laid (p : OutPlaylist) (w : WrittenText) : Type 0 where
   pub laid : IsLaid p.segments w
 
 pub is_laid : (p : OutPlaylist) (w : WrittenText) (body : List ℕ) (end : Current) → body ≡ lines none_yet p.segments → end ≡ after_segments none_yet p.segments
-    → w.text ≡ front_text p ++ (body ++ said_text (ended_owed p.end_list)) → w.from ≡ length (front_text p) → w.till ≡ length (front_text p ++ body) → current_of w ≡ end → Laid p w
-is_laid p w body end b e t f l c =
+    → w.text ≡ front_text p ++ (body ++ said_text (ended_owed p.end_list)) → w.from ≡ length (front_text p) → w.till ≡ length (front_text p ++ body) → w.count ≡ length p.segments → current_of w ≡ end → Laid p w
+is_laid p w body end b e t f l n c =
     let ended = said_text (ended_owed p.end_list) in
     let is : w.text ≡ front_text p ++ (lines none_yet p.segments ++ ended) = t ∙ ap (λ u. front_text p ++ (u ++ ended)) b in
     record {
@@ -129,6 +129,7 @@ is_laid p w body end b e t f l c =
         is = is;
         from = f;
         till = l ∙ (length-append (front_text p) body ∙ ap (λ u. length (front_text p) + length u) b);
+        count = n;
         current = c ∙ e;
       };
     }

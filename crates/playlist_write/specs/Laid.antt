@@ -19,13 +19,14 @@ states_all current (out ∷ later) = is_some out.segment.init_section || is_none
 abbrev pub current_of : WrittenText → Current
 current_of w = record { keys = w.keys; init_section = w.init_section }
 
--- the lines of these segments stand in the text between its places, and what is in force after them is known
+-- the lines of these segments stand in the text between its places; how many they are, and what is in force after them, is known
 pub record IsLaid (items : List OutSegment) (w : WrittenText) : Type 0 where
   pub front : List ℕ
   pub back : List ℕ
   pub is : w.text ≡ front ++ (said_text (segments_owed none_yet items) ++ back)
   pub from : w.from ≡ length front
   pub till : w.till ≡ length front + length (said_text (segments_owed none_yet items))
+  pub count : w.count ≡ length items
   pub current : current_of w ≡ after_segments none_yet items
 
 -- the lines of the first segments and of the one after them have this length, and that one states all that is in force after it

@@ -18,8 +18,8 @@ use std::alloc::{AllocError, Global};
 use std::marker::Model;
 use stitcher::{OutSegment, StitchedItems, StitchedList};
 
-/// A text that was written, with what its next version needs: the places where the lines of its segments begin and end, and
-/// the keys and the initialisation section that are in force at their end.
+/// A text that was written, with what its next version needs: the places where the lines of its segments begin and end, how
+/// many segments they are of, and the keys and the initialisation section that are in force at their end.
 #[derive(Drop)]
 pub struct WrittenText {
     /// The text.
@@ -28,6 +28,8 @@ pub struct WrittenText {
     pub from: usize,
     /// Where those of the last one end.
     pub till: usize,
+    /// How many segments these are the lines of.
+    pub count: usize,
     /// The keys in force there.
     pub keys: Keys,
     /// The initialisation section in force there.
@@ -157,23 +159,26 @@ fn force_at_end(last: &WrittenText) -> InForce<'_>
     }
 }
 
-// A written text, whose segments' lines stand from `from` up to `till` with `end` in force after them.
+// A written text, the lines of whose `count` segments stand from `from` up to `till` with `end` in force after them.
 fn with_end(
     alloc: Global,
     text: String,
     from: usize,
     till: usize,
+    count: usize,
     end: &InForce<'_>,
 ) -> Result<WrittenText, AllocError>
     ensures text { IfOk result (λ w. w.text ≡ string_bytes text) }
     ensures from { IfOk result (λ w. w.from ≡ from) }
     ensures till { IfOk result (λ w. w.till ≡ till) }
+    ensures count { IfOk result (λ w. w.count ≡ count) }
     ensures end { IfOk result (λ w. current_of w ≡ end.now) }
 {
     Ok(WrittenText {
         text: Shared::new(alloc, Text::from_string(text))?,
         from,
         till,
+        count,
         keys: end.keys.clone()?,
         init_section: end.init_section.clone()?,
     })
@@ -212,7 +217,8 @@ pub fn laid_out(alloc: Global, playlist: &OutPlaylist<'_>) -> Result<WrittenText
     let end = push_all(alloc, &mut text, nothing, playlist.segments.items())?;
     let till = length_of(&text);
     push_end(&mut text, playlist.end_list)?;
-    Ok(with_end(alloc, text, from, till, &end)?)
+    let count = playlist.segments.count();
+    Ok(with_end(alloc, text, from, till, count, &end)?)
 }
 
 // Whether what is in force after the first of these is what it states itself, whatever stood before it.
@@ -282,6 +288,7 @@ fn joined(
         (λ w. w.till ≡ length (front_text playlist.now
         ++ (said_text (segments_owed none_yet (take 1 playlist.now.segments))
         ++ (lines.now ++ said_text (segments_owed (current_of last.now) fresh.entry))))) }
+    ensures count { IfOk result (λ w. w.count ≡ length playlist.now.segments) }
     ensures end { IfOk result
         (λ w. current_of w ≡ after_segments (current_of last.now) fresh.entry) }
 {
@@ -297,7 +304,8 @@ fn joined(
     let end = push_all(alloc, &mut text, force_at_end(last), fresh)?;
     let till = length_of(&text);
     push_end(&mut text, playlist.end_list)?;
-    with_end(alloc, text, from, till, &end)
+    let count = playlist.segments.count();
+    with_end(alloc, text, from, till, count, &end)
 }
 
 /// The text of `playlist` that `laid_out` makes, of which lines are copied from `last`, the text that was written

@@ -62,7 +62,7 @@ abbrev pub StoresAreReplaced : Type 0
 StoresAreReplaced = (base : Parts) → Gives (with_store (holding base kept)) ((nothing_decided, holding base (record kept { store = nothing_decided })) ∷ [])
 
 abbrev pub written : WrittenText
-written = record { text = codes "x"; from = 0; till = 1; keys = []; init_section = None }
+written = record { text = codes "x"; from = 0; till = 1; count = 1; keys = []; init_section = None }
 
 abbrev pub TextsAreKept : Type 0
 TextsAreKept = Gives text_in ((None, None) ∷ (Some written, Some (codes "x")) ∷ [])

@@ -1,5 +1,5 @@
 //! The stitched list of marked segments, as it is made.
-ghost use Rattle.std.specs.Prelude.{◌≡◌, ◌++◌, ◌≤◌, Bool, true, false, List, [], ◌∷◌, map, take, drop, length, None, OnOk, IfOk, IfErr, option_map};
+ghost use Rattle.std.specs.Prelude.{◌≡◌, ◌++◌, ◌<◌, ◌≤◌, ◌^◌, Bool, true, false, List, [], ◌∷◌, map, take, drop, length, None, OnOk, IfOk, IfErr, option_map};
 ghost use Rattle.std.specs.List.{list_all};
 ghost use Rattle.pod_store.specs.Marks.{Mark};
 ghost use Rattle.pod_store.specs.Pods.{Pod};
@@ -535,6 +535,7 @@ impl<'a> Stitching<'a> {
     fn finish(self, alloc: Global) -> Result<StitchedList<'a>, StitchFault>
         requires { list_all item_fits self.items ≡ true }
         ensures ok { IfOk result (λ list. list ≡ self.entry.items) }
+        ensures room { IfOk result (λ list. length list < 2 ^ 64) }
         ensures err { IfErr result (λ e. e ≡ StitchFault.OutOfMemory) }
     {
         let Stitching {
@@ -575,6 +576,7 @@ pub fn stitch<'a>(
     ensures ok { IfOk result
         (λ v. (v ≡ stitched_segments store.now first ends.now marked.now)
         × (list_all item_fits v ≡ true)) }
+    ensures room { IfOk result (λ v. length v < 2 ^ 64) }
     ensures err { IfErr result
         (λ e. RefusesNumber e (list_all item_fits
         (stitched_segments store.now first ends.now marked.now) ≡ false)) }
@@ -597,6 +599,7 @@ pub fn stitch_at<'a>(
     ensures ok { IfOk result
         (λ v. (v ≡ stitched_segments store.now first ends.now marked.now)
         × (list_all item_fits v ≡ true)) }
+    ensures room { IfOk result (λ v. length v < 2 ^ 64) }
     ensures err { IfErr result
         (λ e. RefusesNumber e (list_all item_fits
         (stitched_segments store.now first ends.now marked.now) ≡ false)) }

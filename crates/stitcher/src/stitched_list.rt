@@ -1,5 +1,5 @@
 //! A stitched list. It holds no item: each is made where it is asked for.
-ghost use Rattle.std.specs.Prelude.{◌≡◌, ◌∷◌, ◌+◌, nat_le, ◌≤◌, [], drop, length, true, MatchOption, IfSome, IfOk};
+ghost use Rattle.std.specs.Prelude.{◌≡◌, ◌∷◌, ◌+◌, ◌^◌, nat_le, ◌<◌, ◌≤◌, [], drop, length, true, MatchOption, IfSome, IfOk};
 ghost use Rattle.std.specs.List.{list_all};
 ghost use Rattle.stitcher.specs.StitchedSegments.{item_fits};
 ghost use Rattle.stitcher.specs.Inner.Making.{numbers_fit};
@@ -277,7 +277,8 @@ impl<'a> StitchedList<'a> {
         stretches: Vec<Stretch<'a>>,
     ) -> Result<StitchedList<'a>, AllocError>
         requires { list_all item_fits (stretches_items stretches.items) ≡ true }
-        ensures { IfOk result (λ list. list ≡ stretches_items stretches.entry.items) }
+        ensures items { IfOk result (λ list. list ≡ stretches_items stretches.entry.items) }
+        ensures room { IfOk result (λ list. length list < 2 ^ 64) }
     {
         let Some(count) = count_of(stretches.as_slice()) else {
             return Err(AllocError);

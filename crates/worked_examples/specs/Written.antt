@@ -109,6 +109,6 @@ WrittenLinesAreInForce = Gives (after_segments none_yet) (
 
 abbrev pub WrittenTextsTellWhatIsInForce : Type 0
 WrittenTextsTellWhatIsInForce = Gives current_of ((
-  record { text = codes "x"; from = 0; till = 1; keys = first.keys; init_section = first.init_section },
+  record { text = codes "x"; from = 0; till = 1; count = 1; keys = first.keys; init_section = first.init_section },
   record { keys = first.keys; init_section = first.init_section },
 ) ∷ [])

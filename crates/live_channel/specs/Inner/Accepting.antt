@@ -26,7 +26,7 @@ use Rattle.channel_spec.specs.Marking.{last_entered}
 use Rattle.channel_spec.specs.Kept.{Kept, shown_from, head_numbers, items_on, window_on, rest_after, kept_acceptance, kept_list, kept_length}
 use Rattle.live_channel.specs.declared.next.NextState.{NextState}
 use Rattle.channel_window.specs.Marking.{so_far}
-use Rattle.channel_window.specs.Listed.{IsRestDecided}
+use Rattle.channel_window.specs.Listed.{IsRestDecided, RisesOn}
 use Rattle.channel_window.specs.Checked.{AreContiguous}
 use Rattle.live_channel.specs.Channel.{refreshed_with, fresh_after, channel_with, Steps}
 use Rattle.channel_window.specs.declared.state.ChannelState.{ChannelState}
@@ -67,6 +67,10 @@ IsAccepted tolerance kept p next =
 pub record Follows (tolerance : ℕ) (kept : Kept) (p : Playlist) (next : NextState) : Type 0 where
   pub succeeds : succession_fault kept.last p ≡ None
   pub accepted : IsAccepted tolerance kept p next
+
+-- its numbers go on those that are shown, where it may follow
+abbrev pub RisesNext : ChannelState → Playlist → Type 0
+RisesNext state p = succession_fault state.last p ≡ None → RisesOn state.shown.list p.segments
 
 -- the bytes are read as this playlist
 pub record IsRead (base : Parts) (bytes : List ℕ) (p : Playlist) : Type 0 where

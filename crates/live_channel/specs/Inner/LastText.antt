@@ -11,14 +11,20 @@ use Rattle.playlist_write.specs.declared.resumed.WrittenText.{WrittenText}
 use Rattle.playlist_write.specs.Laid.{IsLaid, StandsAgain}
 use Rattle.live_channel.specs.declared.next.Again.{Again}
 
--- of these segments the first ones, so many, stand in it
-abbrev pub Stood : ℕ → List OutSegment → Option WrittenText → Type 0
-Stood count segments None = Unit {0}
-Stood count segments (Some w) = IsLaid (take count segments) w
+-- how many segments it has the lines of
+abbrev pub count_in : Option WrittenText → ℕ
+count_in None = 0
+count_in (Some w) = w.count
 
--- of these items, those that stood in the last window
-abbrev pub StoodIn : Kept → List Item → Option WrittenText → Type 0
-StoodIn kept items written = Stood (length (last_pieces kept.last kept)) (map written_item (reverse items)) written
+-- as many of the first of these segments stand in it
+abbrev pub Stood : List OutSegment → Option WrittenText → Type 0
+Stood segments None = Unit {0}
+Stood segments (Some w) = IsLaid (take w.count segments) w
+
+-- it has the last window, with which these items begin
+pub record StoodIn (kept : Kept) (items : List Item) (written : Option WrittenText) : Type 0 where
+  pub count : count_in written ≡ length (last_pieces kept.last kept)
+  pub stood : Stood (map written_item (reverse items)) written
 
 -- the same of a refresh, where it may follow the last one
 abbrev pub StoodBefore : ℕ → Kept → Playlist → Option WrittenText → Type 0

@@ -29,4 +29,4 @@ returns c =
     subst (λ (breaks : List Break). IsShown c.args.tolerance s p (record a { knowledge = breaks })) (sym c.knowledge.view_is)
     (shown_is c.args.tolerance s p c.as_slice-shown.result.now newest c.fresh_of-fresh.result.now c.newest_end.result c.new-2.result marked a c.requires.decided c.requires.entered c.as_slice-shown.ensures
     (c.in_ok-newest.ensures.mark s.store) (c.in_ok-newest.ensures.decided s.store) (search rules) (c.fresh_of-fresh.ensures.value s.store ∙ ap (filter (is_new (so_far s.store c.as_slice-shown.result.now))) (c.as_slice.ensures ∙ c.deref-2.ensures)) (c.newest_end.ensures s.store) c.new-2.ensures marked_are (search rules)
-    c.in_ok-marks.ensures.entered refl long)
+    c.requires.contiguous c.requires.rising c.in_ok-marks.ensures.entered refl long)

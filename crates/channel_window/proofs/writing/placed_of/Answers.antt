@@ -20,18 +20,8 @@ returns-in_err-whole-clause-err c =
     let same = fit_is s c.args.playlist.now list c.args.lasted c.in_ok-ends.ends c.in_ok-first.first c.requires.decided (c.in_ok-ends.ensures s.store) c.in_ok-first.ensures.ok in
     handed_on c.from_residual-in_err-whole.result c.in_err-whole.field-0.0 c.from_residual-in_err-whole.ensures.1 c.in_err-whole.ensures.err (λ h. sym same ∙ h)
 
-pub start_of-start-requires-clause-room : goal.start_of-start-requires-clause-room
-start_of-start-requires-clause-room c =
-    let s = c.args.state.now in
-    has_room s c.args.playlist.now c.args.list.now c.args.lasted c.in_ok-ends.ends c.in_ok-first.first c.requires.decided (c.in_ok-ends.ensures s.store) c.in_ok-first.ensures.ok c.in_ok-whole.whole c.in_ok-whole.ensures.ok.0 c.in_ok-whole.ensures.room
-
-pub rest_after-requires-clause-room : goal.rest_after-requires-clause-room
-rest_after-requires-clause-room c =
-    let s = c.args.state.now in
-    has_room s c.args.playlist.now c.args.list.now c.args.lasted c.in_ok-ends.ends c.in_ok-first.first c.requires.decided (c.in_ok-ends.ensures s.store) c.in_ok-first.ensures.ok c.in_ok-whole.whole c.in_ok-whole.ensures.ok.0 c.in_ok-whole.ensures.room
-
-pub stood_of-stood-requires-clause-room : goal.stood_of-stood-requires-clause-room
-stood_of-stood-requires-clause-room c =
+pub start_of-requires-clause-room : goal.start_of-requires-clause-room
+start_of-requires-clause-room c =
     let s = c.args.state.now in
     has_room s c.args.playlist.now c.args.list.now c.args.lasted c.in_ok-ends.ends c.in_ok-first.first c.requires.decided (c.in_ok-ends.ensures s.store) c.in_ok-first.ensures.ok c.in_ok-whole.whole c.in_ok-whole.ensures.ok.0 c.in_ok-whole.ensures.room
 
@@ -43,9 +33,9 @@ returns-clause-whole c =
 pub returns-clause-window : goal.returns-clause-window
 returns-clause-window c =
     let s = c.args.state.now in
-    let inside = c.start_of-start.ensures.within (length c.in_ok-whole.whole)
+    let inside = c.in_ok-start.ensures.within (length c.in_ok-whole.whole)
     (room_left s c.args.playlist.now c.args.list.now c.args.lasted c.in_ok-ends.ends c.in_ok-first.first c.requires.decided (c.in_ok-ends.ensures s.store) c.in_ok-first.ensures.ok c.in_ok-whole.whole c.in_ok-whole.ensures.ok.0) in
-    window_left s c.args.playlist.now c.args.list.now c.args.lasted c.in_ok-ends.ends c.in_ok-first.first c.requires.decided (c.in_ok-ends.ensures s.store) c.in_ok-first.ensures.ok c.in_ok-whole.whole c.start_of-start.result c.in_ok-whole.ensures.ok.0 inside c.start_of-start.ensures.value
+    window_left s c.args.playlist.now c.args.list.now c.args.lasted c.in_ok-ends.ends c.in_ok-first.first c.requires.decided (c.in_ok-ends.ensures s.store) c.in_ok-first.ensures.ok c.in_ok-whole.whole c.in_ok-start.start.place c.in_ok-whole.ensures.ok.0 inside c.in_ok-start.ensures.place
 
 pub returns-clause-fit : goal.returns-clause-fit
 returns-clause-fit c =

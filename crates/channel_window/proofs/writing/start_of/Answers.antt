@@ -1,42 +1,59 @@
-use Rattle.std.proofs.Common.{◌+◌, ◌<◌, ◌^◌, List, sym, ap, ◌∙◌, arith}
+use Rattle.std.proofs.Common.{◌≡◌, ◌+◌, List, ℕ, min, false, sym, ap, ◌∙◌, arith}
+use Rattle.std.specs.Prelude.{◌==◌}
 use Rattle.playlist_model.specs.declared.Segment.{Segment}
-use Rattle.stitcher.specs.Stitched.{up_to}
+use Rattle.stitcher.specs.StitchedSegments.{rest_in}
+use Rattle.channel_spec.specs.Live.{place_of, rest_over}
 use Rattle.channel_spec.specs.Successor.{first_number}
+use Rattle.channel_spec.specs.Kept.{start_on, rest_on}
 use Rattle.channel_window.specs.Marking.{so_far}
-use Rattle.channel_window.proofs.Passing.{front_decided}
-use Rattle.channel_window.proofs.Starting.{place_found, start_first, start_later, not_equal}
+use Rattle.channel_window.specs.Placing.{rest_count}
+use Rattle.channel_window.specs.Showing.{kept_in}
+use Rattle.channel_window.proofs.Starting.{start_first, start_later, start_same, rest_later, rest_same, not_equal}
 use Rattle.channel_window.proofs.writing.start_of.Goals as goal
 
-pub returns-in_default-clause-value : goal.returns-in_default-clause-value
-returns-in_default-clause-value c =
+pub returns-in_default-clause-place : goal.returns-in_default-clause-place
+returns-in_default-clause-place c =
     let s = c.args.state.now in
-    let p = c.args.playlist.now in
     let list = c.args.list.now in
     let n = c.first_number-number.ensures ∙ ap (λ (ss : List Segment). first_number ss) (c.as_slice.ensures ∙ c.deref.ensures) in
-    let item = place_found s.store (first_number p.segments) c.place_of-place.result list c.front_to.result.now c.requires.decided c.front_to.ensures.front (c.front_to.ensures.seen s.store ∙ ap (λ k. up_to k (so_far s.store list)) n) c.place_of-place.ensures in
-    start_first s p list c.place_of-place.result item c.in_default.is
+    start_first s c.first_number-number.result list c.item_place-place.result c.item_place-place.ensures.value c.in_default.is
+    ∙ ap (λ k. start_on s.last k (kept_in s) (so_far s.store list)) n
 
-pub written_before-most-requires-clause-decided : goal.written_before-most-requires-clause-decided
-written_before-most-requires-clause-decided c =
-    let s = c.args.state.now in
-    front_decided s.store c.args.list.now s.shown.list c.requires.decided c.requires.front
-
-pub returns-clause-value : goal.returns-clause-value
-returns-clause-value c =
+pub returns-then-number-first_number-clause-place : goal.returns-then-number-first_number-clause-place
+returns-then-number-first_number-clause-place c =
     let s = c.args.state.now in
     let p = c.args.playlist.now in
-    let list = c.args.list.now in
-    let last = c.in-Some.last in
     let n = c.first_number-number.ensures ∙ ap (λ (ss : List Segment). first_number ss) (c.as_slice.ensures ∙ c.deref.ensures) in
     let k = c.first_number.ensures ∙ ap (λ (ss : List Segment). first_number ss) (c.as_slice-2.ensures ∙ c.deref-2.ensures) in
-    let item = place_found s.store (first_number p.segments) c.place_of-place.result list c.front_to.result.now c.requires.decided c.front_to.ensures.front (c.front_to.ensures.seen s.store ∙ ap (λ k. up_to k (so_far s.store list)) n) c.place_of-place.ensures in
-    let room = c.requires.room c.front_to.result.now c.front_to.ensures.front in
-    let fits : c.place_of-place.result + c.rest_count.result < 2 ^ 64 = omega (arith, room, c.place_of-place.ensures, c.rest_count.ensures.value) in
-    start_later s p list c.place_of-place.result item last c.rest_count.result c.written_before-most.result c.min.result c.in-Some.is
-    (not_equal (first_number p.segments) (first_number last.segments) (λ e. c.if-number-first_number.false (n ∙ (e ∙ sym k)))) c.rest_count.ensures.value c.written_before-most.ensures fits c.min.ensures
+    start_same s (first_number p.segments) c.args.list.now c.in-Some.last c.in-Some.is (sym n ∙ (c.if-number-first_number.true ∙ k))
 
-pub returns-in_default-clause-within : goal.returns-in_default-clause-within
-returns-in_default-clause-within c most h = omega (arith, h c.front_to.result.now c.front_to.ensures.front, c.place_of-place.ensures)
+pub returns-then-number-first_number-clause-rest : goal.returns-then-number-first_number-clause-rest
+returns-then-number-first_number-clause-rest c =
+    let s = c.args.state.now in
+    let p = c.args.playlist.now in
+    let n = c.first_number-number.ensures ∙ ap (λ (ss : List Segment). first_number ss) (c.as_slice.ensures ∙ c.deref.ensures) in
+    let k = c.first_number.ensures ∙ ap (λ (ss : List Segment). first_number ss) (c.as_slice-2.ensures ∙ c.deref-2.ensures) in
+    ap (rest_in s.store) c.in_ok-rest.ensures ∙ rest_same s (first_number p.segments) c.args.list.now c.in-Some.last 0 c.in-Some.is (sym n ∙ (c.if-number-first_number.true ∙ k))
 
-pub returns-clause-within : goal.returns-clause-within
-returns-clause-within c most h = omega (arith, h c.front_to.result.now c.front_to.ensures.front, c.place_of-place.ensures, c.rest_count.ensures.value, c.min.ensures)
+pub returns-clause-place : goal.returns-clause-place
+returns-clause-place c =
+    let s = c.args.state.now in
+    let p = c.args.playlist.now in
+    let list = c.args.list.now in
+    let n = c.first_number-number.ensures ∙ ap (λ (ss : List Segment). first_number ss) (c.as_slice.ensures ∙ c.deref.ensures) in
+    let k = c.first_number.ensures ∙ ap (λ (ss : List Segment). first_number ss) (c.as_slice-2.ensures ∙ c.deref-2.ensures) in
+    let other = not_equal (first_number p.segments) (first_number c.in-Some.last.segments) (λ e. c.if-number-first_number.false (n ∙ (e ∙ sym k))) in
+    start_later s (first_number p.segments) list c.in-Some.last c.args.stood c.in_ok-later_start.field-0.place c.in-Some.is other c.requires.stood
+    (c.in_ok-later_start.ensures.place ∙ ap (λ m. min (place_of m (so_far s.store list) + rest_count s.store s.shown.rest) c.args.stood) n)
+
+pub returns-clause-rest : goal.returns-clause-rest
+returns-clause-rest c =
+    let s = c.args.state.now in
+    let p = c.args.playlist.now in
+    let list = c.args.list.now in
+    let start = c.in_ok-later_start.field-0.place in
+    let n = c.first_number-number.ensures ∙ ap (λ (ss : List Segment). first_number ss) (c.as_slice.ensures ∙ c.deref.ensures) in
+    let k = c.first_number.ensures ∙ ap (λ (ss : List Segment). first_number ss) (c.as_slice-2.ensures ∙ c.deref-2.ensures) in
+    let other = not_equal (first_number p.segments) (first_number c.in-Some.last.segments) (λ e. c.if-number-first_number.false (n ∙ (e ∙ sym k))) in
+    c.in_ok-later_start.ensures.rest
+    ∙ (ap (λ m. rest_over (rest_count s.store s.shown.rest) start m (so_far s.store list)) n ∙ rest_later s (first_number p.segments) list c.in-Some.last start c.in-Some.is other)

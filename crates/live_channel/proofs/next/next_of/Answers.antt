@@ -19,7 +19,6 @@ use Rattle.live_channel.proofs.Accepting.{text_seen, numbers_seen, refreshed_see
 use Rattle.live_channel.proofs.Marks.{breaks_seen}
 use Rattle.playlist_write.specs.Laid.{IsLaid}
 use Rattle.live_channel.specs.Inner.LastText.{Stood, StandIn}
-use Rattle.live_channel.proofs.LastText.{counted}
 use Rattle.channel_spec.specs.LastWindow.{last_pieces}
 use Rattle.channel_spec.specs.Kept.{items_on}
 use Rattle.live_channel.proofs.next.next_of.Goals as goal
@@ -42,8 +41,8 @@ returns-clause-ok c =
     let breaks : NameTheSame c.in_ok-in_use.in_use.items (breaks_after (kept_in s) p seen) =
     subst (λ ids. NameTheSame c.in_ok-in_use.in_use.items ids) (breaks_seen s (kept_in s) p held entered (or_earlier (last_entered seen) s.shown.entered) rest all_decided entered_is c.in_ok-whole.ensures.rest c.in_ok-whole.ensures.left) breaks_are in
     let number = first_number p.segments in
-    let dropped_is : so_far s.store (drop c.count_before-gone.result held) ≡ shown_from number seen = search rules in
-    let tail : c.from_vec.result ≡ drop c.count_before-gone.result held = c.from_vec.ensures ∙ c.in_ok-from_place.ensures ∙ ap (drop c.count_before-gone.result) (sym same) in
+    let dropped_is : so_far s.store (drop c.place_of_number-gone.result held) ≡ shown_from number seen = search rules in
+    let tail : c.from_vec.result ≡ drop c.place_of_number-gone.result held = c.from_vec.ensures ∙ c.in_ok-from_place.ensures ∙ ap (drop c.place_of_number-gone.result) (sym same) in
     let inside = c.numbers.inside in
     let numbers : Numbers = record { media_sequence = inside.media_sequence; discontinuity_sequence = inside.discontinuity_sequence; discontinuities = inside.discontinuities } in
     let head_is : c.head_of-numbers.result ≡ head_of items = search rules in
@@ -67,7 +66,7 @@ returns-clause-ok c =
       fit = c.in_ok-whole.ensures.fit;
       breaks = refl;
       shown = ap (so_far s.store) tail ∙ dropped_is;
-      decided = subst (AreDecided s.store) (sym tail) (later_decided s.store c.count_before-gone.result held all_decided);
+      decided = subst (AreDecided s.store) (sym tail) (later_decided s.store c.place_of_number-gone.result held all_decided);
       entered = entered_is;
       in_use = breaks;
       numbers = numbers_seen s p held n items c.head_of-numbers.result window head_is;
@@ -89,10 +88,7 @@ standing-requires c =
     let placed = c.in_ok-whole.field-0 in
     let whole_is : placed.whole ≡ map written_item (reverse (items_on (kept_in s) p (so_far s.store c.args.showing.list.items) n)) =
     c.in_ok-whole.ensures.whole ∙ ap (λ (xs : List Held). map written_item (reverse (items_on (kept_in s) p (so_far s.store xs) n))) same in
-    let count = length (last_pieces s.last (kept_in s)) in
-    let stood : Stood count placed.whole c.args.written.now = subst (λ xs. Stood count xs c.args.written.now) (sym whole_is) c.requires.stood in
-    let room : length placed.whole < 2 ^ 64 = search rules in
-    counted count placed.stood placed.whole c.args.written.now room c.in_ok-whole.ensures.stood stood
+    subst (λ xs. Stood xs c.args.written.now) (sym whole_is) c.requires.stood.stood
 
 pub text_without-requires : goal.text_without-requires
 text_without-requires c = subst (λ xs. StandIn xs c.in_ok-again.again) (sym c.leave_out.ensures) c.in_ok-again.ensures

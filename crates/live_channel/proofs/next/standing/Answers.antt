@@ -4,5 +4,5 @@ use Rattle.live_channel.proofs.next.standing.Goals as goal
 
 pub returns : goal.returns
 returns c =
-    stand_again c.args.whole.now c.in-Some.last c.args.start c.args.stood c.in-Some-2.length (omega (arith, c.if-stood-start.false))
+    stand_again c.args.whole.now c.in-Some.last c.args.start c.in-Some.last.count c.in-Some-2.length (omega (arith, c.if-stood-start.false))
     (rw c.in-Some.is at c.requires) (rw c.in-Some-2.is at c.in_ok-length.ensures)

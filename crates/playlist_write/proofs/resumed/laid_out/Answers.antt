@@ -16,5 +16,5 @@ returns c =
     let from = w.from ∙ (c.length_of-from.ensures ∙ ap length c.in_ok-text.ensures) in
     let till = w.till ∙ (c.length_of-till.ensures ∙ ap length out) in
     let text = w.text ∙ (c.in_ok-push_end.ensures ∙ (ap (λ t. t ++ ended) out ∙ append_assoc front body ended)) in
-    let h : Laid p c.in_ok-with_end.field-0 = is_laid p c.in_ok-with_end.field-0 body _ refl force text from till w.end in
+    let h : Laid p c.in_ok-with_end.field-0 = is_laid p c.in_ok-with_end.field-0 body _ refl force text from till (w.count ∙ c.count-count.ensures) w.end in
     record { text = h.text; laid = h.laid }

@@ -8,6 +8,7 @@ use Rattle.playlist_parse.specs.Kept.{AreTaken, IsKept, IsSource, last_segments}
 use Rattle.live_channel.specs.Channel.{Channel, Stands, IsContiguous, channel_with, told_by, text_in, Refreshes}
 use Rattle.live_channel.specs.Inner.Accepting.{IsRead, RefusesNext}
 use Rattle.live_channel.proofs.LastEntered.{is_last_entered}
+use Rattle.live_channel.proofs.Rises.{rises_next}
 use Rattle.live_channel.proofs.Refreshing.{goes, stays_next, stays_full}
 use Rattle.live_channel.specs.LastText.{IsLaidOut}
 use Rattle.live_channel.proofs.LastText.{stood_before, laid_next}
@@ -35,6 +36,12 @@ next_after-requires-clause-entered c =
     let i = c.self.inside in
     let s = c.self.invariant.0 in
     subst IsLastEntered (sym s.1.kept) (is_last_entered (told_by i.base i.tolerance s.0))
+
+pub next_after-requires-clause-rising : goal.next_after-requires-clause-rising
+next_after-requires-clause-rising c =
+    let i = c.self.inside in
+    let s = c.self.invariant.0 in
+    rises_next i.base i.tolerance s.0 i.state c.args.read.playlist s.1.kept s.1.typed
 
 pub returns-in_err-next : goal.returns-in_err-next
 returns-in_err-next c bytes read =

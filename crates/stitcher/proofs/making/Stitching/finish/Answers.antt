@@ -18,4 +18,4 @@ returns-clause-ok c =
     let inside = c.self.inside in
     let whole : stretches_items c.push.new.self.items ≡ stretches_items inside.stretches.items ++ map ad_item inside.ads.items =
     last_stretch inside.stretches.items c.push.new.self.items _ inside.ads.items c.in_ok-push.ensures.items c.from_vec.ensures refl in
-    c.in_ok-from_stretches.ensures ∙ (whole ∙ ap (λ (m : Made). m.items) c.self.view_is)
+    c.in_ok-from_stretches.ensures.items ∙ (whole ∙ ap (λ (m : Made). m.items) c.self.view_is)

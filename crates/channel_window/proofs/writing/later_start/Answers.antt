@@ -1,0 +1,33 @@
+use Rattle.std.proofs.Common.{arith, ap, ◌∙◌, ◌+◌, ◌≡◌, ◌≤◌, ◌<◌}
+use Rattle.channel_spec.specs.Live.{place_of}
+use Rattle.channel_window.specs.Marking.{so_far}
+use Rattle.channel_window.specs.Placing.{rest_count}
+use Rattle.channel_window.specs.Inner.Placing.{rest_of}
+use Rattle.channel_window.proofs.Passing.{front_decided}
+use Rattle.channel_window.proofs.Starting.{rest_none, rest_lower}
+use Rattle.channel_window.proofs.writing.later_start.Goals as goal
+
+pub returns-then-item-place-clause-rest : goal.returns-then-item-place-clause-rest
+returns-then-item-place-clause-rest c =
+    let s = c.args.state.now in
+    let seen = so_far s.store c.args.list.now in
+    rest_none (rest_count s.store s.shown.rest) c.min-place.result c.args.number seen (omega (arith, c.if-item-place.true, c.item_place.ensures.value, c.rest_count-before.ensures.value))
+
+pub rest_of-requires-clause-room : goal.rest_of-requires-clause-room
+rest_of-requires-clause-room c = omega (arith, c.requires.room c.front_before-gone.result.now c.front_before-gone.ensures.front, c.rest_count-before.ensures.value)
+
+pub rest_of-requires-clause-decided : goal.rest_of-requires-clause-decided
+rest_of-requires-clause-decided c =
+    let s = c.args.state.now in
+    front_decided s.store c.args.list.now c.front_before-gone.result.now c.requires.decided c.front_before-gone.ensures.front
+
+pub returns-clause-rest : goal.returns-clause-rest
+returns-clause-rest c =
+    let s = c.args.state.now in
+    let seen = so_far s.store c.args.list.now in
+    let before = rest_count s.store s.shown.rest in
+    let place = c.min-place.result in
+    let lower : place < place_of c.args.number seen + before = omega (arith, c.if-item-place.false, c.item_place.ensures.value, c.rest_count-before.ensures.value) in
+    c.in_ok-rest.ensures.value
+    ∙ (ap (λ n. rest_of n place (so_far s.store c.front_before-gone.result.now)) c.rest_count-before.ensures.value
+    ∙ (ap (rest_of before place) (c.front_before-gone.ensures.seen s.store) ∙ rest_lower before place c.args.number seen lower))

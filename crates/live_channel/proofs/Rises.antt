@@ -1,0 +1,95 @@
+-- The numbers of the shown segments rise by one, and a playlist that may follow leaves none out.
+use Rattle.std.proofs.Common.{◌≡◌, ℕ, ◌+◌, ◌≤◌, Bool, true, false, cond, List, [], ◌∷◌, map, length, refl, ap, sym, ◌∙◌, subst, arith}
+use Rattle.std.specs.Prelude.{Option, Some, None, nat_le}
+use Rattle.std.specs.List.{AllByRecursion}
+use Rattle.std.proofs.lemmas.List.{length-map, length-reverse}
+use mathlib.Core.List.{reverse_aux}
+use Rattle.url.specs.Parts.{Parts}
+use Rattle.playlist_model.specs.declared.Playlist.{Playlist}
+use Rattle.playlist_model.specs.declared.Segment.{Segment}
+use Rattle.pod_store.specs.Marks.{Marked}
+use Rattle.pod_store.specs.Store.{Store}
+use Rattle.stitcher.specs.declared.marked.MarkedSegment.{MarkedSegment as Held}
+use Rattle.stitcher.specs.StitchedSegments.{meant}
+use Rattle.break_finder.specs.Known.{Accepted}
+use Rattle.channel_spec.specs.Live.{last_playlist, succession_fault}
+use Rattle.channel_spec.specs.Successor.{first_number}
+use Rattle.channel_spec.specs.Kept.{Kept, kept_of, shown_from, shown_by}
+use Rattle.channel_spec.proofs.Risen.{FallFrom}
+use Rattle.channel_spec.proofs.Passed.{passed}
+use Rattle.channel_spec.proofs.LiveState.{StandingOf}
+use Rattle.channel_spec.proofs.EachWindow.{plain_standing, holds}
+use Rattle.channel_window.specs.declared.state.ChannelState.{ChannelState}
+use Rattle.channel_window.specs.Marking.{so_far}
+use Rattle.channel_window.specs.Showing.{kept_in}
+use Rattle.channel_window.specs.Listed.{RiseByOne, RisesOn}
+use Rattle.live_channel.specs.Channel.{Given, events_of, told_by, IsAsTyped}
+use Rattle.live_channel.specs.Inner.Accepting.{RisesNext}
+use Rattle.live_channel.proofs.Steps.{all_given}
+
+-- ---- as they are held
+
+record Rise (store : Store) (list : List Held) (before : List Marked) (end : ℕ) : Type 0 where
+  first : ℕ
+  rise : RiseByOne first list
+  falls : FallFrom first before
+  long : first + length list ≡ end
+
+held_rise : (store : Store) (list : List Held) (before : List Marked) (end : ℕ) → FallFrom end (reverse_aux (map (meant store) list) before) → Rise store list before end
+held_rise store [] before end f = record { first = end; rise = tt; falls = f; long = omega arith }
+held_rise store (m ∷ later) before end f =
+    let k = held_rise store later (meant store m ∷ before) end f in
+    record {
+      first = m.segment.media_sequence;
+      rise = (refl, subst (λ n. RiseByOne n later) (sym k.falls.0) k.rise);
+      falls = k.falls.1;
+      long = omega (arith, k.falls.0, k.long);
+    }
+
+-- ---- what is shown
+
+record FallsBefore (seen : List Marked) (segments : List Segment) : Type 0 where
+  end : ℕ
+  falls : FallFrom end seen
+  near : first_number segments ≤ end
+  anew : length seen ≡ 0 → end ≡ first_number segments
+
+any_falls : (seen : List Marked) (segments : List Segment) (end : ℕ) → FallFrom end seen → first_number segments ≤ end → FallsBefore seen segments
+any_falls [] segments end f h = record { end = first_number segments; falls = tt; near = omega arith; anew = λ e. refl }
+any_falls (s ∷ before) segments end f h = record { end = end; falls = f; near = h; anew = λ e. absurd (omega (arith, e)) }
+
+front_falls : (first end : ℕ) (seen : List Marked) → FallFrom end seen → FallFrom end (shown_from first seen)
+front_falls first end [] f = tt
+front_falls first end (s ∷ before) f = step (nat_le first s.segment.media_sequence) (front_falls first s.segment.media_sequence before f.1)
+  where
+    step : (b : Bool) → FallFrom s.segment.media_sequence (shown_from first before) → FallFrom end (cond b (s ∷ shown_from first before) [])
+    step true g = (f.0, g)
+    step false g = tt
+
+shown_falls : (accepted : List Accepted) (history : List Marked) (p : Playlist) → StandingOf accepted history → succession_fault (last_playlist accepted) p ≡ None → FallsBefore (shown_by (last_playlist accepted) history) p.segments
+unfolding StandingOf
+shown_falls [] history p s e = any_falls [] p.segments (first_number p.segments) tt (omega arith)
+shown_falls (a ∷ before) history p s e =
+    let last = a.playlist in
+    any_falls (shown_from (first_number last.segments) history) p.segments _ (front_falls (first_number last.segments) _ history s.falls) (passed last p e).no_gap
+
+seen_long : (store : Store) (list : List Held) → length (so_far store list) ≡ length list
+seen_long store list = length-reverse (map (meant store) list) ∙ length-map list (meant store)
+
+held_rises : (store : Store) (list : List Held) (segments : List Segment) → FallsBefore (so_far store list) segments → RisesOn list segments
+held_rises store list segments b =
+    let r = held_rise store list [] b.end b.falls in
+    record {
+      first = r.first;
+      rise = r.rise;
+      near = omega (arith, r.long, b.near);
+      anew = λ e. r.long ∙ b.anew (seen_long store list ∙ e);
+    }
+
+pub rises_next : (base : Parts) (tolerance : ℕ) (given : List Given) (state : ChannelState) (p : Playlist) → kept_in state ≡ kept_of (told_by base tolerance given) → AllByRecursion (IsAsTyped base) given → RisesNext state p
+rises_next base tolerance given state p e typed f =
+    let t = told_by base tolerance given in
+    let standing = plain_standing t.accepted t.history t.start (holds tolerance (events_of base given) (all_given base given typed)).standing in
+    let last_is = ap (λ (k : Kept). k.last) e in
+    let b = shown_falls t.accepted t.history p standing (ap (λ o. succession_fault o p) (sym last_is) ∙ f) in
+    held_rises state.store state.shown.list p.segments (subst (λ seen. FallsBefore seen p.segments) (sym (ap (λ (k : Kept). k.shown) e)) b)
