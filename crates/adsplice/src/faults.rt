@@ -5,6 +5,7 @@ use mio::unix::SourceFd;
 use mio::{Events, Interest, Poll, Token};
 use std::alloc::{AllocError, Global};
 use std::io::Write;
+use std::process::ExitCode;
 use std::time::Duration;
 
 // The descriptor of standard error.
@@ -12,6 +13,15 @@ const STDERR: i32 = 2;
 
 // The longest line, with its line feed.
 const LINE: usize = 64;
+
+/// The line of a failed allocation.
+pub const OUT_OF_MEMORY: &str = "E5 OutOfMemory\n";
+
+/// Writes `line` to standard error, and gives the exit status of a run that failed.
+pub fn fails(rt: &HostRuntime, line: &str) -> ExitCode {
+    let _ = rt.stderr().write_all(line.as_bytes());
+    ExitCode::from(1)
+}
 
 /// Tells faults on standard error, a line each. A line that the system would have the server wait with is dropped: nobody
 /// may hold the others by not reading what is told.

@@ -5,30 +5,20 @@
 ghost use Rattle.std.specs.Prelude.{◌<◌, length, vec_len, IfOk};
 ghost use Rattle.connections.specs.Runs.{HasRun};
 
-use crate::client::Socket;
-use crate::faults::Faults;
-use crate::server::{LISTENER, Memory, Server};
-use connections::{Connections, Opened as Table, Seat};
-use mio::net::TcpListener;
-use mio::{Events, Interest, Poll};
-use std::alloc::{AllocError, Global};
+use crate::faults::{Faults, OUT_OF_MEMORY, fails};
+use crate::server::{Clients, Opened, Server};
+use connections::{Connections, Opened as Table};
+use mio::Events;
+use std::alloc::AllocError;
 use std::hash::RandomState;
-use std::io;
 use std::io::{IsTerminal, Write};
-use std::net::{Ipv4Addr, SocketAddr, SocketAddrV4};
 use std::process::ExitCode;
-use std::time::Instant;
 
 // How many events are told at once.
 const EVENTS: usize = 256;
 
 // The bytes of a read.
 const BLOCK: usize = 65_536;
-
-fn fails(rt: &HostRuntime, text: &str) -> ExitCode {
-    let _ = rt.stderr().write_all(text.as_bytes());
-    ExitCode::from(1)
-}
 
 // Tells who sits at a terminal. A file or a pipe has the faults alone.
 fn notice(rt: &HostRuntime, what: &str, port: u16, count: u32) {
@@ -41,49 +31,61 @@ fn notice(rt: &HostRuntime, what: &str, port: u16, count: u32) {
     }
 }
 
-// What the system opened at an instant: the listener, and what tells who is ready.
-struct Opened {
-    poll: Poll,
-    listener: TcpListener,
-    now: Instant,
+// Why the server doesn't start.
+#[derive(Clone, Copy)]
+enum StartFault {
+    OutOfMemory,
+    CannotBind,
 }
 
-fn open(rt: &HostRuntime, port: u16) -> io::Result<Opened> {
-    let address = SocketAddr::V4(SocketAddrV4::new(Ipv4Addr::LOCALHOST, port));
-    let mut listener = TcpListener::bind(rt, address)?;
-    let poll = Poll::new(rt)?;
-    poll.registry()
-        .register(&mut listener, LISTENER, Interest::READABLE)?;
-    let now = Instant::now(rt)?;
-    Ok(Opened {
-        poll,
-        listener,
-        now,
-    })
+impl StartFault {
+    // What is printed of it.
+    fn line(self) -> &'static str {
+        match self {
+            StartFault::OutOfMemory => OUT_OF_MEMORY,
+            StartFault::CannotBind => "cannot bind\n",
+        }
+    }
 }
 
-// All memory that is taken beside what clients ask.
+impl From<AllocError> for StartFault {
+    fn from(_: AllocError) -> StartFault {
+        StartFault::OutOfMemory
+    }
+}
+
+// A server, its table of connections, and room for what is told and read.
 #[derive(Drop)]
-struct Room {
+struct Started {
+    server: Server,
     connections: Connections,
-    seats: Vec<Seat<Socket>>,
-    faults: Faults,
-    memory: Memory,
     events: Events,
     block: Vec<u8>,
 }
 
-fn room_for_all(rt: &HostRuntime, alloc: Global, hashing: RandomState) -> Result<Room, AllocError>
-    ensures { IfOk result (λ room. 0 < vec_len room.block) }
+// Takes all memory beside what clients ask, and then the port, so that a client finds the memory there.
+fn start(
+    rt: &HostRuntime,
+    hashing: RandomState,
+    port: u16,
+    count: u32,
+) -> Result<Started, StartFault>
+    ensures { IfOk result (λ started. 0 < vec_len started.block) }
 {
+    let alloc = rt.alloc();
     let Table { connections, seats } = Connections::over_new_edge(alloc, hashing)?;
-    Ok(Room {
+    let clients = Clients::new(alloc, seats)?;
+    let faults = Faults::new(rt, alloc)?;
+    let events = Events::with_capacity(alloc, EVENTS)?;
+    let block = vec![in alloc; 0u8; BLOCK]?;
+    let Ok(opened) = Opened::on(rt, port) else {
+        return Err(StartFault::CannotBind);
+    };
+    Ok(Started {
+        server: Server::new(clients, opened, faults, count),
         connections,
-        seats,
-        faults: Faults::new(rt, alloc)?,
-        memory: Memory::new(alloc)?,
-        events: Events::with_capacity(alloc, EVENTS)?,
-        block: vec![in alloc; 0u8; BLOCK]?,
+        events,
+        block,
     })
 }
 
@@ -115,33 +117,17 @@ fn serve_all(
 /// memory is taken first, so that a client finds it there.
 /// `hashing`: the keys for tables of IDs.
 pub fn live(rt: &HostRuntime, hashing: RandomState, port: u16, count: u32) -> ExitCode {
-    let Ok(room) = room_for_all(rt, rt.alloc(), hashing) else {
-        return fails(rt, "E5 OutOfMemory\n");
+    let mut started = match start(rt, hashing, port, count) {
+        Ok(started) => started,
+        Err(fault) => return fails(rt, fault.line()),
     };
-    let Room {
-        mut connections,
-        seats,
-        faults,
-        memory,
-        mut events,
-        mut block,
-    } = room;
-    let Ok(opened) = open(rt, port) else {
-        return fails(rt, "cannot bind\n");
-    };
-    let Opened {
-        poll,
-        listener,
-        now,
-    } = opened;
-    let mut server = Server::new(memory, seats, faults, poll, listener, count, now);
     notice(rt, "serving", port, count);
     if !serve_all(
         rt,
-        &mut server,
-        &mut connections,
-        &mut events,
-        block.as_mut_slice(),
+        &mut started.server,
+        &mut started.connections,
+        &mut started.events,
+        started.block.as_mut_slice(),
     ) {
         return ExitCode::from(1);
     }

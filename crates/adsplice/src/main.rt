@@ -8,6 +8,7 @@ mod live;
 mod server;
 
 use crate::decisions::{DecisionsFault, decided};
+use crate::faults::{OUT_OF_MEMORY, fails};
 use crate::live::live;
 use byte_streams::Counted;
 use command_line::{Command, read_command};
@@ -24,30 +25,13 @@ fn usage(rt: &HostRuntime) -> ExitCode {
     ExitCode::from(2)
 }
 
-fn out_of_memory(rt: &HostRuntime) -> ExitCode {
-    let _ = rt.stderr().write_all(b"E5 OutOfMemory\n");
-    ExitCode::from(1)
-}
-
-fn cannot_read_decisions(rt: &HostRuntime) -> ExitCode {
-    let _ = rt.stderr().write_all(b"cannot read DECISIONS\n");
-    ExitCode::from(1)
-}
-
-fn cannot_read_random(rt: &HostRuntime) -> ExitCode {
-    let _ = rt
-        .stderr()
-        .write_all(b"cannot read random bytes of the system\n");
-    ExitCode::from(1)
-}
-
 // One playlist from standard input to standard output; the decision file, where there is one, is read first.
 fn vod(rt: &HostRuntime, hashing: RandomState, base: &str, decisions: Option<&str>) -> ExitCode {
     match decided(decisions.map(|path| fs::read(rt, path))) {
         Ok(None) => vod_with(rt, hashing, base, None),
         Ok(Some(file)) => vod_with(rt, hashing, base, Some(file.as_slice())),
-        Err(DecisionsFault::OutOfMemory) => out_of_memory(rt),
-        Err(DecisionsFault::CannotRead) => cannot_read_decisions(rt),
+        Err(DecisionsFault::OutOfMemory) => fails(rt, OUT_OF_MEMORY),
+        Err(DecisionsFault::CannotRead) => fails(rt, "cannot read DECISIONS\n"),
     }
 }
 
@@ -74,18 +58,18 @@ fn vod_with(
 fn main(rt: HostRuntime) -> ExitCode {
     let words = match env::args(&rt) {
         Ok(words) => words,
-        Err(e) if e.kind() == ErrorKind::OutOfMemory => return out_of_memory(&rt),
+        Err(e) if e.kind() == ErrorKind::OutOfMemory => return fails(&rt, OUT_OF_MEMORY),
         Err(_) => return usage(&rt),
     };
     let Ok(words) = words.skip(1).collect::<Vec<String>>(rt.alloc()) else {
-        return out_of_memory(&rt);
+        return fails(&rt, OUT_OF_MEMORY);
     };
     let Some(command) = read_command(words.as_slice()) else {
         return usage(&rt);
     };
     // (the keys of all tables of IDs, which strangers choose)
     let Ok(hashing) = RandomState::new(&rt) else {
-        return cannot_read_random(&rt);
+        return fails(&rt, "cannot read random bytes of the system\n");
     };
     match command {
         Command::Vod { base, decisions } => vod(&rt, hashing, base, decisions),

@@ -16,6 +16,7 @@ use mio::{Events, Interest, Poll, Token};
 use std::alloc::{AllocError, Global};
 use std::io;
 use std::io::ErrorKind;
+use std::net::{Ipv4Addr, SocketAddr, SocketAddrV4};
 use std::time::{Duration, Instant};
 
 /// The listener's token: those of the clients are their places.
@@ -45,40 +46,62 @@ enum Door {
     Shut,
 }
 
-/// The sockets of the clients, by place, with the order in which they came.
+/// The clients by place, with the order in which they came. Its memory is taken once.
 #[derive(Drop)]
-pub struct Server {
-    faults: Faults,
-    poll: Poll,
-    listener: TcpListener,
-    clients: Vec<Option<Client>>,
+pub struct Clients {
+    at: Vec<Option<Client>>,
     vacant: Vec<Seat<Socket>>,
     // Those that ask or are answered, and those whose reply is gone.
     served: Arrivals,
     ending: Arrivals,
-    admission: Admission,
-    door: Door,
-    now: Instant,
-    next_tick: Instant,
 }
 
-/// The memory of a server, beside what clients ask.
-#[derive(Drop)]
-pub struct Memory {
-    clients: Vec<Option<Client>>,
-    served: Arrivals,
-    ending: Arrivals,
-}
-
-impl Memory {
-    /// The memory of a server that has nobody yet. Fails only if an allocation fails.
-    pub fn new(alloc: Global) -> Result<Memory, AllocError> {
-        Ok(Memory {
-            clients: nobody(alloc)?,
+impl Clients {
+    /// No clients yet, with `seats` for those that come: all of their table. Fails only if an allocation fails.
+    pub fn new(alloc: Global, seats: Vec<Seat<Socket>>) -> Result<Clients, AllocError> {
+        Ok(Clients {
+            at: nobody(alloc)?,
+            vacant: seats,
             served: Arrivals::new(alloc, PLACES)?,
             ending: Arrivals::new(alloc, PLACES)?,
         })
     }
+}
+
+/// What the system opened: the listener, and what tells who is ready, with the instant at which it last told.
+#[derive(Drop)]
+pub struct Opened {
+    poll: Poll,
+    listener: TcpListener,
+    now: Instant,
+}
+
+impl Opened {
+    /// Opens the port `port` of the loopback address. Fails if the system doesn't.
+    pub fn on(rt: &HostRuntime, port: u16) -> io::Result<Opened> {
+        let address = SocketAddr::V4(SocketAddrV4::new(Ipv4Addr::LOCALHOST, port));
+        let mut listener = TcpListener::bind(rt, address)?;
+        let poll = Poll::new(rt)?;
+        poll.registry()
+            .register(&mut listener, LISTENER, Interest::READABLE)?;
+        let now = Instant::now(rt)?;
+        Ok(Opened {
+            poll,
+            listener,
+            now,
+        })
+    }
+}
+
+/// The clients, whom the system is asked about, and how many are still let in.
+#[derive(Drop)]
+pub struct Server {
+    clients: Clients,
+    opened: Opened,
+    faults: Faults,
+    admission: Admission,
+    door: Door,
+    next_tick: Instant,
 }
 
 fn nobody(alloc: Global) -> Result<Vec<Option<Client>>, AllocError> {
@@ -104,35 +127,23 @@ fn is_no_file(error: &io::Error) -> bool {
 }
 
 impl Server {
-    /// A server that has nobody yet and lets in `count` connections. It has `memory`, the `seats` of its table,
-    /// `faults` for standard error, `poll` and `listener` as they were opened, and begins at the instant `now`.
-    pub fn new(
-        memory: Memory,
-        seats: Vec<Seat<Socket>>,
-        faults: Faults,
-        poll: Poll,
-        listener: TcpListener,
-        count: u32,
-        now: Instant,
-    ) -> Server {
+    /// A server that has nobody yet of `clients`, and lets in `count` connections of those that come to what was
+    /// `opened`. It tells `faults` on standard error.
+    pub fn new(clients: Clients, opened: Opened, faults: Faults, count: u32) -> Server {
+        let next_tick = opened.now;
         Server {
+            clients,
+            opened,
             faults,
-            poll,
-            listener,
-            clients: memory.clients,
-            vacant: seats,
-            served: memory.served,
-            ending: memory.ending,
             admission: Admission::new(count),
             door: Door::Open,
-            now,
-            next_tick: now,
+            next_tick,
         }
     }
 
     /// How many clients there are.
     fn present(&self) -> usize {
-        PLACES.saturating_sub(self.vacant.len())
+        PLACES.saturating_sub(self.clients.vacant.len())
     }
 
     /// Whether all came that are let in, and none of them is there any more.
@@ -157,9 +168,9 @@ impl Server {
     /// Waits until somebody is ready, whom `events` name then, or a tick has passed.
     pub fn wait(&mut self, rt: &HostRuntime, events: &mut Events) -> io::Result<()> {
         let patience = self.patience();
-        self.poll.poll(events, patience)?;
+        self.opened.poll.poll(events, patience)?;
         if let Ok(now) = Instant::now(rt) {
-            self.now = now;
+            self.opened.now = now;
         }
         Ok(())
     }
@@ -168,7 +179,7 @@ impl Server {
     fn leave(&self, connections: &mut Connections, place: usize)
         ensures { HasRun connections.old connections.new }
     {
-        if let Some(Some(client)) = self.clients.get(place) {
+        if let Some(Some(client)) = self.clients.at.get(place) {
             client.leave(connections);
         }
     }
@@ -178,15 +189,15 @@ impl Server {
         ensures { HasRun connections.old connections.new }
     {
         self.leave(connections, place);
-        self.served.remove(place);
-        self.ending.remove(place);
+        self.clients.served.remove(place);
+        self.clients.ending.remove(place);
         self.give_back(place);
     }
 
     fn give_back(&mut self, place: usize) {
-        if let Some(client) = self.clients.get_mut(place) {
+        if let Some(client) = self.clients.at.get_mut(place) {
             if let Some(client) = client.take() {
-                let _ = self.vacant.push(client.close());
+                let _ = self.clients.vacant.push(client.close());
             }
         }
     }
@@ -195,10 +206,10 @@ impl Server {
     fn watch(&mut self, connections: &mut Connections, place: usize, again: bool)
         ensures { HasRun connections.old connections.new }
     {
-        let Some(Some(client)) = self.clients.get_mut(place) else {
+        let Some(Some(client)) = self.clients.at.get_mut(place) else {
             return;
         };
-        let registry = self.poll.registry();
+        let registry = self.opened.poll.registry();
         let watched = if again {
             client.watch(registry)
         } else {
@@ -215,12 +226,16 @@ impl Server {
         ensures { HasRun connections.old connections.new }
     {
         self.leave(connections, place);
-        self.served.remove(place);
-        let Some(Some(client)) = self.clients.get_mut(place) else {
+        self.clients.served.remove(place);
+        let Some(Some(client)) = self.clients.at.get_mut(place) else {
             return;
         };
         let turn = client.end(was_granted);
-        let is_late = self.ending.push(place, ending_deadline(self.now)).is_err();
+        let is_late = self
+            .clients
+            .ending
+            .push(place, ending_deadline(self.opened.now))
+            .is_err();
         match turn {
             Turn::Waits if !is_late => self.watch(connections, place, false),
             Turn::Goes if !is_late => self.watch(connections, place, true),
@@ -282,7 +297,7 @@ impl Server {
     fn make_room(&mut self, rt: &HostRuntime, connections: &mut Connections, place: usize)
         ensures { HasRun connections.old connections.new }
     {
-        let Some(other) = self.served.for_bytes(connections) else {
+        let Some(other) = self.clients.served.for_bytes(connections) else {
             self.close(connections, place);
             return;
         };
@@ -301,7 +316,7 @@ impl Server {
         ensures { HasRun connections.old connections.new }
     {
         for _ in 0..PLACES {
-            let Some(Some(client)) = self.clients.get_mut(place) else {
+            let Some(Some(client)) = self.clients.at.get_mut(place) else {
                 return;
             };
             let was_ending = client.is_ending();
@@ -356,7 +371,7 @@ impl Server {
             self.door = Door::Open;
             return;
         }
-        match self.served.asked_longest(connections) {
+        match self.clients.served.asked_longest(connections) {
             Some(place) => {
                 self.evict(rt, connections, place);
                 self.door = Door::Open;
@@ -373,11 +388,14 @@ impl Server {
     ) -> Option<Seat<Socket>>
         ensures { HasRun connections.old connections.new }
     {
-        if self.vacant.is_empty() {
-            let place = self.served.for_place(&self.ending, connections)?;
+        if self.clients.vacant.is_empty() {
+            let place = self
+                .clients
+                .served
+                .for_place(&self.clients.ending, connections)?;
             self.evict(rt, connections, place);
         }
-        self.vacant.pop()
+        self.clients.vacant.pop()
     }
 
     fn seat(
@@ -393,10 +411,15 @@ impl Server {
         if connections.phase(place) != Phase::Vacant {
             return None;
         }
-        let client = self.clients.get_mut(place)?;
+        let client = self.clients.at.get_mut(place)?;
         connections.insert(&seat);
         *client = Some(Client::new(stream, seat));
-        if self.served.push(place, serving_deadline(self.now)).is_err() {
+        if self
+            .clients
+            .served
+            .push(place, serving_deadline(self.opened.now))
+            .is_err()
+        {
             self.faults.tell(rt, EdgeFault::OutOfMemory.text());
             self.close(connections, place);
         }
@@ -405,7 +428,7 @@ impl Server {
 
     // The next client that waits, if one does.
     fn next_client(&mut self) -> Option<TcpStream> {
-        match self.listener.accept() {
+        match self.opened.listener.accept() {
             Ok((stream, _)) => Some(stream),
             Err(e) => {
                 self.door = self.door_after(&e);
@@ -424,9 +447,10 @@ impl Server {
         }
         // (a new interest has the system tell whether somebody waits at all)
         let asked = self
+            .opened
             .poll
             .registry()
-            .reregister(&mut self.listener, LISTENER, Interest::READABLE);
+            .reregister(&mut self.opened.listener, LISTENER, Interest::READABLE);
         match asked {
             Ok(()) => Door::NoFile,
             Err(_) => Door::Shut,
@@ -478,7 +502,7 @@ impl Server {
         ensures { HasRun connections.old connections.new }
     {
         for _ in 0..PLACES {
-            let Some(place) = self.ending.late(self.now) else {
+            let Some(place) = self.clients.ending.late(self.opened.now) else {
                 return;
             };
             self.close(connections, place);
@@ -490,7 +514,7 @@ impl Server {
         ensures { HasRun connections.old connections.new }
     {
         for _ in 0..PLACES {
-            let Some(place) = self.served.late(self.now) else {
+            let Some(place) = self.clients.served.late(self.opened.now) else {
                 return;
             };
             self.give_up(rt, connections, place);
@@ -501,10 +525,10 @@ impl Server {
     fn tick(&mut self, rt: &HostRuntime, connections: &mut Connections)
         ensures { HasRun connections.old connections.new }
     {
-        if !has_come(self.next_tick, self.now) {
+        if !has_come(self.next_tick, self.opened.now) {
             return;
         }
-        self.next_tick = tick_after(self.now);
+        self.next_tick = tick_after(self.opened.now);
         if self.door == Door::Shut {
             self.door = Door::Open;
         }
