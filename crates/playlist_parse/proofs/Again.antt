@@ -14,13 +14,16 @@ use Rattle.std.specs.List.{list_all}
 use Rattle.std.proofs.lemmas.Bool.{and_parts, not-true}
 use Rattle.std.proofs.lemmas.List.{length-append}
 use Rattle.playlist_parse.specs.Inner.LineViews.{is_free, line_text}
-use Rattle.playlist_parse.specs.Inner.Reached.{Reached}
+use Rattle.playlist_model.specs.Reading.{Fault}
+use Rattle.playlist_parse.specs.Inner.Reached.{Reached, Telling}
 use Rattle.playlist_parse.proofs.Reached.{next, taken_ok}
 use Rattle.playlist_parse.specs.Inner.Source.{EndsInFeed}
 use Rattle.playlist_model.specs.LookBack.{with_said}
 use Rattle.playlist_parse.specs.Inner.Progress.{Progress, progress_at, TakesLine, IsLineAgain}
 use Rattle.playlist_parse.proofs.JoinedLines.{after_front}
-use Rattle.playlist_parse.proofs.LineLemmas.{duration_line}
+use Rattle.playlist_parse.proofs.LineLemmas.{duration_line, duration_tag as names_duration}
+use Rattle.playlist_parse.proofs.Light.{told_first}
+use Rattle.playlist_parse.specs.Light.{IsLightKind, IsLight}
 use Rattle.playlist_parse.proofs.Kept.{running_of, with_running, takes_tag, duration_tag_says}
 
 -- a line that is the only one of its text
@@ -32,6 +35,10 @@ line_states line first stated all left view texts cut none is says ends = record
   ends = ends.is;
   is = sym texts ∙ ap (map (λ (l : (ℕ × ℕ) × List ℕ). l.1)) (cut ∙ ap (λ ls. view ∷ ls) none) ∙ ap (λ l. l ∷ []) (is ∙ says);
 }
+
+-- a line of EXTINF takes memory
+heavy : (line stated : List ℕ) → line ≡ codes "#EXTINF:" ++ stated → IsLight line → ⊥
+heavy line stated h light = subst IsLightKind (sym (names_duration line stated h)) light
 
 one_less : (line : List ℕ) (old later : List (List ℕ)) (l : List ℕ) → old ≡ lines line ++ later → lines line ≡ l ∷ [] → old ≡ l ∷ later
 one_less line old later l h e = h ∙ ap (λ ls. ls ++ later) e
@@ -51,6 +58,7 @@ line_again p q new start more left later ls later_lines lines_are later_are is r
   cut = one_less r.line _ _ _
       (ap (map line_text) lines_are ∙ after_front start more left r.line later r.is (record { front = r.is_line.front; is = r.is_line.ends }) ∙ ap (λ xs. lines r.line ++ map line_text xs) (sym later_are))
       r.is_line.is;
+  heavy = heavy (codes "#EXTINF:" ++ r.stated) r.stated refl;
   takes = λ free. says_line q (with_running p new) (codes "#EXTINF:" ++ r.stated) r.stated refl free
       (takes_tag (λ base before. said_by_tag limited base before duration_tag r.stated) p q new (Ok (record {})) is (λ base before. duration_tag_says limited base before r.stated) r.takes);
 }
@@ -66,3 +74,8 @@ reached_again {base = base} {old = old} {new = new} {number = number} {lines = l
     let cut_free = and_parts _ _ (subst (λ ls. list_all is_free ls ≡ true) a.cut free) in
     let at : Reached base old number (a.line ∷ map line_text later) all = subst (λ left. Reached base old number left all) a.cut r in
     next at (taken_ok a.line new at (a.takes (not-true _ cut_free.0)))
+
+-- no fault of lines that take no memory is still to be met
+pub told_again : {base : Parts} {old new : Progress} {number : ℕ} {lines later : List ((ℕ × ℕ) × List ℕ)} {e : Fault}
+    → IsLineAgain lines later old new → Telling base old number (map line_text lines) e → ⊥
+told_again {base = base} {old = old} {number = number} {e = e} a t = a.heavy (told_first (subst (λ left. Telling base old number left e) a.cut t))

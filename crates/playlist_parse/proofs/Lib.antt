@@ -16,3 +16,4 @@ pub mod GoingOn
 pub mod JoinedLines
 pub mod GoingTo
 pub mod Again
+pub mod Light

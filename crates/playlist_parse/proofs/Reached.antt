@@ -17,7 +17,7 @@ use Rattle.playlist_parse.specs.Inner.LineViews.{line_text}
 use Rattle.playlist_parse.specs.Inner.Reached.{Reached, Faulted, left_in}
 use Rattle.playlist_parse.specs.declared.reader.Reading.{Reading}
 
-own_base : (base : Parts) (progress : Progress) (before : List Said) → progress ≡ progress_at base before → progress ≡ progress_at progress.base before
+pub own_base : (base : Parts) (progress : Progress) (before : List Said) → progress ≡ progress_at base before → progress ≡ progress_at progress.base before
 own_base base progress before e = e ∙ ap (λ b. progress_at b before) (sym (ap (λ (p : Progress). p.base) e))
 
 pub begun : (base : Parts) (progress : Progress) (lines : List (List ℕ)) → progress ≡ progress_at base (nothing ∷ []) → Reached base progress 2 lines lines
@@ -28,7 +28,7 @@ next_ok : (before : List Said) (o : Outcome Said) (n : ℕ) (f : List Said → R
 next_ok before (Ok said) n f h = (refl, omega arith)
 next_ok before (Err e) n f h = absurd (cc h)
 
-same_base : (base : Parts) (progress : Progress) (before : List Said) → progress ≡ progress_at base before → progress.base ≡ base
+pub same_base : (base : Parts) (progress : Progress) (before : List Said) → progress ≡ progress_at base before → progress.base ≡ base
 same_base base progress before e = ap (λ (p : Progress). p.base) e
 
 -- one line more
@@ -53,7 +53,7 @@ taken_ok {base = base} {progress = progress} line new r takes =
     subst (λ b. IsOk (said_by limited b r.before line) × (new ≡ progress_at b (with_said r.before (said_by limited b r.before line))))
     (same_base base progress r.before r.progress_is) (takes r.before (own_base base progress r.before r.progress_is))
 
-kept_line : (e : FaultKind) (n : ℕ) → e ≢ OutOfMemory → line_of e n ≡ n
+pub kept_line : (e : FaultKind) (n : ℕ) → e ≢ OutOfMemory → line_of e n ≡ n
 kept_line OutOfMemory n h = absurd (h refl)
 kept_line _ n h = refl
 

@@ -11,7 +11,7 @@ use Rattle.playlist_model.specs.Reading.{names, name_found, name_of, said_by_kin
 use Rattle.playlist_parse.specs.declared.tag.Tag.{Tag}
 use Rattle.playlist_parse.specs.declared.tag.Tag.TheVariants.{Unknown}
 use Rattle.playlist_parse.specs.Inner.LineViews.{tag_view}
-use Rattle.playlist_parse.specs.Inner.Progress.{Progress, TakesLine, TakesTag, TakesTagExactly}
+use Rattle.playlist_parse.specs.Inner.Progress.{Progress, TakesLine, TakesLineExactly, TakesTag, TakesTagExactly}
 
 -- the text is no row's name
 abbrev pub NoneIs : List ℕ → List (List ℕ × Bool × Name) → Type 0
@@ -46,3 +46,6 @@ exactly name rest old new result takes = λ before e. weaker result _ (said_by_t
 -- what a tag of this name does, the tag does whose text has it
 pub takes_named : (text rest : List ℕ) (colon : Bool) (name : Name) (old new : Progress) (result : Result (Unit {0}) FaultKind) → name ≡ name_of text colon → TakesLine (λ base before. said_by_tag limited base before name rest) old new result → TakesLine (λ base before. said_by_kind limited base before (tag text rest colon)) old new result
 takes_named text rest colon name old new result h takes = subst (λ n. TakesLine (λ base before. said_by_tag limited base before n rest) old new result) h takes
+
+pub named_exactly : (text rest : List ℕ) (colon : Bool) (name : Name) (old new : Progress) (result : Result (Unit {0}) FaultKind) → name ≡ name_of text colon → TakesTagExactly name rest old new result → TakesLineExactly (λ base before. said_by_kind limited base before (tag text rest colon)) old new result
+named_exactly text rest colon name old new result h takes = subst (λ n. TakesLineExactly (λ base before. said_by_tag limited base before n rest) old new result) h takes

@@ -1,14 +1,15 @@
 //! A playlist as far as it has been read, and what each tag adds to it.
 ghost use Rattle.std.specs.Prelude.{◌≡◌, [], ◌∷◌, ◌++◌, true, false, length, Some, None, Ok, Err, IfOk, OnOk, MatchOption};
 ghost use Rattle.std.specs.List.{list_any, list_all};
-ghost use Rattle.playlist_model.specs.Reading.{said_by, said_by_kind, said_by_uri, has_init_section, are_mixed};
+ghost use Rattle.playlist_model.specs.Reading.{said_by, name_of, said_by_kind, said_by_uri, has_init_section, are_mixed};
 ghost use Rattle.playlist_model.specs.Lines as kinds;
 ghost use Rattle.playlist_model.specs.Lines.{has_control};
 ghost use Rattle.playlist_model.specs.Said as said;
 ghost use Rattle.playlist_model.specs.Said.{number, version_of, playlist_type_of};
 ghost use Rattle.playlist_model.specs.Reading.{limited};
 ghost use Rattle.segment_state.specs.Continued.{IsStop};
-ghost use Rattle.playlist_parse.specs.Inner.Progress.{progress_at, playlist_from, target_owed, IsLineAgain, TakesLine, TakesTag, TakesTagExactly, Ends};
+ghost use Rattle.playlist_parse.specs.Light.{IsOfWhole, IsLight};
+ghost use Rattle.playlist_parse.specs.Inner.Progress.{progress_at, playlist_from, target_owed, IsLineAgain, TakesLine, TakesLineExactly, TakesTag, TakesTagExactly, Ends};
 ghost use Rattle.playlist_parse.specs.Inner.Source.{gone_to};
 
 use crate::date_range::date_range_of;
@@ -221,7 +222,9 @@ impl<'a> Progress<'a> {
     #[inline(always)]
     pub fn line(&mut self, line: &'a str, is_plain: bool) -> Result<(), FaultKind>
         requires { is_plain ≡ true → has_control line.now ≡ false }
-        ensures { TakesLine
+        ensures takes { TakesLine
+            (λ base before. said_by limited base before line.now) self.old self.new result }
+        ensures light { IsLight line.now → TakesLineExactly
             (λ base before. said_by limited base before line.now) self.old self.new result }
     {
         if has_control_in(line, is_plain) {
@@ -277,7 +280,9 @@ impl<'a> Progress<'a> {
     #[inline(never)]
     fn other_line(&mut self, line: &'a str) -> Result<(), FaultKind>
         requires { has_control line.now ≡ false }
-        ensures { TakesLine
+        ensures takes { TakesLine
+            (λ base before. said_by limited base before line.now) self.old self.new result }
+        ensures light { IsLight line.now → TakesLineExactly
             (λ base before. said_by limited base before line.now) self.old self.new result }
     {
         match kind_of(line) {
@@ -300,8 +305,12 @@ impl<'a> Progress<'a> {
     // Takes the tag `name`, with `rest` after its colon if it has one; EXT-X-I-FRAMES-ONLY is refused (RFC 8216,
     // section 4.3.3.6).
     fn tag(&mut self, name: &str, rest: &'a str, colon: bool) -> Result<(), FaultKind>
-        ensures { TakesLine
-            (λ base before. said_by_kind limited base before (kinds.tag name.now rest.now colon)) self.old self.new result }
+        ensures takes { TakesLine
+            (λ base before. said_by_kind limited base before (kinds.tag name.now rest.now colon))
+            self.old self.new result }
+        ensures light { IsOfWhole (name_of name.now colon) → TakesLineExactly
+            (λ base before. said_by_kind limited base before (kinds.tag name.now rest.now colon))
+            self.old self.new result }
     {
         match tag_of(name, colon) {
             Tag::Inf => self.duration(rest),

@@ -1,5 +1,5 @@
 //! The reader: from bytes to a playlist, or its first fault.
-ghost use Rattle.std.specs.Prelude.{◌≡◌, ◌+◌, ◌^◌, ◌<◌, ◌≤◌, false, ℕ, List, [], ◌∷◌, map, length, true, Ok, Err, IfOk, OnOk, MatchResult};
+ghost use Rattle.std.specs.Prelude.{◌≡◌, codes, ◌++◌, ◌+◌, ◌^◌, ◌<◌, ◌≤◌, false, ℕ, List, [], ◌∷◌, map, length, true, Ok, Err, IfOk, OnOk, MatchResult};
 ghost use Rattle.url.specs.Parts.{Parts};
 ghost use Rattle.std.specs.List.{list_all};
 ghost use Rattle.playlist_model.specs.Said.{nothing};
@@ -8,9 +8,12 @@ ghost use Rattle.playlist_model.specs.Reading.{limited};
 ghost use Rattle.playlist_parse.specs.Inner.LineViews.{is_free, line_text};
 ghost use Rattle.playlist_parse.specs.Answers.{Answers, HasNoHeader};
 ghost use Rattle.std.specs.Str.{is_utf8};
+ghost use Rattle.std.specs.Str.Lines.{lines};
+ghost use Rattle.playlist_model.specs.Reading.{Fault};
+ghost use Rattle.playlist_parse.specs.Light.{AreLight};
 ghost use Rattle.playlist_parse.specs.Inner.Answers.{fault_at};
 ghost use Rattle.playlist_parse.specs.Inner.Progress.{Ends};
-ghost use Rattle.playlist_parse.specs.Inner.Reached.{Reached, Faulted, Reads, left_in};
+ghost use Rattle.playlist_parse.specs.Inner.Reached.{Reached, Telling, Faulted, Reads, left_in};
 
 use crate::line::{Lines, has_plain_bytes};
 use crate::progress::Progress;
@@ -114,7 +117,12 @@ pub fn playlist_of(reading: Reading<'_>) -> Result<Playlist, PlaylistFault>
 #[inline(always)]
 fn pass_again<'a>(progress: &mut Progress<'a>, lines: &mut Lines<'a>, is_plain: bool) -> u64
     requires { is_plain ≡ true → list_all is_free (map line_text lines.old) ≡ true }
-    ensures reached { (base : Parts) (number : ℕ) (all : List (List ℕ)) → Reached base progress.old number (map line_text lines.old) all → Reached base progress.new (number + result) (map line_text lines.new) all }
+    ensures reached { (base : Parts) (number : ℕ) (all : List (List ℕ))
+        → Reached base progress.old number (map line_text lines.old) all
+        → Reached base progress.new (number + result) (map line_text lines.new) all }
+    ensures light { (base : Parts) (number : ℕ) (e : Fault)
+        → Telling base progress.old number (map line_text lines.old) e
+        → Telling base progress.new (number + result) (map line_text lines.new) e }
     ensures plain { is_plain ≡ true → list_all is_free (map line_text lines.new) ≡ true }
     ensures fewer { length lines.new + result ≡ length lines.old }
 {
@@ -133,8 +141,11 @@ fn read_lines<'a>(
 ) -> Result<Playlist, PlaylistFault>
     requires few { length lines < 2 ^ 63 }
     requires plain { is_plain ≡ true → list_all is_free (map line_text lines) ≡ true }
-    ensures { Answers result (and_whole (said_from (said_by limited base.now) (nothing
-        ∷ []) (map line_text lines.entry))) }
+    ensures answer { Answers result
+        (and_whole (said_from (said_by limited base.now) (nothing ∷ []) (map line_text lines.entry))) }
+    ensures light { (front later : List (List ℕ)) (e : Fault)
+        → map line_text lines.entry ≡ front ++ later → AreLight front
+        → said_from (said_by limited base.now) (nothing ∷ []) front ≡ Err e → result ≡ Err e }
 {
     // (in variables of its own: a value behind a reference keeps none of its fields in registers)
     let mut progress = Progress::new(alloc, base);
@@ -172,6 +183,12 @@ pub fn read(alloc: Global, bytes: &[u8], base: &Base) -> Result<Playlist, Playli
         → result ≡ Err (record { kind = FaultKind.TooLong; line = 0 }) }
     ensures header { is_utf8 bytes.now ≡ true → length bytes.now ≤ MAX_BYTES
         → HasNoHeader bytes.now → result ≡ Err (record { kind = FaultKind.NoHeader; line = 1 }) }
+
+    // So is the first fault of the lines after the header, up to one that takes memory.
+    ensures light { (front later : List (List ℕ)) (e : Fault)
+        → is_utf8 bytes.now ≡ true → length bytes.now ≤ MAX_BYTES
+        → lines bytes.now ≡ codes "#EXTM3U" ∷ (front ++ later) → AreLight front
+        → said_from (said_by limited base.now) (nothing ∷ []) front ≡ Err e → result ≡ Err e }
 {
     let text = match text_of(bytes) {
         Ok(text) => text,

@@ -169,7 +169,8 @@ fn take_over<'a>(
     source: &Source,
     last: &Playlist,
 ) -> Result<Range<usize>, AllocError>
-    ensures reached { OnOk result (TakesOver front.now source.now last.now reading.old reading.new) }
+    ensures reached { OnOk result
+        (TakesOver front.now source.now last.now reading.old reading.new) }
     ensures plain { OnOk result (list_all is_free (left_in reading.old) ≡ true
         → list_all is_free (left_in reading.new) ≡ true) }
     ensures taken { IfOk result

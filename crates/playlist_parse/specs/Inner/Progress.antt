@@ -12,6 +12,7 @@ use Rattle.playlist_model.specs.Said.{Said, Name, Outcome}
 use Rattle.playlist_model.specs.LookBack.{Standing, standing_at, segments_of, date_ranges_of, with_said}
 use Rattle.playlist_model.specs.Lines.{has_control}
 use Rattle.playlist_model.specs.Reading.{limited, said_by, said_by_tag, are_mixed, whole_fault, playlist_of}
+use Rattle.playlist_parse.specs.Light.{IsLight}
 use Rattle.playlist_parse.specs.Inner.LineViews.{line_text}
 use Rattle.playlist_model.specs.Inner.Heading.{Heading, heading_at}
 
@@ -45,14 +46,16 @@ TakesLine outcome old new result =
 abbrev pub TakesTag : Name → List ℕ → Progress → Progress → Result (Unit {0}) FaultKind → Type 0
 TakesTag name rest old new result = TakesLine (λ base before. said_by_tag limited base before name rest) old new result
 
--- and of one that takes no memory: the fault is always the tag's own
-abbrev pub TakesTagExactly : Name → List ℕ → Progress → Progress → Result (Unit {0}) FaultKind → Type 0
-TakesTagExactly name rest old new result =
+-- the same of a line that takes no memory: the fault is always the line's own
+abbrev pub TakesLineExactly : (Parts → List Said → Outcome Said) → Progress → Progress → Result (Unit {0}) FaultKind → Type 0
+TakesLineExactly outcome old new result =
     (before : List Said) → old ≡ progress_at old.base before →
     MatchResult result
-    (λ _. IsOk (said_by_tag limited old.base before name rest)
-    × (new ≡ progress_at old.base (with_said before (said_by_tag limited old.base before name rest))))
-    (λ e. said_by_tag limited old.base before name rest ≡ Err e)
+    (λ _. IsOk (outcome old.base before) × (new ≡ progress_at old.base (with_said before (outcome old.base before))))
+    (λ e. outcome old.base before ≡ Err e)
+
+abbrev pub TakesTagExactly : Name → List ℕ → Progress → Progress → Result (Unit {0}) FaultKind → Type 0
+TakesTagExactly name rest old new result = TakesLineExactly (λ base before. said_by_tag limited base before name rest) old new result
 
 -- the target duration, or the fault of the whole text
 abbrev pub target_owed : Progress → Outcome ℕ
@@ -65,6 +68,7 @@ target_owed p =
 pub record IsLineAgain (lines later : List ((ℕ × ℕ) × List ℕ)) (old new : Progress) : Type 0 where
   pub line : List ℕ
   pub cut : map line_text lines ≡ line ∷ map line_text later
+  pub heavy : IsLight line → ⊥
   pub takes :
       let done : Result (Unit {0}) FaultKind = Ok (record {}) in
       has_control line ≡ false → TakesLine (λ base before. said_by limited base before line) old new done

@@ -5,6 +5,7 @@ use Rattle.playlist_model.specs.Said.{Said, nothing}
 use Rattle.playlist_model.specs.Reading.{said_by, said_from, and_whole, limited, Fault}
 use Rattle.playlist_model.specs.declared.Playlist.{Playlist}
 use Rattle.playlist_parse.specs.Answers.{Answers}
+use Rattle.playlist_parse.specs.Light.{AreLight}
 use Rattle.playlist_parse.specs.Inner.Progress.{Progress, progress_at}
 use Rattle.playlist_parse.specs.Inner.LineViews.{line_text}
 use Rattle.playlist_parse.specs.declared.reader.Reading.{Reading}
@@ -21,6 +22,24 @@ pub record Reached (base : Parts) (progress : Progress) (number : ℕ) (left lin
 -- this fault is one of the whole text's
 abbrev pub Faulted : Parts → Fault → List (List ℕ) → Type 0
 Faulted base fault lines = let answer : Result Playlist Fault = Err fault in Answers answer (and_whole (said_from (said_by limited base) (nothing ∷ []) lines))
+
+-- some lines after the header are read, and these are left: they begin with lines that take no memory, in which this
+-- fault is the first
+pub record Telling (base : Parts) (progress : Progress) (number : ℕ) (left : List (List ℕ)) (fault : Fault) : Type 0 where
+  pub before : List Said
+  pub front : List (List ℕ)
+  pub later : List (List ℕ)
+  pub progress_is : progress ≡ progress_at base before
+  pub count : length before + 1 ≡ number
+  pub left_is : left ≡ front ++ later
+  pub light : AreLight front
+  pub said : said_from (said_by limited base) before front ≡ Err fault
+
+-- the first fault of lines that take no memory, at the front of all, is still to be met
+abbrev pub IsToBeTold : Parts → Progress → ℕ → List (List ℕ) → List (List ℕ) → Type 0
+IsToBeTold base progress number left all =
+    (front later : List (List ℕ)) (fault : Fault) → all ≡ front ++ later → AreLight front
+    → said_from (said_by limited base) (nothing ∷ []) front ≡ Err fault → Telling base progress number left fault
 
 -- the lines that are left of a text that is being read
 abbrev pub left_in : Reading → List (List ℕ)

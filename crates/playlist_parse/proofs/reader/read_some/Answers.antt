@@ -15,7 +15,7 @@ lines-preserved c =
       λ base tail all here.
           let at : Reached base r.progress r.number (line ∷ (map line_text c.next.new.self ++ tail)) all =
           subst (λ left. Reached base r.progress r.number (left ++ tail) all) cut (c.lines.invariant.0 base tail all here) in
-          next at (taken_ok line c.line.new.self at c.in-Ok.ensures),
+          next at (taken_ok line c.line.new.self at c.in-Ok.ensures.takes),
       λ plain. let a = and_parts _ _ (subst (λ ls. list_all is_free ls ≡ true) cut (c.lines.invariant.1 plain)) in a.1,
       omega (arith, size, c.lines.invariant.2),
     )
@@ -27,4 +27,4 @@ returns-in-Err-clause-reached c = λ base tail all here.
     let cut : map line_text r.lines ≡ line ∷ map line_text c.next.new.self = ap (map line_text) c.in-Some.ensures in
     let at : Reached base r.progress r.number (line ∷ (map line_text c.next.new.self ++ tail)) all =
     subst (λ left. Reached base r.progress r.number (left ++ tail) all) cut (c.lines.invariant.0 base tail all here) in
-    line_refused c.in-Err.kind c.fault_at.result at c.in-Err.ensures c.fault_at.ensures
+    line_refused c.in-Err.kind c.fault_at.result at c.in-Err.ensures.takes c.fault_at.ensures

@@ -1,0 +1,178 @@
+-- A fault of lines that take no memory is answered.
+use Rattle.std.proofs.Common.{◌≡◌, ℕ, ◌+◌, Bool, true, false, List, [], ◌∷◌, ◌++◌, length, refl, ap, sym, ◌∙◌, subst, arith}
+use Rattle.std.specs.Prelude.{◌≢◌, Option, Some, None, Result, Ok, Err, IsOk, ◌||◌, ◌==◌, nat_lt, codes, bytes_eq, if◌then◌else◌}
+use Rattle.url.specs.Parts.{Parts}
+use Rattle.attr_list.specs.Numbers.{decimal_of}
+use Rattle.spec_words.specs.Outcomes.{◌>>=◌, or_fault, refuse_if}
+use Rattle.playlist_model.specs.declared.FaultKind.{FaultKind}
+use Rattle.playlist_model.specs.declared.FaultKind.TheVariants as fault
+use Rattle.playlist_model.specs.declared.FaultKind.TheVariants.{OutOfMemory}
+use Rattle.playlist_model.specs.Lines.{Kind, ignored, uri, tag, kind_of, has_control}
+use Rattle.playlist_model.specs.Said.{Name, version_tag, target_tag, sequence_tag, discontinuity_sequence_tag, type_tag, ended_tag, independent_tag, frames_tag, master_tag, duration_tag, byte_range_tag, discontinuity_tag, key_tag, init_section_tag, time_tag, date_range_tag, unknown_tag, Said, nothing, number, version_of, playlist_type_of, Outcome}
+use Rattle.playlist_model.specs.LookBack.{the_version, the_target, the_sequence, the_discontinuity_sequence, the_type, is_media, is_discontinuity, is_ended, with_said}
+use Rattle.playlist_model.specs.Reading.{has, is_set, name_of, said_by_tag, said_by_kind, said_by, said_from, at_line, limited, Fault}
+use Rattle.playlist_parse.specs.Light.{IsOfWhole, IsLightKind, IsLight, AreLight}
+use Rattle.playlist_parse.specs.Inner.Answers.{fault_at}
+use Rattle.playlist_parse.specs.Inner.Progress.{Progress, progress_at, TakesLineExactly}
+use Rattle.playlist_parse.specs.Inner.Reached.{Telling, IsToBeTold}
+use Rattle.playlist_parse.proofs.Reached.{own_base, same_base, kept_line}
+
+-- ---- no such line lacks memory
+
+abbrev Lacks : {A : Type 0} → Outcome A → Type 0
+Lacks (Ok x) = Unit {0}
+Lacks (Err e) = e ≢ OutOfMemory
+
+after : {A B : Type 0} (o : Outcome A) (f : A → Outcome B) → Lacks o → ((x : A) → Lacks (f x)) → Lacks (o >>= f)
+after (Ok x) f h g = g x
+after (Err e) f h g = h
+
+refused : {A : Type 0} (b : Bool) (e : FaultKind) (o : Outcome A) → e ≢ OutOfMemory → Lacks o → Lacks (refuse_if b e o)
+refused true e o h g = h
+refused false e o h g = g
+
+owed : {A : Type 0} (e : FaultKind) (o : Option A) → e ≢ OutOfMemory → Lacks (or_fault e o)
+owed e None h = h
+owed e (Some x) h = tt
+
+chosen : {A : Type 0} (b : Bool) (x y : Outcome A) → Lacks x → Lacks y → Lacks (if b then x else y)
+chosen true x y h g = h
+chosen false x y h g = g
+
+a_number : (rest : List ℕ) → Lacks (number rest)
+a_number rest = owed fault.BadValue (decimal_of rest) (λ f. cc)
+
+a_version : (rest : List ℕ) → Lacks (version_of rest)
+a_version rest =
+    after (or_fault fault.BadVersion (decimal_of rest)) _ (owed fault.BadVersion (decimal_of rest) (λ f. cc))
+    (λ v. refused (v == 0 || nat_lt 7 v) fault.Version (Ok v) (λ f. cc) tt)
+
+a_type : (rest : List ℕ) → Lacks (playlist_type_of rest)
+a_type rest = chosen (bytes_eq rest (codes "EVENT")) _ _ tt (chosen (bytes_eq rest (codes "VOD")) _ _ tt (λ f. cc))
+
+module _ (base : Parts) where
+  light_tag : (before : List Said) (name : Name) (rest : List ℕ) → IsOfWhole name → Lacks (said_by_tag limited base before name rest)
+  light_tag before version_tag rest h = refused (is_set the_version before) _ _ (λ f. cc) (after (version_of rest) _ (a_version rest) (λ n. tt))
+  light_tag before target_tag rest h = refused (is_set the_target before) _ _ (λ f. cc) (after (number rest) _ (a_number rest) (λ n. tt))
+  light_tag before sequence_tag rest h =
+      refused (is_set the_sequence before) _ _ (λ f. cc) (refused (has is_media before) _ _ (λ f. cc) (after (number rest) _ (a_number rest) (λ n. tt)))
+  light_tag before discontinuity_sequence_tag rest h =
+      refused (is_set the_discontinuity_sequence before) _ _ (λ f. cc)
+      (refused (has is_media before || has is_discontinuity before) _ _ (λ f. cc) (after (number rest) _ (a_number rest) (λ n. tt)))
+  light_tag before type_tag rest h = refused (is_set the_type before) _ _ (λ f. cc) (after (playlist_type_of rest) _ (a_type rest) (λ kind. tt))
+  light_tag before ended_tag rest h = refused (has is_ended before) _ _ (λ f. cc) tt
+  light_tag before independent_tag rest h = tt
+  light_tag before frames_tag rest h = λ f. cc
+  light_tag before master_tag rest h = λ f. cc
+  light_tag before unknown_tag rest h = tt
+  light_tag before duration_tag rest h = absurd h
+  light_tag before byte_range_tag rest h = absurd h
+  light_tag before discontinuity_tag rest h = absurd h
+  light_tag before key_tag rest h = absurd h
+  light_tag before init_section_tag rest h = absurd h
+  light_tag before time_tag rest h = absurd h
+  light_tag before date_range_tag rest h = absurd h
+
+  light_kind : (before : List Said) (kind : Kind) → IsLightKind kind → Lacks (said_by_kind limited base before kind)
+  light_kind before ignored h = tt
+  light_kind before (uri reference) h = absurd h
+  light_kind before (tag name rest colon) h = light_tag before (name_of name colon) rest h
+
+  light_line : (before : List Said) (line : List ℕ) → IsLight line → Lacks (said_by limited base before line)
+  light_line before line h = refused (has_control line) fault.Control _ (λ f. cc) (light_kind before (kind_of line) h)
+
+-- ---- going over the lines
+
+pub to_be_told : (base : Parts) (progress : Progress) (all : List (List ℕ)) → progress ≡ progress_at base (nothing ∷ []) → IsToBeTold base progress 2 all all
+to_be_told base progress all is = λ front later e all_is light said. record {
+  before = nothing ∷ [];
+  front = front;
+  later = later;
+  progress_is = is;
+  count = refl;
+  left_is = all_is;
+  light = light;
+  said = said;
+}
+
+none_left : (before : List Said) (base : Parts) (front later : List (List ℕ)) (e : Fault) → [] ≡ front ++ later → said_from (said_by limited base) before front ≡ Err e → ⊥
+none_left before base [] later e h said = cc said
+none_left before base (x ∷ xs) later e h said = cc h
+
+pub is_over : {base : Parts} {progress : Progress} {n : ℕ} {e : Fault} → Telling base progress n [] e → ⊥
+is_over {base = base} {e = e} t = none_left t.before base t.front t.later e t.left_is t.said
+
+-- the next line is one of those
+record Opened (base : Parts) (before : List Said) (line : List ℕ) (rest : List (List ℕ)) (e : Fault) : Type 0 where
+  front : List (List ℕ)
+  later : List (List ℕ)
+  left_is : rest ≡ front ++ later
+  first : IsLight line
+  light : AreLight front
+  said : said_from (said_by limited base) before (line ∷ front) ≡ Err e
+
+opened : (base : Parts) (before : List Said) (line : List ℕ) (rest front later : List (List ℕ)) (e : Fault) → line ∷ rest ≡ front ++ later → AreLight front
+    → said_from (said_by limited base) before front ≡ Err e → Opened base before line rest e
+opened base before line rest [] later e h light said = absurd (cc said)
+opened base before line rest (x ∷ xs) later e h light said =
+    let same : x ≡ line = cc in
+    record {
+      front = xs;
+      later = later;
+      left_is = cc;
+      first = subst IsLight same light.0;
+      light = light.1;
+      said = subst (λ (l : List ℕ). said_from (said_by limited base) before (l ∷ xs) ≡ Err e) same said;
+    }
+
+-- the next line is light where a fault of such lines is still to be met
+pub told_first : {base : Parts} {progress : Progress} {n : ℕ} {line : List ℕ} {rest : List (List ℕ)} {e : Fault} → Telling base progress n (line ∷ rest) e → IsLight line
+told_first {base = base} {line = line} {rest = rest} {e = e} t =
+    let o = opened base t.before line rest t.front t.later e t.left_is t.light t.said in o.first
+
+one_more : (before : List Said) (o : Outcome Said) (n : ℕ) (f : List Said → Result (List Said) Fault) (e : Fault) → IsOk o → at_line n o (λ said. f (said ∷ before)) ≡ Err e
+    → (f (with_said before o) ≡ Err e) × (length (with_said before o) ≡ length before + 1)
+one_more before (Ok said) n f e ok h = (h, omega arith)
+one_more before (Err d) n f e ok h = absurd (cc ok)
+
+abbrev Exact : Progress → List ℕ → Result (Unit {0}) FaultKind → Progress → Type 0
+Exact old line result new = IsLight line → TakesLineExactly (λ base before. said_by limited base before line) old new result
+
+pub still_told : (base : Parts) (progress new : Progress) (n : ℕ) (line : List ℕ) (rest : List (List ℕ)) (e : Fault) (x : Unit {0}) → Exact progress line (Ok x) new
+    → Telling base progress n (line ∷ rest) e → Telling base new (n + 1) rest e
+still_told base progress new n line rest e x takes t =
+    let o = opened base t.before line rest t.front t.later e t.left_is t.light t.said in
+    let taken : IsOk (said_by limited base t.before line) × (new ≡ progress_at base (with_said t.before (said_by limited base t.before line))) =
+    subst (λ b. IsOk (said_by limited b t.before line) × (new ≡ progress_at b (with_said t.before (said_by limited b t.before line))))
+    (same_base base progress t.before t.progress_is) (takes o.first t.before (own_base base progress t.before t.progress_is)) in
+    let more = one_more t.before (said_by limited base t.before line) (length t.before + 1) (λ before. said_from (said_by limited base) before o.front) e taken.0 o.said in
+    record {
+      before = with_said t.before (said_by limited base t.before line);
+      front = o.front;
+      later = o.later;
+      progress_is = taken.1;
+      count = ap (λ k. k + 1) more.1 ∙ ap (λ k. k + 1) t.count;
+      left_is = o.left_is;
+      light = o.light;
+      said = more.0;
+    }
+
+its_fault : (o : Outcome Said) (kind : FaultKind) → Lacks o → o ≡ Err kind → kind ≢ OutOfMemory
+its_fault (Ok x) kind h is = absurd (cc is)
+its_fault (Err e) kind h is = λ f. h (let same : e ≡ kind = cc in same ∙ f)
+
+pub is_told : (base : Parts) (progress new : Progress) (n : ℕ) (line : List ℕ) (rest : List (List ℕ)) (e : Fault) (kind : FaultKind) → Exact progress line (Err kind) new
+    → Telling base progress n (line ∷ rest) e → fault_at kind n ≡ e
+is_told base progress new n line rest e kind takes t =
+    let o = opened base t.before line rest t.front t.later e t.left_is t.light t.said in
+    let says : said_by limited base t.before line ≡ Err kind =
+    subst (λ b. said_by limited b t.before line ≡ Err kind) (same_base base progress t.before t.progress_is) (takes o.first t.before (own_base base progress t.before t.progress_is)) in
+    let some = its_fault (said_by limited base t.before line) kind (light_line base t.before line o.first) says in
+    let at : said_from (said_by limited base) t.before (line ∷ o.front) ≡ Err (record { kind = kind; line = n }) =
+    ap (λ x. at_line (length t.before + 1) x (λ said. said_from (said_by limited base) (said ∷ t.before) o.front)) says
+    ∙ ap (λ k. Err (record { kind = kind; line = k })) t.count in
+    let same : (record { kind = kind; line = n }) ≡ e = inner (sym at ∙ o.said) in
+    ap (λ k. record { kind = kind; line = k }) (kept_line kind n some) ∙ same
+  where
+    inner : {a b : Fault} → (let l : Result (List Said) Fault = Err a in l) ≡ Err b → a ≡ b
+    inner h = cc
