@@ -85,13 +85,13 @@ returns-in-Key-clause-takes c =
 pub returns-in-Key-clause-light : goal.returns-in-Key-clause-light
 returns-in-Key-clause-light c = λ light. absurd (subst IsOfWhole (sym (sym (ap tag_view c.in-Key.is) ∙ c.tag_of.ensures)) light)
 
-pub returns-in-Map-clause-takes : goal.returns-in-Map-clause-takes
-returns-in-Map-clause-takes c =
+pub returns-in-InitSection-clause-takes : goal.returns-in-InitSection-clause-takes
+returns-in-InitSection-clause-takes c =
     takes_named c.args.name.now c.args.rest.now c.args.colon said.init_section_tag c.args.self.now c.init_section.new.self c.init_section.result (sym (ap tag_view c.in-InitSection.is) ∙ c.tag_of.ensures)
     c.init_section.ensures
 
-pub returns-in-Map-clause-light : goal.returns-in-Map-clause-light
-returns-in-Map-clause-light c = λ light. absurd (subst IsOfWhole (sym (sym (ap tag_view c.in-InitSection.is) ∙ c.tag_of.ensures)) light)
+pub returns-in-InitSection-clause-light : goal.returns-in-InitSection-clause-light
+returns-in-InitSection-clause-light c = λ light. absurd (subst IsOfWhole (sym (sym (ap tag_view c.in-InitSection.is) ∙ c.tag_of.ensures)) light)
 
 pub returns-in-ProgramDateTime-clause-takes : goal.returns-in-ProgramDateTime-clause-takes
 returns-in-ProgramDateTime-clause-takes c =
