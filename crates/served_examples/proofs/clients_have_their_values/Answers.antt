@@ -53,15 +53,3 @@ returns-clause-calls_are_counted c = refl
 pub returns-clause-failures_are_counted : goal.returns-clause-failures_are_counted
 unfolding on_literals
 returns-clause-failures_are_counted c = refl
-
-pub returns-clause-devices_stand : goal.returns-clause-devices_stand
-unfolding on_literals
-returns-clause-devices_stand c = refl
-
-pub returns-clause-sources_stand : goal.returns-clause-sources_stand
-unfolding on_literals
-returns-clause-sources_stand c = refl
-
-pub returns-clause-sinks_stand : goal.returns-clause-sinks_stand
-unfolding on_literals
-returns-clause-sinks_stand c = refl
