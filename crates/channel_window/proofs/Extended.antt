@@ -9,7 +9,8 @@ use Rattle.pod_store.specs.Marks.{Mark, Marked, newest_mark}
 use Rattle.stitcher.specs.declared.marked.MarkedSegment.{MarkedSegment as Held}
 use Rattle.break_finder.specs.Entering.{entered}
 use Rattle.channel_spec.specs.Marking.{Moment, limits, mark_id, last_mark, last_entered}
-use Rattle.channel_window.specs.Marking.{stays, next_id, mark_on, capped_in, length_before, length_after, entered_after}
+use Rattle.channel_window.specs.Marking.{stays, next_id, mark_on, capped_in, length_before, length_after}
+use Rattle.channel_window.specs.Inner.Terms.{entered_after}
 use Rattle.channel_window.specs.declared.marking.Run.{Run}
 use Rattle.channel_window.specs.Inner.Terms.{IsExtended, IsRun, capped_at, stays_in}
 

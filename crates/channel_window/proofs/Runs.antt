@@ -1,25 +1,19 @@
 -- How many items stand for rests, and where a run begins.
-use Rattle.std.proofs.Common.{◌≡◌, ℕ, ◌+◌, ◌-◌, ◌≤◌, Bool, true, false, cond, List, [], ◌∷◌, ◌++◌, map, sum, drop, length, refl, ap, sym, ◌∙◌, subst, arith, length-append}
-use Rattle.std.specs.Prelude.{Option, Some, None, IsSome, option_map, bytes_eq}
+use Rattle.std.proofs.Common.{◌≡◌, ℕ, ◌+◌, ◌-◌, ◌≤◌, Bool, true, false, cond, List, [], ◌∷◌, map, sum, drop, length, ap, ◌∙◌, arith}
+use Rattle.std.specs.Prelude.{Option, Some, option_map}
 use Rattle.std.proofs.lemmas.List.{length-drop}
-use Rattle.std.proofs.lemmas.Slice.Eq.{bytes_eq-Decides}
-use mathlib.Core.List.{reverse_aux}
 use Rattle.pod_store.specs.Pods.{Pod, segment_count}
-use Rattle.pod_store.specs.Marks.{Mark, Marked, newest_mark, are_one}
-use Rattle.stitcher.specs.Stitched.{pod_pieces, stitched, newest_place}
-use Rattle.stitcher.specs.Paced.{older, due, newest_pieces, due_with, rest_pieces}
+use Rattle.pod_store.specs.Marks.{Mark}
+use Rattle.stitcher.specs.Stitched.{pod_pieces}
+use Rattle.stitcher.specs.Paced.{rest_pieces}
 use Rattle.pod_store.specs.Store.{Store, pod_for}
 use Rattle.stitcher.specs.declared.marked.MarkedSegment.{MarkedSegment as Held}
 use Rattle.stitcher.specs.declared.ends.Rest.{Rest}
-use Rattle.stitcher.specs.StitchedSegments.{meant, mark_in, mark_with, rest_from, IsDecided}
+use Rattle.stitcher.specs.StitchedSegments.{mark_with, rest_from}
 use Rattle.stitcher.specs.Making.{begun, is_same_run}
-use Rattle.channel_spec.specs.LiveLaws.{Linked}
-use Rattle.channel_spec.proofs.DueCut.{due_newest}
-use Rattle.channel_spec.proofs.Runs.{place_is}
 use Rattle.channel_spec.proofs.Windows.{length-reverse}
-use Rattle.channel_window.specs.Marking.{so_far, place_on}
-use Rattle.channel_window.specs.Placing.{rest_count}
-use Rattle.channel_window.proofs.Listed.{last_seen}
+use Rattle.channel_window.specs.Marking.{place_on}
+use Rattle.channel_window.specs.Inner.Placing.{rest_count}
 use Rattle.channel_window.proofs.Sizes.{ads_size}
 
 -- ---- runs and rests

@@ -19,7 +19,8 @@ use Rattle.channel_spec.specs.Live.{is_marked}
 use Rattle.channel_spec.specs.Kept.{show_on, length_on, kept_acceptance}
 use Rattle.channel_window.specs.declared.state.ChannelState.{ChannelState}
 use Rattle.channel_window.specs.declared.showing.Showing.{Showing}
-use Rattle.channel_window.specs.Marking.{so_far, mark_on, entered_after, length_after}
+use Rattle.channel_window.specs.Marking.{so_far, mark_on, length_after}
+use Rattle.channel_window.specs.Inner.Terms.{entered_after}
 use Rattle.channel_window.specs.Checked.{AreContiguous}
 use Rattle.channel_window.specs.Listed.{RisesOn}
 use Rattle.channel_window.proofs.Extended.{newest_is_last}

@@ -1,5 +1,5 @@
 -- Where a window starts, the rest that it starts with, and the window itself, from the segments that a channel holds.
-use Rattle.std.proofs.Common.{◌≡◌, ℕ, ◌+◌, ◌-◌, ◌<◌, ◌≤◌, ◌^◌, Bool, true, false, cond, List, [], ◌∷◌, ◌++◌, map, min, drop, length, reverse, refl, ap, sym, ◌∙◌, arith, length-append}
+use Rattle.std.proofs.Common.{◌≡◌, ℕ, ◌+◌, ◌-◌, ◌<◌, ◌≤◌, ◌^◌, Bool, true, false, cond, List, [], ◌∷◌, ◌++◌, map, min, drop, length, reverse, refl, ap, sym, ◌∙◌, arith}
 use Rattle.std.specs.Prelude.{◌==◌, nat_lt, Some, None, option_map, Result, Ok, Err, IfErr}
 use Rattle.std.specs.Result.{IsErrAnd}
 use Rattle.channel_spec.specs.declared.fault.RefreshFault.{RefreshFault}
@@ -9,7 +9,7 @@ use Rattle.std.proofs.lemmas.Bool.{lt-ltb, ltb-true, eqb-true, eq-eqb}
 use Rattle.playlist_model.specs.declared.Playlist.{Playlist}
 use Rattle.pod_store.specs.Marks.{Mark, Marked, newest_mark}
 use Rattle.stitcher.specs.Stitched.{Numbers, Item, fits, numbered, newest_place, up_to, from_place}
-use Rattle.stitcher.specs.Paced.{Rest as MeantRest, Ends as MeantEnds, rest_pieces, due_with, stitched_with}
+use Rattle.stitcher.specs.Paced.{Rest as MeantRest, Ends as MeantEnds, rest_pieces, stitched_with}
 use Rattle.pod_store.specs.Store.{Store, pod_for}
 use Rattle.stitcher.specs.declared.marked.MarkedSegment.{MarkedSegment as Held}
 use Rattle.stitcher.specs.declared.OutSegment.{OutSegment}
@@ -25,10 +25,10 @@ use Rattle.channel_spec.proofs.EndsLaws.{between_ends}
 use Rattle.channel_window.specs.declared.state.ChannelState.{ChannelState}
 use Rattle.channel_window.specs.Marking.{so_far, place_on}
 use Rattle.channel_window.specs.Listed.{IsFront, RefusesList}
-use Rattle.channel_window.specs.Placing.{rest_count}
+use Rattle.channel_window.specs.Inner.Placing.{rest_count}
 use Rattle.channel_window.specs.Inner.Placing.{HasRoom, rest_of}
 use Rattle.channel_window.specs.Showing.{kept_in}
-use Rattle.channel_window.proofs.Listed.{newest_seen, newest_decided}
+use Rattle.channel_window.proofs.Listed.{newest_seen}
 use Rattle.channel_window.proofs.Placed.{place_is_counted}
 use Rattle.channel_window.proofs.Passing.{within, front_decided}
 use Rattle.channel_window.proofs.Rest.{window_is_stitched, number_range_is_stitched}

@@ -4,5 +4,4 @@ pub mod MarkingLaws
 pub mod Listed
 pub mod WindowLaws
 pub mod Showing
-pub mod Placing
 pub mod Inner

@@ -49,11 +49,6 @@ place_on store previous start count (m ∷ later) =
     if is_same_run m.mark previous then place_on store m.mark start count later
     else place_on store m.mark count (count + length (begun store m m.mark)) later
 
--- the last break entered with these segments, where it was this one before them
-abbrev pub entered_after : Option (List ℕ) → List Held → Option (List ℕ)
-entered_after last [] = last
-entered_after last (m ∷ later) = entered_after (or_earlier m.mark last) later
-
 -- no more of a run's length counts than a nanosecond above its pod's total
 abbrev pub capped_by : Option Pod → ℕ → ℕ
 capped_by None length = 0

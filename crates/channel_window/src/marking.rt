@@ -6,7 +6,8 @@ ghost use Rattle.pod_store.specs.Store.{is_empty};
 ghost use Rattle.break_finder.specs.Entering.{entered};
 ghost use Rattle.channel_spec.specs.Marking.{limits};
 ghost use Rattle.channel_spec.specs.Successor.{has_init_sections};
-ghost use Rattle.channel_window.specs.Marking.{next_id, mark_on, length_before, length_after, entered_after};
+ghost use Rattle.channel_window.specs.Marking.{next_id, mark_on, length_before, length_after};
+ghost use Rattle.channel_window.specs.Inner.Terms.{entered_after};
 ghost use Rattle.channel_window.specs.Inner.Terms.{AreTerms, IsExtended, IsRun, capped_at, stays_in};
 
 use crate::state::Shown;

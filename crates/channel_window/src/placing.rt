@@ -3,7 +3,7 @@ ghost use Rattle.std.specs.Prelude.{◌≡◌, ◌<◌, ◌≤◌, ◌^◌, leng
 ghost use Rattle.pod_store.specs.Pods.{segment_count};
 ghost use Rattle.stitcher.specs.Making.{begun};
 ghost use Rattle.channel_window.specs.Marking.{place_on};
-ghost use Rattle.channel_window.specs.Placing.{rest_count};
+ghost use Rattle.channel_window.specs.Inner.Placing.{rest_count};
 
 use playlist_model::{Shared, Text};
 use pod_store::{Ad, PodStore};

@@ -14,7 +14,7 @@ ghost use Rattle.channel_spec.specs.Successor.{first_number};
 ghost use Rattle.channel_window.specs.Marking.{place_on, so_far};
 ghost use Rattle.channel_window.specs.Listed.{AreRising, IsRestDecided, RefusesList, head_of, states_time};
 ghost use Rattle.channel_window.specs.Inner.Listed.{first_alone, first_numbers_of, pod_keeps, texts_left};
-ghost use Rattle.channel_window.specs.Placing.{rest_count};
+ghost use Rattle.channel_window.specs.Inner.Placing.{rest_count};
 ghost use Rattle.channel_window.specs.Inner.Placing.{HasRoom, IsWithin, rest_of};
 ghost use Rattle.channel_window.specs.Showing.{kept_in};
 

@@ -1,6 +1,5 @@
 -- No tag stands between keys that are the same.
-use Rattle.std.proofs.Common.{◌≡◌, ℕ, Bool, true, false, cond, not, ◌||◌, List, [], ◌∷◌, ◌++◌, map, filter, refl, ap, sym, ◌∙◌, append_assoc}
-use Rattle.std.specs.Prelude.{bytes_eq}
+use Rattle.std.proofs.Common.{◌≡◌, Bool, true, false, cond, not, ◌||◌, List, [], ◌∷◌, ◌++◌, map, filter, refl, ap, sym, ◌∙◌, append_assoc}
 use Rattle.std.specs.List.{list_any, list_all}
 use Rattle.std.specs.Cmp.Lexicographic.{pointwise}
 use Rattle.std.proofs.lemmas.List.Folds.{list_any-append}
@@ -11,7 +10,7 @@ use Rattle.playlist_model.specs.declared.KeyTag.TheVariants.{Set, End}
 use Rattle.playlist_model.specs.LookBack.{has_format}
 use Rattle.playlist_model.specs.Same.{same_key}
 use Rattle.playlist_model.proofs.SameParts.{key_same, keys_are}
-use Rattle.stitcher.specs.KeyTags.{has_its_format, is_new_key, keeps_formats, transition}
+use Rattle.stitcher.specs.KeyTags.{has_its_format, is_new_key, transition}
 use Rattle.playlist_write.specs.Owed.{keys_owed, said_text}
 use Rattle.playlist_model.specs.Said.{key_tag_said}
 

@@ -1,16 +1,20 @@
--- What proofs and inner functions say with the definitions of `Placing`.
-use Rattle.channel_window.specs.Placing.{rest_count}
-use Rattle.std.specs.Prelude.{◌<◌, ◌≤◌, ℕ, ◌+◌, ◌-◌, ◌^◌, List, Option, None, option_map}
+-- Where a window starts, as inner functions and proofs say it.
+use Rattle.std.specs.Prelude.{◌<◌, ◌≤◌, ℕ, ◌+◌, ◌-◌, ◌^◌, List, length, Option, None, option_map}
 use Rattle.pod_store.specs.Store.{Store}
 use Rattle.stitcher.specs.declared.marked.MarkedSegment.{MarkedSegment as Held}
 use Rattle.stitcher.specs.declared.ends.Rest.{Rest}
 use Rattle.pod_store.specs.Marks.{Mark, Marked, newest_mark}
 use Rattle.stitcher.specs.Stitched.{newest_place}
-use Rattle.stitcher.specs.Paced.{Rest as MeantRest}
+use Rattle.stitcher.specs.Paced.{Rest as MeantRest, rest_pieces}
+use Rattle.stitcher.specs.StitchedSegments.{rest_in}
 use Rattle.channel_window.specs.Marking.{place_on}
 use Rattle.channel_window.specs.Listed.{IsFront}
 
 -- ---- where a window starts
+
+-- how many items stand for the rest of a pod
+abbrev pub rest_count : Store → Option Rest → ℕ
+rest_count store rest = length (rest_pieces (rest_in store rest))
 
 -- wherever a window starts among these segments after this rest, its place can be told
 abbrev pub HasRoom : Store → Option Rest → List Held → Type 0

@@ -1,7 +1,8 @@
 -- Until when segments stay in a break, and how much of its run's length counts, as it is looked up once for a run.
-use Rattle.std.specs.Prelude.{◌≡◌, ◌+◌, min, ℕ, ℤ, Bool, false, List, Option, Some, None}
+use Rattle.std.specs.Prelude.{◌≡◌, ◌+◌, min, ℕ, ℤ, Bool, false, List, [], ◌∷◌, Option, Some, None}
 use Rattle.playlist_model.specs.LookBack.{or_earlier}
 use Rattle.pod_store.specs.Store.{Store}
+use Rattle.stitcher.specs.declared.marked.MarkedSegment.{MarkedSegment as Held}
 use Rattle.break_finder.specs.Stays.{stays_at}
 use Rattle.channel_spec.specs.Marking.{Moment}
 use Rattle.channel_window.specs.declared.marking.Terms.{Terms}
@@ -33,3 +34,8 @@ pub record IsExtended (store : Store) (duration : ℕ) (mark : Option (List ℕ)
   pub before : new.before ≡ mark
   pub entered : new.entered ≡ or_earlier mark old.entered
   pub so_far : new.so_far ≡ capped_in store mark (duration + length_before mark old.before old.so_far)
+
+-- the last break entered with these segments, where it was this one before them
+abbrev pub entered_after : Option (List ℕ) → List Held → Option (List ℕ)
+entered_after last [] = last
+entered_after last (m ∷ later) = entered_after (or_earlier m.mark last) later

@@ -1,4 +1,4 @@
-use Rattle.std.proofs.Common.{◌≡◌, ◌-◌, ◌+◌, length, drop, min, sym, subst, ◌∙◌, arith, List}
+use Rattle.std.proofs.Common.{◌≡◌, ◌-◌, ◌+◌, length, min, sym, subst, ◌∙◌, arith, List}
 use Rattle.playlist_model.specs.declared.Segment.{Segment}
 use Rattle.channel_window.specs.Inner.Listed.{IsTail}
 use Rattle.channel_window.proofs.Listed.{after_at, rest_after, tail_at, tail_whole}

@@ -3,7 +3,7 @@ use Rattle.std.specs.Prelude.{Some}
 use Rattle.std.specs.Option.{option_copied}
 use Rattle.pod_store.specs.Pods.{Ad, segment_count}
 use Rattle.pod_store.specs.Store.{pod_for}
-use Rattle.channel_window.specs.Placing.{rest_count}
+use Rattle.channel_window.specs.Inner.Placing.{rest_count}
 use Rattle.channel_window.proofs.Runs.{rest_size}
 use Rattle.channel_window.proofs.placing.rest_count.Goals as goal
 

@@ -1,7 +1,7 @@
-use Rattle.std.proofs.Common.{arith, ap, ◌∙◌, ◌+◌, ◌≡◌, ◌≤◌, ◌<◌}
+use Rattle.std.proofs.Common.{arith, ap, ◌∙◌, ◌+◌, ◌<◌}
 use Rattle.channel_spec.specs.Live.{place_of}
 use Rattle.channel_window.specs.Marking.{so_far}
-use Rattle.channel_window.specs.Placing.{rest_count}
+use Rattle.channel_window.specs.Inner.Placing.{rest_count}
 use Rattle.channel_window.specs.Inner.Placing.{rest_of}
 use Rattle.channel_window.proofs.Passing.{front_decided}
 use Rattle.channel_window.proofs.Starting.{rest_none, rest_lower}

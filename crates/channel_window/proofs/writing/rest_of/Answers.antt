@@ -1,4 +1,4 @@
-use Rattle.std.proofs.Common.{List, ℕ, sym, subst, ◌∙◌, ap}
+use Rattle.std.proofs.Common.{List, ℕ, sym, subst, ◌∙◌}
 use Rattle.std.specs.Prelude.{Some}
 use Rattle.stitcher.specs.StitchedSegments.{IsDecided}
 use Rattle.channel_window.proofs.Listed.{newest_decided}

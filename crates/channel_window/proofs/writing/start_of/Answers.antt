@@ -1,12 +1,11 @@
-use Rattle.std.proofs.Common.{◌≡◌, ◌+◌, List, ℕ, min, false, sym, ap, ◌∙◌, arith}
-use Rattle.std.specs.Prelude.{◌==◌}
+use Rattle.std.proofs.Common.{◌+◌, List, min, sym, ap, ◌∙◌}
 use Rattle.playlist_model.specs.declared.Segment.{Segment}
 use Rattle.stitcher.specs.StitchedSegments.{rest_in}
 use Rattle.channel_spec.specs.Live.{place_of, rest_over}
 use Rattle.channel_spec.specs.Successor.{first_number}
-use Rattle.channel_spec.specs.Kept.{start_on, rest_on}
+use Rattle.channel_spec.specs.Kept.{start_on}
 use Rattle.channel_window.specs.Marking.{so_far}
-use Rattle.channel_window.specs.Placing.{rest_count}
+use Rattle.channel_window.specs.Inner.Placing.{rest_count}
 use Rattle.channel_window.specs.Showing.{kept_in}
 use Rattle.channel_window.proofs.Starting.{start_first, start_later, start_same, rest_later, rest_same, not_equal}
 use Rattle.channel_window.proofs.writing.start_of.Goals as goal

@@ -1,4 +1,4 @@
-use Rattle.std.proofs.Common.{◌≡◌, ◌∙◌, List, ap, drop}
+use Rattle.std.proofs.Common.{◌∙◌, List, ap, drop}
 use Rattle.std.specs.List.{list_all}
 use Rattle.std.proofs.lemmas.List.{take_rest}
 use Rattle.stitcher.specs.StitchedSegments.{item_fits}

@@ -1,4 +1,4 @@
-use Rattle.std.proofs.Common.{◌≡◌, ◌+◌, drop}
+use Rattle.std.proofs.Common.{◌≡◌, drop}
 use Rattle.stitcher.specs.Inner.Cuts.{left_from}
 use Rattle.stitcher.proofs.stitched_list.left_from.Given as goal
 

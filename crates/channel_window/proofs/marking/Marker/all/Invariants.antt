@@ -1,5 +1,6 @@
 use Rattle.std.proofs.Common.{◌≡◌, ◌++◌, length}
-use Rattle.channel_window.specs.Marking.{mark_on, entered_after, length_after}
+use Rattle.channel_window.specs.Marking.{mark_on, length_after}
+use Rattle.channel_window.specs.Inner.Terms.{entered_after}
 use Rattle.channel_window.specs.Inner.Terms.{IsRun}
 use Rattle.channel_window.proofs.marking.Marker.all.Given as goal
 

@@ -1,6 +1,7 @@
 use Rattle.std.proofs.Common.{◌≡◌, ◌++◌, length}
 use Rattle.std.specs.Prelude.{None}
-use Rattle.channel_window.specs.Marking.{mark_on, entered_after, length_after}
+use Rattle.channel_window.specs.Marking.{mark_on, length_after}
+use Rattle.channel_window.specs.Inner.Terms.{entered_after}
 use Rattle.channel_window.proofs.marking.Marker.all_unmarked.Given as goal
 
 abbrev pub invariant-loop-segment : goal.invariant-loop-segment
