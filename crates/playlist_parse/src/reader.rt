@@ -113,20 +113,9 @@ pub fn playlist_of(reading: Reading<'_>) -> Result<Playlist, PlaylistFault>
     }
 }
 
-// Whether a line may name a segment, after which an EXTINF mostly comes.
-fn may_name_segment(line: &str) -> bool {
-    !line.starts_with("#")
-}
-
-// Passes the next of `lines` if it is the EXTINF that repeats itself, and gives how many lines it passed. It looks only
-// `after_segment`, so that no other line costs anything.
+// Passes the next of `lines` if it is the EXTINF that repeats itself, and gives how many lines it passed.
 #[inline(always)]
-fn pass_again<'a>(
-    progress: &mut Progress<'a>,
-    lines: &mut Lines<'a>,
-    is_plain: bool,
-    after_segment: bool,
-) -> u64
+fn pass_again<'a>(progress: &mut Progress<'a>, lines: &mut Lines<'a>, is_plain: bool) -> u64
     requires { is_plain ≡ true → list_all is_free (map line_text lines.old) ≡ true }
     ensures reached { (base : Parts) (number : ℕ) (all : List (List ℕ))
         → Reached base progress.old number (map line_text lines.old) all
@@ -137,9 +126,6 @@ fn pass_again<'a>(
     ensures plain { is_plain ≡ true → list_all is_free (map line_text lines.new) ≡ true }
     ensures fewer { length lines.new + result ≡ length lines.old }
 {
-    if !after_segment {
-        return 0;
-    }
     if !is_plain {
         return 0;
     }
@@ -170,8 +156,7 @@ fn read_lines<'a>(
             Ok(()) => number += 1,
             Err(kind) => return Err(fault_at(kind, number)),
         }
-        let after_segment = may_name_segment(line.text);
-        number += pass_again(&mut progress, &mut lines, is_plain, after_segment);
+        number += pass_again(&mut progress, &mut lines, is_plain);
     }
     match progress.playlist() {
         Ok(playlist) => Ok(playlist),

@@ -66,7 +66,7 @@ impl<'a> References<'a> {
 
     /// The resource that `reference` names, of which a segment is a part (RFC 8216, section 4.1). It is kept for the
     /// next part. The faults are those of `resolve`.
-    #[inline(always)]
+    #[inline(never)]
     pub fn resolve_part(&mut self, reference: &str) -> Result<ShortText, FaultKind>
         ensures value { Gives (λ uri. uri) result (uri_of self.old reference.now) }
         ensures kept { self.new ≡ self.old }
