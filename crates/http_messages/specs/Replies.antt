@@ -1,5 +1,5 @@
 -- Replies, and their bytes (RFC 9112, 2.1, 4 and 5).
-use Rattle.std.specs.Prelude.{ℕ, ◌==◌, Bool, not, bytes_eq, List, [], ◌∷◌, ◌++◌, codes, decimal, length, Option, Some, None, unwrap_or, if◌then◌else◌}
+use Rattle.std.specs.Prelude.{ℕ, ◌==◌, Bool, not, bytes_eq, List, [], ◌++◌, codes, decimal, length, Option, Some, None, unwrap_or, if◌then◌else◌}
 use Rattle.http.specs.StatusCode.{code_digits, reason_phrase}
 use Rattle.http_messages.specs.declared.message.Reply.{Reply}
 use Rattle.http_messages.specs.declared.message.Content.{Content}

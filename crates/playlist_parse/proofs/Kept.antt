@@ -1,6 +1,6 @@
 -- A tag that changes what stands and nothing else of a reading.
 use Rattle.std.proofs.Common.{◌≡◌, ◌≢◌, ℕ, Bool, true, false, List, ◌∷◌, refl, ap, sym, ◌∙◌, subst}
-use Rattle.std.specs.Prelude.{Result, Ok, Err, IsOk, MatchResult, codes, bytes_eq, ◌==◌, if◌then◌else◌}
+use Rattle.std.specs.Prelude.{Result, Ok, Err, IsOk, MatchResult, codes, bytes_eq, if◌then◌else◌}
 use Rattle.url.specs.Parts.{Parts}
 use Rattle.attr_list.specs.Attributes.{Pair, attribute, is_comma}
 use Rattle.playlist_model.specs.declared.FaultKind.{FaultKind}

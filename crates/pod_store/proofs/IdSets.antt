@@ -1,12 +1,12 @@
 -- Texts by their references, as a set of IDs keeps them.
-use Rattle.std.proofs.Common.{◌≡◌, ℕ, Bool, true, false, cond, not, ◌||◌, List, [], ◌∷◌, ◌++◌, map, Bor, refl, ap, sym, ◌∙◌}
+use Rattle.std.proofs.Common.{◌≡◌, ℕ, Bool, true, false, cond, not, ◌||◌, List, [], ◌∷◌, ◌++◌, Bor, refl, ap, sym, ◌∙◌}
 use Rattle.std.specs.Prelude.{bytes_eq}
 use Rattle.std.specs.List.{list_any}
 use Rattle.std.proofs.lemmas.List.Folds.{list_any-append}
 use Rattle.std.proofs.lemmas.Slice.Eq.{bytes_eq-Decides}
 use Rattle.indexmap.specs.IndexSet.{insert_key}
 use Rattle.pod_store.specs.Store.{is_one_of}
-use Rattle.pod_store.specs.IdSets.{text_of, texts_of}
+use Rattle.pod_store.specs.IdSets.{texts_of}
 
 abbrev same_text : Bor (List ℕ) → Bor (List ℕ) → Bool
 same_text a b = bytes_eq a.now b.now

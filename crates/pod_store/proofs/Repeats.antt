@@ -1,13 +1,12 @@
 -- A break that a list of breaks in use names again adds nothing.
 use Rattle.std.proofs.Common.{◌≡◌, ℕ, Bool, true, false, cond, ◌||◌, List, [], ◌∷◌, ◌++◌, refl, ap, sym, ◌∙◌, Some, None}
-use Rattle.std.specs.Prelude.{Option, bytes_eq, fold, is_some}
-use Rattle.std.specs.List.{list_any}
+use Rattle.std.specs.Prelude.{Option, bytes_eq, is_some}
 use Rattle.std.proofs.lemmas.List.Folds.{list_any-append}
 use Rattle.std.proofs.lemmas.List.Sums.{fold-append}
 use Rattle.std.proofs.lemmas.Slice.Eq.{bytes_eq-Decides}
 use Rattle.playlist_model.specs.LookBack.{or_earlier}
 use Rattle.pod_store.specs.Pods.{Pod}
-use Rattle.pod_store.specs.Store.{Store, with_entries, has_own, own_pod, pod_for, is_one_of, copied_last, with_copy, with_copies, held_in_use, kept_in_use}
+use Rattle.pod_store.specs.Store.{Store, with_entries, has_own, own_pod, is_one_of, copied_last, with_copy, with_copies, held_in_use, kept_in_use}
 use Rattle.pod_store.specs.Inner.Store.{NameTheSame}
 use Rattle.pod_store.proofs.Copies.{all_own, fallback_stands}
 use Rattle.pod_store.proofs.InUse.{held_alike}

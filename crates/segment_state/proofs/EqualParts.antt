@@ -1,11 +1,10 @@
 -- What is the same at two stops is equal.
-use Rattle.std.proofs.Common.{◌≡◌, ℕ, true, List, ap, sym, ◌∙◌, refl}
-use Rattle.std.specs.Prelude.{◌==◌, Option, Some, None}
+use Rattle.std.proofs.Common.{◌≡◌, ℕ, true, List, sym}
+use Rattle.std.specs.Prelude.{Option, Some}
 use Rattle.std.specs.Cmp.Lexicographic.{pointwise}
 use Rattle.playlist_model.specs.declared.Key.{Key}
-use Rattle.playlist_model.specs.declared.ByteRange.{ByteRange}
 use Rattle.playlist_model.specs.declared.InitSection.{InitSection}
-use Rattle.playlist_model.specs.Same.{same_key, same_option, same_init_section}
+use Rattle.playlist_model.specs.Same.{same_key, same_init_section}
 use Rattle.playlist_model.specs.LookBack.{Extent}
 use Rattle.playlist_model.proofs.SameParts as parts
 

@@ -1,15 +1,12 @@
 -- What is kept of a text that was read up to a URI line, and how lines that stand in it go on elsewhere.
-use Rattle.std.specs.Prelude.{◌≡◌, ℕ, ◌+◌, ◌^◌, ◌<◌, ◌≤◌, true, List, [], ◌∷◌, ◌++◌, take, drop, length, Ok}
+use Rattle.std.specs.Prelude.{◌≡◌, ℕ, ◌+◌, ◌≤◌, true, List, [], ◌∷◌, ◌++◌, take, drop, length}
 use Rattle.std.specs.Str.Lines.{lines}
 use Rattle.spec_words.specs.Bytes.{line_feed}
 use Rattle.url.specs.Parts.{Parts}
 use Rattle.playlist_model.specs.declared.Playlist.{Playlist}
 use Rattle.playlist_model.specs.declared.DateRange.{DateRange}
 use Rattle.playlist_model.specs.declared.Segment.{Segment}
-use Rattle.playlist_model.specs.Said.{Said, nothing}
-use Rattle.playlist_model.specs.LookBack.{standing_at, segments_of, date_ranges_of}
-use Rattle.playlist_model.specs.Inner.Heading.{Heading, heading_at}
-use Rattle.playlist_model.specs.Reading.{said_by, said_from, limited}
+use Rattle.playlist_model.specs.Inner.Heading.{Heading}
 use Rattle.segment_state.specs.Continued.{Stop, IsStop, stopped_at}
 use Rattle.playlist_parse.specs.Inner.Progress.{Progress}
 use Rattle.playlist_parse.specs.KeptLines.{Source, WasRead}

@@ -1,4 +1,4 @@
-use Rattle.std.proofs.Common.{rules, refl, ◌≡◌, ◌∙◌, ◌<◌, ◌^◌, List, ap, drop, length, map, reverse, subst, sym}
+use Rattle.std.proofs.Common.{rules, refl, ◌≡◌, ◌∙◌, List, ap, drop, map, reverse, subst, sym}
 use Rattle.playlist_model.specs.LookBack.{or_earlier}
 use Rattle.pod_store.specs.Inner.Store.{NameTheSame}
 use Rattle.stitcher.specs.StitchedSegments.{AreDecided}
@@ -19,7 +19,6 @@ use Rattle.live_channel.proofs.Accepting.{text_seen, numbers_seen, refreshed_see
 use Rattle.live_channel.proofs.Marks.{breaks_seen}
 use Rattle.playlist_write.specs.Laid.{IsLaid}
 use Rattle.live_channel.specs.Inner.LastText.{Stood, StandIn}
-use Rattle.channel_spec.specs.LastWindow.{last_pieces}
 use Rattle.channel_spec.specs.Kept.{items_on}
 use Rattle.live_channel.proofs.next.next_of.Goals as goal
 

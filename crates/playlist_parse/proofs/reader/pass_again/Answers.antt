@@ -1,4 +1,4 @@
-use Rattle.std.proofs.Common.{refl, sym}
+use Rattle.std.proofs.Common.{refl}
 use Rattle.playlist_parse.proofs.Again.{reached_again, told_again}
 use Rattle.playlist_parse.proofs.reader.pass_again.Goals as goal
 

@@ -1,4 +1,4 @@
-use Rattle.std.proofs.Common.{◌≡◌, ◌≤◌, arith, length}
+use Rattle.std.proofs.Common.{arith}
 use Rattle.playlist_parse.specs.Inner.Views.{progress_of}
 use Rattle.playlist_parse.proofs.Again.{line_again, shorter}
 use Rattle.playlist_parse.proofs.progress.Progress.repeats.Goals as goal

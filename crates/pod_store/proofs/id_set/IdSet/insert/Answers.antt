@@ -1,4 +1,4 @@
-use Rattle.std.proofs.Common.{◌≡◌, ap, sym, ◌∙◌, not}
+use Rattle.std.proofs.Common.{ap, sym, ◌∙◌, not}
 use Rattle.pod_store.specs.Store.{is_one_of}
 use Rattle.pod_store.proofs.IdSets.{found, after_insert}
 use Rattle.pod_store.proofs.id_set.IdSet.insert.Goals as goal
