@@ -1,5 +1,5 @@
 -- A fault of lines that take no memory is answered.
-use Rattle.std.proofs.Common.{◌≡◌, ℕ, ◌+◌, Bool, true, false, List, [], ◌∷◌, ◌++◌, length, refl, ap, sym, ◌∙◌, subst, arith}
+use Rattle.std.proofs.Common.{◌≡◌, ℕ, ◌+◌, Bool, true, false, List, [], ◌∷◌, ◌++◌, map, length, refl, ap, sym, ◌∙◌, subst, arith}
 use Rattle.std.specs.Prelude.{◌≢◌, Option, Some, None, Result, Ok, Err, IsOk, ◌||◌, ◌==◌, nat_lt, codes, bytes_eq, if◌then◌else◌}
 use Rattle.url.specs.Parts.{Parts}
 use Rattle.attr_list.specs.Numbers.{decimal_of}
@@ -9,12 +9,14 @@ use Rattle.playlist_model.specs.declared.FaultKind.TheVariants as fault
 use Rattle.playlist_model.specs.declared.FaultKind.TheVariants.{OutOfMemory}
 use Rattle.playlist_model.specs.Lines.{Kind, ignored, uri, tag, kind_of, has_control}
 use Rattle.playlist_model.specs.Said.{Name, version_tag, target_tag, sequence_tag, discontinuity_sequence_tag, type_tag, ended_tag, independent_tag, frames_tag, master_tag, duration_tag, byte_range_tag, discontinuity_tag, key_tag, init_section_tag, time_tag, date_range_tag, unknown_tag, Said, nothing, number, version_of, playlist_type_of, Outcome}
-use Rattle.playlist_model.specs.LookBack.{the_version, the_target, the_sequence, the_discontinuity_sequence, the_type, is_media, is_discontinuity, is_ended, with_said}
+use Rattle.playlist_model.specs.LookBack.{the_version, the_target, the_sequence, the_discontinuity_sequence, the_type, is_media, is_discontinuity, is_ended, segments_of, with_said}
 use Rattle.playlist_model.specs.Reading.{has, is_set, name_of, said_by_tag, said_by_kind, said_by, said_from, at_line, limited, Fault}
 use Rattle.playlist_parse.specs.Light.{IsOfWhole, IsLightKind, IsLight, AreLight}
 use Rattle.playlist_parse.specs.Inner.Answers.{fault_at}
 use Rattle.playlist_parse.specs.Inner.Progress.{Progress, progress_at, TakesLineExactly}
-use Rattle.playlist_parse.specs.Inner.Reached.{Telling, IsToBeTold}
+use Rattle.playlist_parse.specs.Inner.LineViews.{line_text}
+use Rattle.playlist_parse.specs.Inner.Reached.{Telling, IsToBeTold, left_in}
+use Rattle.playlist_parse.specs.declared.reader.Reading.{Reading}
 use Rattle.playlist_parse.proofs.Reached.{own_base, same_base, kept_line}
 
 -- ---- no such line lacks memory
@@ -81,6 +83,54 @@ module _ (base : Parts) where
   light_line : (before : List Said) (line : List ℕ) → IsLight line → Lacks (said_by limited base before line)
   light_line before line h = refused (has_control line) fault.Control _ (λ f. cc) (light_kind before (kind_of line) h)
 
+-- ---- no such line names a segment
+
+abbrev Keeps : List Said → Outcome Said → Type 0
+Keeps before (Ok said) = segments_of (said ∷ before) ≡ segments_of before
+Keeps before (Err e) = Unit {0}
+
+module _ (before : List Said) where
+  keeps_after : {A : Type 0} (o : Outcome A) (f : A → Outcome Said) → ((x : A) → Keeps before (f x)) → Keeps before (o >>= f)
+  keeps_after (Ok x) f h = h x
+  keeps_after (Err e) f h = tt
+
+  keeps_refused : (b : Bool) (e : FaultKind) (o : Outcome Said) → Keeps before o → Keeps before (refuse_if b e o)
+  keeps_refused true e o h = tt
+  keeps_refused false e o h = h
+
+  tag_keeps : (base : Parts) (name : Name) (rest : List ℕ) → IsOfWhole name → Keeps before (said_by_tag limited base before name rest)
+  tag_keeps base version_tag rest h = keeps_refused (is_set the_version before) _ _ (keeps_after (version_of rest) _ (λ n. refl))
+  tag_keeps base target_tag rest h = keeps_refused (is_set the_target before) _ _ (keeps_after (number rest) _ (λ n. refl))
+  tag_keeps base sequence_tag rest h = keeps_refused (is_set the_sequence before) _ _ (keeps_refused (has is_media before) _ _ (keeps_after (number rest) _ (λ n. refl)))
+  tag_keeps base discontinuity_sequence_tag rest h =
+      keeps_refused (is_set the_discontinuity_sequence before) _ _
+      (keeps_refused (has is_media before || has is_discontinuity before) _ _ (keeps_after (number rest) _ (λ n. refl)))
+  tag_keeps base type_tag rest h = keeps_refused (is_set the_type before) _ _ (keeps_after (playlist_type_of rest) _ (λ kind. refl))
+  tag_keeps base ended_tag rest h = keeps_refused (has is_ended before) _ _ refl
+  tag_keeps base independent_tag rest h = refl
+  tag_keeps base frames_tag rest h = tt
+  tag_keeps base master_tag rest h = tt
+  tag_keeps base unknown_tag rest h = refl
+  tag_keeps base duration_tag rest h = absurd h
+  tag_keeps base byte_range_tag rest h = absurd h
+  tag_keeps base discontinuity_tag rest h = absurd h
+  tag_keeps base key_tag rest h = absurd h
+  tag_keeps base init_section_tag rest h = absurd h
+  tag_keeps base time_tag rest h = absurd h
+  tag_keeps base date_range_tag rest h = absurd h
+
+  kind_keeps : (base : Parts) (kind : Kind) → IsLightKind kind → Keeps before (said_by_kind limited base before kind)
+  kind_keeps base ignored h = refl
+  kind_keeps base (uri reference) h = absurd h
+  kind_keeps base (tag name rest colon) h = tag_keeps base (name_of name colon) rest h
+
+  line_keeps : (base : Parts) (line : List ℕ) → IsLight line → Keeps before (said_by limited base before line)
+  line_keeps base line h = keeps_refused (has_control line) fault.Control _ (kind_keeps base (kind_of line) h)
+
+  none_yet : (o : Outcome Said) → IsOk o → Keeps before o → segments_of before ≡ [] → segments_of (with_said before o) ≡ []
+  none_yet (Ok said) ok h none = h ∙ none
+  none_yet (Err e) ok h none = absurd (cc ok)
+
 -- ---- going over the lines
 
 pub to_be_told : (base : Parts) (progress : Progress) (all : List (List ℕ)) → progress ≡ progress_at base (nothing ∷ []) → IsToBeTold base progress 2 all all
@@ -90,6 +140,7 @@ to_be_told base progress all is = λ front later e all_is light said. record {
   later = later;
   progress_is = is;
   count = refl;
+  none = refl;
   left_is = all_is;
   light = light;
   said = said;
@@ -152,6 +203,7 @@ still_told base progress new n line rest e x takes t =
       later = o.later;
       progress_is = taken.1;
       count = ap (λ k. k + 1) more.1 ∙ ap (λ k. k + 1) t.count;
+      none = none_yet t.before (said_by limited base t.before line) taken.0 (line_keeps t.before base line o.first) t.none;
       left_is = o.left_is;
       light = o.light;
       said = more.0;
@@ -176,3 +228,23 @@ is_told base progress new n line rest e kind takes t =
   where
     inner : {a b : Fault} → (let l : Result (List Said) Fault = Err a in l) ≡ Err b → a ≡ b
     inner h = cc
+
+-- ---- a reading
+
+-- where such a fault is still to be met, no segment is read
+pub none_read : {base : Parts} {progress : Progress} {n : ℕ} {left : List (List ℕ)} {e : Fault} → Telling base progress n left e → progress.segments ≡ []
+none_read t = ap (λ (p : Progress). p.segments) t.progress_is ∙ t.none
+
+-- before its first line
+pub told_at : (base : Parts) (reading : Reading) (tail body : List (List ℕ)) → left_in reading ++ tail ≡ body → reading.number ≡ 2
+    → ((all : List (List ℕ)) → IsToBeTold base reading.progress 2 all all)
+    → (front later : List (List ℕ)) (e : Fault) → body ≡ front ++ later → AreLight front → said_from (said_by limited base) (nothing ∷ []) front ≡ Err e
+    → Telling base reading.progress reading.number (left_in reading ++ tail) e
+told_at base reading tail body whole first light front later e is are_light said =
+    subst (λ n. Telling base reading.progress n (left_in reading ++ tail) e) (sym first)
+    (subst (λ ls. Telling base reading.progress 2 ls e) (sym whole) (light body front later e is are_light said))
+
+-- after its last one
+pub told_after : {base : Parts} {e : Fault} (tail : List (List ℕ)) (reading : Reading) → reading.lines ≡ []
+    → Telling base reading.progress reading.number (left_in reading ++ tail) e → Telling base reading.progress reading.number tail e
+told_after {base = base} {e = e} tail reading none t = subst (λ ls. Telling base reading.progress reading.number (map line_text ls ++ tail) e) none t

@@ -13,7 +13,7 @@ ghost use Rattle.playlist_model.specs.Reading.{Fault};
 ghost use Rattle.playlist_parse.specs.Light.{AreLight};
 ghost use Rattle.playlist_parse.specs.Inner.Answers.{fault_at};
 ghost use Rattle.playlist_parse.specs.Inner.Progress.{Ends};
-ghost use Rattle.playlist_parse.specs.Inner.Reached.{Reached, Telling, Faulted, Reads, left_in};
+ghost use Rattle.playlist_parse.specs.Inner.Reached.{Reached, Telling, IsToBeTold, Faulted, Reads, Tells, left_in};
 
 use crate::line::{Lines, has_plain_bytes};
 use crate::progress::Progress;
@@ -49,6 +49,7 @@ pub fn reading_of<'a>(alloc: Global, base: &'a Base, lines: Lines<'a>) -> Readin
     ensures lines { result.lines ≡ lines.entry }
     ensures number { result.number ≡ 2 }
     ensures begun { (all : List (List ℕ)) → Reached base.now result.progress 2 all all }
+    ensures light { (all : List (List ℕ)) → IsToBeTold base.now result.progress 2 all all }
 {
     Reading {
         progress: Progress::new(alloc, base),
@@ -67,7 +68,10 @@ pub fn read_some<'a>(
     requires few { reading.old.number + length reading.old.lines < 2 ^ 64 }
     requires plain { is_plain ≡ true → list_all is_free (left_in reading.old) ≡ true }
     ensures reached { (base : Parts) → Reads base reading.old result reading.new }
+    ensures light { (base : Parts) → Tells base reading.old result reading.new }
     ensures plain { OnOk result (is_plain ≡ true → list_all is_free (left_in reading.new) ≡ true) }
+    ensures none_left { OnOk result
+        (length reading.new.progress.segments < most → reading.new.lines ≡ []) }
 {
     'lines: while reading.progress.segment_count() < most {
         let Some(line) = reading.lines.next() else {
@@ -88,6 +92,7 @@ pub fn read_all<'a>(reading: &mut Reading<'a>, is_plain: bool) -> Result<(), Pla
     requires few { reading.old.number + length reading.old.lines < 2 ^ 64 }
     requires plain { is_plain ≡ true → list_all is_free (left_in reading.old) ≡ true }
     ensures reached { (base : Parts) → Reads base reading.old result reading.new }
+    ensures light { (base : Parts) → Tells base reading.old result reading.new }
     ensures none_left { OnOk result (reading.new.lines ≡ []) }
 {
     'lines: while let Some(line) = reading.lines.next() {

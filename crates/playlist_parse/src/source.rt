@@ -1,13 +1,14 @@
 //! A text that is read with what was kept of the last one: the lines that stand in both are taken over, and not read again.
-ghost use Rattle.std.specs.Prelude.{◌≡◌, ◌+◌, ◌^◌, ◌<◌, ◌≤◌, ℕ, List, [], ◌∷◌, map, length, take, drop, true, false, Some, None, Err, IfOk, OnOk, MatchOption};
+ghost use Rattle.std.specs.Prelude.{◌≡◌, ◌+◌, ◌^◌, ◌<◌, ◌≤◌, ℕ, List, [], ◌∷◌, ◌++◌, codes, map, length, take, drop, true, false, Some, None, Ok, Err, IfOk, OnOk, MatchOption};
 ghost use Rattle.std.specs.List.{list_all};
 ghost use Rattle.std.specs.Str.{is_utf8};
 ghost use Rattle.std.specs.Str.Lines.{lines};
 ghost use Rattle.url.specs.Parts.{Parts};
 ghost use Rattle.playlist_model.specs.Said.{nothing};
-ghost use Rattle.playlist_model.specs.Reading.{reading, limited, said_by, said_from, and_whole};
+ghost use Rattle.playlist_model.specs.Reading.{reading, limited, said_by, said_from, and_whole, Fault};
 ghost use Rattle.playlist_parse.specs.Inner.LineViews.{is_free, line_text};
-ghost use Rattle.playlist_parse.specs.Inner.Reached.{Reached, LeadsTo, Reads, left_in};
+ghost use Rattle.playlist_parse.specs.Light.{AreLight};
+ghost use Rattle.playlist_parse.specs.Inner.Reached.{Reached, Telling, LeadsTo, Reads, Tells, left_in};
 ghost use Rattle.playlist_parse.specs.Answers.{Answers, HasNoHeader};
 ghost use Rattle.playlist_parse.specs.KeptLines.{WasRead};
 ghost use Rattle.playlist_parse.specs.Inner.Source.{Agree, TakesOver, IsSourceOf, Grown, gone_after};
@@ -263,17 +264,21 @@ fn take_over_last<'a>(
     }
 }
 
-// What is kept of a text, all of whose lines are read; none where tags of a further segment stand at its end.
+// What is kept of a text, all of whose lines are read; none if it has no segment, or tags of a further one at its end.
 fn source_of(alloc: Global, text: &str, reading: &Reading<'_>) -> Result<Option<Source>, AllocError>
-    ensures { IfOk result
+    ensures source { IfOk result
         (λ source. MatchOption source (Unit {0})
         (λ source. IsSourceOf text.now reading.now.progress reading.now.number source)) }
+    ensures none { reading.now.progress.segments ≡ [] → result ≡ Ok None }
 {
+    let segments = reading.progress.segment_count();
+    if segments == 0 {
+        return Ok(None);
+    }
     let Some(stop) = reading.progress.stop()? else {
         return Ok(None);
     };
     let heading = reading.progress.heading();
-    let segments = reading.progress.segment_count();
     let date_ranges = reading.progress.date_range_count();
     let text = Text::copy_of(alloc, text)?;
     Ok(Some(Source {
@@ -302,6 +307,7 @@ fn read_front<'a>(
         → Reached base.now reading.old.progress reading.old.number all all }
     requires kept { IsKept base.now last.now source.now }
     ensures reached { Reads base.now reading.old result reading.new }
+    ensures light { Tells base.now reading.old result reading.new }
     ensures none_left { OnOk result (reading.new.lines ≡ []) }
     ensures taken { IfOk result
         (λ taken. AreTaken (last_segments last.now) reading.new.progress.segments taken.start taken.end) }
@@ -309,6 +315,10 @@ fn read_front<'a>(
     match read_some(reading, is_plain, 1) {
         Ok(()) => {}
         Err(fault) => return Err(fault),
+    }
+    // (a text without a segment takes nothing over, so the faults of its tags need no memory)
+    if reading.progress.segment_count() == 0 {
+        return Ok(0..0);
     }
     let taken = match take_over_last(alloc, reading, base, source, last) {
         Ok(taken) => taken,
@@ -332,6 +342,9 @@ fn read_tail<'a>(
     ensures answer { (base : Parts) (all : List (List ℕ))
         → Reached base reading.entry.progress reading.entry.number (lines tail.entry.now) all
         → Answers result (and_whole (said_from (said_by limited base) (nothing ∷ []) all)) }
+    ensures light { (base : Parts) (e : Fault)
+        → Telling base reading.entry.progress reading.entry.number (lines tail.entry.now) e
+        → result ≡ Err e }
     ensures grown { (base : Parts) (all : List (List ℕ))
         → Reached base reading.entry.progress reading.entry.number (lines tail.entry.now) all
         → IfOk result (Grown reading.entry.progress) }
@@ -359,6 +372,9 @@ fn read_body<'a>(
     requires kept { IsKept base.now last.now source.now }
     ensures answer { AnswersRead result (and_whole (said_from (said_by limited base.now) (nothing
         ∷ []) (lines body.entry.now))) }
+    ensures light { (front later : List (List ℕ)) (e : Fault)
+        → lines body.entry.now ≡ front ++ later → AreLight front
+        → said_from (said_by limited base.now) (nothing ∷ []) front ≡ Err e → result ≡ Err e }
     ensures source { IfOk result (λ read. IsSource base.now read.playlist read.source) }
     ensures taken { IfOk result
         (λ read. AreTaken (last_segments last.now) read.playlist.segments read.taken.start read.taken.end) }
@@ -404,6 +420,12 @@ pub fn read_after(
         → result ≡ Err (record { kind = FaultKind.TooLong; line = 0 }) }
     ensures header { is_utf8 bytes.now ≡ true → length bytes.now ≤ MAX_BYTES
         → HasNoHeader bytes.now → result ≡ Err (record { kind = FaultKind.NoHeader; line = 1 }) }
+
+    // So is the first fault of the lines after the header, up to one that takes memory.
+    ensures light { (front later : List (List ℕ)) (e : Fault)
+        → is_utf8 bytes.now ≡ true → length bytes.now ≤ MAX_BYTES
+        → lines bytes.now ≡ codes "#EXTM3U" ∷ (front ++ later) → AreLight front
+        → said_from (said_by limited base.now) (nothing ∷ []) front ≡ Err e → result ≡ Err e }
 
     ensures source { IfOk result (λ read. IsSource base.now read.playlist read.source) }
     ensures taken { IfOk result

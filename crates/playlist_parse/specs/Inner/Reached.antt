@@ -2,6 +2,7 @@
 use Rattle.std.specs.Prelude.{◌≡◌, ℕ, ◌+◌, List, [], ◌∷◌, ◌++◌, map, length, Result, Err, MatchResult}
 use Rattle.url.specs.Parts.{Parts}
 use Rattle.playlist_model.specs.Said.{Said, nothing}
+use Rattle.playlist_model.specs.LookBack.{segments_of}
 use Rattle.playlist_model.specs.Reading.{said_by, said_from, and_whole, limited, Fault}
 use Rattle.playlist_model.specs.declared.Playlist.{Playlist}
 use Rattle.playlist_parse.specs.Answers.{Answers}
@@ -23,14 +24,15 @@ pub record Reached (base : Parts) (progress : Progress) (number : ℕ) (left lin
 abbrev pub Faulted : Parts → Fault → List (List ℕ) → Type 0
 Faulted base fault lines = let answer : Result Playlist Fault = Err fault in Answers answer (and_whole (said_from (said_by limited base) (nothing ∷ []) lines))
 
--- some lines after the header are read, and these are left: they begin with lines that take no memory, in which this
--- fault is the first
+-- some lines after the header are read, none of which names a segment, and these are left: they begin with lines that
+-- take no memory, in which this fault is the first
 pub record Telling (base : Parts) (progress : Progress) (number : ℕ) (left : List (List ℕ)) (fault : Fault) : Type 0 where
   pub before : List Said
   pub front : List (List ℕ)
   pub later : List (List ℕ)
   pub progress_is : progress ≡ progress_at base before
   pub count : length before + 1 ≡ number
+  pub none : segments_of before ≡ []
   pub left_is : left ≡ front ++ later
   pub light : AreLight front
   pub said : said_from (said_by limited base) before front ≡ Err fault
@@ -55,3 +57,16 @@ abbrev pub Reads : {A : Type 0} → Parts → Reading → Result A Fault → Rea
 Reads base old result new =
     (tail all : List (List ℕ)) → Reached base old.progress old.number (left_in old ++ tail) all
     → MatchResult result (λ _. Reached base new.progress new.number (left_in new ++ tail) all) (λ e. Faulted base e all)
+
+-- a fault of lines that take no memory is still to be met there where it is to be met here, whatever follows the lines
+-- that are left
+abbrev pub IsStillTold : Parts → Reading → Reading → Type 0
+IsStillTold base old new =
+    (tail : List (List ℕ)) (fault : Fault) → Telling base old.progress old.number (left_in old ++ tail) fault
+    → Telling base new.progress new.number (left_in new ++ tail) fault
+
+-- such a fault is still to be met where the reading went on; where it ended, it is the answer
+abbrev pub Tells : {A : Type 0} → Parts → Reading → Result A Fault → Reading → Type 0
+Tells base old result new =
+    (tail : List (List ℕ)) (fault : Fault) → Telling base old.progress old.number (left_in old ++ tail) fault
+    → MatchResult result (λ _. Telling base new.progress new.number (left_in new ++ tail) fault) (λ e. e ≡ fault)

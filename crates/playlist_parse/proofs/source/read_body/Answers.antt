@@ -1,13 +1,15 @@
 use Rattle.std.proofs.Common.{rules, ◌≡◌, ◌+◌, ◌<◌, ◌∷◌, ◌++◌, [], List, ℕ, true, ap, length, subst, sym, ◌∙◌, arith, length-append}
 use Rattle.std.specs.List.{list_all}
 use Rattle.std.specs.Str.Lines.{lines}
-use Rattle.std.specs.Prelude.{Ok}
+use Rattle.std.specs.Prelude.{Result, Ok, Err}
 use Rattle.std.proofs.lemmas.List.{append-nil}
 use Rattle.playlist_model.specs.Said.{nothing}
-use Rattle.playlist_model.specs.Reading.{said_by, said_from, and_whole, limited}
+use Rattle.playlist_model.specs.declared.Playlist.{Playlist}
+use Rattle.playlist_model.specs.Reading.{said_by, said_from, and_whole, limited, Fault}
 use Rattle.playlist_parse.specs.Inner.LineViews.{is_free}
 use Rattle.playlist_parse.specs.Inner.Reached.{Reached, Faulted, left_in}
 use Rattle.playlist_parse.specs.declared.reader.Reading.{Reading}
+use Rattle.playlist_parse.proofs.Light.{none_read, told_at, told_after}
 use Rattle.playlist_parse.proofs.Reached.{begun_at, none_more, unread}
 use Rattle.playlist_parse.proofs.GoingTo.{few_reached, plain_front, plain_after, kept_source, taken_on}
 use Rattle.playlist_parse.proofs.source.read_body.Goals as goal
@@ -15,6 +17,9 @@ use Rattle.playlist_parse.proofs.source.read_body.Goals as goal
 -- what is left at first, with the lines of the tail, is the whole body
 whole_is : (old : Reading) (front tail body : List (List ℕ)) → left_in old ≡ front → body ≡ front ++ tail → left_in old ++ tail ≡ body
 whole_is old front tail body here cut = ap (λ ls. ls ++ tail) here ∙ sym cut
+
+same_fault : {a e : Fault} → (let answer : Result Playlist Fault = Err a in answer) ≡ Err e → a ≡ e
+same_fault h = cc
 
 -- a front has no more lines than the whole
 fewer : (front tail body : List (List ℕ)) → body ≡ front ++ tail → length body < 9223372036854775808 → length front < 9223372036854775808
@@ -102,7 +107,7 @@ returns-in-Ok-read_tail-clause-source c =
     kept_source cut.front.now c.in-Ok-source_of.source c.in-Ok-read_tail.playlist
     (subst (λ ls. Reached base new.progress new.number [] ls) (append-nil (left_in old) ∙ left) front)
     (fewer (lines cut.front.now) tail (lines c.args.body.now) c.cut_after_segments-cut.ensures c.requires.few)
-    c.in-Ok-source_of.ensures (c.in-Ok-read_tail.ensures.grown base (left_in old ++ tail) here)
+    c.in-Ok-source_of.ensures.source (c.in-Ok-read_tail.ensures.grown base (left_in old ++ tail) here)
 
 pub returns-in-Ok-read_tail-clause-taken : goal.returns-in-Ok-read_tail-clause-taken
 returns-in-Ok-read_tail-clause-taken c =
@@ -137,3 +142,50 @@ source_of-requires-text-text c = search rules
 
 pub read_tail-requires-text-tail : goal.read_tail-requires-text-tail
 read_tail-requires-text-tail c = search rules
+
+pub returns-in-Err-clause-light : goal.returns-in-Err-clause-light
+returns-in-Err-clause-light c = λ front later e is light said.
+    let base = c.args.base.now in
+    let cut = c.cut_after_segments-cut.result in
+    let old = c.reading_of-reading.result in
+    let tail = lines cut.tail.now in
+    let left : left_in old ≡ lines cut.front.now = ap (λ ls. left_in (record old { lines = ls })) c.reading_of-reading.ensures.lines ∙ c.new.ensures.texts in
+    let whole = whole_is old (lines cut.front.now) tail (lines c.args.body.now) left c.cut_after_segments-cut.ensures in
+    let told = told_at base old tail (lines c.args.body.now) whole c.reading_of-reading.ensures.number c.reading_of-reading.ensures.light front later e is light said in
+    ap Err (c.in-Err.ensures.light tail e told)
+
+pub returns-in-Err-source_of-clause-light : goal.returns-in-Err-source_of-clause-light
+returns-in-Err-source_of-clause-light c = λ front later e is light said.
+    let base = c.args.base.now in
+    let cut = c.cut_after_segments-cut.result in
+    let old = c.reading_of-reading.result in
+    let tail = lines cut.tail.now in
+    let left : left_in old ≡ lines cut.front.now = ap (λ ls. left_in (record old { lines = ls })) c.reading_of-reading.ensures.lines ∙ c.new.ensures.texts in
+    let whole = whole_is old (lines cut.front.now) tail (lines c.args.body.now) left c.cut_after_segments-cut.ensures in
+    let told = told_at base old tail (lines c.args.body.now) whole c.reading_of-reading.ensures.number c.reading_of-reading.ensures.light front later e is light said in
+    let left_told = told_after tail c.read_front.new.reading c.in-Ok.ensures.none_left (c.in-Ok.ensures.light tail e told) in
+    absurd (cc (c.in-Err-source_of.ensures.none (none_read left_told)))
+
+pub returns-in-Ok-read_tail-clause-light : goal.returns-in-Ok-read_tail-clause-light
+returns-in-Ok-read_tail-clause-light c = λ front later e is light said.
+    let base = c.args.base.now in
+    let cut = c.cut_after_segments-cut.result in
+    let old = c.reading_of-reading.result in
+    let tail = lines cut.tail.now in
+    let left : left_in old ≡ lines cut.front.now = ap (λ ls. left_in (record old { lines = ls })) c.reading_of-reading.ensures.lines ∙ c.new.ensures.texts in
+    let whole = whole_is old (lines cut.front.now) tail (lines c.args.body.now) left c.cut_after_segments-cut.ensures in
+    let told = told_at base old tail (lines c.args.body.now) whole c.reading_of-reading.ensures.number c.reading_of-reading.ensures.light front later e is light said in
+    let left_told = told_after tail c.read_front.new.reading c.in-Ok.ensures.none_left (c.in-Ok.ensures.light tail e told) in
+    absurd (cc (c.in-Ok-read_tail.ensures.light base e left_told))
+
+pub returns-in-Err-read_tail-clause-light : goal.returns-in-Err-read_tail-clause-light
+returns-in-Err-read_tail-clause-light c = λ front later e is light said.
+    let base = c.args.base.now in
+    let cut = c.cut_after_segments-cut.result in
+    let old = c.reading_of-reading.result in
+    let tail = lines cut.tail.now in
+    let left : left_in old ≡ lines cut.front.now = ap (λ ls. left_in (record old { lines = ls })) c.reading_of-reading.ensures.lines ∙ c.new.ensures.texts in
+    let whole = whole_is old (lines cut.front.now) tail (lines c.args.body.now) left c.cut_after_segments-cut.ensures in
+    let told = told_at base old tail (lines c.args.body.now) whole c.reading_of-reading.ensures.number c.reading_of-reading.ensures.light front later e is light said in
+    let left_told = told_after tail c.read_front.new.reading c.in-Ok.ensures.none_left (c.in-Ok.ensures.light tail e told) in
+    ap Err (same_fault (c.in-Err-read_tail.ensures.light base e left_told))

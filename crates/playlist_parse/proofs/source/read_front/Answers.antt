@@ -1,9 +1,10 @@
-use Rattle.std.proofs.Common.{◌≡◌, ◌++◌, [], ap, length, arith}
+use Rattle.std.proofs.Common.{◌≡◌, ◌++◌, [], ap, ◌∙◌, length, arith}
 use Rattle.std.proofs.lemmas.List.{append-nil, length-map}
 use Rattle.playlist_parse.specs.Inner.LineViews.{line_text}
 use Rattle.playlist_parse.specs.Inner.Reached.{left_in}
 use Rattle.playlist_parse.proofs.Reached.{none_more, unread}
-use Rattle.playlist_parse.proofs.GoingTo.{few_reached, further, taken_on}
+use Rattle.playlist_parse.proofs.Light.{none_read}
+use Rattle.playlist_parse.proofs.GoingTo.{few_reached, further, none_taken, taken_on}
 use Rattle.playlist_parse.proofs.source.read_front.Goals as goal
 
 pub read_some-requires-clause-few : goal.read_some-requires-clause-few
@@ -57,3 +58,30 @@ returns-in-Ok-read_all-clause-taken c =
 pub returns-in-Err-read_all-clause-reached : goal.returns-in-Err-read_all-clause-reached
 returns-in-Err-read_all-clause-reached c = λ tail all r.
     c.in-Err-read_all.ensures.reached c.args.base.now tail all (c.in-Ok-take_over_last.ensures.reached tail all (c.in-Ok.ensures.reached c.args.base.now tail all r))
+
+pub returns-in-Err-clause-light : goal.returns-in-Err-clause-light
+returns-in-Err-clause-light c = c.in-Err.ensures.light c.args.base.now
+
+pub returns-then-segment_count-eq0-clause-reached : goal.returns-then-segment_count-eq0-clause-reached
+returns-then-segment_count-eq0-clause-reached c = c.in-Ok.ensures.reached c.args.base.now
+
+pub returns-then-segment_count-eq0-clause-light : goal.returns-then-segment_count-eq0-clause-light
+returns-then-segment_count-eq0-clause-light c = c.in-Ok.ensures.light c.args.base.now
+
+pub returns-then-segment_count-eq0-clause-none_left : goal.returns-then-segment_count-eq0-clause-none_left
+returns-then-segment_count-eq0-clause-none_left c = c.in-Ok.ensures.none_left (omega (arith, c.segment_count.ensures, c.if-segment_count-eq0.true))
+
+pub returns-then-segment_count-eq0-clause-taken : goal.returns-then-segment_count-eq0-clause-taken
+returns-then-segment_count-eq0-clause-taken c = none_taken _ _
+
+pub returns-in-Err-take_over_last-clause-light : goal.returns-in-Err-take_over_last-clause-light
+returns-in-Err-take_over_last-clause-light c = λ tail fault told.
+    absurd (c.if-segment_count-eq0.false (c.segment_count.ensures ∙ ap length (none_read (c.in-Ok.ensures.light c.args.base.now tail fault told))))
+
+pub returns-in-Ok-read_all-clause-light : goal.returns-in-Ok-read_all-clause-light
+returns-in-Ok-read_all-clause-light c = λ tail fault told.
+    absurd (c.if-segment_count-eq0.false (c.segment_count.ensures ∙ ap length (none_read (c.in-Ok.ensures.light c.args.base.now tail fault told))))
+
+pub returns-in-Err-read_all-clause-light : goal.returns-in-Err-read_all-clause-light
+returns-in-Err-read_all-clause-light c = λ tail fault told.
+    absurd (c.if-segment_count-eq0.false (c.segment_count.ensures ∙ ap length (none_read (c.in-Ok.ensures.light c.args.base.now tail fault told))))

@@ -1,9 +1,10 @@
-use Rattle.std.proofs.Common.{◌≡◌, ◌++◌, [], true, ap, map, length, subst, sym, ◌∙◌, arith}
+use Rattle.std.proofs.Common.{Err, ◌≡◌, ◌++◌, [], true, ap, map, length, subst, sym, ◌∙◌, arith}
 use Rattle.std.specs.List.{list_all}
 use Rattle.std.specs.Str.Lines.{lines}
 use Rattle.std.proofs.lemmas.List.{append-nil, length-map}
 use Rattle.playlist_parse.specs.Inner.LineViews.{is_free, line_text}
-use Rattle.playlist_parse.specs.Inner.Reached.{Reached}
+use Rattle.playlist_parse.specs.Inner.Reached.{Reached, Telling}
+use Rattle.playlist_parse.proofs.Light.{is_over, told_after}
 use Rattle.playlist_parse.proofs.Reached.{none_more, told_whole}
 use Rattle.playlist_parse.proofs.GoingTo.{grown, if_ok}
 use Rattle.playlist_parse.proofs.source.read_tail.Goals as goal
@@ -36,3 +37,14 @@ pub returns-in-Err-clause-answer : goal.returns-in-Err-clause-answer
 returns-in-Err-clause-answer c = λ base all here.
     let left : lines c.args.tail.now ≡ map line_text c.new-reading.result ++ [] = sym (append-nil (map line_text c.new-reading.result) ∙ c.new-reading.ensures.texts) in
     c.in-Err.ensures.reached base [] all (subst (λ ls. Reached base c.args.reading.progress c.args.reading.number ls all) left here)
+
+pub returns-in-Ok-clause-light : goal.returns-in-Ok-clause-light
+returns-in-Ok-clause-light c = λ base e told.
+    let left : lines c.args.tail.now ≡ map line_text c.new-reading.result ++ [] = sym (append-nil (map line_text c.new-reading.result) ∙ c.new-reading.ensures.texts) in
+    let begun = subst (λ ls. Telling base c.args.reading.progress c.args.reading.number ls e) left told in
+    absurd (is_over (told_after [] c.read_all.new.reading c.in-Ok.ensures.none_left (c.in-Ok.ensures.light base [] e begun)))
+
+pub returns-in-Err-clause-light : goal.returns-in-Err-clause-light
+returns-in-Err-clause-light c = λ base e told.
+    let left : lines c.args.tail.now ≡ map line_text c.new-reading.result ++ [] = sym (append-nil (map line_text c.new-reading.result) ∙ c.new-reading.ensures.texts) in
+    ap Err (c.in-Err.ensures.light base [] e (subst (λ ls. Telling base c.args.reading.progress c.args.reading.number ls e) left told))
