@@ -11,7 +11,7 @@ abbrev pub fault_of : ErrorKind → DecisionsFault
 fault_of kind.OutOfMemory = OutOfMemory
 fault_of _ = CannotRead
 
--- no file where none is named; else its bytes, or why they can't be read
+-- no file if none is named; else its bytes, or why they can't be read
 abbrev pub decided : {A : Type 0} → Option (Result A Error) → Result (Option A) DecisionsFault
 decided None = Ok None
 decided (Some (Ok bytes)) = Ok (Some bytes)

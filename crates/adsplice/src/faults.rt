@@ -27,12 +27,12 @@ pub fn fails(rt: &HostRuntime, line: &str) -> ExitCode {
 /// may hold the others by not reading what is told.
 #[derive(Drop)]
 pub struct Faults {
-    // None where a write never waits, as to a file.
+    // None if a write never waits, as to a file.
     readiness: Option<Poll>,
     events: Events,
 }
 
-// What tells whether standard error would wait, where it can.
+// What tells whether standard error would wait, if it can.
 fn readiness(rt: &HostRuntime) -> Option<Poll> {
     let poll = Poll::new(rt).ok()?;
     poll.registry()
@@ -41,7 +41,7 @@ fn readiness(rt: &HostRuntime) -> Option<Poll> {
     Some(poll)
 }
 
-// A text and a line feed, where they fit.
+// A text and a line feed, if they fit.
 fn line_of(text: &str) -> Option<ArrayString<LINE>> {
     let mut line = ArrayString::<LINE>::new();
     line.try_push_str(text).ok()?;
@@ -50,7 +50,7 @@ fn line_of(text: &str) -> Option<ArrayString<LINE>> {
 }
 
 impl Faults {
-    /// Fails only where an allocation fails.
+    /// Fails only if an allocation fails.
     pub fn new(rt: &HostRuntime, alloc: Global) -> Result<Faults, AllocError> {
         Ok(Faults {
             readiness: readiness(rt),

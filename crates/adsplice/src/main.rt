@@ -25,7 +25,7 @@ fn usage(rt: &HostRuntime) -> ExitCode {
     ExitCode::from(2)
 }
 
-// One playlist from standard input to standard output; the decision file, where there is one, is read first.
+// One playlist from standard input to standard output; the decision file, if there is one, is read first.
 fn vod(rt: &HostRuntime, hashing: RandomState, base: &str, decisions: Option<&str>) -> ExitCode {
     match decided(decisions.map(|path| fs::read(rt, path))) {
         Ok(None) => vod_with(rt, hashing, base, None),

@@ -202,7 +202,7 @@ impl Server {
         }
     }
 
-    // Waits for a client, or closes its connection where the system can't tell of it.
+    // Waits for a client, or closes its connection if the system can't tell of it.
     fn watch(&mut self, connections: &mut Connections, place: usize, again: bool)
         ensures { HasRun connections.old connections.new }
     {
@@ -363,7 +363,7 @@ impl Server {
         }
     }
 
-    // Somebody waits to be let in. Where there was no file, the client gives up its own that has asked longest.
+    // Somebody waits to be let in. If there was no file, the client gives up its own that has asked longest.
     fn on_somebody(&mut self, rt: &HostRuntime, connections: &mut Connections)
         ensures { HasRun connections.old connections.new }
     {
@@ -380,7 +380,7 @@ impl Server {
         }
     }
 
-    // A vacant seat, for which a connection is given up where there is none.
+    // A vacant seat, for which a connection is given up if there is none.
     fn seat_for_one(
         &mut self,
         rt: &HostRuntime,

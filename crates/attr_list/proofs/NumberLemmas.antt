@@ -38,7 +38,7 @@ no_plus radix (c ∷ ds) s h e l = plus_value c (omega (arith, h.0)) e
 plain : (radix : ℕ) (ds : List ℕ) → radix ≤ 16 → AllDigits radix ds → 0 < length ds → without_leading_plus ds ≡ ds
 plain radix ds s h l = without_leading_plus_none ds (λ e. no_plus radix ds s h e l)
 
--- the answer of a parse, where the text has digits alone
+-- the answer of a parse, if the text has digits alone
 parsed : {E : Type 0} (k radix : ℕ) (ds : List ℕ) (r : Result ℕ E) → radix ≤ 16 → AllDigits radix ds → 0 < length ds → ParsesUnsigned k radix ds r
     → result_ok r ≡ cond (nat_lt (digits_value radix ds) (2 ^ k)) (Some (digits_value radix ds)) None
 parsed k radix ds r s h l p = by r (digits_value radix ds) (2 ^ k) (l, h) (rw (plain radix ds s h l) at p)
@@ -82,7 +82,7 @@ none_unless true false c v h = refl
 none_unless true true false v h = refl
 none_unless true true true v h = absurd (h refl refl)
 
--- where a byte is no digit, or its digit too many, the text is no decimal
+-- if a byte is no digit, or its digit too many, the text is no decimal
 pub no_decimal : (ds : List ℕ) (i v : ℕ) → i < length ds → v ≡ digits_value 10 (take i ds)
     → ((is_ascii_digit (get_or ds i 0) ≡ true) × (v * 10 + (get_or ds i 0 - 48) < 2 ^ 64) → ⊥) → decimal_of ds ≡ None
 no_decimal ds i v within value h =
@@ -93,7 +93,7 @@ no_decimal ds i v within value h =
     let top = ltb-true _ _ below in
     h (digit, omega (arith, value, more, most, top)))
 
--- where all are, it is
+-- if all are, it is
 pub is_decimal : (ds : List ℕ) (v n : ℕ) → 0 < length ds → length ds ≤ 20 → length ds ≤ n → v ≡ digits_value 10 (take n ds) → v < 2 ^ 64 → list_all is_ascii_digit (take n ds) ≡ true → decimal_of ds ≡ Some v
 is_decimal ds v n some few long value below digits =
     let whole : take n ds ≡ ds = take_all n ds long in

@@ -117,7 +117,7 @@ value_of name (b ∷ text) =
     if is_quote b then value_pair name true (quoted_value text)
     else value_pair name false (plain_value (b ∷ text))
 
--- whether so many are as many as the limit, where there is one
+-- whether so many are as many as the limit, if there is one
 abbrev pub is_full : Option ℕ → ℕ → Bool
 is_full None count = false
 is_full (Some most) count = nat_le most count

@@ -23,7 +23,7 @@ WithinLimit = (most : ℕ) (text : List ℕ) → length (pieces text) ≤ most �
 abbrev pub PastLimit : Type 0
 PastLimit = (most : ℕ) (text : List ℕ) → most < length (pieces text) → IsErr (attributes_of (Some most) text)
 
--- so what is read with a limit is what is read without, where that is within it
+-- so what is read with a limit is what is read without, if that is within it
 abbrev pub LimitOnlyRefuses : Type 0
 LimitOnlyRefuses = (most : ℕ) (text : List ℕ) (pairs : List Pair)
     → (attributes_of (Some most) text ≡ Ok pairs) ↔ ((attributes_of None text ≡ Ok pairs) × (length (pieces text) ≤ most))

@@ -1,4 +1,4 @@
--- Where no break is entered in a span, no segment in it enters one.
+-- If no break is entered in a span, no segment in it enters one.
 use Rattle.std.proofs.Common.{◌≡◌, ℕ, ℤ, true, List, sym, refl, ap, ◌∙◌, Some, None}
 use Rattle.std.specs.Prelude.{Option, is_none}
 use Rattle.pod_store.specs.Store.{Store}

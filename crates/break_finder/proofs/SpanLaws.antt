@@ -23,7 +23,7 @@ one_step e true true false = refl
 one_step e true false last = refl
 one_step e false early last = refl
 
--- where it can be entered, it is, if it isn't the last one entered
+-- if it can be entered, it is, if it isn't the last one entered
 one_taken : (tolerance : ℕ) (last : Option (List ℕ)) (instant : ℤ) (e : Entrance) → taken tolerance last instant (e ∷ []) ≡ cond (is_enterable tolerance instant e) (but (Some e.id) None last) None
 one_taken tolerance last instant e = one_step e (is_near instant tolerance (Some e.start)) (is_not_past instant tolerance e.end) (is_this e.id last)
 

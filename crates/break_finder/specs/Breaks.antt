@@ -19,7 +19,7 @@ break_of breaks id = find (is_named id) breaks
 abbrev pub said_in : Break → Described
 said_in b = b.said
 
--- what is said of the break of an ID, where it is known
+-- what is said of the break of an ID, if it is known
 abbrev pub said_of : List Break → List ℕ → Option Described
 said_of breaks id = option_map said_in (break_of breaks id)
 

@@ -68,7 +68,7 @@ abbrev pub is_last : Option (List ℕ) → Option (List ℕ) → Bool
 is_last None last = false
 is_last (Some id) last = is_this id last
 
--- the first, or where it is the last one entered the second
+-- the first, or if it is the last one entered the second
 abbrev pub but : Option (List ℕ) → Option (List ℕ) → Option (List ℕ) → Option (List ℕ)
 but first second last = if is_last first last then second else first
 

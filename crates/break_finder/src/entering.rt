@@ -43,7 +43,7 @@ impl<'a> Model for Entrances<'a> {
     ghost invariant = { λ a. All (Tells a.tolerance a.list.items) a.spans.items };
 }
 
-// The spans of these breaks, where it pays to make them for so many segments.
+// The spans of these breaks, if it pays to make them for so many segments.
 fn spans_for<'a>(
     alloc: Global,
     tolerance: Nanos,

@@ -36,7 +36,7 @@ impl<'a> Model for TimeSpan<'a> {
     ghost view = { λ a. record { from = a.from; to = a.to; first = option_copied a.first; second = option_copied a.second } };
 }
 
-// The first, or where it is the last one entered the second.
+// The first, or if it is the last one entered the second.
 fn but<'a>(first: Option<&'a str>, second: Option<&'a str>, last: Option<&str>) -> Option<&'a str>
     ensures { option_copied result
         ≡ but (option_copied first.entry) (option_copied second.entry) (option_copied last.entry) }
@@ -93,7 +93,7 @@ impl<'a> TimeSpan<'a> {
     }
 }
 
-// What two spans have in common, where the breaks of the one come before those of the other.
+// What two spans have in common, if the breaks of the one come before those of the other.
 fn met<'a>(ours: &TimeSpan<'a>, theirs: &TimeSpan<'a>) -> TimeSpan<'a>
     ensures from_ours { ours.now.from ≤ℤ result.from }
     ensures from_theirs { theirs.now.from ≤ℤ result.from }
@@ -111,7 +111,7 @@ fn met<'a>(ours: &TimeSpan<'a>, theirs: &TimeSpan<'a>) -> TimeSpan<'a>
     }
 }
 
-// These spans, but the first one where it ends here or before.
+// These spans, but the first one if it ends here or before.
 fn from_here<'s, 'a>(spans: &'s [TimeSpan<'a>], end: i128) -> &'s [TimeSpan<'a>]
     ensures { (tolerance : ℕ) (found : List Entrance) → All (Tells tolerance found) spans.now
         → All (Tells tolerance found) result.now }

@@ -3,7 +3,7 @@ use Rattle.std.proofs.Common.{◌≡◌, ℕ, ◌+◌, ◌-◌, ◌≤◌, List,
 use Rattle.std.proofs.lemmas.List.{take_at}
 use Rattle.std.specs.Prelude.{Option}
 
--- what was taken and what is left are what there was, where it is known
+-- what was taken and what is left are what there was, if it is known
 abbrev pub Joins : Option (List ℕ) → Option (List ℕ) → List ℕ → List ℕ → Type 0
 Joins None new rest bytes = Unit {0}
 Joins (Some old) None rest bytes = ⊥

@@ -6,7 +6,7 @@ use Rattle.byte_streams.specs.Handed.{TookFront}
 
 -- ---- sources
 
--- how a source stands: the bytes that it still has, where they are known, its calls and its failures
+-- how a source stands: the bytes that it still has, if they are known, its calls and its failures
 pub record SourceStand : Type 0 where
   pub remaining : Option (List ℕ)
   pub called : ℕ
@@ -30,7 +30,7 @@ pub record GaveAtEach (old new : SourceStand) (count : ℕ) : Type 0 where
 
 -- ---- sinks
 
--- how a sink stands: the bytes that it has taken, where they are known, and its failures
+-- how a sink stands: the bytes that it has taken, if they are known, and its failures
 pub record SinkStand : Type 0 where
   pub contents : Option (List ℕ)
   pub failed : Failures
@@ -45,6 +45,6 @@ pub record FailedAfterFront (old new : SinkStand) (bytes : List ℕ) : Type 0 wh
   pub front : TookFront old.contents new.contents bytes
   pub failed : FailedAtLast old.failed new.failed
 
--- it took these bytes, or a front of them where it failed
+-- it took these bytes, or a front of them if it failed
 abbrev pub WasHanded : SinkStand → SinkStand → List ℕ → Type 0
 WasHanded old new bytes = TookAll old new bytes ⊎ FailedAfterFront old new bytes

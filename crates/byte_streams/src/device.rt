@@ -17,7 +17,7 @@ pub const MAX_READS: u64 = 65_536;
 
 /// What bytes come from. Its counters stay at 2^64 - 1.
 pub trait Source {
-    /// How it stands: the bytes that it has left, where they are known, how many reads there were, how many of them
+    /// How it stands: the bytes that it has left, if they are known, how many reads there were, how many of them
     /// failed, and whether the last one did.
     ghost stand: { Self → SourceStand };
 
@@ -43,7 +43,7 @@ pub trait Source {
 
 /// What bytes go to. Its counter stays at 2^64 - 1.
 pub trait Sink {
-    /// How it stands: the bytes that it has taken, where they are known, how many of its writes failed or took
+    /// How it stands: the bytes that it has taken, if they are known, how many of its writes failed or took
     /// nothing, and whether the last one did.
     ghost stand: { Self → SinkStand };
 

@@ -1,4 +1,4 @@
--- Where the front of a path can't be cut off, no name comes after it.
+-- If the front of a path can't be cut off, no name comes after it.
 use Rattle.std.proofs.Common.{◌≡◌, ℕ, ◌+◌, ◌-◌, ◌<◌, ◌≤◌, List, [], ◌∷◌, length, get_or, take, drop, false, not, cond, ◌&&◌, refl, sym, ap, ◌∙◌, arith, take_all, one-add, length-drop, ◌==◌, ◌⊎◌, inl, inr}
 use Rattle.std.specs.Prelude.{Option, Some, None, MatchOption, nat_le}
 use Rattle.std.specs.Borrow.{Bor}

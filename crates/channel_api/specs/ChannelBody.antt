@@ -23,7 +23,7 @@ abbrev pub tolerance_text : Option (List ℕ) → Option ℕ
 tolerance_text None = None
 tolerance_text (Some text) = Some (nanos_or_most (duration_of text))
 
--- that of the channel's default where there is no member of this name
+-- that of the channel's default if there is no member of this name
 abbrev pub tolerance_said : Option Data → Option ℕ
 tolerance_said None = Some default_tolerance
 tolerance_said (Some d) = tolerance_text (as_str d)

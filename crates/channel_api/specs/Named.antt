@@ -8,7 +8,7 @@ abbrev pub is_at : {A : Type 0} → List ℕ → String A → Bool
 is_at name key = bytes_eq name (string_bytes key)
 
 -- it stands after the others, or else they are as they were: the name is taken, there are as many as there may be, or
--- an allocation failed, which is told only where it could have been put there
+-- an allocation failed, which is told only if it could have been put there
 abbrev pub PutsNamed : {A V E : Type 0} → ℕ → List ℕ → V → List (String A × V) → Result Naming E → List (String A × V) → Type 0
 PutsNamed most name value old (Ok naming.Done) new =
     (lookup (is_at name) old ≡ None) × (length old < most) × (key : _) × (string_bytes key ≡ name) × (new ≡ old ++ (key, value) ∷ [])

@@ -85,7 +85,7 @@ why_line reason id = line_of id (why_word (reason id))
 abbrev pub why_text : (List ℕ → Why) → List Break → List ℕ
 why_text reason breaks = flat_map (why_line reason) (map id_of breaks)
 
--- a text, or no content where that is empty
+-- a text, or no content if that is empty
 abbrev pub text_reply : List ℕ → Reply
 text_reply [] = bare 200
 text_reply (b ∷ text) = plain 200 (b ∷ text)

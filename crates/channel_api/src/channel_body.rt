@@ -46,7 +46,7 @@ pub struct Wanted {
     pub tolerance: Nanos,
 }
 
-// The text at a name, where there is one.
+// The text at a name, if there is one.
 fn text_at<'a>(value: &'a Value, name: &str) -> Option<&'a str>
     ensures { option_map (λ text. text.now) result
         ≡ option_and_then as_str (get name.now (view value.now)) }

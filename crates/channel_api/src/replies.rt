@@ -58,7 +58,7 @@ pub fn body_fault_reply(alloc: Global, fault: BodyFault) -> Result<Reply, AllocE
     }
 }
 
-// 422 where the text can't be read, 409 where it may not follow.
+// 422 if the text can't be read, 409 if it may not follow.
 fn refresh_status(fault: RefreshFault) -> StatusCode
     ensures { result ≡ refresh_status fault }
 {

@@ -35,7 +35,7 @@ impl Model for Routes {
 }
 
 // How long the front of each route is, before the name. (The router says what the name took of the path by the bytes of the
-// route's text, and where the path's part is known to be UTF-8 alone: to show that takes more than to cut the path here.)
+// route's text, and only if the path's part is known to be UTF-8: to show that takes more than to cut the path here.)
 const FRONT: usize = "/channels/".len();
 
 // The path of a target.
@@ -48,7 +48,7 @@ fn path_of(target: &str) -> &str
     }
 }
 
-// What stands after the front of a path, where it may be cut there; elsewhere there is no name.
+// What stands after the front of a path, if it may be cut there; elsewhere there is no name.
 fn after_front(path: &str) -> Option<&str>
     ensures { MatchOption result (is_channel_name (name_in path.now) ≡ false)
         (λ rest. rest.now ≡ drop (length front) path.now) }
@@ -56,7 +56,7 @@ fn after_front(path: &str) -> Option<&str>
     path.get(FRONT..)
 }
 
-// The name in a path, where there can be one.
+// The name in a path, if there can be one.
 fn name_in(path: &str) -> Option<&str>
     ensures { MatchOption result (is_channel_name (name_in path.now) ≡ false)
         (λ name. name.now ≡ name_in path.now) }

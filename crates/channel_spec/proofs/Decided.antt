@@ -1,4 +1,4 @@
--- A playlist succeeds another exactly where it has no fault.
+-- A playlist succeeds another exactly if it has no fault.
 use Rattle.std.proofs.Common.{◌≡◌, inl, inr, ℕ, ◌+◌, ◌<◌, ◌≤◌, Bool, true, false, ◌&&◌, ◌||◌, not, List, [], ◌∷◌, cond, refl, ap, sym, ◌∙◌, subst, arith}
 use Rattle.std.proofs.lemmas.Bool.{ltb-true, eqb-true, eq-eqb}
 use Rattle.std.specs.Prelude.{Option, Some, None, nat_lt, ◌==◌, find}

@@ -52,7 +52,7 @@ first_shown m history (s ∷ segments) later x e =
     let same : x ≡ here = same_place later g.0 x here history (sym e ∙ g.1) in
     ap (λ (y : Marked). y.segment.discontinuity_sequence) same
 
--- the same window where the playlist had ended
+-- the same window if the playlist had ended
 pub no_new : (m : Moment) (last playlist : Playlist) (history : List Marked) → Standing last history → Passed last playlist → IsSoundPlaylist playlist
     → end_number playlist.segments ≡ end_number last.segments → history_after m history playlist ≡ history
 no_new m last playlist [] s p r e = absurd (omega (arith, s.some))
@@ -166,7 +166,7 @@ above_due m ended over later x history k a e n =
     let r = list_rest ended history in
     rest_above (due_stitched over (later ++ (x ∷ history))) (stitched history) (due_stitched ended history) (above_new m over later x history k a e n) r.rest r.is r.of_pod
 
--- where the item of the next window begins at or past the end of the old list, a piece stands there that is near
+-- if the item of the next window begins at or past the end of the old list, a piece stands there that is near
 item_above : (m ended over : Bool) (number : ℕ) (newest : Marked) (before more : List Marked) → AllByRecursion (IsAlike m) (more ++ (newest ∷ before))
     → ((later : List Marked) (x : Marked) → more ≡ later ++ (x ∷ []) → number ≡ newest.segment.media_sequence + 1 → x.segment.discontinuity_sequence ≤ newest_discontinuity (newest ∷ before) + 1000)
     → 0 < length (up_to number (more ++ (newest ∷ before))) → Begins number more newest before

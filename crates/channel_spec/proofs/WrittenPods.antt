@@ -1,4 +1,4 @@
--- A break is in use exactly where a segment of its pod is written, or it was entered last.
+-- A break is in use exactly if a segment of its pod is written, or it was entered last.
 use Rattle.std.proofs.Common.{◌≡◌, ℕ, ◌+◌, ◌-◌, ◌<◌, ◌≤◌, Bool, true, false, cond, ◌&&◌, ◌||◌, List, [], ◌∷◌, ◌++◌, map, zero, suc, take, drop, length, reverse, refl, ap, sym, ◌∙◌, subst, length-append, arith}
 use Rattle.std.proofs.lemmas.Bool.{lt-leb, le-leb, ltb-true}
 use Rattle.std.proofs.Math.Seq.{take-append_seam}
@@ -96,7 +96,7 @@ due_of mark n (p ∷ pieces) h = (h.0, on (nat_le n p.segment.duration) (due_of 
     on true k = tt
     on false k = k
 
--- pieces of one pod, where there are any
+-- pieces of one pod, if there are any
 any_of : (id : List ℕ) (mark : Mark) (pieces : List Piece) → AllByRecursion (of_mark mark) pieces → 0 < length pieces → list_any (of_pod id) pieces ≡ is_marked id (Some mark)
 any_of id mark [] h n = absurd (omega (arith, n))
 any_of id mark (p ∷ []) h n = ap (λ o. is_marked id o || false) h.0 ∙ or_false (is_marked id (Some mark))

@@ -25,7 +25,7 @@ use Rattle.channel_spec.specs.Sound.{IsSoundEvent}
 abbrev pub is_of_pod : List ℕ → Item → Bool
 is_of_pod id item = is_marked id item.piece.mark
 
--- a break is in use exactly where a segment of its pod is written, or where it is the last one entered
+-- a break is in use exactly if a segment of its pod is written, or if it is the last one entered
 abbrev pub InUseIsWritten : Type 0
 InUseIsWritten = (tolerance : ℕ) (events : List Event) (playlist : Playlist) (id : List ℕ) → AllByRecursion IsSoundEvent events →
     last_playlist (told tolerance events).accepted ≡ Some playlist →
@@ -43,7 +43,7 @@ RunsKeepTheirPods = (tolerance : ℕ) (later before : List Event) →
 -- ---- a break without a pod of its own
 
 -- a break begins at a segment after this history: it is known and signalled, and wasn't entered last; the segment begins near
--- its START-DATE, and before its end, where it lasts as long as this pod; the run before ends there, and no break that became
+-- its START-DATE, and before its end, if it lasts as long as this pod; the run before ends there, and no break that became
 -- known before it is entered there
 pub record BeginsBreak (m : Moment) (before : List Marked) (s : Segment) (later : List Segment) (b : Break) (pod : Pod) : Type 0 where
   pub instant : ℤ
@@ -57,7 +57,7 @@ pub record BeginsBreak (m : Moment) (before : List Marked) (s : Segment) (later 
   pub known : m.breaks ≡ earlier ++ (b ∷ after)
   pub first : list_any (enters_break (limits m (last_entered before)) m.store instant) earlier ≡ false
 
--- such a break is filled with the fallback, where it has no pod of its own and the fallback fits
+-- such a break is filled with the fallback, if it has no pod of its own and the fallback fits
 abbrev pub FallbackFills : Type 0
 FallbackFills = (m : Moment) (before : List Marked) (s : Segment) (later : List Segment) (b : Break) (pod : Pod) → BeginsBreak m before s later b pod →
     own_pod m.store b.id ≡ None → m.store.fallback ≡ Some pod → pod_fits m.target_duration m.with_init_sections pod ≡ true →

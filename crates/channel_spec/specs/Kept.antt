@@ -51,7 +51,7 @@ abbrev pub window_by : Option Playlist → ℕ → List Marked → List Item
 window_by None start history = []
 window_by (Some p) start history = window_from start history p
 
--- of the length of a run no more counts than a nanosecond above its pod's total: all of the pod is due then, also where it
+-- of the length of a run no more counts than a nanosecond above its pod's total: all of the pod is due then, also if it
 -- ends in segments that last nothing
 abbrev pub capped : Option Mark → ℕ → ℕ
 capped None length = 0
@@ -126,7 +126,7 @@ kept_length tolerance kept playlist =
 abbrev pub stitched_on : Bool → ℕ → List Marked → Option Rest → List Piece
 stitched_on whole so_far list rest = due_with whole so_far list ++ rest_pieces rest
 
--- the stitched list from the item on that the last window started with, where these segments are shown then, the newest run of
+-- the stitched list from the item on that the last window started with, if these segments are shown then, the newest run of
 -- which has lasted so long
 abbrev pub items_on : Kept → Playlist → List Marked → ℕ → List Item
 items_on kept playlist list so_far =

@@ -2,7 +2,7 @@
 -- nanoseconds.
 use Rattle.std.specs.Prelude.{ℕ}
 
--- 100 ms, where nothing else is asked
+-- 100 ms, if nothing else is asked
 abbrev pub default_tolerance : ℕ
 default_tolerance = 100000000
 

@@ -85,7 +85,7 @@ marks_from first (s ∷ before) =
 abbrev pub in_use_with : ℕ → List Marked → Option (List ℕ) → Option Rest → List (List ℕ)
 in_use_with first history last rest = marks_from first history ++ (ids_in last ++ ids_in (rest_id rest))
 
--- the breaks in use, where the window starts at this place and its first shown segment has this number: each of which a
+-- the breaks in use, if the window starts at this place and its first shown segment has this number: each of which a
 -- segment of the pod is written, and the last one entered
 abbrev pub breaks_in_use : ℕ → ℕ → List Marked → List (List ℕ)
 breaks_in_use start first history = in_use_with first history (last_entered history) (rest_before start first history)
@@ -173,7 +173,7 @@ told tolerance (event ∷ before) = happens tolerance (told tolerance before) ev
 -- ---- what is written
 
 -- an item as a segment of the written playlist: with the item's numbers (RFC 8216, 4.3.3.2 and 4.3.3.3), stating
--- the item's instant where it has one (4.3.2.6)
+-- the item's instant if it has one (4.3.2.6)
 abbrev pub item_segment : Item → Segment
 item_segment item =
     record item.piece.segment {
@@ -193,7 +193,7 @@ window_from start history playlist = reverse (from_place start (due_list playlis
 abbrev pub window_after : Told → Playlist → List Item
 window_after told playlist = window_from told.start told.history playlist
 
--- the origin's date ranges but those of the breaks in use; none where no written segment states a time, since a date range
+-- the origin's date ranges but those of the breaks in use; none if no written segment states a time, since a date range
 -- has its place by the segments' times alone (4.3.2.7)
 abbrev pub date_ranges_left : Bool → List (List ℕ) → List DateRange → List DateRange
 date_ranges_left stated ids date_ranges = if stated then filter (λ (r : DateRange). not (is_one_of ids r.id)) date_ranges else []

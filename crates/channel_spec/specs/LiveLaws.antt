@@ -48,11 +48,11 @@ HistoriesAreLinked = (tolerance : ℕ) (events : List Event) → Linked (told to
 abbrev pub MarksAreKnown : Type 0
 MarksAreKnown = (tolerance : ℕ) (events : List Event) → CarriesKnown (told tolerance events).accepted
 
--- a playlist succeeds another exactly where it has no fault
+-- a playlist succeeds another exactly if it has no fault
 abbrev pub NoFaultSucceeds : Type 0
 NoFaultSucceeds = (old new : Playlist) → IsSoundPlaylist old → IsSoundPlaylist new → (successor_fault old new ≡ None) ↔ Succeeds new old
 
--- the numbers of a list fit where those of its newest item do
+-- the numbers of a list fit if those of its newest item do
 abbrev pub NewestFits : Type 0
 NewestFits = (first : Numbers) (p : Piece) (before : List Piece) →
     list_all fits (numbered first (p ∷ before)) ≡ fits (record { piece = p; numbers = numbers_at first p before })
@@ -85,7 +85,7 @@ MarksHavePods = (tolerance : ℕ) (events : List Event) → AllByRecursion IsSou
     × (HasPod (told tolerance events).store (last_mark (told tolerance events).history)
     × HasPod (told tolerance events).store (rest_mark (rest_by (last_playlist (told tolerance events).accepted) (told tolerance events).start (told tolerance events).history)))
 
--- a break is used in the store exactly where it is in use
+-- a break is used in the store exactly if it is in use
 abbrev pub UsedAreInUse : Type 0
 UsedAreInUse = (tolerance : ℕ) (events : List Event) (id : List ℕ) → AllByRecursion IsSoundEvent events →
     is_used (told tolerance events).store id ≡ in_use (told tolerance events).start (first_shown (told tolerance events).accepted) (told tolerance events).history id

@@ -44,7 +44,7 @@ last_entered before = option_map mark_id (last_mark before)
 abbrev pub is_inside : Moment → Option ℤ → Mark → Bool
 is_inside m instant f = entering.is_inside m.breaks f.id instant m.tolerance f.pod
 
--- the mark of the segment before, where this one is inside that break
+-- the mark of the segment before, if this one is inside that break
 abbrev pub continued : Moment → Option ℤ → Option Mark → Option Mark
 continued m instant None = None
 continued m instant (Some f) = if is_inside m instant f then Some f else None

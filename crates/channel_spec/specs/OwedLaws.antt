@@ -47,7 +47,7 @@ states_time s = is_some s.program_date_time
 abbrev pub is_played : Told → Playlist → List ℕ → Bool
 is_played t last id = list_any (is_of_pod id) (window_after t last) || is_this id (last_entered t.history)
 
--- a date range of the origin is written word for word exactly where its break isn't played and a written segment states a time
+-- a date range of the origin is written word for word exactly if its break isn't played and a written segment states a time
 abbrev pub DateRangesAreTheOrigins : Type 0
 DateRangesAreTheOrigins = (tolerance : ℕ) (events : List Event) (last now : Playlist) → IsOwed tolerance events last now →
     now.date_ranges ≡ filter (λ (r : DateRange). list_any states_time now.segments && not (is_played (told tolerance events) last r.id)) last.date_ranges
@@ -99,7 +99,7 @@ abbrev pub SegmentsPlayTheWindow : Type 0
 SegmentsPlayTheWindow = (tolerance : ℕ) (events : List Event) (last now : Playlist) → IsOwed tolerance events last now →
     PlayAs (window_after (told tolerance events) last) now.segments
 
--- ---- where nothing is decided
+-- ---- if nothing is decided
 
 -- these segments, which state these instants in place of their own times
 abbrev pub with_times : List Segment → List (Option ℤ) → List Segment
@@ -108,7 +108,7 @@ with_times (s ∷ later) [] = s ∷ later
 with_times (s ∷ later) (instant ∷ instants) = record s { program_date_time = instant } ∷ with_times later instants
 
 -- without decisions the playlist that is owed after a first refresh has the segments that were read, under their own numbers,
--- each of which states the instant at which it begins, where it has one (4.3.2.6); and the date ranges that were read, where one
+-- each of which states the instant at which it begins, if it has one (4.3.2.6); and the date ranges that were read, if one
 -- does
 abbrev pub NothingDecidedNothingChanged : Type 0
 NothingDecidedNothingChanged = (tolerance : ℕ) (playlist now : Playlist) → IsOwed tolerance (refreshed playlist ∷ []) playlist now →
@@ -118,7 +118,7 @@ NothingDecidedNothingChanged = (tolerance : ℕ) (playlist now : Playlist) → I
 
 -- ---- the store
 
--- after an accepted refresh a break has a pod of its own exactly where it is in use and was filled, or where a decision gave it
+-- after an accepted refresh a break has a pod of its own exactly if it is in use and was filled, or if a decision gave it
 -- one and it wasn't entered
 abbrev pub PodsAreKept : Type 0
 PodsAreKept = (tolerance : ℕ) (playlist : Playlist) (before : List Event) (id : List ℕ) → refusal tolerance (told tolerance before) playlist ≡ None →

@@ -1,4 +1,4 @@
-//! Worked values of what is written where there is a fallback.
+//! Worked values of what is written if there is a fallback.
 
 ghost use Rattle.std.specs.Prelude.{◌≡◌, [], ◌∷◌, codes, Some, true};
 ghost use Rattle.pod_store.specs.declared.Decisions.TheVariants.{Breaks, Withdraw};
@@ -29,7 +29,7 @@ fn two_fallbacks_example()
         ≡ Some ((2 ∷ 2 ∷ 2 ∷ 1 ∷ []) ∷ (2000 ∷ 3 ∷ 3 ∷ 1 ∷ []) ∷ (4 ∷ 4 ∷ 4 ∷ 1 ∷ []) ∷ []) }
 {}
 
-/// A pod of the break's own comes first: also where it doesn't fit.
+/// A pod of the break's own comes first: also if it doesn't fit.
 fn own_examples()
     ensures own { written (five ∷ falls_to 2000 ∷ decide_b1 ∷ [])
         ≡ Some ((0 ∷ 0 ∷ 0 ∷ 0 ∷ []) ∷ (1000 ∷ 1 ∷ 1 ∷ 1 ∷ []) ∷ (1001 ∷ 2 ∷ 1 ∷ 0 ∷ [])

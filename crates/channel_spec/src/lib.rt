@@ -19,7 +19,7 @@ mod worked_examples;
 
 pub use fault::{RefreshFault, short_text};
 
-/// How far from the start of a break an instant may lie and still enter it, and how far before its end it must lie, where
+/// How far from the start of a break an instant may lie and still enter it, and how far before its end it must lie, if
 /// nothing else is asked: 100 ms, in nanoseconds.
 pub const DEFAULT_TOLERANCE: u64 = 100_000_000;
 
@@ -57,12 +57,12 @@ pub fn marks_are_known()
     ensures { MarksAreKnown }
 {}
 
-/// A playlist succeeds another exactly where it has no fault.
+/// A playlist succeeds another exactly if it has no fault.
 pub fn no_fault_succeeds()
     ensures { NoFaultSucceeds }
 {}
 
-/// A number passes its range only where the newest item's does.
+/// A number passes its range only if the newest item's does.
 pub fn newest_fits()
     ensures { NewestFits }
 {}
@@ -73,13 +73,13 @@ pub fn marks_have_pods()
     ensures { MarksHavePods }
 {}
 
-/// A break is used in the store exactly where it marks a shown segment, was entered last, or the window starts with the
+/// A break is used in the store exactly if it marks a shown segment, was entered last, or the window starts with the
 /// rest of its pod.
 pub fn used_are_in_use()
     ensures { UsedAreInUse }
 {}
 
-/// A break is in use exactly where a segment of its pod is written, or where it is the last one entered.
+/// A break is in use exactly if a segment of its pod is written, or if it is the last one entered.
 pub fn in_use_is_written()
     ensures { InUseIsWritten }
 {}
@@ -89,7 +89,7 @@ pub fn runs_keep_their_pods()
     ensures { RunsKeepTheirPods }
 {}
 
-/// A signalled break that has no pod of its own is filled with the fallback, where that fits.
+/// A signalled break that has no pod of its own is filled with the fallback, if that fits.
 pub fn fallback_fills()
     ensures { FallbackFills }
 {}
@@ -110,7 +110,7 @@ pub fn header_is_the_last()
     ensures { HeaderIsTheLast }
 {}
 
-/// A date range of the origin is written word for word exactly where its break isn't played and a written segment states a time.
+/// A date range of the origin is written word for word exactly if its break isn't played and a written segment states a time.
 pub fn date_ranges_are_the_origins()
     ensures { DateRangesAreTheOrigins }
 {}
@@ -130,13 +130,13 @@ pub fn segments_play_the_window()
     ensures { SegmentsPlayTheWindow }
 {}
 
-/// Without decisions a first refresh is owed as it was read, but that each segment states the instant at which it begins, where
+/// Without decisions a first refresh is owed as it was read, except that each segment states the instant at which it begins, if
 /// it has one.
 pub fn nothing_decided_nothing_changed()
     ensures { NothingDecidedNothingChanged }
 {}
 
-/// After an accepted refresh a break has a pod of its own exactly where it is in use and was filled, or where a decision gave it
+/// After an accepted refresh a break has a pod of its own exactly if it is in use and was filled, or if a decision gave it
 /// one and it wasn't entered.
 pub fn pods_are_kept()
     ensures { PodsAreKept }

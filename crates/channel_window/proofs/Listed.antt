@@ -79,7 +79,7 @@ drop_all (suc n) [] h = refl
 drop_all zero (x ∷ xs) h = absurd (omega (arith, h))
 drop_all (suc n) (x ∷ xs) h = drop_all n xs (omega (arith, h))
 
--- those after a number, where they rise by one
+-- those after a number, if they rise by one
 after_from : (n k : ℕ) (segments : List Segment) → RiseFrom k segments → filter (is_after n) segments ≡ drop ((n + 1) - k) segments
 after_from n k [] r = sym (drop_all ((n + 1) - k) [] (omega arith))
 after_from n k (s ∷ later) r = step (nat_lt n s.media_sequence) refl (after_from n (k + 1) later r.1)

@@ -44,7 +44,7 @@ marks_agree : (m : Moment) (newest last : Option (List ℕ)) (instant : Option �
 marks_agree m None last instant = same_mark m.store (entering.entered (limits m last) m.store m.breaks instant)
 marks_agree m (Some id) last instant = stay_step m id (entering.entered (limits m last) m.store m.breaks instant) instant (pod_for m.store id) refl
 
--- ---- where no break is decided, none is entered
+-- ---- if no break is decided, none is entered
 
 no_pod : (entries : List Entry) (fallback : Option Pod) → (length entries == 0 && is_none fallback) ≡ true → (id : List ℕ) → or_earlier (option_map pod_of (find (has_id id) entries)) fallback ≡ None
 no_pod [] None h id = refl

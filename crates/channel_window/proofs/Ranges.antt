@@ -7,13 +7,13 @@ use Rattle.break_finder.proofs.TagIds.{filter_same}
 use Rattle.channel_spec.specs.Live.{date_range_text, date_ranges_left}
 use Rattle.channel_window.specs.Inner.Listed.{texts_left}
 
--- the date ranges of other breaks than those of a set, where these are in it
+-- the date ranges of other breaks than those of a set, if these are in it
 pub left_alike : (ids set : List (List ℕ)) (date_ranges : List DateRange) → ((id : List ℕ) → is_one_of set id ≡ is_one_of ids id)
     → texts_left set date_ranges ≡ map date_range_text (filter (λ (r : DateRange). not (is_one_of ids r.id)) date_ranges)
 left_alike ids set date_ranges same =
     ap (map date_range_text) (filter_same (λ (r : DateRange). not (is_one_of set r.id)) (λ (r : DateRange). not (is_one_of ids r.id)) (λ r. ap not (same r.id)) date_ranges)
 
--- where one of the items states a time
+-- if one of the items states a time
 pub left_timed : {V E : Type 0} (items : V → List (List ℕ)) (result : Result V E) (timed : Bool) (ids set : List (List ℕ)) (date_ranges : List DateRange) → timed ≡ true
     → ((id : List ℕ) → is_one_of set id ≡ is_one_of ids id) → IfOk result (λ v. items v ≡ texts_left set date_ranges)
     → IfOk result (λ v. items v ≡ map date_range_text (date_ranges_left timed ids date_ranges))

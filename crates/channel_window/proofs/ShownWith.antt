@@ -57,7 +57,7 @@ last_onto store (m ∷ later) before last e d h =
 
 -- ---- what is shown
 
--- the known breaks, and the segments that were shown with the new ones, where the shown segments are handed on as a list
+-- the known breaks, and the segments that were shown with the new ones, if the shown segments are handed on as a list
 module _ (tolerance : ℕ) (state : ChannelState) (p : Playlist) (shown : List Held) (newest : Option (List ℕ)) (fresh : List Segment) (ended : Option ℤ) (begun : List (Option ℤ)) (marked : List Held) (a : Showing)
     (before : AreDecided state.store state.shown.list) (last_is : IsLastEntered (kept_in state)) (same : shown ≡ state.shown.list)
     (mark_is : newest_mark (so_far state.store shown) ≡ mark_in state.store newest) (newest_is : AreDecided state.store shown → IsDecided state.store newest)

@@ -42,7 +42,7 @@ abbrev pub reversed_onto : {A : Type 0} → List A → List A → List A
 reversed_onto xs ys = reverse_aux xs ys
 
 -- the place of the first item of the run of the last of these segments: after a run of this mark that begins at
--- the place `start`, where the list has `count` items so far
+-- the place `start`, if the list has `count` items so far
 abbrev pub place_on : Store → Option (List ℕ) → ℕ → ℕ → List Held → ℕ
 place_on store previous start count [] = start
 place_on store previous start count (m ∷ later) =

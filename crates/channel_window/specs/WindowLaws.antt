@@ -15,7 +15,7 @@ WindowIsStitched = (store : Store) (first : Numbers) (ends : Ends) (marked : Lis
     map written_item (reverse (from_place place (numbered first (stitched_with (ends_in store ends) (reverse (map (meant store) marked))))))
     ≡ drop place (stitched_segments store first ends marked)
 
--- and a number passes its range there exactly where one of the stitched list does
+-- and a number passes its range there exactly if one of the stitched list does
 abbrev pub NumberRangeIsStitched : Type 0
 NumberRangeIsStitched = (store : Store) (first : Numbers) (ends : Ends) (marked : List Held) →
     list_all item_fits (stitched_segments store first ends marked) ≡ list_all fits (numbered first (stitched_with (ends_in store ends) (reverse (map (meant store) marked))))

@@ -50,7 +50,7 @@ struct Terms {
     most: u64,
 }
 
-// Whether a segment at an instant stays in the break of these terms; none do where there is no such break.
+// Whether a segment at an instant stays in the break of these terms; none do if there is no such break.
 fn stays_in(terms: &Option<Terms>, instant: Option<Instant>) -> bool
     ensures { result ≡ stays_in terms.now instant }
 {
@@ -60,7 +60,7 @@ fn stays_in(terms: &Option<Terms>, instant: Option<Instant>) -> bool
     }
 }
 
-// As much of a run's length as counts by these terms, where it lasts for `duration` more than `before`.
+// As much of a run's length as counts by these terms, if it lasts for `duration` more than `before`.
 fn capped_at(terms: &Option<Terms>, duration: Nanos, before: Nanos) -> Nanos
     ensures { result ≡ capped_at terms.now (duration + before) }
 {
@@ -116,7 +116,7 @@ impl<'a> Model for Marker<'a> {
     ghost invariant = { λ a. (a.entrances ≡ record { tolerance = a.tolerance; found = entrances_in a.target_duration a.with_init_sections a.store.now a.knowledge.now }) × (a.unmarked ≡ None) };
 }
 
-// Notes the break that marks a segment, where one does, as the last one entered.
+// Notes the break that marks a segment, if one does, as the last one entered.
 fn enter(entered: &mut Option<Shared<Text>>, mark: &Option<Shared<Text>>) -> Result<(), AllocError>
     ensures { OnOk result (entered.new ≡ or_earlier mark.now entered.old) }
 {
@@ -185,7 +185,7 @@ impl<'a> Marker<'a> {
         })
     }
 
-    // The terms of the break of a mark, where it has a pod.
+    // The terms of the break of a mark, if it has a pod.
     fn terms_of(&self, mark: &Option<Shared<Text>>) -> Option<Terms>
         ensures { AreTerms self.now mark.now result }
     {
@@ -358,7 +358,7 @@ impl<'a> Marker<'a> {
         Ok(())
     }
 
-    // The same where no break is decided, with no fallback, and the segment before has no mark: none of these has one.
+    // The same if no break is decided, with no fallback, and the segment before has no mark: none of these has one.
     fn all_unmarked(
         &self,
         run: &mut Run,

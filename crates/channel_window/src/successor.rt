@@ -97,7 +97,7 @@ fn first_changed_of(old: &[Segment], new: &[Segment]) -> Option<u64>
 }
 
 #[tactic(auto, using(crate::proofs::TakenOver::changed_apart))]
-// The number of the first segment that isn't as it was, where those at the places `taken` are.
+// The number of the first segment that isn't as it was, if those at the places `taken` are.
 fn first_changed(old: &[Segment], new: &[Segment], taken: &Range<usize>) -> Option<u64>
     requires contiguous { AreContiguous old.now }
     requires taken { AreTaken old.now new.now taken.now.start taken.now.end }

@@ -125,7 +125,7 @@ struct Start {
     rest: Option<Rest>,
 }
 
-// The start of a window whose first segment has the number `number`, where the last window, of `stood` items, began with
+// The start of a window whose first segment has the number `number`, if the last window, of `stood` items, began with
 // another one: at the item of that segment, but no later than one past the last window.
 fn later_start(
     state: &ChannelState,
@@ -274,7 +274,7 @@ pub fn head_of(items: &StitchedList<'_>) -> Numbers
     }
 }
 
-// Mostly the first one states a time, where one does.
+// Mostly the first one states a time, if one does.
 fn is_any_timed(items: &StitchedList<'_>) -> bool
     ensures { result ≡ list_any states_time items.now }
 {
@@ -313,7 +313,7 @@ fn know_pod(store: &PodStore, id: &str)
     }
 }
 
-// The numbers of the first item where these segments are the first ever shown.
+// The numbers of the first item if these segments are the first ever shown.
 fn first_numbers(
     list: &[MarkedSegment],
     store: &PodStore,
@@ -345,8 +345,8 @@ fn first_numbers(
 }
 
 #[tactic(auto, using(crate::proofs::Passing::first_here, crate::proofs::Passing::refuses_first))]
-// The numbers of the first item of the stitched list of these segments: those that are kept, where a playlist was
-// accepted before. `NumberRange` where one would pass 2^64 - 1.
+// The numbers of the first item of the stitched list of these segments: those that are kept, if a playlist was
+// accepted before. `NumberRange` if one would pass 2^64 - 1.
 fn numbers_on(
     last: &Option<Playlist>,
     numbers: Numbers,

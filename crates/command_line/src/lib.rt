@@ -15,7 +15,7 @@ pub enum Command<'a> {
     Vod {
         /// The URL of the playlist, to which its references are joined.
         base: &'a str,
-        /// The path of the decision file, where breaks are to be filled.
+        /// The path of the decision file, if breaks are to be filled.
         decisions: Option<&'a str>,
     },
     /// Live channels, served on the loopback address.

@@ -51,8 +51,8 @@ first (arrival ∷ later) = Some arrival.place
 abbrev pub first_that : (Arrival → Bool) → List Arrival → Option ℕ
 first_that test arrivals = option_map place_of (find test arrivals)
 
--- for one that comes the client is given up that has asked longest; where none asks, the one that has been ending longest, and
--- only where all have a reply on its way the one that came first
+-- for one that comes the client is given up that has asked longest; if none asks, the one that has been ending longest, and
+-- only if all have a reply on its way the one that came first
 abbrev pub gives_place : State → List Arrival → List Arrival → Option ℕ
 gives_place s served ending = option_or (first_that (asks s) served) (option_or (first ending) (first served))
 

@@ -13,13 +13,13 @@ PassesAtMost (Bytes n) most = n ≤ most
 PassesAtMost WouldWait most = Unit {0}
 PassesAtMost HasFailed most = Unit {0}
 
--- a read gave so many of the bytes that are left, none only at the end; where it would wait or failed, all are left
+-- a read gave so many of the bytes that are left, none only at the end; if it would wait or failed, all are left
 abbrev pub ReadPasses : Option (List ℕ) → Option (List ℕ) → Passage → List ℕ → Type 0
 ReadPasses old new (Bytes n) buf = Consumes old new (take n buf) × (n ≡ 0 → IsAtEnd new)
 ReadPasses old new WouldWait buf = Keeps old new
 ReadPasses old new HasFailed buf = Keeps old new
 
--- a write took so many of these bytes; where it would wait or failed, none
+-- a write took so many of these bytes; if it would wait or failed, none
 abbrev pub WritePasses : Option (List ℕ) → Option (List ℕ) → Passage → List ℕ → Type 0
 WritePasses old new (Bytes n) buf = Appends old new (take n buf)
 WritePasses old new WouldWait buf = Keeps old new
@@ -40,7 +40,7 @@ no_calls = record { count = 0; last = None }
 abbrev pub one_call : Passage → Calls → Calls
 one_call passage calls = record { count = next_count calls.count; last = Some passage }
 
--- the bytes that it will still give, or that it has taken, where they are known; and its calls
+-- the bytes that it will still give, or that it has taken, if they are known; and its calls
 pub record DeviceStand : Type 0 where
   pub bytes : Option (List ℕ)
   pub calls : Calls

@@ -56,7 +56,7 @@ pub record Puts (old new : State) (place : ℕ) (it : Option Conversation) : Typ
   pub others : (other : ℕ) → other ≢ place → at new other ≡ at old other
   pub count : length new.places ≡ length old.places
 
--- where there is a connection it goes on
+-- if there is a connection it goes on
 abbrev pub GoesOn : Option Conversation → State → ℕ → List ℕ → State → Type 0
 GoesOn None old place piece new = Puts old new place None × (new.edge ≡ old.edge)
 GoesOn (Some conversation) old place piece new =

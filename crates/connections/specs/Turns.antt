@@ -12,7 +12,7 @@ use Rattle.connections.specs.Runs.{IsRun}
 use Rattle.connections.specs.Arrivals.{is_asking}
 use Rattle.connections.specs.Wires.{GoesHeard, GoesTold}
 
--- where the client stays, this is so
+-- if the client stays, this is so
 abbrev pub Stays : Turn → Type 0 → Type 0
 Stays (Failed fault) P = Unit {0}
 Stays Waits P = P
@@ -20,7 +20,7 @@ Stays Goes P = P
 Stays Full P = P
 Stays Done P = P
 
--- where it goes, this is so of its fault
+-- if it goes, this is so of its fault
 abbrev pub IfGone : Turn → (EdgeFault → Type 0) → Type 0
 IfGone (Failed fault) P = P fault
 IfGone Waits P = Unit {0}

@@ -66,7 +66,7 @@ GoesTold ends.OutOfMemory old new = ⊥
 
 -- ---- what a call came to
 
--- where it failed, this is so of its fault
+-- if it failed, this is so of its fault
 abbrev pub IfFailed : Moved → (EdgeFault → Type 0) → Type 0
 IfFailed (Failed fault) P = P fault
 IfFailed Some P = Unit {0}

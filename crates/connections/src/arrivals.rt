@@ -1,4 +1,4 @@
-//! The order in which connections came, and which of them is given up where there is no room.
+//! The order in which connections came, and which of them is given up if there is no room.
 ghost use Rattle.std.specs.Prelude.{◌≡◌, [], ◌∷◌, ◌++◌, filter, option_map, length, IfOk, OnOk, OnErr};
 ghost use Rattle.std.specs.List.{find};
 ghost use Rattle.connections.specs.Arrivals.{is_elsewhere, has_come, is_late, asks, holds, first, first_that, gives_place, gives_room};

@@ -12,7 +12,7 @@ const SERVING_MILLIS: u64 = 10_000;
 // How long a client may take to close after its reply, in milliseconds.
 const ENDING_MILLIS: u64 = 250;
 
-// So much later, or the same instant where the clock has no such one.
+// So much later, or the same instant if the clock has no such one.
 fn later(now: Instant, time: Duration) -> Instant
     ensures later { FitsClock (instant_nanos now + as_nanos time) →
         instant_nanos result ≡ instant_nanos now + as_nanos time }

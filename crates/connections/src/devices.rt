@@ -1,4 +1,4 @@
-//! What comes from a client and what goes to it, where no call waits.
+//! What comes from a client and what goes to it, by calls that never wait.
 ghost use Rattle.std.specs.Prelude.{◌≡◌, ◌<◌, length};
 ghost use Rattle.std.specs.IoError.{error_kind};
 ghost use Rattle.connections.specs.Devices.{DeviceStand, no_calls, one_call, PassesAtMost, ReadPasses, WritePasses};
@@ -21,7 +21,7 @@ pub enum Passage {
 
 /// What comes from a client. Its count of calls stays at 2^64 - 1.
 pub trait Incoming {
-    /// How it stands: the bytes that it will still give, where they are known, how often it was read, and what the
+    /// How it stands: the bytes that it will still give, if they are known, how often it was read, and what the
     /// last read came to.
     ghost stand: { Self → DeviceStand };
 
@@ -36,7 +36,7 @@ pub trait Incoming {
 
 /// What goes to a client. Its count of calls stays at 2^64 - 1.
 pub trait Outgoing {
-    /// How it stands: the bytes that it has taken, where they are known, how often it was written to, and what the
+    /// How it stands: the bytes that it has taken, if they are known, how often it was written to, and what the
     /// last write came to.
     ghost stand: { Self → DeviceStand };
 
@@ -48,7 +48,7 @@ pub trait Outgoing {
         ensures calls { (stand self.new).calls ≡ one_call result (stand self.old).calls };
 }
 
-/// A reader or a writer of std that answers `WouldBlock` where it would wait, with its calls.
+/// A reader or a writer of std that answers `WouldBlock` if it would wait, with its calls.
 #[derive(Drop)]
 pub struct NonBlocking<T> {
     inner: T,

@@ -21,7 +21,7 @@ use std::marker::Model;
 /// The most bytes of requests that aren't whole, over all connections.
 pub const MAX_HELD: usize = 67_108_864;
 
-/// The places for connections. A process may have 1,024 files open, where nobody says otherwise.
+/// The places for connections. A process may have 1,024 files open, if nobody says otherwise.
 pub const PLACES: usize = 512;
 
 /// The edge, and a fixed number of places for connections.
@@ -84,7 +84,7 @@ fn vacant(alloc: Global) -> Result<Vec<Option<Conversation>>, AllocError>
 }
 
 impl Connections {
-    // The edge, with no connection yet. Fails only where an allocation fails.
+    // The edge, with no connection yet. Fails only if an allocation fails.
     fn new(alloc: Global, edge: Edge) -> Result<Connections, AllocError>
         ensures edge { IfOk result (λ new. new.edge ≡ edge) }
         ensures vacant { IfOk result (λ new. new.places ≡ replicate place_count None) }
@@ -98,7 +98,7 @@ impl Connections {
     }
 
     /// A new edge, which stands for no request, with no connection yet: all that come are served over this one. A client's
-    /// device is a `T`, since no other seat is made. `hashing`: the keys for each channel's tables of IDs. Fails only where an allocation fails.
+    /// device is a `T`, since no other seat is made. `hashing`: the keys for each channel's tables of IDs. Fails only if an allocation fails.
     pub fn over_new_edge<T>(alloc: Global, hashing: RandomState) -> Result<Opened<T>, AllocError>
         ensures edge { IfOk result (λ new. RepresentsRequests new.connections.edge []) }
         ensures vacant { IfOk result (λ new. new.connections.places ≡ replicate place_count None) }

@@ -96,7 +96,7 @@ fn cut(text: &[u8]) -> &[u8]
     &text[..text.len().min(MAX_WRITTEN)]
 }
 
-// A front of two texts: both, where they fit into a block, else the first that isn't empty.
+// A front of two texts: both, if they fit into a block, else the first that isn't empty.
 fn front<'a>(block: &'a mut Block, head: &'a [u8], body: &'a [u8]) -> &'a [u8]
     requires { block.old.items ≡ [] }
     ensures front { result.now ≡ take (length result.now) (head.now ++ body.now) }

@@ -16,7 +16,7 @@ of_ten a b c d e f g h i j rest =
     let day : nat_le 10 (length text) ≡ true = le-leb 10 (length text) (omega arith) in
     rw (year, month, day) refl
 
--- the first ten bytes of a text are a date just where a date stands at its front, of the same day
+-- the first ten bytes of a text are a date just if a date stands at its front, of the same day
 pub of_first_ten : (text : List ℕ) → 10 ≤ length text → (is_date (take 10 text) ≡ is_date text) × ((day : ℤ) → IsDayOf (take 10 text) day → IsDayOf text day)
 of_first_ten [] n = absurd (omega (arith, n))
 of_first_ten (a ∷ []) n = absurd (omega (arith, n))

@@ -30,7 +30,7 @@ date_text year month day rest = fixed_digits 10 4 year ++ hyphen ∷ (fixed_digi
 abbrev pub clock_text : ℕ → List ℕ → List ℕ
 clock_text seconds rest = fixed_digits 10 2 (seconds / 3600) ++ colon ∷ (fixed_digits 10 2 (seconds / 60 % 60) ++ colon ∷ (fixed_digits 10 2 (seconds % 60) ++ rest))
 
--- three decimals, or nine where three would lose something
+-- three decimals, or nine if three would lose something
 abbrev pub decimals : ℕ → List ℕ
 decimals nanos = if nanos % 1000000 == 0 then fixed_digits 10 3 (nanos / 1000000) else fixed_digits 10 9 nanos
 

@@ -272,7 +272,7 @@ fn after_point_of(bytes: &[u8]) -> &[u8]
     }
 }
 
-// The minutes of an offset after its sign, where it has a form that is read.
+// The minutes of an offset after its sign, if it has a form that is read.
 fn minutes_of(text: &[u8]) -> Option<&[u8]>
     ensures value { MatchOption result (has_offset_form text.now ≡ false)
         (λ minutes. (has_offset_form text.now ≡ true) × (minutes.now ≡ minutes_of text.now)) }

@@ -40,7 +40,7 @@ byte_range_said place d = byte_range_from place (get (codes "offset") d) (get (c
 
 -- ---- an ad's map and key
 
--- a resource, and the part of it where it isn't the whole
+-- a resource, and the part of it if it isn't the whole
 abbrev pub Part : Type 0
 Part = List ℕ × Option ByteRange
 
@@ -53,7 +53,7 @@ init_section_said place d = or_fault (fault_at place Shape) (text_at (codes "uri
 abbrev pub text_of : Place → Data → Outcome (List ℕ)
 text_of place d = or_fault (fault_at place BadKey) (as_str d)
 
--- the format, where it is stated
+-- the format, if it is stated
 abbrev pub format_said : Place → Data → Outcome (List ℕ)
 format_said place d = text_of place d >>= λ text. refuse_if (not (is_format text)) (fault_at place BadKey) (Ok text)
 
@@ -104,7 +104,7 @@ segment_said place d =
     or_fault (fault_at place Shape) (text_at (codes "duration") d) >>= λ duration.
     segment_texts place uri duration d
 
--- the segment after these of its ad, where so many of its break stand in the ads before
+-- the segment after these of its ad, if so many of its break stand in the ads before
 abbrev pub next_segment : ℕ → ℕ → ℕ → List PodSegment → Data → Outcome PodSegment
 next_segment pod ad before done d =
     let place = in_segment pod ad (length done) in

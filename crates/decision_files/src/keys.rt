@@ -24,7 +24,7 @@ const IDENTITY: &str = "identity";
 pub struct Part {
     /// Its URI.
     pub uri: Shared<Text>,
-    /// The part, where it isn't the whole.
+    /// The part, if it isn't the whole.
     pub byte_range: Option<ByteRange>,
 }
 

@@ -48,7 +48,7 @@ fn segment_said(alloc: Global, place: Place, value: &Value) -> Result<PodSegment
     segment_texts(alloc, place, uri, duration, value)
 }
 
-// The segment after these of its ad, where so many of its break stand in the ads before.
+// The segment after these of its ad, if so many of its break stand in the ads before.
 fn next_segment(
     alloc: Global,
     pod: usize,

@@ -21,7 +21,7 @@ duration_of text =
     else (if nat_le (10 ^ 6) (seconds_of text) then Err TooLarge
     else Ok (seconds_of text * 10 ^ 9 + fraction_of text)))
 
--- a point and the digits after it, up to the last that is not 0; nothing where all nine are 0
+-- a point and the digits after it, up to the last that is not 0; nothing if all nine are 0
 abbrev pub fraction_text : ℕ → List ℕ
 fraction_text nanos = if nanos == 0 then [] else point ∷ fraction_digits 9 nanos
 

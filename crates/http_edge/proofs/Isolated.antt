@@ -185,7 +185,7 @@ removed_shown x table (Some g) = ap (λ (l : Table). record { reply = bare 204; 
 removed_this : (x : List ℕ) (table : Table) → shown x (removed table x (given_at x table)) ≡ removed (picked x table) x (given_at x (picked x table))
 removed_this x table = removed_shown x table (given_at x table) ∙ ap (removed (picked x table) x) (sym (given_picked x table))
 
--- where there is none of this name there is room
+-- if there is none of this name there is room
 abbrev room : Bool → Table → TableEntry → Turn
 room c table e = cond c (unmoved table (bare 503)) (record { reply = bare 201; table = table ++ e ∷ [] })
 

@@ -24,7 +24,7 @@ replies_on name (r ∷ before) = if is_on name r then reply_to before r ∷ repl
 abbrev pub was_served : Reply → Bool
 was_served reply = not (reply.status == 503)
 
--- where none of them is 503, they are what these requests alone are answered
+-- if none of them is 503, they are what these requests alone are answered
 abbrev pub IsIsolated : List ℕ → List Request → Type 0
 IsIsolated name requests =
     list_all was_served (replies_on name requests) ≡ true → replies_on name requests ≡ replies_on name (filter (is_on name) requests)

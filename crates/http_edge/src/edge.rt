@@ -31,7 +31,7 @@ impl Model for Edge {
 }
 
 impl Edge {
-    /// An edge without channels: it stands for no request. `hashing`: the keys for each channel's tables of IDs. Fails only where
+    /// An edge without channels: it stands for no request. `hashing`: the keys for each channel's tables of IDs. Fails only if
     /// an allocation fails.
     pub fn new(alloc: Global, hashing: RandomState) -> Result<Edge, AllocError>
         ensures { IfOk result (λ edge. RepresentsRequests edge []) }

@@ -3,7 +3,7 @@ ghost use Rattle.std.specs.Prelude.{ℕ, List};
 ghost use Rattle.http_messages.specs.declared.message.Request.{Request as Asked};
 ghost use Rattle.http_edge.specs.Isolation.{IsIsolated, RunsAreIsolated};
 
-/// The requests on a channel are answered as they alone would be, where none of them is answered 503.
+/// The requests on a channel are answered as they alone would be, if none of them is answered 503.
 pub fn channels_are_isolated()
     ensures { (name : List ℕ) (requests : List Asked) → IsIsolated name requests }
 {}

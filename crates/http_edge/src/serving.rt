@@ -119,7 +119,7 @@ pub fn serve<S: Source, K: Sink>(
     ensures ok { IfOk result (λ served. HasServed (S.stand source.old) (S.stand source.new)
         (K.stand sink.old) (K.stand sink.new) edge.old edge.new served.status) }
 
-    // However the source cuts its bytes: what all that it holds asks is answered, and it doesn't end where that is a whole
+    // However the source cuts its bytes: what all that it holds asks is answered, and it doesn't end if that is a whole
     // request.
     ensures whole { (it : Question) → Holds (S.stand source.old) it →
         IfOk result (λ served. HasRepliedWhole
@@ -129,7 +129,7 @@ pub fn serve<S: Source, K: Sink>(
         (K.stand sink.old) (K.stand sink.new) edge.old edge.new it }
     ensures held { IsErrOf result EdgeFault.Ended → HoldsFront (S.stand source.old) }
 
-    // Where the sink failed it took a front of the reply, and the request stands.
+    // If the sink failed it took a front of the reply, and the request stands.
     ensures write { IsErrOf result EdgeFault.Write →
         HasServedFront (S.stand source.old) (S.stand source.new)
         (K.stand sink.old) (K.stand sink.new) edge.old edge.new }
@@ -147,7 +147,7 @@ pub fn serve<S: Source, K: Sink>(
     ensures nothing_past_front { IsErrOf result EdgeFault.Write →
         IsWholeAtLastRead S.stand source.old source.new }
 
-    // A device is blamed exactly where it failed, and is left alone then; the source is at its end too.
+    // A device is blamed exactly if it failed, and is left alone then; the source is at its end too.
     ensures source { IsFairToSource EdgeFault.Read EdgeFault.TooManyReads result
         (S.stand source.old) (S.stand source.new) }
     ensures to_end { IsErrOf result EdgeFault.Ended →

@@ -12,7 +12,7 @@ use Rattle.http_messages.specs.Requests.{Field, is_named, stated_by, body_of_len
 abbrev pub lengths : List Header → List Field
 lengths fields = filter (is_named (codes "content-length")) (map header_parts fields)
 
--- what is said, where some were read and these remain
+-- what is said, if some were read and these remain
 abbrev pub said_after : Framing → Bool → List Field → Framing
 said_after said false rest = stated_by rest
 said_after said true [] = said

@@ -17,7 +17,7 @@ IsAsked bytes (asked.Refused refusal) = IsRefusedFor bytes refusal
 abbrev pub Holds : SourceStand → Asked → Type 0
 Holds source asked = IsSomeAnd source.remaining (λ bytes. IsAsked bytes asked)
 
--- the bytes that a source holds, where they are known, are a front of what may still be a request
+-- the bytes that a source holds, if they are known, are a front of what may still be a request
 abbrev pub HoldsFront : SourceStand → Type 0
 HoldsFront source = IfSome source.remaining IsUnfinished
 

@@ -47,7 +47,7 @@ refusal_reply refusal = plain (refusal_status refusal) (refusal_text refusal)
 abbrev pub crlf : List ℕ
 crlf = codes "\r\n"
 
--- the standard reason phrase, empty where there is none
+-- the standard reason phrase, empty if there is none
 unfoldable pub reason_of : ℕ → List ℕ
 reason_of status = unwrap_or (reason_phrase status) []
 

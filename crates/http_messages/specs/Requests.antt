@@ -22,7 +22,7 @@ Field = List ℕ × List ℕ
 abbrev pub is_named : List ℕ → Field → Bool
 is_named name field = str_eq_ignore_ascii_case field.0 name
 
--- a body of the stated length, where that is a number
+-- a body of the stated length, if that is a number
 abbrev pub body_of_length : Option ℕ → Framing
 body_of_length None = Refused BadRequest
 body_of_length (Some n) = if nat_lt body_limit n then Refused TooLarge else Body n

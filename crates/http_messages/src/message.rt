@@ -79,9 +79,9 @@ pub struct Content {
 #[derive(Drop)]
 pub struct Reply {
     pub status: StatusCode,
-    /// The methods that the resource has, where the request's is none of them.
+    /// The methods that the resource has, if the request's is none of them.
     pub allow: Option<Allow>,
-    /// None where the body is empty.
+    /// None if the body is empty.
     pub content: Option<Content>,
 }
 

@@ -144,7 +144,7 @@ pub fn receive<S: Source>(alloc: Global, source: &mut S) -> Result<Asked, Receiv
     ensures unfinished { IsErrOf result ReceiveFault.TooManyReads →
         HasGivenPart (S.stand source.old) (S.stand source.new) }
 
-    // However the source cuts its bytes: what all that it holds asks is answered, and it doesn't end where that is a whole
+    // However the source cuts its bytes: what all that it holds asks is answered, and it doesn't end if that is a whole
     // request.
     ensures whole { (it : Question) → Holds (S.stand source.old) it →
         IfOk result (λ asked. asked ≡ it) }
@@ -153,7 +153,7 @@ pub fn receive<S: Source>(alloc: Global, source: &mut S) -> Result<Asked, Receiv
     // Nothing is read past it: no read follows the one that makes the request whole, or shows that it is refused.
     ensures nothing_past { IfOk result (λ _. IsWholeAtLastRead S.stand source.old source.new) }
 
-    // A source is blamed exactly where it failed, and is left alone then, and at its end too.
+    // A source is blamed exactly if it failed, and is left alone then, and at its end too.
     ensures source { IsFairToSource ReceiveFault.Read ReceiveFault.TooManyReads result
         (S.stand source.old) (S.stand source.new) }
     ensures to_end { IsErrOf result ReceiveFault.Ended →

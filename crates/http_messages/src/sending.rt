@@ -20,7 +20,7 @@ fn hand_out_both<K: Sink>(head: &[u8], body: &[u8], sink: &mut K) -> Result<(), 
     hand_out(body, sink)
 }
 
-// Hands out a head and a body, in one write where a block has room for both.
+// Hands out a head and a body, in one write if a block has room for both.
 fn hand_out_at_once<K: Sink>(head: &[u8], body: &[u8], sink: &mut K) -> Result<(), SinkFailed>
     ensures ok { OnOk result (TookAll (K.stand sink.old) (K.stand sink.new)
         (head.now ++ body.now)) }

@@ -195,7 +195,7 @@ with_store c store = record c { kept = record c.kept { store = store } }
 abbrev pub store_by : Channel → List Given → Store
 store_by c given = (told_by c.base c.tolerance given).store
 
--- taken exactly where the outcome is a store; else the fault is the first one, a failed allocation apart
+-- taken exactly if the outcome is a store; else the fault is the first one, a failed allocation apart
 abbrev pub AnswersDecision : Result (Unit {0}) DecisionFault → Outcome Store → Type 0
 AnswersDecision result outcome = MatchResult result (λ _. IsOk outcome) (λ e. Refuses e outcome)
 
@@ -226,7 +226,7 @@ AlwaysStandsOn old event new = (given : List Given) → Represents old given →
 
 -- ---- what is written
 
--- a text is written, exactly where a refresh was accepted, and it denotes, under every base, what is owed for all that was given
+-- a text is written, exactly if a refresh was accepted, and it denotes, under every base, what is owed for all that was given
 abbrev pub WritesOwed : Told → Option (List ℕ) → Type 0
 WritesOwed t None = last_playlist t.accepted ≡ None
 WritesOwed t (Some text) = (p : Playlist) × ((last_playlist t.accepted ≡ Some p) × (text ≡ owed_text t p) × ((base : Parts) → Denotes base text (owed_for t p)))
@@ -244,7 +244,7 @@ why_by (Some last) kept id = why kept.breaks id last.target_duration (has_init_s
 abbrev pub explained : Kept → List ℕ → Why
 explained kept id = why_by kept.last kept id
 
--- the same of all that was told: a break is filled where it is in use
+-- the same of all that was told: a break is filled if it is in use
 abbrev pub owed_why_by : Told → Option Playlist → List ℕ → Why
 owed_why_by t None id = NotKnown
 owed_why_by t (Some last) id = why (known t.accepted) id last.target_duration (has_init_sections last.segments) t.store (in_use t.start (first_number last.segments) t.history id)

@@ -108,7 +108,7 @@ impl fmt::Display for ChannelFault {
 
 impl Error for ChannelFault {}
 
-// Why a break is filled or not, where this playlist was accepted last.
+// Why a break is filled or not, if this playlist was accepted last.
 fn why_after(knowledge: &Knowledge, store: &PodStore, last: &Playlist, id: &str) -> Why
     ensures { result ≡ why knowledge.now id.now last.now.target_duration
         (has_init_sections last.now.segments) store.now (is_used store.now id.now) }
@@ -250,7 +250,7 @@ impl Channel {
         }
     }
 
-    /// The same text, of which the caller is then an owner too: no byte is copied. Fails only where an allocation fails.
+    /// The same text, of which the caller is then an owner too: no byte is copied. Fails only if an allocation fails.
     pub fn shared_playlist(&self) -> Result<Option<Shared<Text>>, AllocError>
         ensures { IfOk result (λ text. text ≡ self.now.text) }
     {

@@ -21,7 +21,7 @@ fn is_last(marks: &[Shared<Text>], id: &Text) -> bool
 }
 
 #[tactic(auto, using(crate::proofs::Marks::put_once, crate::proofs::Marks::put_again))]
-// Puts a break after others, where it isn't the last of them.
+// Puts a break after others, if it isn't the last of them.
 fn push_once(marks: &mut Vec<Shared<Text>>, id: &Shared<Text>) -> Result<(), AllocError>
     ensures { OnOk result (NameTheSame marks.new.items (marks.old.items ++ id.now ∷ [])) }
 {
@@ -33,7 +33,7 @@ fn push_once(marks: &mut Vec<Shared<Text>>, id: &Shared<Text>) -> Result<(), All
 }
 
 #[tactic(auto, using(crate::proofs::Marks::put_none))]
-// Puts a break, where there is one, after others.
+// Puts a break, if there is one, after others.
 fn push_mark(marks: &mut Vec<Shared<Text>>, mark: &Option<Shared<Text>>) -> Result<(), AllocError>
     ensures { OnOk result (NameTheSame marks.new.items (marks.old.items ++ ids_in mark.now)) }
 {
@@ -44,7 +44,7 @@ fn push_mark(marks: &mut Vec<Shared<Text>>, mark: &Option<Shared<Text>>) -> Resu
 }
 
 #[tactic(auto, using(crate::proofs::Marks::none_there, crate::proofs::Marks::none_before, crate::proofs::Marks::one_there))]
-// Puts the break of a segment, where it has one and is numbered from this number on, after others.
+// Puts the break of a segment, if it has one and is numbered from this number on, after others.
 fn push_marked(
     marks: &mut Vec<Shared<Text>>,
     number: u64,
@@ -82,7 +82,7 @@ fn marks_and_last(
 }
 
 #[tactic(auto, using(crate::proofs::Marks::put_none))]
-// Puts the break of a rest, where there is one, after others.
+// Puts the break of a rest, if there is one, after others.
 fn push_rest(marks: &mut Vec<Shared<Text>>, rest: &Option<Rest>) -> Result<(), AllocError>
     ensures { OnOk result (NameTheSame marks.new.items (marks.old.items ++ rest_held rest.now)) }
 {

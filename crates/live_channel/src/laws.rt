@@ -20,7 +20,7 @@ pub fn channel_writes()
     ensures { ChannelWrites }
 {}
 
-/// A refresh is accepted exactly where its bytes are read as a playlist, that may follow the last one, if there is one,
+/// A refresh is accepted exactly if its bytes are read as a playlist, that may follow the last one, if there is one,
 /// and every number of the stitched list fits 64 bits.
 pub fn acceptance_is_exact()
     ensures { AcceptanceIsExact }

@@ -64,7 +64,7 @@ fn count_in(written: &Option<WrittenText>) -> usize
     }
 }
 
-// The first of these segments stood in the last text. Which lines of it stand again, where the window starts at this place in
+// The first of these segments stood in the last text. Which lines of it stand again, if the window starts at this place in
 // them.
 fn standing<'a>(
     alloc: Global,

@@ -42,7 +42,7 @@ fn may_follow(last: &Option<Playlist>, read: &Read) -> Result<(), RefreshFault>
 
 #[tactic(auto, using(crate::proofs::Accepting::accepted, crate::proofs::Accepting::items_kept))]
 // What a channel comes to by a playlist that may follow the last one: what it shows with it, and what it keeps and writes
-// then. `NumberRange` where a number would pass 2^64 - 1.
+// then. `NumberRange` if a number would pass 2^64 - 1.
 fn next_kept(
     alloc: Global,
     tolerance: Nanos,

@@ -110,7 +110,7 @@ module _ (t : Told) (p : Playlist) where
 
 -- ---- well formed
 
--- what is due of the list can be written where all of it can
+-- what is due of the list can be written if all of it can
 due_stands : (ended : Bool) (history : List Marked) → list_all piece_stands (stitched history) ≡ true → list_all piece_stands (due_stitched ended history) ≡ true
 due_stands ended history h =
     let r = list_rest ended history in

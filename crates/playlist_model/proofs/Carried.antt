@@ -17,7 +17,7 @@ pub commas_append : (xs ys : List Pair) → after_commas (xs ++ ys) ≡ after_co
 commas_append [] ys = refl
 commas_append (x ∷ xs) ys = ap (λ t. 44 ∷ pair_spelling x ++ t) (commas_append xs ys) ∙ sym (append_assoc (44 ∷ pair_spelling x) (after_commas xs) (after_commas ys))
 
--- ---- names that were apart stay apart where some are left out
+-- ---- names that were apart stay apart if some are left out
 
 abbrev FreeOf : List Pair → List Pair → Type 0
 FreeOf kept before = (name : List ℕ) → list_any (is_named name) before ≡ false → list_any (is_named name) kept ≡ false

@@ -4,7 +4,7 @@ use Rattle.std.specs.Prelude.{Option, ◌&&◌, codes, is_none, bytes_eq, map, i
 use Rattle.playlist_model.specs.declared.Key.{Key}
 use Rattle.playlist_model.specs.EffectiveKeys.{effective_key, key_under}
 
--- a key with this IV where it is supplied
+-- a key with this IV if it is supplied
 abbrev supplied : Bool → ℕ → Key → Key
 supplied b n k = if b then record k { iv = Some n } else k
 

@@ -33,7 +33,7 @@ module _ {X : Type 0} where
   filter_none p q (x ∷ xs) h f =
       let a = and_parts _ _ h in let e = f x a.0 in rw e (filter_none p q xs a.1 f)
 
-  -- an element passes exactly where the first place that passes is within the list
+  -- an element passes exactly if the first place that passes is within the list
   passes_at : (xs : List X) (n : ℕ) (any b : Bool) → (n ≡ length xs → any ≡ false) → cond (not b) (1 + n) 0 ≡ 1 + length xs → (b || any) ≡ false
   passes_at xs n any true ih e = absurd (omega (arith, e))
   passes_at xs n any false ih e = ih (omega (arith, e))

@@ -6,7 +6,7 @@ use Rattle.playlist_model.specs.declared.Key.{Key}
 abbrev pub effective_key : ℕ → Key → Key
 effective_key number k = if bytes_eq k.format (codes "identity") && is_none k.iv then record k { iv = Some number } else k
 
--- a key under this number, or as it stands where there is none
+-- a key under this number, or as it stands if there is none
 abbrev pub key_under : Option ℕ → Key → Key
 key_under None k = k
 key_under (Some number) k = effective_key number k

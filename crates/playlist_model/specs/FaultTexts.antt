@@ -1,4 +1,4 @@
--- How a fault is printed: its code and name, then its line where it stands on one.
+-- How a fault is printed: its code and name, then its line if it stands on one.
 use Rattle.std.specs.Prelude.{ℕ, ◌==◌, List, ◌++◌, codes, decimal, if◌then◌else◌}
 use Rattle.playlist_model.specs.declared.FaultKind.{FaultKind}
 use Rattle.playlist_model.specs.declared.FaultKind.TheVariants as fault

@@ -57,7 +57,7 @@ abbrev pub the_duration : Said → Option (ℕ × List ℕ)
 the_duration (duration nanos title) = Some (nanos, title)
 the_duration _ = None
 
--- EXT-X-BYTERANGE (4.3.2.2): the length, and the offset where it is stated
+-- EXT-X-BYTERANGE (4.3.2.2): the length, and the offset if it is stated
 abbrev pub the_byte_range : Said → Option (ℕ × Option ℕ)
 the_byte_range (byte_range length offset) = Some (length, offset)
 the_byte_range _ = None
@@ -113,12 +113,12 @@ own_time before = latest the_time (since_media before)
 
 -- ---- numbers (4.3.3.2, 4.3.3.3)
 
--- the Media Sequence Number of the segment of a URI line here: that of the first, 0 where none is stated, and one more
+-- the Media Sequence Number of the segment of a URI line here: that of the first, 0 if none is stated, and one more
 -- for each segment before (4.3.3.2)
 abbrev pub media_sequence_at : List Said → ℕ
 media_sequence_at before = unwrap_or (latest the_sequence before) 0 + count is_media before
 
--- its Discontinuity Sequence Number: the stated one, 0 where there is none, and one more for each EXT-X-DISCONTINUITY
+-- its Discontinuity Sequence Number: the stated one, 0 if there is none, and one more for each EXT-X-DISCONTINUITY
 -- before (4.3.3.3)
 abbrev pub discontinuity_at : List Said → ℕ
 discontinuity_at before = unwrap_or (latest the_discontinuity_sequence before) 0 + count is_discontinuity before
@@ -184,7 +184,7 @@ pub record Extent : Type 0 where
   pub uri : List ℕ
   pub byte_range : ByteRange
 
--- the byte range of this length that begins at this place, where its end fits
+-- the byte range of this length that begins at this place, if its end fits
 abbrev pub byte_range_here : ℕ → ℕ → Outcome (Option ByteRange)
 byte_range_here length offset =
     refuse_if (not (byte_range_end_fits length offset)) fault.BadRange (Ok (Some (record { length = length; offset = offset })))
@@ -204,7 +204,7 @@ abbrev pub extent_with : List ℕ → Option ByteRange → Option Extent
 extent_with uri None = None
 extent_with uri (Some r) = Some (record { uri = uri; byte_range = r })
 
--- the last segment's resource and byte range, where it has a byte range; a line that was refused has none, but
+-- the last segment's resource and byte range, if it has a byte range; a line that was refused has none, but
 -- then no line after it is read
 abbrev pub last_extent : List Said → Option Extent
 last_extent [] = None
@@ -273,7 +273,7 @@ standing_at before = record {
   extent = last_extent before;
 }
 
--- what the lines say with the next one, the last first, where it says something
+-- what the lines say with the next one, the last first, if it says something
 abbrev pub with_said : List Said → Outcome Said → List Said
 with_said before (Ok said) = said ∷ before
 with_said before (Err e) = before

@@ -119,7 +119,7 @@ said_by reader base before line =
 
 -- ---- the whole text
 
--- a first fault, and the line on which it stands; 0 where it is one of the text as a whole
+-- a first fault, and the line on which it stands; 0 if it is one of the text as a whole
 abbrev pub Fault : Type 0
 Fault = PlaylistFault
 

@@ -111,7 +111,7 @@ is_at_sign b = b == at_sign
 abbrev pub stated_byte_range : ℕ → ℕ → Outcome (ℕ × Option ℕ)
 stated_byte_range length offset = refuse_if (not (byte_range_end_fits length offset)) fault.BadRange (Ok (length, Some offset))
 
--- EXT-X-BYTERANGE (4.3.2.2), `n[@o]`: the length, and the offset where it is stated
+-- EXT-X-BYTERANGE (4.3.2.2), `n[@o]`: the length, and the offset if it is stated
 abbrev pub byte_range_of : List ℕ → Outcome (ℕ × Option ℕ)
 byte_range_of rest =
     or_fault fault.BadRange (decimal_of (before_first is_at_sign rest)) >>= λ length.
@@ -119,7 +119,7 @@ byte_range_of rest =
     then or_fault fault.BadRange (decimal_of (after_first is_at_sign rest)) >>= stated_byte_range length
     else Ok (length, None)
 
--- whether so many are over the limit, where there is one
+-- whether so many are over the limit, if there is one
 abbrev pub over : Option ℕ → ℕ → Bool
 over None n = false
 over (Some most) n = nat_lt most n
@@ -170,7 +170,7 @@ key_said reader base rest =
     required false (attribute pairs (codes "METHOD")) >>= λ method.
     if bytes_eq method (codes "NONE") then Ok no_keys else set_key base pairs method
 
--- the BYTERANGE of EXT-X-MAP (4.3.2.5), which begins at 0 where it states no offset
+-- the BYTERANGE of EXT-X-MAP (4.3.2.5), which begins at 0 if it states no offset
 abbrev pub init_section_byte_range : Pair → Outcome ByteRange
 init_section_byte_range pair =
     quoted_of pair >>= λ value. byte_range_of value >>= λ byte_range.

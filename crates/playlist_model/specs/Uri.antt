@@ -20,12 +20,12 @@ has_scheme text = is_ascii_alphabetic (slice_index text 0) && slice_index text (
 abbrev pub can_be_written : List ℕ → Bool
 can_be_written text = has_scheme text && not (has_control text) && not (list_any is_quote text)
 
--- the join that the `url` crate makes, where it may be one
+-- the join that the `url` crate makes, if it may be one
 abbrev pub joined : Parsed Parts → Option (List ℕ)
 joined (Ok url) = if can_be_written (serialize url) then Some (serialize url) else None
 joined (Err e) = None
 
--- the reference itself where it has a scheme, else its join to the base; none where the join fails
+-- the reference itself if it has a scheme, else its join to the base; none if the join fails
 abbrev pub resolved : Parts → List ℕ → Option (List ℕ)
 resolved base reference =
     if has_scheme reference then Some reference else joined (parse_url (Some base) reference)

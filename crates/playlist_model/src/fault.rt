@@ -9,7 +9,7 @@ use std::error::Error;
 use std::fmt;
 
 /// What is printed of a fault, without its line feed. The bytes lie in the value itself, so that a fault
-/// can be told where no memory is left. There is room for a name of 20 bytes, ` line ` and 20 digits.
+/// can be told if no memory is left. There is room for a name of 20 bytes, ` line ` and 20 digits.
 pub type FaultText = ArrayString<46>;
 
 impl FaultKind {
@@ -49,7 +49,7 @@ impl FaultKind {
 }
 
 impl PlaylistFault {
-    /// The kind's name, and ` line N` where the fault stands on a line.
+    /// The kind's name, and ` line N` if the fault stands on a line.
     pub fn text(self) -> FaultText
         ensures { result.bytes ≡ fault_text self }
     {
@@ -72,7 +72,7 @@ impl fmt::Display for FaultKind {
     }
 }
 
-/// The kind, and ` line N` where the fault stands on a line.
+/// The kind, and ` line N` if the fault stands on a line.
 impl fmt::Display for PlaylistFault {
     ghost output = { λ fault. Some (fault_text fault) };
 

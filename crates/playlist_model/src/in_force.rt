@@ -72,7 +72,7 @@ impl<'a> KeyRef<'a> {
         self.stated.uri.as_str()
     }
 
-    /// The initialisation vector: as the tag states it, or the segment's Media Sequence Number where an `identity` key
+    /// The initialisation vector: as the tag states it, or the segment's Media Sequence Number if an `identity` key
     /// states none (section 5.2).
     pub fn iv(&self) -> Option<u128>
         ensures { result ≡ self.now.iv }
@@ -217,7 +217,7 @@ impl Keys {
         }
     }
 
-    /// The key, where there is one alone.
+    /// The key, if there is one alone.
     pub fn only(&self) -> Option<KeyRef<'_>>
         ensures { MatchOption result ((length self.now == 1) ≡ false) (λ key. self.now ≡ key ∷ []) }
     {
@@ -229,7 +229,7 @@ impl Keys {
         }
     }
 
-    /// A vector of copies, which share their texts. Fails only where an allocation fails.
+    /// A vector of copies, which share their texts. Fails only if an allocation fails.
     pub fn to_vec(&self, alloc: Global) -> Result<Vec<Key>, AllocError>
         ensures { IfOk result (λ v. v.items ≡ self.now) }
     {

@@ -150,13 +150,13 @@ pub enum KeyTag {
 /// A key (EXT-X-KEY; RFC 8216, section 4.3.2.4). Each segment under it has a copy, which shares its texts.
 #[derive(Clone, PartialEq, Drop)]
 pub struct Key {
-    /// KEYFORMAT, which is `identity` where none is stated.
+    /// KEYFORMAT, which is `identity` if none is stated.
     pub format: Shared<Text>,
     /// METHOD, which isn't NONE.
     pub method: Shared<Text>,
     /// The resource of the key.
     pub uri: Shared<Text>,
-    /// The initialisation vector: as the tag states it, or the segment's media number where an `identity`
+    /// The initialisation vector: as the tag states it, or the segment's media number if an `identity`
     /// key of a segment states none (section 5.2).
     pub iv: Option<u128>,
     /// All other attributes, in their order, as they are spelled.
@@ -168,7 +168,7 @@ pub struct Key {
 pub struct InitSection {
     /// Its resource.
     pub uri: Shared<Text>,
-    /// The part of the resource, where it isn't the whole.
+    /// The part of the resource, if it isn't the whole.
     pub byte_range: Option<ByteRange>,
     /// The keys in force at its own line, with no IV supplied.
     pub keys: Keys,
@@ -185,17 +185,17 @@ pub struct Segment {
     pub discontinuities: u64,
     /// Its resource: an absolute URI.
     pub uri: ShortText,
-    /// The part of the resource, where it isn't the whole.
+    /// The part of the resource, if it isn't the whole.
     pub byte_range: Option<ByteRange>,
-    /// The keys that it is encrypted under, sorted by format; none where it is clear.
+    /// The keys that it is encrypted under, sorted by format; none if it is clear.
     pub keys: Keys,
-    /// What its parser is initialised with, where it needs that.
+    /// What its parser is initialised with, if it needs that.
     pub init_section: Option<Shared<InitSection>>,
     /// How long it lasts (EXTINF).
     pub duration: Nanos,
     /// What stands after the duration and a comma.
     pub title: Shared<ShortText>,
-    /// When its first sample is, where EXT-X-PROGRAM-DATE-TIME states that.
+    /// When its first sample is, if EXT-X-PROGRAM-DATE-TIME states that.
     pub program_date_time: Option<Instant>,
 }
 
@@ -245,11 +245,11 @@ pub struct DateRange {
 /// A media playlist (RFC 8216, section 4), as a reader has it.
 #[derive(Drop)]
 pub struct Playlist {
-    /// EXT-X-VERSION, which is 1 where none is stated.
+    /// EXT-X-VERSION, which is 1 if none is stated.
     pub version: u64,
     /// EXT-X-TARGETDURATION, in seconds.
     pub target_duration: u64,
-    /// EXT-X-PLAYLIST-TYPE, where it is stated.
+    /// EXT-X-PLAYLIST-TYPE, if it is stated.
     pub playlist_type: Option<PlaylistKind>,
     /// Whether EXT-X-INDEPENDENT-SEGMENTS is stated.
     pub independent_segments: bool,

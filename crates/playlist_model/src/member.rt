@@ -78,7 +78,7 @@ impl<'a, T: Drop> Members<'a, T> {
         self.list.len().saturating_sub(self.place)
     }
 
-    /// The next value, if there is one. Takes no memory, and fails only where a list would have more than 2^64 - 1 owners;
+    /// The next value, if there is one. Takes no memory, and fails only if a list would have more than 2^64 - 1 owners;
     /// then all are still to come.
     pub fn next(&mut self) -> Result<Option<Member<T>>, AllocError>
         ensures next { IfOk result

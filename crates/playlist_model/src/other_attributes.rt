@@ -10,7 +10,7 @@ use std::alloc::{AllocError, Global};
 use std::marker::Model;
 
 /// The attributes of a key tag that have no meaning of their own here, such as KEYFORMATVERSIONS: as they are
-/// spelled, each with a comma before it. Nothing where there are none.
+/// spelled, each with a comma before it. Nothing if there are none.
 #[derive(Drop)]
 pub struct OtherAttributes {
     string: String,

@@ -16,7 +16,7 @@ fn is_same_iv(iv: Option<u128>, other: Option<u128>) -> bool
 pub fn is_same_key(a: &KeyRef<'_>, b: &KeyRef<'_>) -> bool
     ensures { result ≡ same_key a.now b.now }
 {
-    // Where a key states no IV it differs from segment to segment (RFC 8216, 5.2), and in that alone.
+    // If a key states no IV it differs from segment to segment (RFC 8216, 5.2), and in that alone.
     if !is_same_iv(a.iv(), b.iv()) {
         return false;
     }

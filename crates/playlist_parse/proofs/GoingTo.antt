@@ -210,7 +210,7 @@ took_over old front new common source last agree same cut is number = λ base wa
     (subst (λ ls. Reached base front.progress front.number ls (lines source.text)) same there) was refl agree.stop agree.here agree.there agree.heading agree.some agree.fewer
     (ap (λ ls. ls ++ tail) cut ∙ append_assoc (lines common) (left_in new) tail) is number
 
--- where nothing changed, nothing has to be shown
+-- if nothing changed, nothing has to be shown
 pub stayed : (front old new : Reading) (source : Source) (last : Playlist) → new ≡ old → TakesOver front source last old new
 stayed front old new source last is = λ base was there tail all here. subst (λ (x : Reading). Reached base x.progress x.number (left_in x ++ tail) all) (sym is) here
 

@@ -13,7 +13,7 @@ step : (b : Bool) (n : ℕ) (any : Bool) → nat_lt 0 n ≡ any → nat_lt 0 (co
 step true n any h = more n
 step false n any h = h
 
--- some line passes exactly where more than none do
+-- some line passes exactly if more than none do
 pub has_count : (p : Said → Bool) (before : List Said) → nat_lt 0 (count p before) ≡ list_any p before
 has_count p [] = refl
 has_count p (said ∷ before) = step (p said) (count p before) (list_any p before) (has_count p before)

@@ -176,7 +176,7 @@ opened base before line rest (x ∷ xs) later e h light said =
       said = subst (λ (l : List ℕ). said_from (said_by limited base) before (l ∷ xs) ≡ Err e) same said;
     }
 
--- the next line is light where a fault of such lines is still to be met
+-- the next line is light if a fault of such lines is still to be met
 pub told_first : {base : Parts} {progress : Progress} {n : ℕ} {line : List ℕ} {rest : List (List ℕ)} {e : Fault} → Telling base progress n (line ∷ rest) e → IsLight line
 told_first {base = base} {line = line} {rest = rest} {e = e} t =
     let o = opened base t.before line rest t.front t.later e t.left_is t.light t.said in o.first
@@ -231,7 +231,7 @@ is_told base progress new n line rest e kind takes t =
 
 -- ---- a reading
 
--- where such a fault is still to be met, no segment is read
+-- if such a fault is still to be met, no segment is read
 pub none_read : {base : Parts} {progress : Progress} {n : ℕ} {left : List (List ℕ)} {e : Fault} → Telling base progress n left e → progress.segments ≡ []
 none_read t = ap (λ (p : Progress). p.segments) t.progress_is ∙ t.none
 

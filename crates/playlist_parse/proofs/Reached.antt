@@ -89,7 +89,7 @@ pub line_refused : {base : Parts} {progress : Progress} {number : ℕ} {line : L
 line_refused {base = base} {number = number} {line = line} {lines = lines} e fault r refuses is =
     subst (λ (f : Fault). Faulted base f lines) (sym is) (refused e r (taken_err line e r refuses))
 
--- where no line is left, the text is the playlist
+-- if no line is left, the text is the playlist
 pub ended : {base : Parts} {progress : Progress} {number : ℕ} {lines : List (List ℕ)} (playlist : Playlist) (r : Reached base progress number [] lines) → Ends progress (Ok playlist)
     → and_whole (said_from (said_by limited base) (nothing ∷ []) lines) ≡ Ok playlist
 ended {base = base} {progress = progress} playlist r h =

@@ -158,7 +158,7 @@ fn ends_in_feed(text: &str) -> bool
     }
 }
 
-// What stands after a front of a text, where it begins so.
+// What stands after a front of a text, if it begins so.
 fn text_after<'a>(text: &'a str, front: &str) -> Option<&'a str>
     ensures { MatchOption result (Unit {0}) (λ later. text.now ≡ front.now ++ later.now) }
 {

@@ -506,7 +506,7 @@ impl<'a> Progress<'a> {
         self.date_ranges.len()
     }
 
-    /// The number of the first segment, where one is read.
+    /// The number of the first segment, if one is read.
     pub fn first_number(&self) -> Option<u64> {
         match self.segments.as_slice().first() {
             Some(segment) => Some(segment.media_sequence),
@@ -530,7 +530,7 @@ impl<'a> Progress<'a> {
         }
     }
 
-    /// What stands here, where no tag of the next segment does.
+    /// What stands here, if no tag of the next segment does.
     pub fn stop(&self) -> Result<Option<Stop>, AllocError>
         ensures { IfOk result
             (λ stop. MatchOption stop (Unit {0}) (λ stop. IsStop self.now.standing stop)) }
@@ -575,7 +575,7 @@ impl<'a> Progress<'a> {
         Ok(true)
     }
 
-    /// The playlist, where the text as a whole has no fault: `NoTarget`, `NoSegments`, `MixedMaps`.
+    /// The playlist, if the text as a whole has no fault: `NoTarget`, `NoSegments`, `MixedMaps`.
     pub fn playlist(self) -> Result<Playlist, FaultKind>
         ensures { Ends self.entry result }
     {

@@ -65,7 +65,7 @@ pub struct Read {
     pub playlist: Playlist,
     /// The places of those of its segments that were taken over from the last playlist.
     pub taken: Range<usize>,
-    /// What is kept of its text; none where it has no line that names a segment and ends with a line feed.
+    /// What is kept of its text; none if it has no line that names a segment and ends with a line feed.
     pub source: Option<Source>,
 }
 
@@ -108,7 +108,7 @@ fn number_after(here: u64, there: u64, end: u64) -> Option<u64>
     here.checked_add(lines)
 }
 
-// The lines after a header, read up to `most` segments; none where a line has a fault.
+// The lines after a header, read up to `most` segments; none if a line has a fault.
 fn front_of<'a>(alloc: Global, text: &'a str, base: &'a Base, most: usize) -> Option<Reading<'a>>
     requires { length (lines text.now) < 2 ^ 63 }
     ensures { MatchOption result (Unit {0})
@@ -143,7 +143,7 @@ fn agrees(here: &Progress<'_>, there: &Progress<'_>) -> Result<bool, AllocError>
     }
 }
 
-// Copies what a source has after what is read there. False where that can't be told; then all is as it was.
+// Copies what a source has after what is read there. False if that can't be told; then all is as it was.
 fn copy_after(
     here: &mut Progress<'_>,
     there: &Progress<'_>,
@@ -162,7 +162,7 @@ fn copy_after(
 }
 
 #[tactic(none)]
-// Takes over the lines of a source after the segment that was read last, where the lines that are left begin with them: at
+// Takes over the lines of a source after the segment that was read last, if the lines that are left begin with them: at
 // which places their segments stand.
 fn take_over<'a>(
     reading: &mut Reading<'a>,
@@ -196,7 +196,7 @@ fn take_over<'a>(
 }
 
 #[tactic(none)]
-// The same, where the last playlist has the segment that was read first.
+// The same, if the last playlist has the segment that was read first.
 fn take_over_from<'a>(
     alloc: Global,
     reading: &mut Reading<'a>,
@@ -221,7 +221,7 @@ fn take_over_from<'a>(
 }
 
 #[tactic(none)]
-// The same, where something is kept with this playlist.
+// The same, if something is kept with this playlist.
 fn take_over_kept<'a>(
     alloc: Global,
     reading: &mut Reading<'a>,
@@ -243,7 +243,7 @@ fn take_over_kept<'a>(
 }
 
 #[tactic(none)]
-// The same, where there is a last playlist.
+// The same, if there is a last playlist.
 fn take_over_last<'a>(
     alloc: Global,
     reading: &mut Reading<'a>,

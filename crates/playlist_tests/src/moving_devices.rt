@@ -4,13 +4,13 @@ use std::alloc::{AllocError, Global};
 use std::io;
 use std::io::{ErrorKind, Read, Write};
 
-// How many bytes the next read moves; none where it fails.
+// How many bytes the next read moves; none if it fails.
 fn read_next<S: Source>(source: &mut S) -> Option<usize> {
     let mut room = [0u8; READ_ROOM];
     source.read(&mut room).ok()
 }
 
-// How many of these bytes, which aren't none, the next write takes; none where it fails.
+// How many of these bytes, which aren't none, the next write takes; none if it fails.
 fn write_next<K: Sink>(sink: &mut K, bytes: &[u8]) -> Option<usize> {
     if bytes.is_empty() {
         return None;

@@ -119,7 +119,7 @@ fn stops_after_each(alloc: Global, playlist: &OutPlaylist<'_>) -> Result<bool, A
     Ok(true)
 }
 
-// How many bytes a sink that takes all that is offered has up to the call that fails, where they are the text's front.
+// How many bytes a sink that takes all that is offered has up to the call that fails, if they are the text's front.
 fn taken_before(
     alloc: Global,
     playlist: &OutPlaylist<'_>,

@@ -116,11 +116,11 @@ pairs_are text pairs =
     last (Ok x) f b e h = h x ∙ e
     last (Err d) f b e h = e
 
--- the attributes that are read say a date range where each is as it has to be
+-- the attributes that are read say a date range if each is as it has to be
 pub attributes_say : (text : List ℕ) (pairs : List Pair) → attributes_of (Some 64) text ≡ Ok pairs → is_date_range pairs ≡ says_date_range (date_range_said few text)
 attributes_say text pairs h = sym (ap (λ o. says_date_range (said_of text o)) h ∙ pairs_are text pairs)
 
--- there is an answer where there is a value
+-- there is an answer if there is a value
 pub told : {A E : Type 0} (o : Option A) (e : E) → is_ok (ok_or o e) ≡ is_some o
 told None e = refl
 told (Some x) e = refl

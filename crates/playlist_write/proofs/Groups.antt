@@ -117,7 +117,7 @@ init_section_parts s h =
     let a = and_parts _ _ h in let b = and_parts _ _ a.0 in let c : (quoted_uri_fits s.uri ≡ true) × (if_some byte_range_fits s.byte_range ≡ true) = and_parts _ _ b.0 in
     record { uri = c.0; byte_range = c.1; keys = b.1; ivs = not-true _ a.1 }
 
--- the section that is written: none where it is the same
+-- the section that is written: none if it is the same
 abbrev written : Bool → InitSection → Option InitSection
 written same new = cond same None (Some new)
 

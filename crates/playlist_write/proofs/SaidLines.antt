@@ -195,7 +195,7 @@ module _ (base : Parts) (before : List Said) where
   past_iv None later = refl
   past_iv (Some n) later = refl
 
-  -- the format that is read where this one is written
+  -- the format that is read if this one is written
   format_read : Bool → List ℕ → Option (List ℕ)
   format_read true format = None
   format_read false format = Some format

@@ -1,4 +1,4 @@
--- The parts of a key and of a section, where they fit, are written as attributes.
+-- The parts of a key and of a section, if they fit, are written as attributes.
 use Rattle.std.proofs.Common.{◌≡◌, ℕ, ◌^◌, ◌<◌, ◌+◌, Bool, true, false, not, cond, List, [], ◌∷◌, ◌++◌, length, refl, ap, sym, ◌∙◌, subst, append_assoc, append-nil, arith, Some, None}
 use Rattle.std.specs.Prelude.{Option, codes, bytes_eq, decimal, ◌&&◌}
 use Rattle.std.specs.List.{list_any}
@@ -103,7 +103,7 @@ iv_pair iv = plain (codes "IV") (iv_text iv)
 abbrev format_pair : List ℕ → Pair
 format_pair format = in_quotes (codes "KEYFORMAT") format
 
--- the format's attribute where it is written, and the others after these
+-- the format's attribute if it is written, and the others after these
 after_iv : (b : Bool) (before : List Pair) (format : List ℕ) (others : List Pair) → is_value true format ≡ true → list_any is_key_attribute others ≡ false → are_attributes others ≡ true
     → list_any (is_named (codes "KEYFORMAT")) before ≡ false → ((pair : Pair) → IsOther pair → list_any (is_named pair.name) before ≡ false)
     → are_apart before (cond b [] (format_pair format ∷ []) ++ others) ≡ true

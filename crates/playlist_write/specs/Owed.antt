@@ -28,7 +28,7 @@ pub record Current : Type 0 where
 abbrev pub none_yet : Current
 none_yet = record { keys = []; init_section = None }
 
--- the initialisation section, where it is another than the one in force
+-- the initialisation section, if it is another than the one in force
 abbrev pub changed_init_section : Option InitSection → Option InitSection → Option InitSection
 changed_init_section current None = None
 changed_init_section current (Some new) = if same_option same_init_section (Some new) current then None else Some new

@@ -28,7 +28,7 @@ fn push_quoted(out: &mut String, name: &str, value: &str) -> Result<(), AllocErr
     out.push('"')
 }
 
-// Appends the closing quote of a value, and then the initialisation vector where there is one.
+// Appends the closing quote of a value, and then the initialisation vector if there is one.
 fn push_iv(out: &mut String, iv: Option<u128>) -> Result<(), AllocError>
     ensures { Appends result out.old out.new (quote ∷ after_commas (iv_pairs iv)) }
 {
@@ -86,7 +86,7 @@ fn push_rest(out: &mut String, key: &KeyRef<'_>) -> Result<(), AllocError>
     Ok(())
 }
 
-// The same, where most keys have no other attributes.
+// The same. Most keys have no other attributes.
 fn push_short_rest(out: &mut String, key: &KeyRef<'_>) -> Result<(), AllocError>
     ensures { Appends result out.old out.new (rest_of key.now) }
 {

@@ -40,7 +40,7 @@ pub struct OutPlaylist<'a> {
     pub version: u64,
     /// EXT-X-TARGETDURATION, in seconds.
     pub target_duration: u64,
-    /// EXT-X-PLAYLIST-TYPE, where it is stated.
+    /// EXT-X-PLAYLIST-TYPE, if it is stated.
     pub playlist_type: Option<PlaylistKind>,
     /// Whether EXT-X-INDEPENDENT-SEGMENTS is stated.
     pub independent_segments: bool,
@@ -163,7 +163,7 @@ pub fn write<S: Sink>(
     ensures denotes { well_formed playlist.now ≡ true
         → (base : Parts) → Denotes base (playlist_text playlist.now) (denoted playlist.now) }
 
-    // The sink is blamed exactly where a write failed or took nothing, and that write is the last: never for a failed allocation.
+    // The sink is blamed exactly if a write failed or took nothing, and that write is the last: never for a failed allocation.
     ensures unfailed { OnOk result
         (NoneFailed (S.stand sink.old).failed (S.stand sink.new).failed) }
     ensures io { IsErrOf result WriteFault.Io

@@ -45,7 +45,7 @@ fn is_current(current: Option<&InitSection>, new: &InitSection) -> bool
     }
 }
 
-// The initialisation section, where it is another than the one in force.
+// The initialisation section, if it is another than the one in force.
 fn changed_init_section<'a>(
     current: Option<&InitSection>,
     init_section: &'a Option<Shared<InitSection>>,

@@ -187,7 +187,7 @@ impl<'a> OutPlaylist<'a> {
     /// quote. Keys are sorted by format, one for each, with no other attribute twice; a segment's
     /// `identity` key and a section's AES-128 key state their IV. Durations are below 1,000,000 s,
     /// ranges end below 2^64, times lie in the years 1900 to 2199. Date ranges are read, with at most
-    /// 64 attributes. Memory is refused only where a date range is read.
+    /// 64 attributes. Memory is refused only if a date range is read.
     pub fn well_formed(&self, alloc: Global) -> Result<bool, AllocError>
         ensures { IfOk result (λ b. b ≡ well_formed self.now) }
     {

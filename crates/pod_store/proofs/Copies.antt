@@ -142,7 +142,7 @@ pub fallback_stands : (store : Store) (ids : List (List ℕ)) → (with_copies s
 fallback_stands store [] = refl
 fallback_stands store (x ∷ ids) = fallback_stands (with_copy store x) ids ∙ fallback_stays store x
 
--- a break has the pod then that it is filled with, where it is one of these, and else what it had
+-- a break has the pod then that it is filled with, if it is one of these, and else what it had
 copy_pod : (id other : List ℕ) (store : Store) → own_pod (with_copy store other) id ≡ cond (bytes_eq id other) (pod_for store id) (own_pod store id)
 copy_pod id other store = by (bytes_eq id other) refl
   where

@@ -24,7 +24,7 @@ inserted_by : (b : Bool) (texts : List (Bor (List ℕ))) (id : Bor (List ℕ)) �
 inserted_by true texts id = refl
 inserted_by false texts id = texts_after texts id
 
--- what stands after an ID is inserted, where it is told whether it stood there
+-- what stands after an ID is inserted, if it is told whether it stood there
 pub inserted : (texts : List (Bor (List ℕ))) (id : Bor (List ℕ)) → texts_of (insert_key same_text texts id) ≡ cond (not (is_one_of (texts_of texts) id.now)) (texts_of texts ++ id.now ∷ []) (texts_of texts)
 inserted texts id = inserted_by (list_any (same_text id) texts) texts id ∙ ap (λ b. cond (not b) (texts_of texts ++ id.now ∷ []) (texts_of texts)) (sym (found id.now texts))
 

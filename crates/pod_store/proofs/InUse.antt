@@ -12,7 +12,7 @@ pushed : {A B : Type 0} (G : A → B) (b : Bool) (x : A) (xs : List A) → cond 
 pushed G true x xs = refl
 pushed G false x xs = refl
 
--- what a map's `retain` leaves, where the closure keeps no state and writes these values
+-- what a map's `retain` leaves, if the closure keeps no state and writes these values
 module _ {K X F : Type 0} (T : F → K → X → Bool → X → F → Type 0) (test : K × X → Bool) (set : K → X → X) (f : F)
     (says : (k : K) (v : X) (b : Bool) (w : X) (g : F) → T f k v b w g → (b ≡ test (k, v)) × (w ≡ set k v) × (g ≡ f)) where
   pub mapped-RetainsPairs : (es kept : List (K × X)) → RetainsPairs T f es kept → kept ≡ map (λ (e : K × X). (e.0, set e.0 e.1)) (filter test es)

@@ -429,7 +429,7 @@ put_pods id (d ∷ ds) store =
     by true = refl
     by false = refl
 
--- where no break stands twice, one that is taken away stands no more
+-- if no break stands twice, one that is taken away stands no more
 own_dropped : (id : List ℕ) (store : List Entry) → are_distinct store ≡ true → entry_in (without id store) id ≡ None
 own_dropped id [] h = refl
 own_dropped id (e ∷ store) h = by (bytes_eq id e.id) refl (and_parts _ _ h) (own_dropped id store)

@@ -17,7 +17,7 @@ kind_text fault.Used = codes "J9 Used"
 kind_text fault.Full = codes "J10 Full"
 kind_text fault.Unknown = codes "J11 Unknown"
 
--- a word and a number, where there is one
+-- a word and a number, if there is one
 abbrev pub part_text : List ℕ → Option ℕ → List ℕ
 part_text word None = []
 part_text word (Some n) = word ++ decimal n

@@ -59,12 +59,12 @@ abbrev pub pod_in : List ℕ → List Decision → Option Pod
 pod_in id [] = None
 pod_in id (d ∷ later) = or_earlier (pod_in id later) (if bytes_eq id d.0 then Some d.1 else None)
 
--- what a break has that has what stood before, where these decisions are taken
+-- what a break has that has what stood before, if these decisions are taken
 abbrev pub pod_given : List ℕ → List Decision → Option Pod → Outcome Store → Option Pod
 pod_given id decisions before (Ok new) = or_earlier (pod_in id decisions) before
 pod_given id decisions before (Err e) = before
 
--- the same where this break's pod is taken away
+-- the same if this break's pod is taken away
 abbrev pub pod_left : Bool → Option Pod → Outcome Store → Option Pod
 pod_left is_this before (Ok new) = if is_this then None else before
 pod_left is_this before (Err e) = before
@@ -82,7 +82,7 @@ pod_by id [] = None
 pod_by id (call ∷ earlier) = pod_after id call (after_calls earlier) (pod_by id earlier)
 
 -- after any calls each break has the pod that the last decision on it gave it, or else the fallback that there was when it
--- came into use, where none took it away since: a pod goes with its withdrawal, or where its break is in use no more
+-- came into use, if none took it away since: a pod goes with its withdrawal, or if its break is in use no more
 abbrev pub LastPodStands : Type 0
 LastPodStands = (calls : List Call) (id : List ℕ) → own_pod (after_calls calls) id ≡ pod_by id calls
 

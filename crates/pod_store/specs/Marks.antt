@@ -9,7 +9,7 @@ pub record Mark : Type 0 where
   pub id : List ℕ
   pub pod : Pod
 
--- a segment, the instant at which it begins where it has one, and the break that it is marked with
+-- a segment, the instant at which it begins if it has one, and the break that it is marked with
 pub record Marked : Type 0 where
   pub segment : Segment
   pub instant : Option ℤ

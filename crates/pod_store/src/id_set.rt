@@ -34,7 +34,7 @@ impl<'a> IdSet<'a> {
         }
     }
 
-    /// Inserts `id`, if it isn't there. True if it wasn't. Where an allocation fails the set is as it was.
+    /// Inserts `id`, if it isn't there. True if it wasn't. If an allocation fails the set is as it was.
     pub fn insert(&mut self, id: &'a str) -> Result<bool, AllocError>
         ensures first { IfOk result (λ first. first ≡ not (is_one_of self.old id.now)) }
         ensures ids { IfOk result
@@ -52,7 +52,7 @@ impl<'a> IdSet<'a> {
     }
 
     #[tactic(auto, using(crate::proofs::IdSets::one_more))]
-    /// Inserts `id`, if it isn't there. Where an allocation fails the set is as it was.
+    /// Inserts `id`, if it isn't there. If an allocation fails the set is as it was.
     pub fn add(&mut self, id: &'a str) -> Result<(), AllocError>
         ensures { OnOk result ((other : List ℕ)
             → is_one_of self.new other ≡ (is_one_of self.old other || bytes_eq other id.now)) }

@@ -218,7 +218,7 @@ impl PodStore {
         count
     }
 
-    // Keeps the pods of these breaks, where there is memory.
+    // Keeps the pods of these breaks, if there is memory.
     fn put_all(&mut self, decisions: Vec<Decision>) -> Result<(), AllocError>
         ensures ok { OnOk result (self.new
             ≡ with_entries self.old (fold put self.old.entries decisions.items)) }
@@ -297,7 +297,7 @@ impl PodStore {
         Ok(())
     }
 
-    // A copy of the fallback, where there is one, is the pod of a break that has none of its own.
+    // A copy of the fallback, if there is one, is the pod of a break that has none of its own.
     fn copy(&mut self, id: &str) -> Result<(), AllocError>
         ensures ok { OnOk result (self.new ≡ with_copy self.old id.now) }
         ensures err { OnErr result (self.new ≡ self.old) }
@@ -329,7 +329,7 @@ impl PodStore {
         Ok(there)
     }
 
-    // A copy of the fallback, where there is one, is the pod of each of these breaks that has none of its own; or of the first
+    // A copy of the fallback, if there is one, is the pod of each of these breaks that has none of its own; or of the first
     // of them.
     fn copy_each(&mut self, ids: &[Shared<Text>]) -> Result<(), AllocError>
         ensures ok { OnOk result (self.new ≡ with_copies self.old ids.now) }
@@ -341,7 +341,7 @@ impl PodStore {
         Ok(())
     }
 
-    // Each of these breaks that has no pod of its own keeps a copy of the fallback, where there is one, and is used.
+    // Each of these breaks that has no pod of its own keeps a copy of the fallback, if there is one, and is used.
     fn copy_fallback(&mut self, ids: &[Shared<Text>]) -> Result<(), AllocError>
         ensures ok { OnOk result (self.new ≡ with_copies self.old ids.now) }
         ensures err { OnErr result (self.new ≡ self.old) }

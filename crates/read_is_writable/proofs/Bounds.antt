@@ -15,7 +15,7 @@ use Rattle.fixed_duration.proofs.Digits.{length-filled}
 use Rattle.attr_list.specs.Numbers.{decimal_of, has_up_to}
 use Rattle.playlist_write.specs.WellFormed.{is_word, duration_fits}
 
--- what is answered only where a test holds
+-- what is answered only if a test holds
 pub where_some : {A : Type 0} (b : Bool) (x y : A) → cond b (Some x) None ≡ Some y → (b ≡ true) × (x ≡ y)
 where_some true x y h = (refl, cc)
 where_some false x y h = cc

@@ -1,4 +1,4 @@
--- Segments that are read, where each URI is UTF-8.
+-- Segments that are read, if each URI is UTF-8.
 use Rattle.std.proofs.Common.{◌≡◌, ℕ, true, not, List, refl}
 use Rattle.std.specs.Prelude.{Option, Some, None, ◌&&◌}
 use Rattle.std.specs.List.{list_any, list_all}

@@ -1,4 +1,4 @@
--- A text is read with limits exactly where it is read without and keeps them.
+-- A text is read with limits exactly if it is read without and keeps them.
 use Rattle.std.proofs.Common.{◌≡◌, ℕ, ◌+◌, ◌≤◌, Bool, true, false, not, cond, List, [], ◌∷◌, length, refl, ap, sym, ◌∙◌, subst, arith}
 use Rattle.std.specs.Prelude.{Result, Ok, Err, Some, codes, bytes_eq, ◌↔◌}
 use Rattle.std.specs.List.{list_all}

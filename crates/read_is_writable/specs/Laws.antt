@@ -12,10 +12,10 @@ use Rattle.read_is_writable.specs.Read.{segment_reads, uris_are_text, segment_ca
 abbrev pub ReadCanBeWritten : Type 0
 ReadCanBeWritten = (reader : Reader) (base : Parts) (bytes : List ℕ) (p : Playlist) → reading reader base bytes ≡ Ok p → AreRead reader p
 
--- a segment that is read can be written where its URIs are UTF-8
+-- a segment that is read can be written if its URIs are UTF-8
 abbrev pub TextSegmentsCanBeWritten : Type 0
 TextSegmentsCanBeWritten = (s : Segment) → segment_reads s ≡ true → uris_are_text s ≡ true → segment_can_be_written s ≡ true
 
--- the reader with limits reads exactly what is denoted, where that is within them
+-- the reader with limits reads exactly what is denoted, if that is within them
 abbrev pub ReadsWithinLimits : Type 0
 ReadsWithinLimits = (base : Parts) (bytes : List ℕ) (p : Playlist) → (reading limited base bytes ≡ Ok p) ↔ (Denotes base bytes p × KeepsLimits base bytes)

@@ -34,7 +34,7 @@ line_keeps line = kind_keeps (kind_of line)
 
 -- ---- what the lines say
 
--- what the lines after the header say, the last first; nothing where one of them has a fault
+-- what the lines after the header say, the last first; nothing if one of them has a fault
 abbrev pub said_by_lines : Parts → List (List ℕ) → List Said
 said_by_lines base [] = []
 said_by_lines base (header ∷ later) = result_unwrap_or (said_from (said_by unlimited base) (nothing ∷ []) later) []

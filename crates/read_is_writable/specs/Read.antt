@@ -65,7 +65,7 @@ segment_reads s =
     numbers_are_words s && resource_reads s && effective_keys_read s.keys && if_some init_section_reads s.init_section && duration_fits s.duration
     && is_clean s.title && if_some in_range s.program_date_time
 
--- ---- the same where each URI is UTF-8
+-- ---- the same if each URI is UTF-8
 
 abbrev pub key_is_text : Key → Bool
 key_is_text k = is_utf8 k.uri

@@ -10,12 +10,12 @@ pub fn read_can_be_written()
     ensures { ReadCanBeWritten }
 {}
 
-/// A segment that is read can be written with its own numbers and time where its URIs are UTF-8.
+/// A segment that is read can be written with its own numbers and time if its URIs are UTF-8.
 pub fn text_segments_can_be_written()
     ensures { TextSegmentsCanBeWritten }
 {}
 
-/// A playlist is read within the limits exactly where it is denoted and keeps them: at most 4,194,304 bytes, 64
+/// A playlist is read within the limits exactly if it is denoted and keeps them: at most 4,194,304 bytes, 64
 /// attributes in a tag, 16 key formats in force and 10,000 segments.
 pub fn reads_within_limits()
     ensures { ReadsWithinLimits }

@@ -66,7 +66,7 @@ last_bytes k n few =
     let here : drop (8 - k) (bytes_high_first 8 n) ≡ bytes_high_first k n = ap (λ (m : ℕ). drop (8 - k) (bytes_high_first m n)) (sym parts) ∙ lowest_bytes (8 - k) k n in
     ap (λ (xs : List ℕ). take (8 - (8 - k)) xs) here ∙ take_all (8 - (8 - k)) (bytes_high_first k n) (omega (arith, length-bytes k n))
 
--- what a call that adds bytes says where it succeeds
+-- what a call that adds bytes says if it succeeds
 pub on_added : {E : Type 0} (r : Result (Unit {0}) E) (old new added : List ℕ) (P : Type 0) → new ≡ cond (is_ok r) (old ++ added) old → (new ≡ old ++ added → P) → OnOk r P
 on_added (Ok x) old new added P e f = f e
 on_added (Err d) old new added P e f = tt
@@ -107,7 +107,7 @@ counted_appends r cs ds n t a b c len same is count added =
     subst (λ (u : Target). Appends (target_fields u) a c) (sym is)
     (Appends-then (subst (λ (k : ℕ). Appends ((8, Is k) ∷ []) a b) len count) (subst (λ (xs : List (ℕ × Option SpliceTime)). Appends (flat_map component xs) b c) same q)))
 
--- an event is cancelled exactly where it has no body
+-- an event is cancelled exactly if it has no body
 pub cancelled : (b : Option InsertBody) (x : Bool) (old new : List ℕ) → is_some b ≡ not x → Appends (cancel_fields x) old new → Appends (cancel_fields (is_none (bodies_of b))) old new
 cancelled None x old new e h = subst (λ (y : Bool). Appends (cancel_fields y) old new) (not-false x (sym e)) h
 cancelled (Some b) x old new e h = subst (λ (y : Bool). Appends (cancel_fields y) old new) (not-true x (sym e)) h

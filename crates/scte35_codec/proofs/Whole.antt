@@ -202,7 +202,7 @@ head_takes bytes s fits long protocol clear pts cw tier kind =
     let b4 = Takes-then (protocol_fields ++ adjustment_fields s.pts_adjustment ++ byte_fields s.cw_index) (tier_fields s.tier (n3 % 2 ^ 12)) (drop 3 bytes) (drop 10 bytes) (drop 13 bytes) b3 a4 in
     Takes-then (protocol_fields ++ adjustment_fields s.pts_adjustment ++ byte_fields s.cw_index ++ tier_fields s.tier (n3 % 2 ^ 12)) (byte_fields (command_type s.command)) (drop 3 bytes) (drop 13 bytes) (drop 14 bytes) b4 a5
 
--- the whole, where all after section_length is there
+-- the whole, if all after section_length is there
 whole_is : (s : Section) (n : ℕ) (bytes : List ℕ) → IsBytes bytes → 20 ≤ length bytes → number_in 0 1 bytes ≡ 0xFC → number_in 1 2 bytes % 2 ^ 12 + 3 ≡ length bytes
     → Takes (after_length s n) (drop 3 bytes) [] → Holds IsRead (section s n) bytes
 unfolding section

@@ -29,13 +29,13 @@ moved_up register = register * 2 % 2 ^ 32
 abbrev pub differ : Bool → Bool → Bool
 differ a b = if a then not b else b
 
--- The register after one bit more: it moves up, and where the bit that leaves it differs from the one that comes, the
+-- The register after one bit more: it moves up, and if the bit that leaves it differs from the one that comes, the
 -- polynomial is added to it, without carry.
 unfoldable pub after_bit : ℕ → Bool → ℕ
 after_bit register comes =
     if differ comes (bit 31 register) then bit_xor (moved_up register) polynomial else moved_up register
 
--- the register after all bits, where it was all ones at first
+-- the register after all bits, if it was all ones at first
 unfoldable pub crc_of : List ℕ → ℕ
 crc_of bytes = fold after_bit 0xFFFFFFFF (bits_of bytes)
 

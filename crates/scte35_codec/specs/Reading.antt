@@ -43,7 +43,7 @@ time_at bytes = do
   flags ← number_at 1 bytes
   if bit 7 flags.0 then specified_time_at bytes else Ok (record { pts = None }, flags.1)
 
--- no time where the splice is immediate
+-- no time if the splice is immediate
 unfoldable pub optional_time_at : Bool → List ℕ → Result (Option SpliceTime × List ℕ) SpliceFault
 optional_time_at true bytes = Ok (None, bytes)
 optional_time_at false bytes = do
@@ -97,7 +97,7 @@ body_at bytes = do
     ids.1,
   )
 
--- no body where the event is cancelled
+-- no body if the event is cancelled
 unfoldable pub optional_body_at : Bool → List ℕ → Result (Option Body × List ℕ) SpliceFault
 optional_body_at true bytes = Ok (None, bytes)
 optional_body_at false bytes = do

@@ -27,7 +27,7 @@ pub record Body : Type 0 where
   pub avail_num : ℕ
   pub avails_expected : ℕ
 
--- a splice_insert, which has no body where it is cancelled
+-- a splice_insert, which has no body if it is cancelled
 pub record SpliceEvent : Type 0 where
   pub event_id : ℕ
   pub body : Option Body
@@ -92,7 +92,7 @@ abbrev pub optional : {A : Type 0} → (A → List Field) → Option A → List 
 optional fields None = []
 optional fields (Some x) = fields x
 
--- time_specified_flag, reserved bits, and pts_time where it is specified
+-- time_specified_flag, reserved bits, and pts_time if it is specified
 abbrev pub time_fields : Option ℕ → List Field
 time_fields None = (1, Is 0) ∷ (7, Reserved 127) ∷ []
 time_fields (Some pts) = (1, Is 1) ∷ (6, Reserved 63) ∷ (33, Is pts) ∷ []
@@ -159,7 +159,7 @@ start_fields section_length =
     ∷ (12, Is section_length)
     ∷ []
 
--- the fields from there to the command, where splice_command_length is this
+-- the fields from there to the command, if splice_command_length is this
 abbrev pub heading_fields : Section → ℕ → List Field
 heading_fields s command_length =
     (8, Is 0)  -- protocol_version
@@ -180,13 +180,13 @@ ending_fields s = (16, Is (length s.descriptors)) ∷ bytes_of s.descriptors ++ 
 unfoldable pub after_length : Section → ℕ → List Field
 after_length s command_length = heading_fields s command_length ++ command_fields s.command ++ ending_fields s
 
--- the section, where splice_command_length is this: section_length counts the bytes that follow it
+-- the section, if splice_command_length is this: section_length counts the bytes that follow it
 unfoldable pub section : Section → ℕ → List Field
 section s command_length = start_fields (width (after_length s command_length) / 8) ++ after_length s command_length
 
 -- ---- What a value of these fields keeps
 
--- A time is there exactly where the splice is not immediate.
+-- A time is there exactly if the splice is not immediate.
 abbrev pub is_timed : Bool → Option SpliceTime → Bool
 is_timed immediate time = if immediate then is_none time else is_some time
 

@@ -18,7 +18,7 @@ abbrev pub time_fits : Option SpliceTime → Bool
 time_fits None = true
 time_fits (Some time) = pts_fits time.pts
 
--- A time is there exactly where the splice is not immediate, and fits its field.
+-- A time is there exactly if the splice is not immediate, and fits its field.
 abbrev pub place_fits : Bool → Option SpliceTime → Bool
 place_fits immediate time = is_timed immediate time && time_fits time
 

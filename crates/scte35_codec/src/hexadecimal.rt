@@ -25,7 +25,7 @@ fn are_digits(text: &[u8]) -> bool
     text.iter().all(|c| c.is_ascii_hexdigit())
 }
 
-// The digits after `0x` or `0X`, where they are pairs.
+// The digits after `0x` or `0X`, if they are pairs.
 fn digits_of(text: &[u8]) -> Result<&[u8], SpliceFault>
     ensures { MatchResult result (λ digits. digits_of text.now ≡ Ok digits.now)
         (λ e. digits_of text.now ≡ Err e) }

@@ -41,7 +41,7 @@ pub enum SpliceCommand {
 pub struct SpliceInsert {
     /// splice_event_id: the identifier of this splice event.
     pub event_id: u32,
-    /// What the event is; `None` where splice_event_cancel_indicator cancels the event of this identifier.
+    /// What the event is; `None` if splice_event_cancel_indicator cancels the event of this identifier.
     pub body: Option<InsertBody>,
 }
 
@@ -55,13 +55,13 @@ pub struct InsertBody {
     pub immediate: bool,
     /// program_splice_flag: whether the whole program or single components are spliced, and when.
     pub target: SpliceTarget,
-    /// break_duration, where duration_flag says that it is there.
+    /// break_duration, if duration_flag says that it is there.
     pub duration: Option<BreakDuration>,
     /// unique_program_id: the viewing event within the service.
     pub unique_program_id: u16,
-    /// avail_num: which avail of the viewing event this is. 0 where it isn't used.
+    /// avail_num: which avail of the viewing event this is. 0 if it isn't used.
     pub avail_num: u8,
-    /// avails_expected: how many avails the viewing event is expected to have. Where it is 0, avail_num says
+    /// avails_expected: how many avails the viewing event is expected to have. If it is 0, avail_num says
     /// nothing.
     pub avails_expected: u8,
 }
@@ -79,7 +79,7 @@ pub enum SpliceTarget {
 /// splice_time: when the splice is to be, if that is specified.
 #[derive(Clone, Copy, Debug, PartialEq, Eq)]
 pub struct SpliceTime {
-    /// pts_time, in ticks of 90 kHz before pts_adjustment is added, where time_specified_flag is set. 33 bits.
+    /// pts_time, in ticks of 90 kHz before pts_adjustment is added, if time_specified_flag is set. 33 bits.
     pub pts: Option<u64>,
 }
 
@@ -87,7 +87,7 @@ pub struct SpliceTime {
 #[derive(Clone, Copy, Debug, PartialEq, Eq)]
 pub struct BreakDuration {
     /// auto_return: whether the splicer returns to the network feed when the duration is over. Else another
-    /// splice_insert is to end the break, and the duration is for where that one is lost.
+    /// splice_insert is to end the break, and the duration is for the case that it is lost.
     pub auto_return: bool,
     /// duration, in ticks of 90 kHz. 33 bits.
     pub ticks: u64,

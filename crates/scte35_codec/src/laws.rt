@@ -20,7 +20,7 @@ pub fn has_one_value()
         → IsSection t bytes → s ≡ t }
 {}
 
-/// A value is refused only where no section of at most 4,096 bytes says it, so that section_length is at
+/// A value is refused only if no section of at most 4,096 bytes says it, so that section_length is at
 /// most 4093.
 pub fn refuses_what_has_no_section()
     ensures { (s : Section) (bytes : List ℕ) → IsBytes bytes → length bytes ≤ 4096

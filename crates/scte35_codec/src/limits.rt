@@ -20,7 +20,7 @@ const LONGEST: usize = 4093;
 // section_length without the command, the descriptors and the stuffing.
 const SHORTEST: usize = 17;
 
-// Whether a time is there exactly where the splice is not immediate, and fits its field.
+// Whether a time is there exactly if the splice is not immediate, and fits its field.
 fn place_fits(immediate: bool, time: Option<SpliceTime>) -> bool
     ensures { result ≡ place_fits immediate time }
 {

@@ -19,7 +19,7 @@ const TABLE_ID: u64 = 0xFC;
 // A section's bytes without its command, descriptors and stuffing.
 const SHORTEST: usize = 20;
 
-// splice_command_length where the length of a splice_insert is not stated.
+// splice_command_length if the length of a splice_insert is not stated.
 const UNSTATED: u64 = 0xFFF;
 
 // The splice_time() at the front of `bytes`, and the bytes after it (SCTE 35, section 9.8.1).

@@ -313,7 +313,7 @@ fn front_of(alloc: Global, info: &SpliceInfo) -> Result<Vec<u8>, SpliceFault>
 /// the splice is immediate or is missing though it isn't, a command of another type has the type of splice_insert,
 /// there are more than 255 components, or section_length would pass 4093. `OutOfMemory` only if an allocation fails.
 pub fn write(alloc: Global, info: &SpliceInfo) -> Result<Vec<u8>, SpliceFault>
-    // A value is refused exactly where it has no section that may be written.
+    // A value is refused exactly if it has no section that may be written.
     ensures refused { (result ≡ Err TooLarge) ↔ (has_section (section_of info.now) ≡ false) }
     ensures fault { IfErr result (λ e. (e ≡ OutOfMemory) ⊎ (e ≡ TooLarge)) }
 
@@ -334,7 +334,7 @@ pub fn write(alloc: Global, info: &SpliceInfo) -> Result<Vec<u8>, SpliceFault>
 /// place of the CRC of `info`: the one by which the registers of ISO/IEC 13818-1, Annex A, are zero after the whole
 /// section, as SCTE 35 wants it. So it is a section that others take.
 pub fn write_with_crc(alloc: Global, info: &SpliceInfo) -> Result<Vec<u8>, SpliceFault>
-    // A value is refused exactly where it has no section that may be written.
+    // A value is refused exactly if it has no section that may be written.
     ensures refused { (result ≡ Err TooLarge) ↔ (has_section (section_of info.now) ≡ false) }
     ensures fault { IfErr result (λ e. (e ≡ OutOfMemory) ⊎ (e ≡ TooLarge)) }
 

@@ -4,7 +4,7 @@ use Rattle.playlist_model.specs.declared.Key.{Key}
 use Rattle.playlist_model.specs.declared.InitSection.{InitSection}
 use Rattle.playlist_model.specs.LookBack.{Standing, Extent}
 
--- the numbers of the next segment but for its own steps, and what is in force
+-- the numbers of the next segment except for its own steps, and what is in force
 pub record Stop : Type 0 where
   pub number : ℕ
   pub discontinuity : ℕ

@@ -18,7 +18,7 @@ pub record Restates (line : List ℕ) (own : ℕ × List ℕ) : Type 0 where
   pub is_line : IsLineOf line stated
   pub says : duration_said stated ≡ Ok (duration own.0 own.1)
 
--- the line that is kept, where one is, states what was said last
+-- the line that is kept, if one is, states what was said last
 abbrev pub IsAgain : Option (List ℕ) → Option (ℕ × List ℕ) → Type 0
 IsAgain None said = ⊤
 IsAgain (Some line) None = ⊥

@@ -5,7 +5,7 @@ use Rattle.segment_state.specs.declared.Part.{Part}
 use Rattle.segment_state.specs.declared.ReaderState.TheInside.{Inside}
 use Rattle.segment_state.specs.Running.{Running}
 
--- the last segment's resource, and its byte range of it, where it has one
+-- the last segment's resource, and its byte range of it, if it has one
 abbrev pub extent_after : Option Part → Option Extent
 extent_after None = None
 extent_after (Some part) = Some (record { uri = part.uri; byte_range = part.byte_range })

@@ -13,7 +13,7 @@ use playlist_model::{FaultKind, Shared, ShortText};
 use std::alloc::{AllocError, Global};
 use std::marker::Model;
 
-/// What EXTINF stated last: the next one says the same where its text is the same.
+/// What EXTINF stated last: the next one says the same if its text is the same.
 #[derive(Drop)]
 pub struct Durations<'a> {
     alloc: Global,
@@ -23,7 +23,7 @@ pub struct Durations<'a> {
     is_due: bool,
     // Whether the text stood twice.
     is_repeated: bool,
-    // The whole line of that text, with its line feed, where it stood twice.
+    // The whole line of that text, with its line feed, if it stood twice.
     line: Option<&'a str>,
 }
 
@@ -84,7 +84,7 @@ impl<'a> SecondsReader<'a> {
         Ok((nanos, title))
     }
 
-    // What a text states by itself. `BadDuration` where it states no duration.
+    // What a text states by itself. `BadDuration` if it states no duration.
     fn read(&mut self, text: &'a str) -> Result<(Nanos, &'a str), FaultKind>
         ensures { MatchResult result
             (λ own. duration_said text.now ≡ Ok (duration own.0 own.1.now))
@@ -121,7 +121,7 @@ impl<'a> Durations<'a> {
         }
     }
 
-    // A title, to be shared. Takes no memory where it is the last one.
+    // A title, to be shared. Takes no memory if it is the last one.
     fn title(&self, text: &str) -> Result<Shared<ShortText>, AllocError>
         ensures { IfOk result (λ title. title ≡ text.now) }
     {

@@ -121,7 +121,7 @@ impl<'a> ReaderState<'a> {
         self.discontinuity_count > 0
     }
 
-    /// A discontinuity before the next segment (4.3.2.3). `BadValue` where its number passes 2^64 - 1. Takes no
+    /// A discontinuity before the next segment (4.3.2.3). `BadValue` if its number passes 2^64 - 1. Takes no
     /// memory.
     pub fn discontinuity(&mut self) -> Result<(), FaultKind>
         ensures { TakesTagExactly said.discontinuity_tag [] self.old self.new result }
@@ -355,7 +355,7 @@ impl<'a> ReaderState<'a> {
         Ok(segment)
     }
 
-    // The segment of the URI line `reference` where it is a part of its resource. Out of line, since most segments are
+    // The segment of the URI line `reference` if it is a part of its resource. Out of line, since most segments are
     // whole resources, and what a function holds is cleared at each call.
     #[inline(never)]
     fn take_part(
@@ -380,7 +380,7 @@ impl<'a> ReaderState<'a> {
     }
 }
 
-// What is kept of a segment for the next one's byte range, where it is a part of its resource (4.3.2.2).
+// What is kept of a segment for the next one's byte range, if it is a part of its resource (4.3.2.2).
 fn last_part(segment: &Segment) -> Result<Option<Part>, AllocError>
     ensures { IfOk result
         (λ last. extent_after last ≡ extent_with segment.now.uri segment.now.byte_range) }

@@ -105,7 +105,7 @@ impl<'a> ReaderState<'a> {
         self.discontinuities == 0
     }
 
-    /// What stands here, where no tag of the next segment does.
+    /// What stands here, if no tag of the next segment does.
     pub fn stop(&self) -> Result<Option<Stop>, AllocError>
         ensures { IfOk result
             (λ stop. MatchOption stop (Unit {0}) (λ stop. IsStop self.now.standing stop)) }

@@ -25,7 +25,7 @@ const IDENTITY: &str = "identity";
 pub struct InitSectionTag {
     /// The resource.
     pub uri: Shared<Text>,
-    /// The part of it, where it is not the whole.
+    /// The part of it, if it is not the whole.
     pub byte_range: Option<ByteRange>,
 }
 
@@ -61,7 +61,7 @@ fn shared_uri(alloc: Global, base: &Base, reference: &str) -> Result<Shared<Text
     Ok(Shared::new(alloc, uri_of(base, reference)?)?)
 }
 
-// The IV of a key tag, where it states one.
+// The IV of a key tag, if it states one.
 fn iv_of(list: &AttrList<'_>) -> Result<Option<u128>, FaultKind>
     ensures { result ≡ outcomes.optional iv_of (attribute (pairs_of list.now) (codes "IV")) }
 {
@@ -136,7 +136,7 @@ fn stated_byte_range(length: u64, offset: u64) -> Result<(u64, Option<u64>), Fau
     Ok((length, Some(offset)))
 }
 
-// The part of its resource that an initialisation section is: it begins at 0 where it states no offset.
+// The part of its resource that an initialisation section is: it begins at 0 if it states no offset.
 fn init_section_byte_range(list: &AttrList<'_>) -> Result<Option<ByteRange>, FaultKind>
     ensures { result
         ≡ outcomes.optional init_section_byte_range (attribute (pairs_of list.now) (codes "BYTERANGE")) }

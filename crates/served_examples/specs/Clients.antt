@@ -24,8 +24,8 @@ three = record { edge = []; places = Some (Answering (codes "xyz") 200) ∷ Some
 abbrev pub at_place : Instant → ℕ → Arrival
 at_place until place = record { place = place; until = until }
 
--- for one that comes, the client is given up that has asked longest; where none asks, the one that has been ending longest; and
--- only where all have a reply on its way, the one that came first
+-- for one that comes, the client is given up that has asked longest; if none asks, the one that has been ending longest; and
+-- only if all have a reply on its way, the one that came first
 abbrev pub PlacesAreGiven : Type 0
 PlacesAreGiven = (until : Instant) → Gives (λ (served : List Arrival). gives_place three served (at_place until 3 ∷ [])) (
     (at_place until 0 ∷ at_place until 2 ∷ at_place until 1 ∷ [], Some 2) ∷ (at_place until 0 ∷ [], Some 3) ∷ [])

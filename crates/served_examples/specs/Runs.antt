@@ -85,7 +85,7 @@ InputsAreReadUnderBases = Gives uris_under (
 abbrev pub marked_with : Marked → Option (List ℕ)
 marked_with s = option_map (λ (m : Mark). m.id) s.mark
 
--- with which breaks two segments are marked, the newest first, where one date range is listed and b is decided
+-- with which breaks two segments are marked, the newest first, if one date range is listed and b is decided
 abbrev pub marks_told : DateRange → List (Option (List ℕ))
 marks_told one = map marked_with (told_with (decide_b ∷ []) (plays (one ∷ []) (segments 0 2))).history
 

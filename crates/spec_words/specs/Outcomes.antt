@@ -9,7 +9,7 @@ abbrev pub ◌>>=◌ : {A B F : Type 0} → Result A F → (A → Result B F) �
 (Ok x) >>= f = f x
 (Err e) >>= f = Err e
 
--- the value, or this fault where there is none
+-- the value, or this fault if there is none
 abbrev pub or_fault : {A F : Type 0} → F → Option A → Result A F
 or_fault e None = Err e
 or_fault e (Some x) = Ok x
@@ -19,7 +19,7 @@ abbrev pub mended : {A E F : Type 0} → F → Result A E → Result A F
 mended e (Ok x) = Ok x
 mended e (Err d) = Err e
 
--- this fault where the test holds, else what follows
+-- this fault if the test holds, else what follows
 abbrev pub refuse_if : {A F : Type 0} → Bool → F → Result A F → Result A F
 refuse_if true e outcome = Err e
 refuse_if false e outcome = outcome

@@ -37,7 +37,7 @@ middle_false true true c q = cc
 middle_false true false c q = refl
 middle_false false b c q = refl
 
--- they are put, where their numbers fit
+-- they are put, if their numbers fit
 pub puts_run : (made : Made) (n : Numbers) (m : MarkedSegment) (later : List MarkedSegment) → n ≡ numbers_after made.first made.last (plain m)
     → list_all item_fits (kept_items n (m ∷ later)) ≡ true → Puts made (kept_on made (m ∷ later) n (last_of_run n m later)) (map plain (m ∷ later))
 puts_run made n m later same fits = record {

@@ -19,7 +19,7 @@ is_new_key keys k = not (list_any (same_key k) keys)
 abbrev pub keeps_formats : List Key → List Key → Bool
 keeps_formats old new = list_all (has_its_format new) old
 
--- the tags that lead from the old keys to the new: each new or changed key where no format ends, else
+-- the tags that lead from the old keys to the new: each new or changed key if no format ends, else
 -- the end of all and each key
 abbrev pub transition : List Key → List Key → List KeyTag
 transition old new = if keeps_formats old new then map Set (filter (is_new_key old) new) else End ∷ map Set new

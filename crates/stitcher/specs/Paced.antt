@@ -22,7 +22,7 @@ run_length (s ∷ before) = s.segment.duration + (if continues s before then run
 
 -- ---- what is due
 
--- the shortest front, of a piece at least, that lasts as long as this; all of them where none does
+-- the shortest front, of a piece at least, that lasts as long as this; all of them if none does
 abbrev pub due : ℕ → List Piece → List Piece
 due length [] = []
 due length (p ∷ pieces) = p ∷ (if nat_le length p.segment.duration then [] else due (length - p.segment.duration) pieces)
@@ -56,7 +56,7 @@ abbrev pub rest_pieces : Option Rest → List Piece
 rest_pieces None = []
 rest_pieces (Some rest) = reverse (drop rest.place (pod_pieces rest.mark))
 
--- the rest of a pod that comes first, and how long the last run has lasted, where it is open
+-- the rest of a pod that comes first, and how long the last run has lasted, if it is open
 pub record Ends : Type 0 where
   pub rest : Option Rest
   pub so_far : Option ℕ

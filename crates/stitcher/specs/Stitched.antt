@@ -88,7 +88,7 @@ numbers_at first p [] = first
 numbers_at first p (q ∷ before) = next_numbers (numbers_at first q before) (steps_between q p)
 
 -- the numbers that the first item has, whose segment is the first of the origin: that segment's own, or one
--- discontinuity more where it is marked and a pod stands first
+-- discontinuity more if it is marked and a pod stands first
 abbrev pub numbers_from : Segment → Option Mark → Numbers
 numbers_from s None = segment_numbers s
 numbers_from s (Some mark) = record { media_sequence = s.media_sequence; discontinuity_sequence = s.discontinuity_sequence + 1; discontinuities = 1 }
@@ -113,7 +113,7 @@ fits item = nat_lt item.numbers.media_sequence (2 ^ 64) && nat_lt item.numbers.d
 
 -- ---- the window
 
--- the place, from the oldest, of the item of the newest segment: of the first of its pod where it is marked
+-- the place, from the oldest, of the item of the newest segment: of the first of its pod if it is marked
 abbrev pub newest_place : List Marked → ℕ
 newest_place [] = 0
 newest_place (s ∷ before) = if continues s before then newest_place before else length (stitched before)

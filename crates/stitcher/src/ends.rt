@@ -16,6 +16,6 @@ pub struct Rest {
 pub struct Ends {
     /// The rest of a pod that comes first.
     pub rest: Option<Rest>,
-    /// How long the last run has lasted, where it is open.
+    /// How long the last run has lasted, if it is open.
     pub so_far: Option<Nanos>,
 }

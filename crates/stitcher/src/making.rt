@@ -28,7 +28,7 @@ use std::mem;
 pub struct Last {
     /// What it is written with.
     pub numbers: Numbers,
-    /// Its discontinuity number at the origin, where it is one of the origin's.
+    /// Its discontinuity number at the origin, if it is one of the origin's.
     pub origin: Option<u64>,
 }
 
@@ -39,7 +39,7 @@ pub struct Part {
     pub skip: usize,
     /// Whether all are shown that stand after them.
     pub whole: bool,
-    /// How long those that are shown are still to last, where not all are.
+    /// How long those that are shown are still to last, if not all are.
     pub left: u64,
     /// Whether none is shown any more.
     pub done: bool,
@@ -339,7 +339,7 @@ impl<'a> Stitching<'a> {
         Ok(())
     }
 
-    // Puts the unmarked segments in front of these at the end, in two stretches where the cut is among them. Answers those after
+    // Puts the unmarked segments in front of these at the end, in two stretches if the cut is among them. Answers those after
     // them.
     fn keep_front(
         &mut self,
@@ -384,7 +384,7 @@ impl<'a> Stitching<'a> {
         self.push_ad(segment)
     }
 
-    // Puts a segment of an ad at the end, where it is shown. Answers the part of those after it.
+    // Puts a segment of an ad at the end, if it is shown. Answers the part of those after it.
     fn offer(
         &mut self,
         alloc: Global,
@@ -498,7 +498,7 @@ impl<'a> Stitching<'a> {
         self.put_break(alloc, rest.id.as_str(), part, store)
     }
 
-    // Puts at the end what stands for the first of these after a segment of this mark, and, where it has no mark, for those
+    // Puts at the end what stands for the first of these after a segment of this mark, and, if it has no mark, for those
     // without one that follow it. Answers the segments after that.
     fn put_front(
         &mut self,

@@ -1,4 +1,4 @@
-//! A stitched list. It holds no item: each is made where it is asked for.
+//! A stitched list. It holds no item: each is made when it is asked for.
 ghost use Rattle.std.specs.Prelude.{◌≡◌, ◌∷◌, ◌+◌, ◌^◌, nat_le, ◌<◌, ◌≤◌, [], drop, length, true, MatchOption, IfSome, IfOk};
 ghost use Rattle.std.specs.List.{list_all};
 ghost use Rattle.stitcher.specs.StitchedSegments.{item_fits};
@@ -77,7 +77,7 @@ fn numbers_on(numbers: &Numbers, here: &MarkedSegment, later: &[MarkedSegment]) 
     }
 }
 
-// Goes to the next stretch that has an item, where none is left of this one.
+// Goes to the next stretch that has an item, if none is left of this one.
 #[inline(always)]
 fn open_stretch<'a>(cursor: &mut Cursor<'a>)
     ensures same { left_items cursor.new ≡ left_items cursor.old }
@@ -139,7 +139,7 @@ impl<'a> Model for StitchedItems<'a> {
 }
 
 impl<'a> StitchedItems<'a> {
-    /// The next item, where there is one.
+    /// The next item, if there is one.
     #[inline(always)]
     pub fn next(&mut self) -> Option<OutSegment<'a>>
         ensures { MatchOption result ((self.old ≡ []) × (self.new ≡ []))
@@ -179,7 +179,7 @@ fn items_of<'a>(stretches: &'a [Stretch<'a>]) -> StitchedItems<'a>
 }
 
 #[tactic(auto, using(crate::proofs::Cursors::length_stretch))]
-// How many items there are with those of a stretch, where so many can be counted.
+// How many items there are with those of a stretch, if so many can be counted.
 fn count_with(count: usize, stretch: &Stretch<'_>) -> Option<usize>
     ensures { IfSome result (λ sum. sum ≡ count + length (stretch_items stretch.now)) }
 {
@@ -187,7 +187,7 @@ fn count_with(count: usize, stretch: &Stretch<'_>) -> Option<usize>
     with_ads.checked_add(stretch.kept.len())
 }
 
-// How many items stretches have, where so many can be counted.
+// How many items stretches have, if so many can be counted.
 fn count_of(stretches: &[Stretch<'_>]) -> Option<usize>
     ensures { IfSome result (λ count. count ≡ length (stretches_items stretches.now)) }
 {

@@ -27,7 +27,7 @@ impl Channels {
         self.back = back.parse().unwrap_or(0);
     }
 
-    // The place of the channel to which events go. It is none of a channel where none was made so far back.
+    // The place of the channel to which events go. It is none of a channel if none was made so far back.
     fn place(&self) -> usize {
         self.made.len().wrapping_sub(self.back).wrapping_sub(1)
     }

@@ -16,9 +16,9 @@
 //! - `seconds NANOSECONDS`: the duration in seconds, after `#EXTINF:`.
 //! - `rounded NANOSECONDS`: the whole seconds.
 //! - `sum NANOSECONDS NANOSECONDS`: the sum, or `none`.
-//! - `memory`: the faults where an allocation fails: of attribute lists, of sections.
+//! - `memory`: the faults if an allocation fails: of attribute lists, of sections.
 //!
-//! **Events of channels.** They go to the channel that was made last. Printed is `ok`, or the fault, but for:
+//! **Events of channels.** They go to the channel that was made last. Printed is `ok`, or the fault, except for:
 //!
 //! - `channel TOLERANCE BASE`: makes a channel; the tolerance is in nanoseconds.
 //! - `to BACK`: the lines after it go to the channel that was made so many before the last one, from 0. Nothing is printed.
@@ -43,7 +43,7 @@
 //!
 //! In a TEXT, BYTES or a BODY a backslash and `n` stand for a line feed, `r` for a carriage return, `x` with two hexadecimal
 //! digits for that byte, and another backslash for a backslash. In what is printed of a value such bytes are `\x` with two
-//! digits. A line that is none of these, or an event where there is no channel, prints `no event`.
+//! digits. A line that is none of these, or an event if there is no channel, prints `no event`.
 #![tactic(auto)]
 
 mod attributes;

@@ -6,7 +6,7 @@ use scte35_codec::{
 };
 use std::alloc::{AllocError, Global};
 
-// A time, or none where the text is no number.
+// A time, or none if the text is no number.
 fn time_in(text: &str) -> Option<SpliceTime> {
     match text.parse() {
         Ok(pts) => Some(SpliceTime { pts: Some(pts) }),

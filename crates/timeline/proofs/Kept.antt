@@ -1,4 +1,4 @@
--- What is kept of segments: their stack, or nothing where nothing is reckoned back.
+-- What is kept of segments: their stack, or nothing if nothing is reckoned back.
 use Rattle.std.proofs.Common.{◌≡◌, ◌+◌, true, List, [], ◌∷◌, ◌++◌, length, refl, sym, ap, ◌∙◌, arith, ℤ, length-append}
 use Rattle.std.specs.Prelude.{Option, None, option_map, is_none}
 use Rattle.std.specs.List.{list_all}

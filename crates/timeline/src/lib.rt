@@ -28,7 +28,7 @@ fn nanos_of(instant: Option<Instant>) -> Option<i128>
     }
 }
 
-// So much earlier, or one before the first instant where that is passed.
+// So much earlier, or one before the first instant if that is passed.
 fn earlier(nanos: i128, duration: u64) -> i128
     ensures { result ≡ clamped (nanos -ℤ pos duration) }
 {
@@ -168,7 +168,7 @@ impl<'a> Beginnings<'a> {
         }
     }
 
-    /// Where the next segment begins, if there is one. Where an allocation fails, all are still to come.
+    /// Where the next segment begins, if there is one. If an allocation fails, all are still to come.
     #[inline(always)]
     pub fn next(&mut self) -> Result<Option<OptionalInstant>, AllocError>
         ensures next { IfOk result

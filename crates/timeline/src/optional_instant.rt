@@ -46,7 +46,7 @@ impl OptionalInstant {
         }
     }
 
-    /// The instant, where there is one.
+    /// The instant, if there is one.
     #[inline(always)]
     pub fn get(self) -> Option<Instant>
         ensures { result ≡ self }

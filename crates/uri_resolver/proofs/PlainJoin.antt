@@ -484,7 +484,7 @@ resolves base front reference joins none written =
     let fits : can_be_written (serialize joins.url) ≡ true = ap can_be_written joins.spelled ∙ written in
     cond-false _ _ _ none ∙ ap joined joins.parses ∙ cond-true _ _ _ fits ∙ ap Some joins.spelled
 
--- where `.` leads to a text that can be written, that text stands before relative references
+-- if `.` leads to a text that can be written, that text stands before relative references
 pub stands_before_relative : (base here : Parts) → IsValid base → kind_of base ≡ SpecialNotFile → parse_url (Some base) (46 ∷ []) ≡ Ok here → IsAscii (serialize here) → can_be_written (serialize here) ≡ true → StandsBefore base is_relative (serialize here)
 stands_before_relative base here valid kind dot ascii written [] plain = absurd (true≢false (sym plain))
 stands_before_relative base here valid kind dot ascii written (b ∷ bytes) plain =
@@ -493,7 +493,7 @@ stands_before_relative base here valid kind dot ascii written (b ∷ bytes) plai
     resolves base (serialize here) (b ∷ bytes) (relative_joins base here (b ∷ bytes) valid kind dot plain) none
     (still_written (serialize here) (b ∷ bytes) ascii (ascii_cut true (b ∷ bytes) c) (calm_cut true (b ∷ bytes) c) written)
 
--- where what stands before the path of the base can be written, it stands before references from the root
+-- if what stands before the path of the base can be written, it stands before references from the root
 pub stands_before_rooted : (base : Parts) → IsValid base → kind_of base ≡ SpecialNotFile → IsAscii (text_before base AfterPort) → can_be_written (text_before base AfterPort) ≡ true → StandsBefore base is_rooted (text_before base AfterPort)
 stands_before_rooted base valid kind ascii written [] plain = absurd (true≢false (sym plain))
 stands_before_rooted base valid kind ascii written (b ∷ bytes) plain =

@@ -7,7 +7,7 @@ use Rattle.spec_words.specs.Bytes.{exclamation_mark, dollar, percent, ampersand,
 use Rattle.url.specs.Parts.{Parts}
 use Rattle.playlist_model.specs.Uri.{resolved}
 
--- what a segment of a path holds as it stands (RFC 3986, 3.3), but for escapes and `:`: a letter, a digit, one of `-._~`, a
+-- what a segment of a path holds as it stands (RFC 3986, 3.3), except for escapes and `:`: a letter, a digit, one of `-._~`, a
 -- sub-delimiter or `@`
 abbrev pub is_segment_byte : ℕ → Bool
 is_segment_byte b =

@@ -42,7 +42,7 @@ impl From<AllocError> for BaseFault {
 pub struct Base {
     url: Url,
     alloc: Global,
-    // What stands before a plain reference from the root, and before a relative one, where it is known.
+    // What stands before a plain reference from the root, and before a relative one, if it is known.
     origin: Option<String>,
     directory: Option<String>,
 }
@@ -144,7 +144,7 @@ impl Base {
         })
     }
 
-    // What stands before this reference, where it is plain.
+    // What stands before this reference, if it is plain.
     #[inline(always)]
     fn front_of(&self, reference: &str) -> Option<&str>
         ensures { IfSome (option_copied result)

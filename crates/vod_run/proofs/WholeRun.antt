@@ -24,7 +24,7 @@ use Rattle.byte_streams.specs.Fair.{IsFairToSource, IsFairToSink}
 use Rattle.vod_run.specs.Runs.{IfAtEnd, OnEnd}
 use Rattle.vod_run.specs.Vod.{told_with, IsInOrder, IsOfVod, HasRead, HasJudged, Writes, WritesFront}
 
--- what a channel writes where this playlist was accepted last
+-- what a channel writes if this playlist was accepted last
 owed_so : (t : Told) (p : Playlist) (text : Option (List ℕ)) → last_playlist t.accepted ≡ Some p → WritesOwed t text
     → (unwrap_or text [] ≡ owed_text t p) × ((other : Parts) → Denotes other (owed_text t p) (owed_for t p))
 owed_so t p None last w = absurd (cc)
@@ -173,7 +173,7 @@ still_fair e old new f = record {
 pub still_fair_sink : {A B : Type 0} (e : VodFault) (old new : SinkStand) → FairToSink {A = A} (Err e) old new → FairToSink {A = B} (Err e) old new
 still_fair_sink e old new f = record { blamed = λ is. f.blamed (still e Write is); unfailed = tt; told = f.told }
 
--- what a call said of its source holds where its fault is handed on
+-- what a call said of its source holds if its fault is handed on
 pub fair_on : {A B : Type 0} (r : Result A VodFault) (e : VodFault) (old new : SourceStand) → IsErrAnd r (λ d. d ≡ e) → FairToSource {A = B} (Err e) old new → FairToSource r old new
 fair_on (Ok x) e old new h f = absurd h
 fair_on {A = A} (Err d) e old new h f = subst (λ x. FairToSource {A = A} (Err x) old new) (sym h) (still_fair e old new f)
@@ -199,7 +199,7 @@ at_end Read P p = tt
 at_end TooManyReads P p = tt
 at_end OutOfMemory P p = tt
 
--- what holds at the end of the input holds where a fault is handed on
+-- what holds at the end of the input holds if a fault is handed on
 pub on_end : {A : Type 0} (r : Result A VodFault) (e : VodFault) (P : Type 0) → IsErrAnd r (λ d. d ≡ e) → IfAtEnd e P → OnEnd r P
 on_end (Ok x) e P h f = absurd h
 on_end (Err d) e P h f = subst (λ x. IfAtEnd x P) (sym h) f

@@ -3,7 +3,7 @@ use Rattle.std.specs.Prelude.{Result, Ok, Err}
 use Rattle.vod_run.specs.declared.fault.VodFault.{VodFault}
 use Rattle.vod_run.specs.declared.fault.VodFault.TheVariants.{Playlist, NumberRange, Write}
 
--- where a run came to the end of its input: it wrote, or the fault is one of what was read, or of writing
+-- if a run came to the end of its input: it wrote, or the fault is one of what was read, or of writing
 abbrev pub IfAtEnd : VodFault → Type 0 → Type 0
 IfAtEnd (Playlist fault) P = P
 IfAtEnd NumberRange P = P

@@ -54,7 +54,7 @@ pub fn command_vod<S: Source, K: Sink, F: Sink>(
         (K.stand output.old) (K.stand output.new) }
     ensures quiet { result ≡ 0 → faults.new ≡ faults.old }
 
-    // 1 only where `vod` answers a fault, and then its line is printed.
+    // 1 only if `vod` answers a fault, and then its line is printed.
     ensures fault { result ≡ 1 → FailsAndPrints base.now (option_copied decisions.entry)
         (S.stand input.old) (S.stand input.new) (K.stand output.old) (K.stand output.new)
         (F.stand faults.old) (F.stand faults.new) }

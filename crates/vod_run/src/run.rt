@@ -22,7 +22,7 @@ use live_channel::Channel;
 use std::alloc::Global;
 use std::hash::RandomState;
 
-// The channel of a base, which was given the decision file, where there is one.
+// The channel of a base, which was given the decision file, if there is one.
 fn decided_channel(
     alloc: Global,
     hashing: RandomState,
@@ -99,7 +99,7 @@ pub fn vod<S: Source, K: Sink>(
     ensures channel { IfOk result (IsGivenAll base.now (option_copied decisions.entry)
         (S.stand source.old) (S.stand source.new)) }
 
-    // Where the sink failed it took a front of the text, and else nothing.
+    // If the sink failed it took a front of the text, and else nothing.
     ensures write { IsErrOf result VodFault.Write →
         WritesFront base.now (option_copied decisions.entry)
         (S.stand source.old) (S.stand source.new) (K.stand sink.old) (K.stand sink.new) }
@@ -120,7 +120,7 @@ pub fn vod<S: Source, K: Sink>(
         HasJudged base.now (option_copied decisions.entry)
         (S.stand source.old) (S.stand source.new) (Some NumberRange) }
 
-    // A device is blamed exactly where it failed, and is left alone then; the source is at its end too.
+    // A device is blamed exactly if it failed, and is left alone then; the source is at its end too.
     ensures source { IsFairToSource VodFault.Read VodFault.TooManyReads result
         (S.stand source.old) (S.stand source.new) }
     ensures to_end { OnEnd result (GaveAtEachButLast (S.stand source.old) (S.stand source.new)) }

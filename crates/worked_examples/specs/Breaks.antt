@@ -67,7 +67,7 @@ BreaksEnd = Gives ends (
     ∷ (record starting { start = None; end = Some (pos 110) }, Some (at (pos 110)))
     ∷ (record starting { start = None; scte35_in = Some (Returns None) }, Some closed) ∷ [])
 
--- a break is signalled where it has a start and an SCTE35-OUT that leaves the network
+-- a break is signalled if it has a start and an SCTE35-OUT that leaves the network
 abbrev pub BreaksAreSignalled : Type 0
 BreaksAreSignalled = Gives is_signalled (
     (starting, true)
@@ -97,7 +97,7 @@ ClosedBreaksCanBeEntered = Gives before_end_and_not_past (
 abbrev pub tag : List ℕ → DateRange
 tag id = record { id = id; start = Some (pos 100); end = None; duration = None; planned_duration = None; scte35_out = Some (codes "0xFC302000000000000000FFF00F05000000017FFFFE002932E000010000000000000000"); scte35_in = None; attributes = [] }
 
--- an accepted refresh with these tags, where this break marks the newest segment of the one before
+-- an accepted refresh with these tags, if this break marks the newest segment of the one before
 abbrev pub accepted : List DateRange → Option (List ℕ) → Accepted
 accepted tags carried = record {
   playlist = record { version = 3; target_duration = 10; playlist_type = None; independent_segments = false; end_list = false; date_ranges = tags; segments = [] };
@@ -162,7 +162,7 @@ BreaksAreEntered = Gives enters (
     ∷ ((limits 8 false None, decided_b, break (record starting { end = Some (pos 105) }) ∷ [], Some (pos 100)), None)
     ∷ ((limits 8 false None, record { entries = []; fallback = Some pod }, record { id = codes "c"; said = starting } ∷ break starting ∷ [], Some (pos 100)), Some (codes "c")) ∷ [])
 
--- a segment at 100 is inside the break of an ID, where its end allows it
+-- a segment at 100 is inside the break of an ID, if its end allows it
 abbrev pub BreaksGoOn : Type 0
 BreaksGoOn = Gives (λ (breaks : List Break). is_inside breaks (codes "b") (Some (pos 100)) 10 pod) (
     (break starting ∷ [], true)

@@ -74,7 +74,7 @@ TypesStay = Gives follows (
 abbrev pub with_11 : Segment → Playlist
 with_11 s = plays [] (origin 10 ∷ s ∷ segments 12 3)
 
--- 6.2.1: a segment stays as it is (N8), but for its title, its time and its steps
+-- 6.2.1: a segment stays as it is (N8), except for its title, its time and its steps
 abbrev pub SegmentsStay : Type 0
 SegmentsStay = Gives (λ (s : Segment). successor_fault five (with_11 s)) (
     (origin 11, None)
@@ -104,7 +104,7 @@ EndedStays = Gives (λ (new : Playlist). successor_fault (record five { end_list
     ∷ (record (plays [] (segments 11 4)) { end_list = true }, Some Ended)
     ∷ (plays [] (segments 10 4), Some Shrunk) ∷ [])
 
--- docs/OPERATING.md: 100 ms where nothing else is asked, and 10 s at the most
+-- docs/OPERATING.md: 100 ms if nothing else is asked, and 10 s at the most
 abbrev pub TolerancesAreStated : Type 0
 TolerancesAreStated = Gives (λ (n : ℕ). n) ((default_tolerance, 100000000) ∷ (max_tolerance, 10000000000) ∷ [])
 
@@ -146,8 +146,8 @@ written events = option_map (λ (p : Playlist). map brief p.segments) (owed even
 abbrev pub decide_b : live.Event
 decide_b = decide (codes "b") (1000 ∷ 1001 ∷ 1002 ∷ [])
 
--- docs/OPERATING.md: a pod goes through the window at the pace of its break; the rest of it at once where the break has ended;
--- what was written stays, also where a decision comes later; nothing is written before a refresh
+-- docs/OPERATING.md: a pod goes through the window at the pace of its break; the rest of it at once if the break has ended;
+-- what was written stays, also if a decision comes later; nothing is written before a refresh
 abbrev pub BreaksAreFilled : Type 0
 BreaksAreFilled = Gives written (
     (decide_b ∷ [], None)
@@ -181,7 +181,7 @@ abbrev pub header_owed : List live.Event → Option ((ℕ × ℕ × Bool) × Lis
 header_owed events = option_map header_and_ids (owed events)
 
 -- docs/CONFORMANCE.md: the version is 6 at least (RFC 8216, 7), a date range is left out while its break is in use, and all are
--- where no written segment states a time (4.3.2.7); each origin segment states the time at which it begins (4.3.2.6)
+-- if no written segment states a time (4.3.2.7); each origin segment states the time at which it begins (4.3.2.6)
 abbrev pub HeadersAreOwed : Type 0
 HeadersAreOwed = Gives header_owed (
     (window (b ∷ tag (codes "c") 90 ∷ []) 0 2 ∷ [], Some ((6, 10, false), codes "b" ∷ codes "c" ∷ [], Some (noon_and 0) ∷ Some (noon_and 10) ∷ []))

@@ -84,7 +84,7 @@ ByteRangesAreRead = Gives byte_range_of (
 abbrev pub based : {A : Type 0} → (Parts → A) → Option A
 based {A} say = option_map say (base_of (codes "http://origin.example/ch/index.m3u8"))
 
--- 4.1 and RFC 3986, 5: a reference is taken as it is where it has a scheme, else joined to the base
+-- 4.1 and RFC 3986, 5: a reference is taken as it is if it has a scheme, else joined to the base
 abbrev pub ReferencesAreResolved : Type 0
 ReferencesAreResolved = Gives (λ reference. based (λ base. resolved base reference)) (
     (codes "s0.ts", Some (Some (codes "http://origin.example/ch/s0.ts")))
@@ -101,7 +101,7 @@ BasesAreWebUrls = Gives (λ text. option_map (λ (parts : Parts). parts.scheme) 
 abbrev pub aes : List ℕ → List ℕ → Option ℕ → List ℕ → Key
 aes format resource iv others = record { format = format; method = codes "AES-128"; uri = resource; iv = iv; other_attributes = others }
 
--- 4.3.2.4: METHOD and, but for NONE, URI are required; KEYFORMAT is `identity` where it isn't stated
+-- 4.3.2.4: METHOD and, except for NONE, URI are required; KEYFORMAT is `identity` if it isn't stated
 abbrev pub KeysAreRead : Type 0
 KeysAreRead = Gives (λ text. based (λ base. key_said limited base text)) (
     (codes "METHOD=NONE", Some (Ok no_keys))

@@ -235,7 +235,7 @@ SegmentsEnd = Gives (λ (begun : Option ℤ). ends_at begun 30) ((Some (pos 50),
 abbrev pub sample : Segment
 sample = record { media_sequence = 7; discontinuity_sequence = 3; discontinuities = 0; uri = codes "a:s"; byte_range = Some (record { length = 100; offset = 5 }); keys = identity (codes "a:2") (Some 7) ∷ []; init_section = Some under_key_1; duration = 9500000000; title = codes "first"; program_date_time = Some (pos 1) }
 
--- a segment but for its title, time and steps
+-- a segment except for its title, time and steps
 abbrev pub PartsAreKept : Type 0
 PartsAreKept = Gives kept_parts ((
   sample,

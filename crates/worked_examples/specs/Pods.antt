@@ -84,7 +84,7 @@ pod ads = record { ads = ads }
 abbrev pub PodsAreSummed : Type 0
 PodsAreSummed = Gives total ((pod (clear (segment 1 ∷ segment 20 ∷ []) ∷ ad (segment 300 ∷ []) ∷ []), 321) ∷ (pod [], 0) ∷ [])
 
--- 4.3.3.1: a segment, rounded to seconds, is at most the target duration; and an ad has an initialisation section where the origin's segments
+-- 4.3.3.1: a segment, rounded to seconds, is at most the target duration; and an ad has an initialisation section if the origin's segments
 -- have one
 abbrev pub PodsFit : Type 0
 PodsFit = Gives (pod_fits 10 false) (
@@ -255,7 +255,7 @@ AdsAreChecked = Gives (λ (text : List ℕ). decisions_of (with_ad text)) (
     ∷ (codes "{\"segments\":[{\"uri\":\"http://a\",\"duration\":\"1\",\"offset\":1.0,\"length\":1}]}", refused 0 0 0 fault.Shape)
     ∷ (codes "{\"segments\":[{\"uri\":\"http://a\",\"duration\":\"1\",\"offset\":18446744073709551615,\"length\":1}]}", refused 0 0 0 fault.Shape) ∷ [])
 
--- the segments of an ad, where so many stand in the ads before: 500 at most in a break (J7)
+-- the segments of an ad, if so many stand in the ads before: 500 at most in a break (J7)
 abbrev pub said_after : ℕ → Outcome (List PodSegment)
 said_after before = json_of (codes "{\"segments\":[{\"uri\":\"http://a/s\",\"duration\":\"0.000000001\",\"offset\":5,\"length\":100}]}") >>= segments_said 0 1 before
 

@@ -126,7 +126,7 @@ InstantsAreRead = Gives instant_of (
     ∷ (codes "2199-12-31T23:59:59.999999999Z", Some (pos 7258118399999999999))
     ∷ (codes "2200-01-01T00:00:00Z", None) ∷ [])
 
--- in UTC, with three decimals, or nine where three would lose something
+-- in UTC, with three decimals, or nine if three would lose something
 abbrev pub InstantsAreWritten : Type 0
 InstantsAreWritten = Gives time_text (
     (pos 1714564800000000000, codes "2024-05-01T12:00:00.000Z")

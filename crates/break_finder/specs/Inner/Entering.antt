@@ -8,7 +8,7 @@ use Rattle.break_finder.specs.Breaks.{Break}
 
 -- ---- marks
 
--- the mark of the segment before, where this one is inside that break
+-- the mark of the segment before, if this one is inside that break
 abbrev pub continued : EntryLimits → List Break → Option ℤ → Option Mark → Option Mark
 continued m breaks instant None = None
 continued m breaks instant (Some mark) = if is_inside breaks mark.id instant m.tolerance mark.pod then Some mark else None

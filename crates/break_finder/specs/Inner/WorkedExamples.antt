@@ -58,7 +58,7 @@ moment with_init_sections last = record { tolerance = 100000000; target_duration
 abbrev pub entered_at : Bool → List DateRange → ℕ → Option (List ℕ)
 entered_at with_init_sections date_ranges nanos = entered (moment with_init_sections None) store (known_of date_ranges) (Some (at_nanos nanos))
 
--- the same where there is a fallback, and this is what else there is
+-- the same if there is a fallback, and this is what else there is
 abbrev pub falls_at : Store → Bool → List DateRange → ℕ → Option (List ℕ)
 falls_at store with_init_sections date_ranges nanos = entered (moment with_init_sections None) store (known_of date_ranges) (Some (at_nanos nanos))
 
@@ -130,7 +130,7 @@ two_stored =
 abbrev pub two_known : List Break
 two_known = known_of (lasting 10 b1 ∷ lasting 10 (tag (codes "b2") 20 (Some out_30)) ∷ [])
 
--- the mark at T+n after this mark, where this break was entered last
+-- the mark at T+n after this mark, if this break was entered last
 abbrev pub marked_at : ℕ → Option Mark → Option (List ℕ) → Option (List ℕ)
 marked_at seconds before last =
     option_map (λ (m : Mark). m.id) (next_mark (moment false last) two_stored two_known (Some (at_seconds seconds)) before)

@@ -1,4 +1,4 @@
--- Worked values where there is a fallback, in the short words of the other rows.
+-- Worked values with a fallback, in the short words of the other rows.
 use Rattle.std.specs.Prelude.{ℕ, true, false, List, [], ◌∷◌, codes, Some, Err}
 use Rattle.playlist_model.specs.declared.DateRange.{DateRange}
 use Rattle.playlist_model.specs.declared.Segment.{Segment}

@@ -1,4 +1,4 @@
--- Playlists and decisions for worked values, in short: segment n has the URI `n`, lasts 10 s, and states noon where it is
+-- Playlists and decisions for worked values, in short: segment n has the URI `n`, lasts 10 s, and states noon if it is
 -- number 0.
 use Rattle.std.specs.Prelude.{ℕ, zero, suc, ◌+◌, ◌*◌, ◌==◌, Bool, false, List, [], ◌∷◌, ◌++◌, map, codes, ℤ, pos, ◌+ℤ◌, Option, Some, None, option_map, if◌then◌else◌}
 use Rattle.playlist_model.specs.declared.Segment.{Segment}

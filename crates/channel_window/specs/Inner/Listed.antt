@@ -23,7 +23,7 @@ texts_left ids date_ranges = map date_range_text (filter (λ (r : DateRange). no
 
 -- ---- the numbers of the first item
 
--- one discontinuity more where a pod stands in front
+-- one discontinuity more if a pod stands in front
 abbrev pub first_alone : Segment → Bool → Numbers
 first_alone s marked =
     if marked then (record { media_sequence = s.media_sequence; discontinuity_sequence = s.discontinuity_sequence + 1; discontinuities = 1 })

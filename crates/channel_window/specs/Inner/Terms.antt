@@ -35,7 +35,7 @@ pub record IsExtended (store : Store) (duration : ℕ) (mark : Option (List ℕ)
   pub entered : new.entered ≡ or_earlier mark old.entered
   pub so_far : new.so_far ≡ capped_in store mark (duration + length_before mark old.before old.so_far)
 
--- the last break entered with these segments, where it was this one before them
+-- the last break entered with these segments, if it was this one before them
 abbrev pub entered_after : Option (List ℕ) → List Held → Option (List ℕ)
 entered_after last [] = last
 entered_after last (m ∷ later) = entered_after (or_earlier m.mark last) later

@@ -39,7 +39,7 @@ breaks_after kept p list = in_use_with (first_number p.segments) list (or_earlie
 abbrev pub text_with_window : Playlist → List (List ℕ) → List Item → List ℕ
 text_with_window p breaks window = playlist_text (out_playlist p (map date_range_text (date_ranges_left (list_any states_instant window) breaks p.date_ranges)) (map written_item window))
 
--- what a channel comes to where these breaks are known, and these segments, as they are meant, are shown, the newest run of which
+-- what a channel comes to if these breaks are known, and these segments, as they are meant, are shown, the newest run of which
 -- has lasted so long, and so many of which weren't shown before: each number of the stitched list fits
 pub record IsNext (kept : Kept) (p : Playlist) (known : List Break) (list : List Marked) (so_long fresh : ℕ) (next : NextState) : Type 0 where
   pub fit : list_all fits (items_on kept p list so_long) ≡ true
@@ -68,7 +68,7 @@ pub record Follows (tolerance : ℕ) (kept : Kept) (p : Playlist) (next : NextSt
   pub succeeds : succession_fault kept.last p ≡ None
   pub accepted : IsAccepted tolerance kept p next
 
--- its numbers go on those that are shown, where it may follow
+-- its numbers go on those that are shown, if it may follow
 abbrev pub RisesNext : ChannelState → Playlist → Type 0
 RisesNext state p = succession_fault state.last p ≡ None → RisesOn state.shown.list p.segments
 

@@ -26,7 +26,7 @@ pub record StoodIn (kept : Kept) (items : List Item) (written : Option WrittenTe
   pub count : count_in written ≡ length (last_pieces kept.last kept)
   pub stood : Stood (map written_item (reverse items)) written
 
--- the same of a refresh, where it may follow the last one
+-- the same of a refresh, if it may follow the last one
 abbrev pub StoodBefore : ℕ → Kept → Playlist → Option WrittenText → Type 0
 StoodBefore tolerance kept p written = succession_fault kept.last p ≡ None → StoodIn kept (kept_items tolerance kept p) written
 

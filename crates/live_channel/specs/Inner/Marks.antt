@@ -4,7 +4,7 @@ use Rattle.stitcher.specs.declared.marked.MarkedSegment.{MarkedSegment}
 use Rattle.stitcher.specs.declared.ends.Rest.{Rest}
 use Rattle.channel_spec.specs.Live.{ids_in}
 
--- the break that marks a segment, where it is numbered from this number on
+-- the break that marks a segment, if it is numbered from this number on
 abbrev pub mark_held : ℕ → MarkedSegment → List (List ℕ)
 mark_held first m = if nat_le first m.segment.media_sequence then ids_in m.mark else []
 

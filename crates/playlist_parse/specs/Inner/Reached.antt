@@ -52,20 +52,20 @@ abbrev pub LeadsTo : Parts → Reading → Reading → Type 0
 LeadsTo base old new =
     (tail all : List (List ℕ)) → Reached base old.progress old.number (left_in old ++ tail) all → Reached base new.progress new.number (left_in new ++ tail) all
 
--- the same where no line has a fault; where one has, it is the whole text's
+-- the same if no line has a fault; if one has, it is the whole text's
 abbrev pub Reads : {A : Type 0} → Parts → Reading → Result A Fault → Reading → Type 0
 Reads base old result new =
     (tail all : List (List ℕ)) → Reached base old.progress old.number (left_in old ++ tail) all
     → MatchResult result (λ _. Reached base new.progress new.number (left_in new ++ tail) all) (λ e. Faulted base e all)
 
--- a fault of lines that take no memory is still to be met there where it is to be met here, whatever follows the lines
+-- a fault of lines that take no memory is still to be met there if it is to be met here, whatever follows the lines
 -- that are left
 abbrev pub IsStillTold : Parts → Reading → Reading → Type 0
 IsStillTold base old new =
     (tail : List (List ℕ)) (fault : Fault) → Telling base old.progress old.number (left_in old ++ tail) fault
     → Telling base new.progress new.number (left_in new ++ tail) fault
 
--- such a fault is still to be met where the reading went on; where it ended, it is the answer
+-- such a fault is still to be met if the reading went on; if it ended, it is the answer
 abbrev pub Tells : {A : Type 0} → Parts → Reading → Result A Fault → Reading → Type 0
 Tells base old result new =
     (tail : List (List ℕ)) (fault : Fault) → Telling base old.progress old.number (left_in old ++ tail) fault

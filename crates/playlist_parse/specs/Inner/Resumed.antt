@@ -1,4 +1,4 @@
--- Lines that are read after others: what is alike where they say the same there (RFC 8216, 4.3).
+-- Lines that are read after others: what is alike if they say the same there (RFC 8216, 4.3).
 use Rattle.std.specs.Prelude.{◌≡◌, ℕ, ◌+◌, ◌≤◌, true, List, ◌++◌, length, ℤ, Option, Ok}
 use Rattle.url.specs.Parts.{Parts}
 use Rattle.playlist_model.specs.declared.Key.{Key}

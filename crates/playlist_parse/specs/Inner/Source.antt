@@ -31,7 +31,7 @@ heading_in source = record {
   has_media = source.has_media;
 }
 
--- how far a playlist is read where these segments and date ranges were taken over, up to a stop under this heading
+-- how far a playlist is read if these segments and date ranges were taken over, up to a stop under this heading
 abbrev pub gone_to : Progress → Heading → Stop → List DateRange → List Segment → Progress
 gone_to p heading stop date_ranges segments = record {
   base = p.base;
@@ -56,7 +56,7 @@ abbrev pub gone_after : Progress → Progress → Source → Playlist → Progre
 gone_after p q source playlist =
     gone_to p (heading_in source) source.stop (drop (length q.date_ranges) (take source.date_ranges playlist.date_ranges)) (drop (length q.segments) (take source.segments playlist.segments))
 
--- where a front of a source's lines is read there, what is read here goes on: it leads to the same
+-- if a front of a source's lines is read there, what is read here goes on: it leads to the same
 abbrev pub TakesOver : Reading → Source → Playlist → Reading → Reading → Type 0
 TakesOver front source playlist old new =
     (base : Parts) → WasRead base source playlist → Reached base front.progress front.number (left_in front) (lines source.text) → LeadsTo base old new

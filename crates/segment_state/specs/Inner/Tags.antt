@@ -11,6 +11,6 @@ use Rattle.segment_state.specs.declared.tags.InitSectionTag.{InitSectionTag}
 abbrev pub init_section_tag_said : InitSectionTag → Said
 init_section_tag_said tag = init_section tag.uri tag.byte_range
 
--- the keys in force after one more, where no more formats than the limit are in force then
+-- the keys in force after one more, if no more formats than the limit are in force then
 abbrev pub with_key : Key → List Key → Outcome (List Key)
 with_key k keys = refuse_if (over limited.formats (length (put_key k keys))) fault.TooMany (Ok (put_key k keys))

@@ -85,7 +85,7 @@ counted first last (p ∷ later) =
 abbrev pub comes_to : Made → List Piece → List OutSegment
 comes_to made pieces = made.items ++ map written_item (counted made.first made.last pieces)
 
--- these pieces were put after it: it comes to the same, and its numbers fit where they did
+-- these pieces were put after it: it comes to the same, and its numbers fit if they did
 pub record Puts (old new : Made) (pieces : List Piece) : Type 0 where
   pub first : new.first ≡ old.first
   pub comes : (later : List Piece) → comes_to old (pieces ++ later) ≡ comes_to new later
@@ -125,7 +125,7 @@ part_after part (p ∷ later) = part_after (part_after_one part p.segment.durati
 abbrev pub whole_from : ℕ → Part
 whole_from place = record { skip = place; whole = true; left = 0; done = false }
 
--- what is due of the pod of a run that is so long so far, where it is open; else all of it
+-- what is due of the pod of a run that is so long so far, if it is open; else all of it
 abbrev pub part_due : Option ℕ → Part
 part_due None = whole_from 0
 part_due (Some length) = record { skip = 0; whole = false; left = length; done = false }
@@ -155,7 +155,7 @@ abbrev pub unmarked_front : List MarkedSegment → ℕ
 unmarked_front [] = 0
 unmarked_front (m ∷ later) = if is_some m.mark then 0 else unmarked_front later + 1
 
--- what stands for the first of segments, and, where it has no mark, for those without one that follow it
+-- what stands for the first of segments, and, if it has no mark, for those without one that follow it
 abbrev pub begun_in : Store → Part → List MarkedSegment → Option (List ℕ) → List Piece
 begun_in store part segments None = map plain (take (unmarked_front segments) segments)
 begun_in store part segments (Some id) = part_of part (pod_with id (pod_for store id))

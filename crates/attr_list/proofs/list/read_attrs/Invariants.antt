@@ -7,7 +7,7 @@ use Rattle.attr_list.specs.Scanning.{first_piece}
 use Rattle.attr_list.specs.Attrs.{attr_pair, attr_span}
 use Rattle.attr_list.proofs.list.read_attrs.Given as goal
 
--- What is left to read gives what the text gives, and so with the places. Where the first attribute has a fault,
+-- What is left to read gives what the text gives, and so with the places. If the first attribute has a fault,
 -- nothing is read yet.
 abbrev pub invariant-loop-attrs : goal.invariant-loop-attrs
 invariant-loop-attrs l = record {
