@@ -53,7 +53,7 @@ def channels():
 # ---- what it answers
 
 def answers(program, case):
-    """The answers to a case's lines, fewer where the driver ended early; and its status and standard error."""
+    """The answers to a case's lines, fewer if the driver ended early; and its status and standard error."""
     given = "".join(f"{line}\n{MARK}\n" for line, _ in case.events)
     ran = subprocess.run([program], input=given.encode(), capture_output=True, timeout=SECONDS)
     return MARKED.split(ran.stdout)[:-1], ran.returncode, ran.stderr

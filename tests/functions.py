@@ -2,7 +2,7 @@
 import re
 from collections import namedtuple
 
-# head: what follows the word impl where it is a method of one, else ""; of_trait: a trait's own method, or one of an impl
+# head: what follows the word impl if it is a method of one, else ""; of_trait: a trait's own method, or one of an impl
 # of a trait; first, last: the numbers of its lines
 Function = namedtuple("Function", "name head of_trait first last")
 
@@ -10,7 +10,7 @@ HEAD = re.compile(r"( *)(?:pub(?:\([^)]*\))? )?(?:final |const |unsafe )*fn (\w+
 
 
 def last_line(lines, first, indent, in_trait):
-    """The number of a function's last line: its closing bracket, or its last clause where a trait gives it no body."""
+    """The number of a function's last line: its closing bracket, or its last clause if a trait gives it no body."""
     has_body = lines[first].endswith("{")
     for at in range(first, len(lines)):
         line = lines[at]
@@ -55,7 +55,7 @@ def owner_named(head):
 
 
 def place_in(file, lines, number):
-    """The function in which a line of a file stands: the file, its name, and its owner; None where it stands in none."""
+    """The function in which a line of a file stands: the file, its name, and its owner; None if it stands in none."""
     found = next((it for it in functions_in(lines) if it.first <= number <= it.last), None)
     return found and (file, found.name, owner_named(found.head) if found.head else "")
 

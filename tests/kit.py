@@ -48,13 +48,13 @@ def chains_above(libraries: list[Any]) -> dict[str, int]:
 
 
 def prove_one(library: Any, jobs: int) -> bool:
-    """Whether a library is proved, over what is kept of it; at once where its kept proof is of these sources."""
+    """Whether a library is proved, over what is kept of it; at once if its kept proof is of these sources."""
     with open(f"{LOGS}/{library.name}.log", "w", encoding="utf-8") as library.out:
         return library.build_rlib(["--jobs", str(jobs)], anew=False) == 0
 
 
 def some_ended(running: dict[Future[bool], Any]) -> set[Future[bool]]:
-    """Those proofs that have ended, after a second at most. Where the script is stopped it ends, and the kit's guard ends the proofs."""
+    """Those proofs that have ended, after a second at most. If the script is stopped it ends, and the kit's guard ends the proofs."""
     try:
         return wait(running, 1, FIRST_COMPLETED).done
     except KeyboardInterrupt:

@@ -18,9 +18,9 @@ def end(why: str, status: int = 2) -> NoReturn:
 
 
 def help_at(words: list[str], said: str | None) -> None:
-    """Prints what the script says of itself, and ends it, where that is asked."""
+    """Prints what the script says of itself, and ends it, if that is asked."""
     if set(words) & {"--help", "-h"}:
-        signal.signal(signal.SIGPIPE, signal.SIG_DFL)  # (as where only the first lines are read)
+        signal.signal(signal.SIGPIPE, signal.SIG_DFL)  # (as when only the first lines are read)
         print((said or "").strip())
         sys.exit(0)
 
@@ -53,7 +53,7 @@ def files_at(words: list[str]) -> list[str]:
 
 
 def number_at(words: list[str], place: int, usual: int) -> int:
-    """The whole number, from 1, at a place of the words, or the usual one where the words end before it."""
+    """The whole number, from 1, at a place of the words, or the usual one if the words end before it."""
     if len(words) <= place:
         return usual
     if not words[place].isdecimal() or not int(words[place]):
@@ -62,7 +62,7 @@ def number_at(words: list[str], place: int, usual: int) -> int:
 
 
 def toolchain(status: int = 2) -> str:
-    """The path of the command rt; the script ends with this status where there is none."""
+    """The path of the command rt; the script ends with this status if there is none."""
     found = shutil.which("rt")
     if found is None:
         end(NO_KIT, status)

@@ -96,7 +96,7 @@ def is_as_it_was(server, before):
 
 def pushed(program, decided, text, room):
     """What became of a push: its statuses and seconds, what a read then took and told, the most memory, and whether the
-    channel is as it was where the push was refused."""
+    channel is as it was if the push was refused."""
     server = Server(program, room)
     try:
         server.ask(put(ROUTE, BODY))

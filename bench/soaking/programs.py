@@ -74,7 +74,7 @@ class Lines:
             raise Died(self.end()) from None
 
     def answers(self, found):
-        """The whole answers of what was read, or none where the last one isn't whole."""
+        """The whole answers of what was read, or none if the last one isn't whole."""
         return [bytes(it) for it in MARKS.split(found)[:-1]] if found.endswith(MARK) else []
 
     def time(self):
@@ -86,7 +86,7 @@ class Lines:
             return int(it.read().split()[1]) * os.sysconf("SC_PAGE_SIZE")
 
     def end(self):
-        """Ends its input, and tells how it ended, or nothing where it ended well."""
+        """Ends its input, and tells how it ended, or nothing if it ended well."""
         self.running.stdin.close()
         try:
             status = self.running.wait(SECONDS)

@@ -17,7 +17,7 @@ class Browser:
         with held_signals():
             self.room = tempfile.mkdtemp(prefix="adsplice-browser-")
             self.begin(size)
-            atexit.register(self.close)  # (where a signal ends the script)
+            atexit.register(self.close)  # (if a signal ends the script)
         self.held, self.count, self.session = b"", 0, None
         target = next(it for it in self.ask("Target.getTargets")["targetInfos"] if it["type"] == "page")
         self.session = self.ask("Target.attachToTarget", targetId=target["targetId"], flatten=True)["sessionId"]

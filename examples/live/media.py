@@ -99,7 +99,7 @@ def master(addresses, bandwidths=BANDWIDTHS):
 
 
 def pod_kinds(kinds, segments):
-    """A pod of so many segments: its ads in turn, each as (kind, number of segments), cut short where the break is."""
+    """A pod of so many segments: its ads in turn, each as (kind, number of segments), cut short if the break is."""
     ads, left, place = [], segments, 0
     most = min(CLIP, max(1, -(-segments // len(kinds))))
     while left:

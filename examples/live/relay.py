@@ -121,7 +121,7 @@ class Relay:
         return text.replace("#EXTM3U\n", "\n".join(["#EXTM3U", *lines, ""]), 1)
 
     def turn(self):
-        """Writes the list anew where the packager's has changed: first the decisions that it needs, then the list itself."""
+        """Writes the list anew if the packager's has changed: first the decisions that it needs, then the list itself."""
         try:
             with open(self.playlist, encoding="utf-8") as it:
                 text = it.read()

@@ -48,7 +48,7 @@ class Words(argparse.ArgumentParser):
         """`text`: the help; `has_program`: whether the one word without a name is the program."""
         super().__init__(prog=f"examples/live/{os.path.basename(sys.argv[0])}", description=text, formatter_class=argparse.RawDescriptionHelpFormatter)
         if has_program:
-            self.add_argument("program", nargs="?", metavar="PROGRAM", type=built_program, help="the built program; proved and built where none is named")
+            self.add_argument("program", nargs="?", metavar="PROGRAM", type=built_program, help="the built program; proved and built if none is named")
 
     def error(self, message):
         """Ends the script with `message` in one line."""
@@ -112,7 +112,7 @@ def held_signals():
 
 @contextlib.contextmanager
 def temporary_room(prefix):
-    """A folder that is gone with its block; nginx's workers may read it, which run as another user where root starts them."""
+    """A folder that is gone with its block; nginx's workers may read it, which run as another user if root starts them."""
     path = None
     try:
         with held_signals():
@@ -171,7 +171,7 @@ def taken(*ports):
 
 
 def wait_for(port, host="127.0.0.1"):
-    """Returns once something listens on a port; ends the script where nothing does within 10 seconds."""
+    """Returns once something listens on a port; ends the script if nothing does within 10 seconds."""
     for _ in range(200):
         try:
             socket.create_connection((host, port), 1).close()
@@ -206,7 +206,7 @@ class Processes:
         return it
 
     def end(self, it, hard=False):
-        """Ends a process, by SIGKILL where it is to be hard."""
+        """Ends a process, by SIGKILL if it is to be hard."""
         if it in self.running:
             self.running.remove(it)
         if it.poll() is None:
@@ -224,7 +224,7 @@ class Processes:
         return it
 
     def nginx(self, configuration):
-        """Starts nginx with a configuration; its first lines of complaint are shown where it doesn't start."""
+        """Starts nginx with a configuration; its first lines of complaint are shown if it doesn't start."""
         tried = subprocess.run(["nginx", "-t", "-c", configuration], capture_output=True, text=True)
         if tried.returncode:
             fail(next(iter(tried.stderr.splitlines()), "nginx doesn't take its configuration"))
@@ -279,7 +279,7 @@ def configure_nginx(room, ports, viewers, operator, server="", changes=()):
 
 
 def request(method, url, body=None, fields=None):
-    """A request's status, header fields (names in small letters) and body; status 0 where no answer came."""
+    """A request's status, header fields (names in small letters) and body; status 0 if no answer came."""
     parts = urllib.parse.urlsplit(url)
     data = body.encode() if isinstance(body, str) else body
     connection = http.client.HTTPConnection(parts.hostname, parts.port or 80, timeout=15)
@@ -305,7 +305,7 @@ class Results:
         self.passed = self.failed = 0
 
     def check(self, is_well, what):
-        """Counts a check, and prints what it was of where it failed."""
+        """Counts a check, and prints what it was of if it failed."""
         if is_well:
             self.passed += 1
         else:

@@ -25,7 +25,7 @@ class Pipe:
         with held_signals():
             self.process = subprocess.Popen(words, stdin=subprocess.DEVNULL, stdout=subprocess.PIPE, stderr=subprocess.DEVNULL, user=user,
                                             start_new_session=True)
-            atexit.register(self.end)  # (where a signal ends the script)
+            atexit.register(self.end)  # (if a signal ends the script)
         self.source = self.process.stdout
         self.thread = threading.Thread(target=self.run, daemon=True)
         self.thread.start()
@@ -72,7 +72,7 @@ class Vlc(Pipe):
         super().__init__(name, ["env", f"HOME={self.room}", f"PULSE_RUNTIME_PATH={self.room}/pulse", *words], True, 65534 if os.getuid() == 0 else None)
 
     def read(self, size):
-        """So many bytes of the file, once they are there; none at the end, and where VLC has begun the file anew."""
+        """So many bytes of the file, once they are there; none at the end, and if VLC has begun the file anew."""
         piece = b""
         while len(piece) < size:
             more = self.source.read(size - len(piece))
@@ -135,7 +135,7 @@ def ffmpeg(name, url):
 
 
 def mpv(name, url):
-    """mpv, which shows each frame as soon as it has it where it writes them out."""
+    """mpv, which shows each frame as soon as it has it if it writes them out."""
     words = ["mpv", "--no-config", "--really-quiet", "--no-audio", "--o=-", "--of=rawvideo", "--ovc=rawvideo", f"--vf=lavfi=[{BLOCKS}]", url]
     return Pipe(name, words)
 

@@ -51,7 +51,7 @@ class AdReader:
         self.dropped: set[str] = set()
 
     def read(self, text: str) -> list[Part]:
-        """The parts of the playlist `text`; raises Fault where a decision file can't say what it says."""
+        """The parts of the playlist `text`; raises Fault if a decision file can't say what it says."""
         for line in text.splitlines():
             name, _, rest = line.partition(":")
             if name == "#EXT-X-KEY":
@@ -81,7 +81,7 @@ class AdReader:
         self.dropped |= set(said) - KEY_MEMBERS
 
     def segment(self, uri: str) -> None:
-        """Adds the segment `uri` to the last part, or to a new one where key, map or EXT-X-DISCONTINUITY say so."""
+        """Adds the segment `uri` to the last part, or to a new one if key, map or EXT-X-DISCONTINUITY say so."""
         number = sum(len(it.segments) for it in self.parts)
         if len(self.keys) > 1:
             raise Fault(f"{self.name}: segment {number} is under keys of {len(self.keys)} formats ({', '.join(self.keys)}); a decision file has one")

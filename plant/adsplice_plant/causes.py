@@ -94,13 +94,13 @@ class Explainer:
 
     @staticmethod
     def like(name: str, others: list[str]) -> str | None:
-        """The one of `others` that is most like the ID `name`, letters' case and signs aside; none where none is."""
+        """The one of `others` that is most like the ID `name`, letters' case and signs aside; none if none is."""
         plain = {re.sub(r"[^a-z0-9]", "", it.casefold()): it for it in others}
         close = difflib.get_close_matches(re.sub(r"[^a-z0-9]", "", name.casefold()), list(plain), 1, 0.75)
         return plain[close[0]] if close else None
 
     def word(self, name: str) -> str:
-        """The word of `why` for the break `name`: `Filled` where it ever was, else the last one; empty where it was never known."""
+        """The word of `why` for the break `name`: `Filled` if it ever was, else the last one; empty if it was never known."""
         said = [step.words[name] for step in self.history.steps if name in step.words]
         return "Filled" if "Filled" in said else said[-1] if said else ""
 
@@ -147,7 +147,7 @@ class Explainer:
         return set_[-1] if set_ else None
 
     def does_not_fit(self, name: str) -> str:
-        """Which segment is too long, or which ad has a map where the programme has none."""
+        """Which segment is too long, or which ad has a map if the programme has none."""
         pod, step = self.pod(name), self.history.lists()[-1]
         assert pod is not None and step.listed is not None
         target, has_init_section = step.listed.target or 0, step.listed.segments[-1].has_init_section

@@ -1,4 +1,4 @@
-"""A channel's feed: reads its list, makes the channel in adsplice where it isn't there, and gives it decisions and lists."""
+"""A channel's feed: reads its list, makes the channel in adsplice if it isn't there, and gives it decisions and lists."""
 from __future__ import annotations
 
 import threading
@@ -17,10 +17,10 @@ from .words import now_text
 
 REFUSALS = 2  # in a row that make a channel anew
 LAGS = {"N5", "N7"}  # faults of a list that may only lag: these have to last for a target duration, too
-MOST_REFUSALS = 32  # where it has to be made anew again and again
+MOST_REFUSALS = 32  # if it has to be made anew again and again
 QUIET = 60.0  # seconds without a refusal after which two are enough again
 OFTEN = 0.25  # seconds between two looks at a file, and the least between two at a URL
-SOON = 1.0  # seconds to the next look where the target duration isn't known
+SOON = 1.0  # seconds to the next look if the target duration isn't known
 JUDGED = {409, 413, 422}  # statuses by which adsplice refuses what it was given; after others the same is tried again with pauses
 
 READ = ("200", "")  # the state of an origin that is read
@@ -84,7 +84,7 @@ class Channel:
         return answer
 
     def fallback(self) -> bytes | None:
-        """The fallback file's bytes; none where there is no such file, which is told."""
+        """The fallback file's bytes; none if there is no such file, which is told."""
         if self.settings.fallback is None:
             return None
         try:
@@ -94,11 +94,11 @@ class Channel:
             return None
 
     def stamp(self) -> tuple[int, int, int] | None:
-        """What shows that the fallback file changed; none where there is none."""
+        """What shows that the fallback file changed; none if there is none."""
         return decisions.stamp_of(self.settings.fallback) if self.settings.fallback else None
 
     def make(self) -> bool:
-        """Makes the channel where it isn't there, and gives it the fallback and the open decisions; whether it is there."""
+        """Makes the channel if it isn't there, and gives it the fallback and the open decisions; whether it is there."""
         answer = self.put("", self.settings.body())
         if answer.status not in (201, 409):
             self.failed(answer, "makes the channel as soon as it can")
@@ -215,7 +215,7 @@ class Channel:
         self.tell("adsplice", 204, "", text)
 
     def refuse(self, answer: Answer) -> bool:
-        """A list doesn't follow the last one. Where that stays, the channel is made anew; whether that came to its end."""
+        """A list doesn't follow the last one. If that stays, the channel is made anew; whether that came to its end."""
         self.refused += 1
         self.since = time.monotonic() if self.refused == 1 else self.since
         name = faults.name_of(answer.line())
@@ -239,7 +239,7 @@ class Channel:
     # ---- turns
 
     def look(self, found: Read) -> None:
-        """Takes in what was `found` at the origin, and what its list lists where that is new."""
+        """Takes in what was `found` at the origin, and what its list lists if that is new."""
         if found.body is not None:
             if found.body != self.list:
                 self.list, self.is_pushed = found.body, False

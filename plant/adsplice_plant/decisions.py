@@ -17,7 +17,7 @@ MAX_BYTES = 4_194_304  # adsplice takes no longer file
 
 @dataclass
 class Decision:
-    """A file of the folder: `kind` is `breaks`, `withdraw` or `fallback`, and empty where it doesn't say; `ids` are those of
+    """A file of the folder: `kind` is `breaks`, `withdraw` or `fallback`, and empty if it doesn't say; `ids` are those of
     its breaks; `state` is `new`, `given`, `refused` or `done`; `listed` are the breaks that were seen in a playlist."""
 
     path: Path
@@ -30,7 +30,7 @@ class Decision:
 
 
 def stamp_of(path: Path) -> tuple[int, int, int] | None:
-    """What shows that the file `path` changed: when it was written, its size, and its inode; none where it isn't there."""
+    """What shows that the file `path` changed: when it was written, its size, and its inode; none if it isn't there."""
     try:
         found = path.stat()
     except OSError:
@@ -39,7 +39,7 @@ def stamp_of(path: Path) -> tuple[int, int, int] | None:
 
 
 def said_by(body: bytes) -> tuple[str, list[str]]:
-    """The kind of the decision file `body`, and the IDs of its breaks; ("", []) where it doesn't say. adsplice judges it."""
+    """The kind of the decision file `body`, and the IDs of its breaks; ("", []) if it doesn't say. adsplice judges it."""
     try:
         found = json.loads(body)
     except (ValueError, RecursionError):
@@ -59,7 +59,7 @@ def each_alone(body: bytes) -> list[bytes]:
 
 
 class Folder:
-    """The decision files of the folder `path`; none where there is no folder for a channel. Those in `done` are taken away
+    """The decision files of the folder `path`; none if there is no folder for a channel. Those in `done` are taken away
     after `keep_days` days."""
 
     def __init__(self, path: Path | None, keep_days: float) -> None:
@@ -102,11 +102,11 @@ class Folder:
         return [it for it in self.decisions.values() if it.state == "new"]
 
     def named(self, name: str) -> Decision | None:
-        """The one in the file `name`; none where there is none."""
+        """The one in the file `name`; none if there is none."""
         return None if self.path is None else self.decisions.get(self.path / name)
 
     def open(self) -> list[Decision]:
-        """Those that the controller holds: they are given to it again where its channel is made anew."""
+        """Those that the controller holds: they are given to it again if its channel is made anew."""
         return [it for it in self.decisions.values() if it.state == "given"]
 
     def start_anew(self) -> None:

@@ -20,7 +20,7 @@ A file that begins with #EXTM3U is a playlist and one that begins with { is a de
 (*.json, and else a playlist).
 
 Prints a line for each refused file, for each break, and for what adsplice takes without a word and what may be a mistake.
-Exit status: 0 where each break is filled and nothing was refused; 3 where one is empty or something was refused; 1 a fault;
+Exit status: 0 if each break is filled and nothing was refused; 3 if one is empty or something was refused; 1 a fault;
 2 wrong words."""
 EMPTY = 3
 BASE = "http://origin.example/index.m3u8"
@@ -34,7 +34,7 @@ def read_words(arguments: list[str]) -> argparse.Namespace:
     it.add_argument("--base", default=BASE, metavar="URL", help="the channel's base")
     it.add_argument("--tolerance", metavar="SECONDS", help="the channel's tolerance (0.1)")
     it.add_argument("--break", dest="only", metavar="ID", help="this break alone")
-    it.add_argument("--program", metavar="PATH", help="the built adsplice, where it isn't beside this program, on the path or in /opt/adsplice")
+    it.add_argument("--program", metavar="PATH", help="the built adsplice, if it isn't beside this program, on the path or in /opt/adsplice")
     said = it.parse_args(arguments)
     if bool(said.files) == (said.kept is not None):
         it.error("files are needed, or --kept")
@@ -75,7 +75,7 @@ def given_by_journal(path: Path) -> list[Given]:
 
 
 def report(explainer: Explainer, only: str | None) -> tuple[list[str], bool]:
-    """The lines to print of `explainer`, of the break `only` where one is named, and whether all is well."""
+    """The lines to print of `explainer`, of the break `only` if one is named, and whether all is well."""
     if only is not None:
         if only not in explainer.ids():
             like = explainer.like(only, explainer.ids())

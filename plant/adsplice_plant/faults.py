@@ -65,7 +65,7 @@ STATUSES = {
 
 
 def code_of(line: str) -> str:
-    """The code that a fault's text `line` begins with, such as `N8`; none where it begins with no known one."""
+    """The code that a fault's text `line` begins with, such as `N8`; none if it begins with no known one."""
     word = line.partition(" ")[0]
     return word if word in MEANINGS else ""
 

@@ -18,8 +18,8 @@ HELP = """Reads a packager's playlist and gives it to adsplice, with the decisio
   adsplice-feed --config /etc/adsplice/feed.ini            several channels, a section each
 
 The origin is asked at half the target duration. Its list is PUT when it changed, and as a whole: one that is cut off within
-its last line is read again. The channel is made where it isn't there, with the fallback and the open decisions before the
-first list. A list that doesn't follow the last one (N1 to N9) twice in a row makes the channel anew. Where the origin or
+its last line is read again. The channel is made if it isn't there, with the fallback and the open decisions before the
+first list. A list that doesn't follow the last one (N1 to N9) twice in a row makes the channel anew. If the origin or
 adsplice is away, it is tried again with pauses that grow to a target duration, for ever.
 
 Decision files (*.json) that are renamed into DIR are given to adsplice, stay there while their breaks are listed, are given
@@ -27,10 +27,10 @@ again after a new start, and are then moved to DIR/done. One that is refused sta
 
 Renditions of one programme (--renditions '1080 720 360') are a channel each: {} in the words stands for the rendition's name.
 A decision is a file of one name in each rendition's DIR. It is given to all of them before any list that enters its break, or
-to none; they are made anew together, and it is told where their numbers come apart.
+to none; they are made anew together, and it is told if their numbers come apart.
 
 Standard output has a line for each change of state: time, channel, who (origin, adsplice, or a file), status, fault, and
-what is done about it. Exit status: 0 after SIGTERM, SIGINT or SIGHUP; 1 where it can't begin; 2 for wrong words."""
+what is done about it. Exit status: 0 after SIGTERM, SIGINT or SIGHUP; 1 if it can't begin; 2 for wrong words."""
 
 EPILOG = """A config file has a section for each channel, and in [DEFAULT] what all have:
 
@@ -59,7 +59,7 @@ def read_words(arguments: list[str]) -> argparse.Namespace:
     it.add_argument("--channel", type=words.channel_name, metavar="NAME")
     it.add_argument("--origin", metavar="URL_OR_FILE", help="the packager's media playlist")
     it.add_argument("--at", type=words.web_address, metavar="URL", help="adsplice's address for PUT, such as http://127.0.0.1:8090")
-    it.add_argument("--base", type=str, metavar="URL", help="the playlist's own URL, where it differs from the origin's or that is a file")
+    it.add_argument("--base", type=str, metavar="URL", help="the playlist's own URL, if it isn't the origin's or the origin is a file")
     it.add_argument("--tolerance", metavar="SECONDS", help="the channel's tolerance (adsplice's own is 0.1)")
     it.add_argument("--decisions", metavar="DIR")
     it.add_argument("--fallback", metavar="FILE", help="a decision file with a fallback, given whenever the channel is made")

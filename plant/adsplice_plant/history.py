@@ -9,7 +9,7 @@ from .program import Process
 from .words import Fault
 
 NAME = "explained"
-TOLERANCE = playlist.SECOND // 10  # where a channel is made without one
+TOLERANCE = playlist.SECOND // 10  # if a channel is made without one
 
 
 @dataclass(frozen=True)
@@ -23,7 +23,7 @@ class Given:
 
 @dataclass
 class Step:
-    """`given`, with the `status` and the `fault` that it was answered, what it lists where it is a list, and after it the word
+    """`given`, with the `status` and the `fault` that it was answered, what it lists if it is a list, and after it the word
     of `why` for each known break."""
 
     given: Given
@@ -91,7 +91,7 @@ class History:
 
 
 def replay(program: str, given: list[Given]) -> History:
-    """What a process of `program` answers to all that was `given`, in order; raises Fault where no channel can be made."""
+    """What a process of `program` answers to all that was `given`, in order; raises Fault if no channel can be made."""
     history = History()
     with Process(program) as process:
         for it in given:

@@ -50,7 +50,7 @@ class Journal:
 
 
 def read_line(line: str) -> Event | None:
-    """The event of the line `line`; none where it isn't one, as where a machine fell while it was written."""
+    """The event of the line `line`; none if it isn't one, as when a machine fell while it was written."""
     try:
         found = json.loads(line)
         return Event(str(found["at"]), str(found["what"]), int(found["status"]), str(found["fault"]), str(found["body"]))

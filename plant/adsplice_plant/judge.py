@@ -41,7 +41,7 @@ def shown(value: Any) -> str:
 
 
 def judge(body: bytes) -> Wrong | None:
-    """The first thing that is wrong with the decision file `body`; none where nothing is found."""
+    """The first thing that is wrong with the decision file `body`; none if nothing is found."""
     try:
         found = json.loads(body.decode("utf-8"), parse_int=whole_number)
     except UnicodeDecodeError:
@@ -116,7 +116,7 @@ def look_at_ad(ad: Any, place: str, count: int) -> int:
     """Looks at an ad, before which its pod has `count` segments; answers how many it has with this one's."""
     need(isinstance(ad, dict), "J2", place, "an ad has to be an object with `segments`")
     if "map" in ad:
-        need(isinstance(ad["map"], dict), "J2", place, "`map` has to be an object with `uri`; leave it out where the ad has none")
+        need(isinstance(ad["map"], dict), "J2", place, "`map` has to be an object with `uri`; leave it out if the ad has none")
         look_at_resource(ad["map"], f"{place}, map")
     if "key" in ad:
         look_at_key(ad["key"], place)
@@ -176,7 +176,7 @@ def look_at_range(it: dict[str, Any], place: str) -> None:
 
 def look_at_key(key: Any, place: str) -> None:
     """Looks at an ad's key."""
-    need(isinstance(key, dict), "J2", place, "`key` has to be an object with `method`, `uri` and `iv`; leave it out where the ad is in clear")
+    need(isinstance(key, dict), "J2", place, "`key` has to be an object with `method`, `uri` and `iv`; leave it out if the ad is in clear")
     place += ", key"
     method = key.get("method")
     need(isinstance(method, str) and bool(re.fullmatch("[A-Z0-9-]+", method)) and method != "NONE", "J5", place,

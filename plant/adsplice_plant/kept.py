@@ -38,7 +38,7 @@ class Kept:
     file: int = 0  # the inode of what was read
 
     def follow(self) -> None:
-        """Reads what came since the last time; where the feed began a new file, the rest of the one before it first."""
+        """Reads what came since the last time; if the feed began a new file, the rest of the one before it first."""
         try:
             found = self.path.stat().st_ino
         except OSError:

@@ -79,7 +79,7 @@ class Ladder:
         self.lock = threading.RLock()
         self.members: list[Rendition] = []
         self.states: dict[str, str] = {}
-        self.step_since = 0.0  # since when the channels wait for lists in step; 0 where they don't
+        self.step_since = 0.0  # since when the channels wait for lists in step; 0 if they don't
         self.held: dict[str, float] = {}  # files that a rendition which is away holds up, and since when
         self.is_resumed = False  # the channels were there when the feed began: a break that has begun has the pod that it is given again
         self.seen: dict[str, float] = {}  # files that aren't there in all renditions, and since when
@@ -91,7 +91,7 @@ class Ladder:
             self.say(f"{now_text()} {self.name} {what} - {fault or '-'}: {text}")
 
     def target(self) -> float:
-        """The target duration in seconds; one second where it isn't known."""
+        """The target duration in seconds; one second if it isn't known."""
         return float(max((it.target or 1 for it in self.members), default=1))
 
     # ---- making the channels
@@ -129,7 +129,7 @@ class Ladder:
         return all(pushed)
 
     def make(self, one: Rendition) -> bool:
-        """Makes the channels. Where some of them are new, those that were there are made anew with them; whether all are there."""
+        """Makes the channels. If some of them are new, those that were there are made anew with them; whether all are there."""
         answers = {it: it.put("", it.settings.body()) for it in self.members}
         if 201 in {it.status for it in answers.values()}:
             for it in [it for it, answer in answers.items() if answer.status == 409]:
@@ -151,7 +151,7 @@ class Ladder:
     # ---- decisions
 
     def decide(self, is_anew: bool = False) -> bool:
-        """Gives the fallback where it changed or `is_anew`, and each decision file that waits, to all renditions or to none;
+        """Gives the fallback if it changed or `is_anew`, and each decision file that waits, to all renditions or to none;
         whether the feed may go on. A list that enters a break comes after them."""
         if is_anew or any(it.stamp() not in (None, it.fallback_stamp) for it in self.members):
             if not self.give_fallbacks():
@@ -162,7 +162,7 @@ class Ladder:
         return all(self.give_file(it) for it in names)
 
     def give_fallbacks(self) -> bool:
-        """Gives each rendition its fallback file; where one is refused, none has a fallback. Whether all was answered."""
+        """Gives each rendition its fallback file; if one is refused, none has a fallback. Whether all was answered."""
         for it in self.members:
             it.fallback_stamp = it.stamp()
         bodies = [(it, body) for it in self.members if (body := it.fallback())]
@@ -208,7 +208,7 @@ class Ladder:
         return self.give(name, found)
 
     def wait_for_rest(self, name: str, found: Group, absent: list[str], late: list[str]) -> bool:
-        """The file `name` isn't there in all renditions: tells where that lasts, and gives it up once all its breaks (`late`) have
+        """The file `name` isn't there in all renditions: tells if that lasts, and gives it up once all its breaks (`late`) have
         begun."""
         if time.monotonic() - self.seen.setdefault(name, time.monotonic()) <= LATE:
             return True
@@ -285,7 +285,7 @@ class Ladder:
                     it.debts.append(body)
 
     def hold(self, name: str, group: Group, away: list[tuple[Rendition, Answer]]) -> bool:
-        """Some renditions (`away`) didn't answer. Where none did, or for a while, all lists wait; then the others go on without
+        """Some renditions (`away`) didn't answer. If none did, or for a while, all lists wait; then the others go on without
         the decision. Whether the feed may go on."""
         for it, answer in away:
             it.gone(answer)

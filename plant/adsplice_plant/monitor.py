@@ -27,8 +27,8 @@ HELP = """Figures of adsplice's channels for Prometheus, and an as-run log.
 Serves /metrics (--listen) until a signal ends it. With --once it looks at each channel until its list has changed or its
 limit is over, prints the figures behind a comment with what is wrong, and ends.
 
-A channel is late where its list's end is further behind real time than --late, and stands still where its list didn't change
-for --still; both are three target durations where they aren't named. An ended list (EXT-X-ENDLIST) is neither.
+A channel is late if its list's end is further behind real time than --late, and stands still if its list didn't change
+for --still; both are three target durations if they aren't named. An ended list (EXT-X-ENDLIST) is neither.
 
 Refused pushes and the as-run log need what adsplice-feed --keep has kept (--kept, or `keep` of --config).
 
@@ -45,7 +45,7 @@ def read_words(arguments: list[str]) -> argparse.Namespace:
     it.add_argument("--config", type=Path, metavar="FILE", help="the config file of adsplice-feed: its channels, addresses and kept events")
     it.add_argument("--channel", type=words.channel_name, action="append", default=[], metavar="NAME", help="may be repeated")
     it.add_argument("--at", type=words.web_address, metavar="URL", help="adsplice's address for PUT, which answers `why`")
-    it.add_argument("--viewers", type=words.web_address, metavar="URL", help="the viewers' address (the one of --at where it isn't named)")
+    it.add_argument("--viewers", type=words.web_address, metavar="URL", help="the viewers' address (the one of --at if it isn't named)")
     it.add_argument("--process", type=words.web_address, action="append", default=[], metavar="URL", help="of a process: does it answer? May be repeated")
     it.add_argument("--kept", type=Path, metavar="DIR", help="the folder of adsplice-feed --keep")
     it.add_argument("--as-run", type=Path, metavar="FILE", help="the as-run log, to which lines are added")

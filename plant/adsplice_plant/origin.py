@@ -15,8 +15,8 @@ CUT_OFF = "the list is cut off within its last line"
 
 @dataclass(frozen=True)
 class Read:
-    """What a look at the origin found: a whole list in `body`; none where it is as it was, or where `why` says what is wrong.
-    `moved` is the URL that answered, where the origin's own led there."""
+    """What a look at the origin found: a whole list in `body`; none if it is as it was, or if `why` says what is wrong.
+    `moved` is the URL that answered, if the origin's own led there."""
 
     body: bytes | None = None
     status: int = 0
@@ -32,7 +32,7 @@ class FileOrigin:
         self.stamp: tuple[int, int, int] | None = None
 
     def read(self) -> Read:
-        """Its list where the file changed since it was read last."""
+        """Its list if the file changed since it was read last."""
         try:
             with open(self.path, "rb") as it:
                 found = os.fstat(it.fileno())
@@ -81,7 +81,7 @@ Origin = FileOrigin | WebOrigin
 
 def read_whole(origin: Origin, takes_unended: bool, sleep: Callable[[float], object] = time.sleep) -> Read:
     """A whole list of `origin`. One that is cut off within its last line is read again, by a packager who writes it in
-    place; where it stays so, it isn't taken, unless `takes_unended` says that this packager never ends its last line.
+    place; if it stays so, it isn't taken, unless `takes_unended` says that this packager never ends its last line.
     `sleep`: waits between two reads."""
     for left in range(READS, 0, -1):
         found = origin.read()

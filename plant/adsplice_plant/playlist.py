@@ -32,11 +32,11 @@ class DateRange:
     line: int
 
     def start(self) -> int | None:
-        """START-DATE in nanoseconds from 1970; none where it is missing or doesn't read."""
+        """START-DATE in nanoseconds from 1970; none if it is missing or doesn't read."""
         return read_instant(self.attributes.get("START-DATE", ""))
 
     def length(self) -> int | None:
-        """How long the range lasts in nanoseconds, by END-DATE, DURATION or PLANNED-DURATION; none where none of them says."""
+        """How long the range lasts in nanoseconds, by END-DATE, DURATION or PLANNED-DURATION; none if none of them says."""
         start, end = self.start(), read_instant(self.attributes.get("END-DATE", ""))
         if start is not None and end is not None:
             return end - start
@@ -71,7 +71,7 @@ class Listed:
 
 
 def read_duration(text: str) -> int | None:
-    """The nanoseconds of a duration such as `6.006`; none where `text` is no such decimal."""
+    """The nanoseconds of a duration such as `6.006`; none if `text` is no such decimal."""
     found = DURATION.fullmatch(text)
     if not found or not re.search(r"\d", text):
         return None
@@ -79,7 +79,7 @@ def read_duration(text: str) -> int | None:
 
 
 def read_instant(text: str) -> int | None:
-    """The nanoseconds from 1970 of a date and time such as `2024-05-01T12:00:00.5Z`; none where `text` isn't one."""
+    """The nanoseconds from 1970 of a date and time such as `2024-05-01T12:00:00.5Z`; none if `text` isn't one."""
     found = TIME.fullmatch(text)
     if not found:
         return None
@@ -94,7 +94,7 @@ def read_instant(text: str) -> int | None:
 
 
 def instant_text(instant: int) -> str:
-    """The instant of `instant` nanoseconds from 1970 in UTC, to milliseconds, or to nanoseconds where these aren't zero."""
+    """The instant of `instant` nanoseconds from 1970 in UTC, to milliseconds, or to nanoseconds if these aren't zero."""
     whole, rest = divmod(instant, SECOND)
     digits = f"{rest:09}"
     return f"{EPOCH + timedelta(seconds=whole):%Y-%m-%dT%H:%M:%S}.{digits[:3] if digits.endswith('000000') else digits}Z"

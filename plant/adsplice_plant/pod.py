@@ -36,7 +36,7 @@ def read_words(arguments: list[str]) -> argparse.Namespace:
     it.add_argument("--length", type=words.seconds, metavar="SECONDS", help="how long the break lasts")
     it.add_argument("--check", metavar="FILE", help="judges a decision file (- is standard input)")
     it.add_argument("--strict", action="store_true", help="a warning is a fault")
-    it.add_argument("--program", metavar="PATH", help="the built adsplice, where it isn't beside this program, on the path or in /opt/adsplice")
+    it.add_argument("--program", metavar="PATH", help="the built adsplice, if it isn't beside this program, on the path or in /opt/adsplice")
     said = it.parse_args(arguments)
     if said.check is None and len(said.names) < (1 if said.fallback else 2):
         it.error("an ID and at least one playlist are needed, or --check FILE")
@@ -96,14 +96,14 @@ def warnings_of(ads: list[Advertisement], target: int | None, length: float | No
 
 
 def written(ads: list[Advertisement], break_id: str | None) -> bytes:
-    """The decision file of a pod of `ads` for the break `break_id`, or as the fallback where there is none."""
+    """The decision file of a pod of `ads` for the break `break_id`, or as the fallback if there is none."""
     members = [part.member() for ad in ads for part in ad.parts]
     found: dict[str, Any] = {"fallback": {"ads": members}} if break_id is None else {"breaks": [{"id": break_id, "ads": members}]}
     return (json.dumps(found, indent=2, ensure_ascii=False) + "\n").encode()
 
 
 def verdict(program: str, body: bytes) -> str:
-    """What is wrong with the decision file `body`, by `program`: the fault, and the member in words; empty where it is right."""
+    """What is wrong with the decision file `body`, by `program`: the fault, and the member in words; empty if it is right."""
     _, fault = run_vod(program, NEVER, b"", body)
     if fault.startswith(("P3 ", "J11 ")):  # (the empty playlist was read, or a withdrawal found no pod: the file is right)
         return ""

@@ -13,7 +13,7 @@ from .words import Fault
 HERE = Path(__file__).resolve().parent.parent
 USUAL = (HERE / "adsplice", HERE.parent / "adsplice.bin", HERE.parent / "out" / "adsplice", Path("/opt/adsplice/adsplice"))
 SECONDS = 60  # for a run, and for an answer
-NEVER = "http://nowhere.invalid/index.m3u8"  # a base where nothing is resolved against it
+NEVER = "http://nowhere.invalid/index.m3u8"  # a base against which nothing is resolved
 
 
 def find_program(named: str | None) -> str:
@@ -33,10 +33,10 @@ def find_program(named: str | None) -> str:
 
 def run_vod(program: str, base: str, playlist: bytes, decisions: bytes | None = None) -> tuple[bytes, str]:
     """What `program vod` writes for the playlist `playlist` under `base` with the decision file `decisions`, and its fault,
-    which is empty where it succeeded."""
+    which is empty if it succeeded."""
     words, held = [program, "vod", base], []
     try:
-        if decisions is not None:  # (in memory: a file would be left behind where this process is killed)
+        if decisions is not None:  # (in memory: a file would be left behind if this process is killed)
             held.append(os.memfd_create("decisions"))
             with open(held[0], "wb", closefd=False) as it:
                 it.write(decisions)
@@ -79,7 +79,7 @@ class Process:
         return self
 
     def wait(self) -> None:
-        """Returns once the process answers; raises Fault where it doesn't."""
+        """Returns once the process answers; raises Fault if it doesn't."""
         for _ in range(SECONDS * 50):
             if self.running.poll() is not None:
                 raise Fault(f"adsplice ended with status {self.running.returncode}")

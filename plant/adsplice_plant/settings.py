@@ -18,7 +18,7 @@ class Settings:
     """One channel: its `name`, the `origin` of its list (a URL or a file), adsplice's address `at`, the `base` of its
     references, a `tolerance` in seconds, the folder of `decisions`, the `fallback` file, the folder `keep` of what is kept for
     the monitor and the explainer, whether its packager leaves the last line `unended`, and the `programme` whose rendition it
-    is, where it is one of a ladder."""
+    is, if it is one of a ladder."""
 
     name: str
     origin: str
@@ -43,7 +43,7 @@ class Settings:
 
 def ladder_of(name: str, said: Mapping[str, str | None]) -> list[Settings]:
     """The settings of the channel `name` from texts by the names of NAMES; those of a channel for each of the programme's
-    renditions where `renditions` names some, in whose texts PLACE stands for the rendition's name. Raises Fault."""
+    renditions if `renditions` names some, in whose texts PLACE stands for the rendition's name. Raises Fault."""
     renditions = (said.get("renditions") or "").split()
     if not renditions:
         return [settings_of(name, said)]
@@ -60,7 +60,7 @@ def ladder_of(name: str, said: Mapping[str, str | None]) -> list[Settings]:
 
 
 def settings_of(name: str, said: Mapping[str, str | None]) -> Settings:
-    """The settings of the channel `name` from texts by the names of NAMES; raises Fault where they don't go together."""
+    """The settings of the channel `name` from texts by the names of NAMES; raises Fault if they don't go together."""
     try:
         words.channel_name(name)
         origin, at = said.get("origin"), words.web_address(said.get("at") or "")

@@ -26,7 +26,7 @@ class Bits:
     place: int = 0
 
     def take(self, count: int) -> int:
-        """The number of the next `count` bits; raises Unread where there are fewer."""
+        """The number of the next `count` bits; raises Unread if there are fewer."""
         if self.place + count > 8 * len(self.data):
             raise Unread("it ends within its fields")
         whole = int.from_bytes(self.data, "big")
@@ -86,7 +86,7 @@ def command_of(bits: Bits) -> str:
 
 
 def segmentation(bits: Bits, command_length: int) -> str:
-    """What the first segmentation_descriptor behind a command of `command_length` bytes says, in words; empty where none is."""
+    """What the first segmentation_descriptor behind a command of `command_length` bytes says, in words; empty if none is."""
     if command_length == 0xFFF:
         return ""
     try:

@@ -63,7 +63,7 @@ class Watch:
         self.end = None if end is None else end / playlist.SECOND
 
     def behind(self) -> float | None:
-        """How many seconds the list's end is behind real time; none where the list states no time."""
+        """How many seconds the list's end is behind real time; none if the list states no time."""
         return None if self.end is None else time.time() - self.end
 
     def unchanged(self) -> float:

@@ -11,7 +11,7 @@ MAX_BYTES = 4_194_304  # of an answer: adsplice takes no longer playlist
 
 @dataclass(frozen=True)
 class Answer:
-    """What was answered: `status` 0 where no whole answer came, and `why` then says why."""
+    """What was answered: `status` 0 if no whole answer came, and `why` then says why."""
 
     status: int
     body: bytes = b""

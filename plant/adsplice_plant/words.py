@@ -24,7 +24,7 @@ def parser(name: str, text: str) -> argparse.ArgumentParser:
 
 
 def channel_name(text: str) -> str:
-    """The channel name `text`; raises where adsplice has no channel of such a name."""
+    """The channel name `text`; raises if adsplice has no channel of such a name."""
     if not NAME.fullmatch(text):
         raise argparse.ArgumentTypeError(f"{text!r} isn't 1 to 32 of a to z, 0 to 9 and '-'")
     return text
@@ -60,7 +60,7 @@ def fail(name: str, text: str, status: int = FAULT) -> NoReturn:
 
 
 def write_out(text: str) -> None:
-    """Writes `text` to standard output in UTF-8; where nobody reads it any more (`| head`), the rest is dropped."""
+    """Writes `text` to standard output in UTF-8; if nobody reads it any more (`| head`), the rest is dropped."""
     try:
         sys.stdout.buffer.write(text.encode("utf-8", "replace"))
         sys.stdout.buffer.flush()

@@ -203,7 +203,7 @@ def get(url):
 
 
 def until(check, seconds=90, what="it"):
-    """Waits until `check()` holds, and answers what it answered; raises where it doesn't within that time."""
+    """Waits until `check()` holds, and answers what it answered; raises if it doesn't within that time."""
     end = time.monotonic() + seconds
     while time.monotonic() < end:
         if found := check():

@@ -101,7 +101,7 @@ FALLBACK = json.dumps({"fallback": pod()}).encode()
 
 @dataclass(frozen=True)
 class Kind:
-    """What is pushed. `made`: the decisions and the playlist, where there are some, of a part of the largest size. `grows`: it
+    """What is pushed. `made`: the decisions and the playlist, if there are some, of a part of the largest size. `grows`: it
     is known to cost more for each byte of a larger text, and why."""
 
     name: str

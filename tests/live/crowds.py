@@ -17,7 +17,7 @@ import threading
 import time
 
 MAX_SECONDS = 1.0  # that a good client waits, on a busy machine
-# Seconds until a request was sent. A client that the machine holds up for longer is silent meanwhile: where no place is left, the
+# Seconds until a request was sent. A client that the machine holds up for longer is silent meanwhile: if no place is left, the
 # server gives it up for those that came after it, without a reply.
 LATE = 0.001
 WHY = b"/channels/a/why"

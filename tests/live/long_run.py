@@ -2,7 +2,7 @@
 
 Each owed text is made anew from the whole list: all segments that were ever shown, each with the pod that its run was
 entered with, give the whole stitched list, of which the owed window is a part. The pods are shorter than their breaks, as
-long, and longer; some breaks have none of their own, and are filled with the fallback, where there is one.
+long, and longer; some breaks have none of their own, and are filled with the fallback, if there is one.
 """
 from collections import namedtuple
 from events import Case
@@ -45,7 +45,7 @@ def listed_breaks(first):
 
 
 def due(pod, seconds):
-    """The shortest front of a pod, of a segment at least, that lasts so long; all of it where none does."""
+    """The shortest front of a pod, of a segment at least, that lasts so long; all of it if none does."""
     count, lasted = 0, 0.0
     while count < len(pod) and (count == 0 or lasted < seconds):
         lasted += float(DURATIONS[pod[count]])
@@ -97,7 +97,7 @@ class Model:
         return self.pods.get(place, self.fallback)
 
     def show(self, number):
-        """One more segment, whose break is entered where it has a pod and wasn't entered last, or goes on."""
+        """One more segment, whose break is entered if it has a pod and wasn't entered last, or goes on."""
         place, pod = break_of(number), None
         before = self.history[-1] if self.history else None
         if place is not None and before and before.pod and before.place == place:

@@ -46,7 +46,7 @@ def fallback(names):
 
 def origin_text(first, last, *, ranges=(), times=None, header=(), before=None, durations=None, names=None, titles=None,
                 sequence=None, version=6, target=10, ended=False):
-    """An origin's playlist of the segments first to last, each of 10 s; segment 0 states noon, where no times are given.
+    """An origin's playlist of the segments first to last, each of 10 s; segment 0 states noon, if no times are given.
     `before`: further lines before a segment."""
     times = {0: instant(0)} if times is None else times
     lines = ["#EXTM3U", f"#EXT-X-VERSION:{version}", f"#EXT-X-TARGETDURATION:{target}",
@@ -62,8 +62,8 @@ def origin_text(first, last, *, ranges=(), times=None, header=(), before=None, d
 
 
 def window(words, media=0, discontinuity=0, times=None):
-    """A window from its names, with a stroke for each discontinuity. A kept segment states 10 s times its number, where no
-    other time is given, and none where that is None."""
+    """A window from its names, with a stroke for each discontinuity. A kept segment states 10 s times its number, if no
+    other time is given, and none if that is None."""
     items, steps = [], 0
     for word in words.split():
         if word == "/":

@@ -71,7 +71,7 @@ def owed_connections(name: str, asked: list[bytes]) -> Connections:
 
 
 def case_of(family: str, seed: int, number: int) -> Run | Connections | None:
-    """The case of this number; None where the model says nothing of it."""
+    """The case of this number; None if the model says nothing of it."""
     rng, name = Random(f"{seed}/{family}/{number}"), f"{family}-{seed}-{number}"
     try:
         if family in ("playlists", "breaks"):

@@ -66,7 +66,7 @@ class Packager:
 
 
 def renumbered(lines: Lines, name: str, change: int) -> Lines:
-    """The lines with another number at a tag of the header, which may be left out where it is 0."""
+    """The lines with another number at a tag of the header, which may be left out if it is 0."""
     at = next((n for n, line in enumerate(lines) if line.startswith(f"#{name}:")), None)
     number = decimal_of(lines[at].partition(":")[2]) if at is not None else 0
     front = lines[:at] if at is not None else lines[:1]

@@ -36,7 +36,7 @@ class Steps:
 
 
 def reached(vector: dict[str, Any]) -> set[Feature]:
-    """All that a vector reaches; nothing where the model says nothing of it."""
+    """All that a vector reaches; nothing if the model says nothing of it."""
     steps = Steps()
     sys.settrace(steps)
     try:

@@ -36,7 +36,7 @@ def owed_by_model(vector: dict[str, Any]) -> Run | Connections:
 
 
 def agrees(vector: dict[str, Any]) -> bool:
-    """Whether a vector owes what the model does, where the model says anything of it."""
+    """Whether a vector owes what the model does, if the model says anything of it."""
     try:
         case = owed_by_model(vector)
     except NotModelled:

@@ -17,7 +17,7 @@ def daterange(name: str, start: str, more: str = "") -> str:
 
 
 def playlist(first: int, last: int, ranges: str, time: str = "#EXT-X-PROGRAM-DATE-TIME:2024-05-01T12:00:00Z\n") -> str:
-    """Segments of 10 s, of which the first that is listed states a time, where one is given."""
+    """Segments of 10 s, of which the first that is listed states a time, if one is given."""
     segments = "".join(f"#EXTINF:10,\ns{n}.ts\n" for n in range(first, last + 1))
     return f"#EXTM3U\n#EXT-X-TARGETDURATION:10\n#EXT-X-MEDIA-SEQUENCE:{first}\n{ranges}{time}{segments}"
 

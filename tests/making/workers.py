@@ -15,7 +15,7 @@ STOPPED = 130  # the exit status
 
 
 def each_of(work: Callable[[Given], Found], given: list[Given]) -> list[Found]:
-    """What work makes of each, as many at a time as there are processors. Where it is stopped, what has begun is ended first, and
+    """What work makes of each, as many at a time as there are processors. If it is stopped, what has begun is ended first, and
     no more is begun."""
     with ThreadPoolExecutor(os.cpu_count()) as workers:
         try:
@@ -31,7 +31,7 @@ def stop(_: int, __: FrameType | None) -> None:
 
 
 def run_until_stopped(main: Callable[[list[str]], int]) -> int:
-    """The exit status of a script with the words of the command line; 130 where it was stopped, or nobody reads its output."""
+    """The exit status of a script with the words of the command line; 130 if it was stopped, or nobody reads its output."""
     for one in (signal.SIGINT, signal.SIGTERM, signal.SIGHUP):  # (a shell has what it starts by & ignore the first)
         signal.signal(one, stop)
     try:

@@ -2,7 +2,7 @@
 
 The program reads an event from each line, and prints its answer. It needs memory to read the line, before the channel's
 call, and to print a refused refresh, after it; a line for which it gets none ends it. So one allocation is refused, or
-two in a row (growth asks a second time where it was refused), and a run in which the program ended isn't counted: that
+two in a row (growth asks a second time if it was refused), and a run in which the program ended isn't counted: that
 an allocation was the call's is told by the answer."""
 import os
 import subprocess
@@ -104,7 +104,7 @@ class Lines:
 
 
 def told_with_memory(program, control, event, asked, times):
-    """What is told where the line was given so many times, and then is given again so many times."""
+    """What is told if the line was given so many times, and then is given again so many times."""
     it = Lines(program, control)
     it.pass_over([*event.before, *[event.asked] * asked])
     return it.end(lines_after(event, times))

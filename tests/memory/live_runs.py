@@ -1,7 +1,7 @@
 """Runs of `adsplice live` in which one connection is refused memory.
 
 Each is a fresh server with the requests of one case. What it answers is compared with what the same program answers that
-was refused nothing: where the request was refused, with one that was never asked it; and where it is asked again, now
+was refused nothing: if the request was refused, with one that was never asked it; and if it is asked again, now
 with memory, with one that was asked it once."""
 from collections import namedtuple
 
@@ -25,7 +25,7 @@ def read_all(server, case):
 
 
 def run(program, control, ports, case, times, refusal=None):
-    """A server that is asked the request so many times, after it was refused (first, most) where that is given."""
+    """A server that is asked the request so many times, after it was refused (first, most) if that is given."""
     count = len(case.before) + (refusal is not None) + times + (times + 2) * len(case.reads) + len(case.after)
     server = Server(program, control, count, ports)
     try:
@@ -49,7 +49,7 @@ def told_by(server, control, case, times, refusal):
 
 
 class Clean:
-    """What is answered where nothing is refused, by how often the request is asked."""
+    """What is answered if nothing is refused, by how often the request is asked."""
 
     def __init__(self, program, control, ports, case):
         self.told = [run(program, control, ports, case, times) for times in range(3)]

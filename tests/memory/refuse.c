@@ -1,5 +1,5 @@
 /* Refuses memory: preloaded into a program (LD_PRELOAD), it stands before the C library's malloc, calloc, realloc and
- * their aligned kin, and answers NULL with ENOMEM where the control file says so. The file is mapped by the program and
+ * their aligned kin, and answers NULL with ENOMEM if the control file says so. The file is mapped by the program and
  * by the script that tries it, so that the script says when to refuse, and sees what was asked, without a word passing
  * between them. Calls of the dynamic linker before the program's own start aren't counted: the file is mapped after them. */
 #define _GNU_SOURCE

@@ -22,7 +22,7 @@ def build(folder, name="refuse"):
 
 
 def without_random(program, folder):
-    """What the program says and writes, and its status, where the system gives it no random bytes."""
+    """What the program says and writes, and its status, if the system gives it no random bytes."""
     words = [program, "vod", "http://origin.example/i.m3u8"]
     ran = subprocess.run(words, env={"LD_PRELOAD": build(folder, "no_random")}, input=b"", capture_output=True, timeout=60)
     return ran.stderr, ran.stdout, ran.returncode

@@ -1,5 +1,5 @@
 """Runs of `adsplice vod`, and of a server that begins, to which memory is refused: the words, the input and the decision
-file of each, with what it answers where none is refused."""
+file of each, with what it answers if none is refused."""
 import base64
 import json
 import os
@@ -69,7 +69,7 @@ def own_runs():
 
 
 def answer(program, control, run, words, first, most):
-    """What the program answers where so many calls from the first-th on are refused, and how many were."""
+    """What the program answers if so many calls from the first-th on are refused, and how many were."""
     control.refuse(first, most)
     ran = subprocess.run([program, *words], input=run.input, capture_output=True, timeout=SECONDS,
                          env=os.environ | control.environment)
@@ -78,7 +78,7 @@ def answer(program, control, run, words, first, most):
 
 def differences(program, control, ports, run, way):
     """How many runs were refused memory before the first that wasn't, and what they answered that isn't owed. A run may do
-    without what it was refused where it asks again and is given it, or where its fault needs no memory."""
+    without what it was refused if it asks again and is given it, or if its fault needs no memory."""
     with tempfile.NamedTemporaryFile() as file:
         file.write(run.decisions or b"")
         file.flush()

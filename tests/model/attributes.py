@@ -74,7 +74,7 @@ def value_as(quoted: bool, one: Attribute) -> str:
 
 
 def required(found: list[Attribute], name: str, quoted: bool) -> str:
-    """4.3: the value of an attribute that has to be there; P12 where it isn't."""
+    """4.3: the value of an attribute that has to be there; P12 if it isn't."""
     return value_as(quoted, or_fault(named(found, name), "P12"))
 
 
@@ -94,7 +94,7 @@ def hexadecimal_of(text: str) -> int | None:
 
 
 def byte_range_of(text: str) -> tuple[int, int | None]:
-    """4.3.2.2: `n[@o]`, the length and the offset where it is stated; P13 where it isn't one or ends past 2^64 - 1."""
+    """4.3.2.2: `n[@o]`, the length and the offset if it is stated; P13 if it isn't one or ends past 2^64 - 1."""
     length, at, offset = text.partition("@")
     numbers = decimal_of(length), decimal_of(offset) if at else 0
     if numbers[0] is None or numbers[1] is None or numbers[0] + numbers[1] >= PAST:

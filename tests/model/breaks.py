@@ -118,7 +118,7 @@ def end_of(one: Break, total: int) -> int | str | None:
 
 
 def is_inside(one: Break | None, pod: Pod, instant: int | None, tolerance: int) -> bool:
-    """A segment stays in the break of the one before it where it begins more than the tolerance before the break's end."""
+    """A segment stays in the break of the one before it if it begins more than the tolerance before the break's end."""
     if one is None or instant is None:
         return False
     end = end_of(one, pod.total())
@@ -139,8 +139,8 @@ class Moment:
 
 
 def obstacle(moment: Moment, one: Break, last: str | None, instant: int | None) -> str | None:
-    """What keeps a segment that begins at this instant from entering a break; None where it may enter. The segment has to begin
-    within the tolerance of START-DATE, and before the end where that is an instant; the break has to be signalled, decided and
+    """What keeps a segment that begins at this instant from entering a break; None if it may enter. The segment has to begin
+    within the tolerance of START-DATE, and before the end if that is an instant; the break has to be signalled, decided and
     fitting, and not the one entered last."""
     pod = pod_for(moment.store, one.id)
     if instant is None:
@@ -176,7 +176,7 @@ def last_entered(history: list[Shown]) -> str | None:
 
 
 def next_mark(moment: Moment, history: list[Shown], instant: int | None) -> Mark | None:
-    """The mark of the segment after this history: that of the segment before, where it is inside that break; else the break that
+    """The mark of the segment after this history: that of the segment before, if it is inside that break; else the break that
     it enters."""
     before = history[-1].mark if history else None
     if before is not None:

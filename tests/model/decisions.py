@@ -49,7 +49,7 @@ def plain(value: Any, depth: int) -> Any:
 
 
 def json_of(given: bytes) -> Any:
-    """RFC 8259: the value of a JSON text; J1 where there is none."""
+    """RFC 8259: the value of a JSON text; J1 if there is none."""
     def refuse(_: str) -> Any:
         raise ValueError
     try:
@@ -60,7 +60,7 @@ def json_of(given: bytes) -> Any:
 
 
 def member(value: Any, name: str) -> Any:
-    """The member of this name; `...` where there is none, which is not null."""
+    """The member of this name; `...` if there is none, which is not null."""
     return value.get(name, ...) if isinstance(value, dict) else ...
 
 
@@ -100,7 +100,7 @@ class Pod:
         return sum(one.nanos for ad in self.ads for one in ad.segments)
 
     def fits(self, target: int, with_init_sections: bool) -> bool:
-        """Each ad has an initialisation section exactly where the programme has one, and no segment, rounded to seconds, is
+        """Each ad has an initialisation section exactly if the programme has one, and no segment, rounded to seconds, is
         longer than the target duration (RFC 8216, 4.3.3.1)."""
         return all((ad.init_section is not None) == with_init_sections and all(rounded_seconds(one.nanos) <= target for one in ad.segments)
                    for ad in self.ads)
@@ -256,7 +256,7 @@ class Store:
     fallback: Pod | None = None
 
     def entry(self, name: str) -> Entry | None:
-        """The break of this ID, where it has a pod of its own."""
+        """The break of this ID, if it has a pod of its own."""
         return next((one for one in self.entries if one.id == name), None)
 
 
@@ -267,7 +267,7 @@ def pod_for(store: Store, name: str) -> Pod | None:
 
 
 def decided(store: Store, said: Decisions) -> Store:
-    """The store after decisions. J9 where one of the breaks is used, then J10 where decisions would have named more than 256; a
+    """The store after decisions. J9 if one of the breaks is used, then J10 if decisions would have named more than 256; a
     withdrawal of a break without a pod of its own is J11."""
     if said.withdraw is not None:
         entry = store.entry(said.withdraw)

@@ -135,7 +135,7 @@ def request_of(given: bytes) -> Request:
 # ---- replies
 
 def refused(fault: Fault) -> Reply:
-    """9110, 15.5.10 and 15.5.21: 409 where it contradicts what was given before, 422 where it doesn't read."""
+    """9110, 15.5.10 and 15.5.21: 409 if it contradicts what was given before, 422 if it doesn't read."""
     contradicts = fault.code.startswith("N") or fault.code in ("J9", "J10", "J11")
     return Reply(409 if contradicts else 422, f"{fault}\n")
 
@@ -168,7 +168,7 @@ class Edge:
     channels: dict[str, Channel] = field(default_factory=dict)
 
     def make(self, name: str, body: bytes) -> Reply:
-        """A channel of this body: J1, J2, C1, C2; 409 where there is one; 503 where there are 64 (9110, 15.6.4)."""
+        """A channel of this body: J1, J2, C1, C2; 409 if there is one; 503 if there are 64 (9110, 15.6.4)."""
         value = json_of(body)
         base, tolerance = member(value, "base"), member(value, "tolerance")
         if not is_text(base) or not (tolerance is ... or is_text(tolerance)):
@@ -216,7 +216,7 @@ class Edge:
         return Reply(204)
 
     def serve(self, given: bytes) -> bytes | None:
-        """What is sent for all the bytes of a connection: the reply; or nothing (E4) where they end within a request."""
+        """What is sent for all the bytes of a connection: the reply; or nothing (E4) if they end within a request."""
         try:
             request = request_of(given)
         except Refused as refusal:

@@ -44,7 +44,7 @@ def keys_after(tags: list[Key | None]) -> Keys:
 
 
 def map_of(base: Url, rest: str) -> tuple[str, Range | None]:
-    """4.3.2.5: the resource that an EXT-X-MAP names, and its bytes, which begin at 0 where no offset is stated (CONFORMANCE)."""
+    """4.3.2.5: the resource that an EXT-X-MAP names, and its bytes, which begin at 0 if no offset is stated (CONFORMANCE)."""
     found = attributes_of(rest)
     reference = required(found, "URI", quoted=True)
     said = named(found, "BYTERANGE")
@@ -70,7 +70,7 @@ def key_text(key: Key) -> str:
 
 
 def transition(old: Keys, new: Keys) -> list[str]:
-    """4.3.2.4: the tags that lead from old keys to new ones: the new or changed keys; but where a format ends, METHOD=NONE and
+    """4.3.2.4: the tags that lead from old keys to new ones: the new or changed keys; but if a format ends, METHOD=NONE and
     then every key."""
     ends = {key.format for key in old} - {key.format for key in new}
     tags = ["METHOD=NONE"] if ends else []

@@ -23,7 +23,7 @@ def has_control(text: str) -> bool:
 
 
 def kind_of(line: str) -> str:
-    """4.1: a line is blank (of spaces alone, CONFORMANCE), a tag where it begins with #EXT, else a comment or a URI."""
+    """4.1: a line is blank (of spaces alone, CONFORMANCE), a tag if it begins with #EXT, else a comment or a URI."""
     if not line.strip(" "):
         return "blank"
     if line.startswith("#EXT"):
@@ -33,7 +33,7 @@ def kind_of(line: str) -> str:
 
 def name_of(line: str) -> str:
     """4.3: the name of a tag's line, as it is known here; `unknown` for others, which 6.3.1 passes over. A tag that takes no
-    value is unknown where a colon follows it (CONFORMANCE, 6.3.1)."""
+    value is unknown if a colon follows it (CONFORMANCE, 6.3.1)."""
     name, colon, _ = line[1:].partition(":")
     if name in MASTER:
         return "master"

@@ -28,7 +28,7 @@ def steps_between(before: Piece, piece: Piece) -> int:
 
 
 def first_item(first: Shown, piece: Piece) -> Item:
-    """The very first item has the numbers of the origin's first segment, with one discontinuity more where a pod stands first."""
+    """The very first item has the numbers of the origin's first segment, with one discontinuity more if a pod stands first."""
     one = first.segment
     if first.mark is None:
         return Item(piece, one.number, one.discontinuity, one.steps)

@@ -116,13 +116,13 @@ def date_range_of(rest: str) -> DateRange:
 
 
 def discontinuity_said(said: Said) -> None:
-    """4.3.2.3: P9 where the number would pass 2^64 - 1."""
+    """4.3.2.3: P9 if the number would pass 2^64 - 1."""
     if discontinuity_at(said) + 1 >= PAST:
         raise Fault("P9")
 
 
 def key_said(said: Said, base: Url, rest: str) -> Any:
-    """4.3.2.4: P24 where keys of more than 16 formats would be in force (CONFORMANCE)."""
+    """4.3.2.4: P24 if keys of more than 16 formats would be in force (CONFORMANCE)."""
     key = key_of(base, rest)
     if len(keys_after([*all_said(said, "EXT-X-KEY"), key])) > MOST_FORMATS:
         raise Fault("P24")
@@ -130,7 +130,7 @@ def key_said(said: Said, base: Url, rest: str) -> Any:
 
 
 def init_section_said(said: Said, base: Url, rest: str) -> InitSection:
-    """4.3.2.5: the initialisation section, with the keys in force at its own line; P23 where one of them lacks its IV."""
+    """4.3.2.5: the initialisation section, with the keys in force at its own line; P23 if one of them lacks its IV."""
     uri, part = map_of(base, rest)
     keys = keys_after(all_said(said, "EXT-X-KEY"))
     if lacks_iv(keys):
@@ -177,7 +177,7 @@ def said_by_tag(said: Said, base: Url, name: str, rest: str) -> Any:
 
 def byte_range_at(said: Said, uri: str) -> Range | None:
     """4.3.2.2: the bytes of the next segment: without an offset they follow those of the segment before, which has to have a
-    range of the same resource (P14); P13 where they would end past 2^64 - 1."""
+    range of the same resource (P14); P13 if they would end past 2^64 - 1."""
     stated = own(said, "EXT-X-BYTERANGE")
     if stated is None:
         return None
@@ -221,7 +221,7 @@ def add_line(said: Said, base: Url, number: int, line: str) -> None:
 # ---- the whole text
 
 def whole_fault(said: Said) -> str | None:
-    """The fault of the text as a whole: P18 without EXT-X-TARGETDURATION (4.3.3.1), P21 without a segment, P22 where some
+    """The fault of the text as a whole: P18 without EXT-X-TARGETDURATION (4.3.3.1), P21 without a segment, P22 if some
     segments have an initialisation section and some have none (CONFORMANCE, 4.3.2.5)."""
     if not said.get("EXT-X-TARGETDURATION"):
         return "P18"

@@ -12,7 +12,7 @@ INSERT = 5  # splice_insert's splice_command_type
 
 @dataclass(frozen=True)
 class Insert:
-    """9.7.3: what a splice_insert says of a break: whether it leaves the network (None where it is cancelled), and its
+    """9.7.3: what a splice_insert says of a break: whether it leaves the network (None if it is cancelled), and its
     break_duration's ticks."""
 
     out_of_network: bool | None = None
@@ -30,7 +30,7 @@ class SpliceSection:
 
 
 class Bits:
-    """Bytes that are read from the left, some bits at a time; S7 where too few are left."""
+    """Bytes that are read from the left, some bits at a time; S7 if too few are left."""
 
     def __init__(self, given: bytes) -> None:
         """All of the bytes are still to be read."""
@@ -50,7 +50,7 @@ class Bits:
 
 
 def splice_time(bits: Bits) -> None:
-    """9.8.1: time_specified_flag, reserved bits, and pts_time where it is specified, which no break uses (CONFORMANCE)."""
+    """9.8.1: time_specified_flag, reserved bits, and pts_time if it is specified, which no break uses (CONFORMANCE)."""
     bits.take(39 if bits.take(1) else 7)
 
 
@@ -111,7 +111,7 @@ def first_fault(given: bytes) -> str | None:
 
 
 def section_of(given: bytes) -> SpliceSection:
-    """9.6: what the bytes of a section say; S2 to S7 where they are none. CRC_32 is kept, and not verified (CONFORMANCE)."""
+    """9.6: what the bytes of a section say; S2 to S7 if they are none. CRC_32 is kept, and not verified (CONFORMANCE)."""
     if fault := first_fault(given):
         raise Fault(fault)
     insert, after = command_at(given[14:], int.from_bytes(given[11:13], "big") % 2**12, given[13])
@@ -123,7 +123,7 @@ def section_of(given: bytes) -> SpliceSection:
 
 
 def hexadecimal_section(text: str) -> SpliceSection:
-    """RFC 8216, 4.3.2.7.1: a section in hexadecimal digits after 0x; S1 where it isn't that."""
+    """RFC 8216, 4.3.2.7.1: a section in hexadecimal digits after 0x; S1 if it isn't that."""
     if not re.fullmatch(r"0[xX](?:[0-9A-Fa-f]{2})*", text):
         raise Fault("S1")
     return section_of(bytes.fromhex(text[2:]))

@@ -42,7 +42,7 @@ def pod_pieces(mark: Mark) -> list[Piece]:
 
 
 def due(length: int, pieces: list[Piece]) -> list[Piece]:
-    """The due prefix: the shortest front of a pod, of at least one segment, that lasts as long as the run so far; all of it where
+    """The due prefix: the shortest front of a pod, of at least one segment, that lasts as long as the run so far; all of it if
     none does."""
     for count in range(1, len(pieces)):
         if sum(piece.segment.nanos for piece in pieces[:count]) >= length:

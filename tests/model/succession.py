@@ -24,7 +24,7 @@ def first_changed(old: Playlist, new: Playlist) -> int | None:
 
 
 def discontinuity_out_of_range(old: Playlist, new: Playlist) -> bool:
-    """6.2.1, CONFORMANCE: where the new window begins right after the old one, its first discontinuity number is at least the
+    """6.2.1, CONFORMANCE: if the new window begins right after the old one, its first discontinuity number is at least the
     last one's, and at most 1,000 above it."""
     if new.segments[0].number <= old.segments[-1].number:
         return False

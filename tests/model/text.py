@@ -16,12 +16,12 @@ def media_lines(segment: Segment) -> list[str]:
 
 
 def changed_init_section(current: InitSection | None, segment: Segment) -> InitSection | None:
-    """4.3.2.5: the initialisation section of a segment, where it is another than the one in force."""
+    """4.3.2.5: the initialisation section of a segment, if it is another than the one in force."""
     return segment.init_section if segment.init_section != current else None
 
 
 def segment_lines(keys: Keys, init_section: InitSection | None, item: Item) -> list[str]:
-    """4.3.2: the lines of a segment where these keys and this initialisation section are in force: its discontinuities, a changed one under
+    """4.3.2: the lines of a segment if these keys and this initialisation section are in force: its discontinuities, a changed one under
     its own keys, changed keys, its time, and what it is."""
     segment, lines = item.piece.segment, ["#EXT-X-DISCONTINUITY"] * item.steps
     changed = changed_init_section(init_section, segment)
@@ -40,7 +40,7 @@ def stated_discontinuity_sequence(window: list[Item]) -> int:
 
 
 def date_ranges_left(playlist: Playlist, window: list[Item], in_use: list[str]) -> list[DateRange]:
-    """CONFORMANCE, 4.3.2.7 and 6.2.2: the origin's date ranges but those of breaks in use; none where no written segment states
+    """CONFORMANCE, 4.3.2.7 and 6.2.2: the origin's date ranges but those of breaks in use; none if no written segment states
     a time."""
     if all(item.piece.instant is None for item in window):
         return []

@@ -40,7 +40,7 @@ def is_instant(nanos: int) -> bool:
 
 
 def instant_of(text: str) -> int | None:
-    """4.3.2.6: the nanoseconds from 1970 that a date and time says, in UTC where it has no zone (CONFORMANCE)."""
+    """4.3.2.6: the nanoseconds from 1970 that a date and time says, in UTC if it has no zone (CONFORMANCE)."""
     found = DATE_TIME.fullmatch(text)
     if found is None:
         return None
@@ -59,7 +59,7 @@ def instant_of(text: str) -> int | None:
 
 
 def instant_text(nanos: int) -> str:
-    """4.3.2.6: how an instant is written: in UTC, with three decimals, or nine where three would lose something."""
+    """4.3.2.6: how an instant is written: in UTC, with three decimals, or nine if three would lose something."""
     days, rest = divmod(nanos, DAY)
     seconds, fraction = divmod(rest, SECOND)
     decimals = f"{fraction:09}" if fraction % 10**6 else f"{fraction // 10**6:03}"

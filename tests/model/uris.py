@@ -73,7 +73,7 @@ def host_of(text: str) -> str:
 
 
 def authority_of(scheme: str, text: str) -> str:
-    """4.4, authority state: user, password, host and port, which goes unsaid where it is the scheme's own."""
+    """4.4, authority state: user, password, host and port, which goes unsaid if it is the scheme's own."""
     userinfo, _, address = text.rpartition("@")
     user, _, password = userinfo.partition(":")
     inside, bracket, outside = address.rpartition("]") if address.startswith("[") else ("", "", address)
@@ -118,7 +118,7 @@ def trimmed(text: str) -> str:
 
 
 def parsed(text: str, base: Url | None) -> Url:
-    """4.4, the URL parser: the URL of a text under a base; P16 where there is none."""
+    """4.4, the URL parser: the URL of a text under a base; P16 if there is none."""
     front, hash_sign, fragment = trimmed(text).partition("#")
     body, question, query = front.partition("?")
     found = SCHEME.match(body)
@@ -148,8 +148,8 @@ def base_of(text: str) -> Url:
 
 
 def resolved(base: Url, reference: str) -> str:
-    """RFC 8216, 4.1: a reference with a scheme stands as it is, and any other is joined to the base. P16 where it can't be, or
-    where the join couldn't be written between quotes on a line (CONFORMANCE)."""
+    """RFC 8216, 4.1: a reference with a scheme stands as it is, and any other is joined to the base. P16 if it can't be, or
+    if the join couldn't be written between quotes on a line (CONFORMANCE)."""
     if has_scheme(reference):
         return reference
     text = parsed(reference, base).text()

@@ -32,7 +32,7 @@ class Fault(Exception):
 
 
 def or_fault(value: Value | None, code: str, place: str = "") -> Value:
-    """The value, or the fault of this code where there is none."""
+    """The value, or the fault of this code if there is none."""
     if value is None:
         raise Fault(code, place)
     return value

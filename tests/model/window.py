@@ -8,7 +8,7 @@ from .values import Playlist
 
 
 def place_of(number: int, history: list[Shown]) -> int:
-    """How many items of the stitched list come before that of the segment of this number, which is the first of its pod where
+    """How many items of the stitched list come before that of the segment of this number, which is the first of its pod if
     the segment is marked."""
     place = 0
     for run in runs_of(history):

@@ -16,7 +16,7 @@ LISTS = [
 # The places of the first list's attributes, in bytes: it begins and ends there.
 FIRST_PLACES = [(0, 3), (4, 11), (12, 20)]
 
-# The value of a name, where the list has one.
+# The value of a name, if the list has one.
 NAMED_IN = 'METHOD=AES-128,URI="k",IV=0x1'
 NAMED = [("URI", '="k"'), ("IV", "=0x1"), ("", "none"), ("uri", "none"), ("UR", "none"), ("URI ", "none"), ("KEYFORMAT", "none")]
 

@@ -20,7 +20,7 @@ def heading(vector):
 
 
 def time(pts, immediate):
-    """A time, which may be left open where the splice isn't immediate."""
+    """A time, which may be left open if the splice isn't immediate."""
     return [] if immediate else [f"pts={'open' if pts is None else pts}"]
 
 
