@@ -43,7 +43,7 @@ UNSAID = [(11, 0xFF), (12, 0xFF)]
 # Reserved bits are ignored.
 RESERVED = [(1, 0xC0), (4, 0x7E), (18, 0), (19, 0xF0), (20, 0x80)]
 
-# Values by their words, if some have no section: a number is too wide for its field of 33 or 12 bits, a time is there
+# Values by their words, some of which have no section: a number is too wide for its field of 33 or 12 bits, a time is there
 # if the splice is immediate or is none if it isn't, there are more than 255 components, or the type of splice_insert
 # stands at another command.
 WHOLE = 2**33
