@@ -24,7 +24,7 @@ def test_program_and_plant_in_a_folder(room):
     with open(room.program, "rb") as it, open(f"{to}/adsplice.build", encoding="ascii") as build:
         said = dict(line.rstrip("\n").split(" ", 1) for line in build)
         assert said["sha256"] == hashlib.sha256(it.read()).hexdigest() and set(said) == {"version", "commit", "date", "sha256"}, said
-    assert {"nginx.conf", "monitor", "adsplice_plant"} <= set(os.listdir(to)) and "alerts.yml" in os.listdir(f"{to}/monitor")
+    assert {"nginx.conf", "monitor", "adsplice_plant", "adsplice_rules"} <= set(os.listdir(to)) and "alerts.yml" in os.listdir(f"{to}/monitor")
     file = room.write("d.json", decided(("b1", 1)))
     done = subprocess.run([PYTHON, f"{to}/adsplice-pod", "--check", file], capture_output=True, text=True, check=False)
     assert (done.returncode, done.stdout) == (0, f"{file}: right\n"), done  # (by the program beside it)
@@ -38,7 +38,7 @@ def test_package(room):
     listed = subprocess.run(["dpkg-deb", "-c", path.rstrip()], capture_output=True, text=True, check=True).stdout
     for name in ("./usr/bin/adsplice ->", "./usr/bin/adsplice-feed ->", "./lib/systemd/system/adsplice@.service", "./lib/systemd/system/adsplice-feed.service",
                  "./usr/lib/adsplice/adsplice.build", "./usr/share/adsplice/nginx.conf", "./usr/share/man/man1/adsplice.1.gz", "./etc/adsplice/feed.ini",
-                 "./usr/share/doc/adsplice/DECISION_FILES.md", "./usr/lib/adsplice/adsplice_plant/channel.py"):
+                 "./usr/share/doc/adsplice/DECISION_FILES.md", "./usr/lib/adsplice/adsplice_plant/channel.py", "./usr/lib/adsplice/adsplice_rules/channel.py"):
         assert name in listed, name
     subprocess.run(["dpkg-deb", "-x", path.rstrip(), f"{room.path}/out"], check=True)
     with open(f"{room.path}/out/lib/systemd/system/adsplice@.service", encoding="utf-8") as it:

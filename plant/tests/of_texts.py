@@ -75,7 +75,7 @@ def test_sections_field_by_field(room):
 
 
 def test_types(room):
-    done = subprocess.run(["mypy", "--strict", "--cache-dir", f"{room.path}/types", "adsplice_plant"], cwd=PLANT, capture_output=True, text=True, check=False)
+    done = subprocess.run(["mypy", "--strict", "--cache-dir", f"{room.path}/types", "adsplice_plant", "adsplice_rules"], cwd=PLANT, capture_output=True, text=True, check=False)
     assert done.returncode == 0, done.stdout
 
 

@@ -7,11 +7,11 @@ from dataclasses import dataclass
 from random import Random
 from typing import Any
 
-from model.channel import Channel, decide, refreshed, written
-from model.edge import Edge
-from model.uris import base_of
-from model.values import Fault, NotModelled
-from model.window import grows
+from adsplice_rules.channel import Channel, decide, refreshed, written
+from adsplice_rules.edge import Edge
+from adsplice_rules.uris import base_of
+from adsplice_rules.values import Fault, NotModelled
+from adsplice_rules.window import grows
 
 from . import breaks, channels, playlists, requests
 

@@ -5,7 +5,7 @@ import json
 from collections.abc import Callable
 from random import Random
 
-from model.attributes import decimal_of
+from adsplice_rules.attributes import decimal_of
 
 from .breaks import decision_file, of_many_breaks, withdrawal
 from .common import BASES, Origin, is_lucky, json_text, pod_ads, text_of

@@ -5,9 +5,9 @@ import json
 from dataclasses import dataclass, field
 from random import Random
 
-from model.splice import crc_of
-from model.times import duration_text, instant_of, instant_text
-from model.values import SECOND
+from adsplice_rules.splice import crc_of
+from adsplice_rules.times import duration_text, instant_of, instant_text
+from adsplice_rules.values import SECOND
 
 NOON = instant_of("2024-05-01T12:00:00Z") or 0
 BASES = ("http://origin.example/ch/index.m3u8", "https://user@h.example:8443/a/b/c.m3u8?x=1#y", "http://[::1]/",

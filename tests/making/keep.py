@@ -7,12 +7,13 @@ from pathlib import Path
 from types import FrameType
 from typing import Any
 
-from model.values import NotModelled
+from adsplice_rules.values import NotModelled
 
+from . import RULES
 from .cases import outcomes
 from .stored import agrees, owed_by_model, vectors
 
-MODEL = str(Path(__file__).resolve().parent.parent / "model")
+MODEL = str(RULES)
 Feature = tuple[str, int, int]
 
 

@@ -8,11 +8,12 @@ from pathlib import Path
 from types import FrameType
 from typing import Any
 
+from . import RULES
 from .cases import FAMILIES, Connections, Run, case_of, outcomes
 
 TOP = Path(__file__).resolve().parent.parent.parent
 FOLLOWED = 200  # cases of a family whose calls are noted, which takes ten times as long
-MODEL = str(TOP / "tests" / "model")
+MODEL = str(RULES)
 RUNS = ["written", "C1", *(f"P{n}" for n in range(1, 25)), *(f"J{n}" for n in (*range(1, 8), 10, 11)), "N10"]
 SHOWN = [*RUNS, "200", "201", "204", "400", "404", "405", "411", "413", "503", "E4", "409 channel",
          *(f"409 N{n}" for n in range(1, 11)), *(f"409 J{n}" for n in (9, 10, 11)), "422 C1", "422 C2",
@@ -30,14 +31,14 @@ class Called:
         """Notes a call."""
         code = frame.f_code
         if event == "call" and code.co_filename.startswith(MODEL):
-            self.names.add(f"tests/model/{Path(code.co_filename).name}: {code.co_name}")
+            self.names.add(f"plant/adsplice_rules/{Path(code.co_filename).name}: {code.co_name}")
 
 
 def rows() -> list[tuple[str, str]]:
     """Each row of the table of rules with the function of the model that it names."""
     page = (TOP / "docs" / "ARCHITECTURE.md").read_text(encoding="utf-8")
     part = page.partition("\n## Rules\n")[2].partition("\n## ")[0]
-    found = re.findall(r"(?m)^\| ([^|]+) \| ([^|]+) \|.*`(tests/model/[^`]+)` \|$", part)
+    found = re.findall(r"(?m)^\| ([^|]+) \| ([^|]+) \|.*`(plant/adsplice_rules/[^`]+)` \|$", part)
     return [(f"{section}: {rule}", place) for section, rule, place in found]
 
 

@@ -6,8 +6,8 @@ import json
 from pathlib import Path
 from typing import Any
 
-from model.splice import Insert, crc_of, section_of
-from model.values import NotModelled
+from adsplice_rules.splice import Insert, crc_of, section_of
+from adsplice_rules.values import NotModelled
 
 from .cases import Connections, Run, json_line, owed_connections, owed_run
 

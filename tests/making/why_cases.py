@@ -1,9 +1,9 @@
-"""What `tests/model/run --why` says of breaks that wait, worked by hand: for each cause a channel, and how its line begins."""
+"""What `plant/adsplice_rules/run --why` says of breaks that wait, worked by hand: for each cause a channel, and how its line begins."""
 from __future__ import annotations
 
-from model.channel import Channel, decide, refreshed
-from model.uris import base_of
-from model.why import reasons
+from adsplice_rules.channel import Channel, decide, refreshed
+from adsplice_rules.uris import base_of
+from adsplice_rules.why import reasons
 
 BASE = "http://origin.example/ch/index.m3u8"
 OUT = "SCTE35-OUT=0xFC302000000000000000FFF00F05000000017FFFFE002932E000010000000000000000"  # leaves for 30 s
