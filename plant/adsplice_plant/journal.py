@@ -1,66 +1,167 @@
 """What a feed keeps of a channel, a JSON line for each event: for the monitor and the explainer.
 
 An event has `at` (the time of day, UTC), `what` (`channel`, `delete`, `decisions`, `origin` for the four requests, `read`
-for a playlist that couldn't be read from its origin), `status`, `fault` (the answer's first line, or why there is none),
-and `body`, what was sent. A file begins with the channel's body and its open decisions, so that it can be given again.
+for a playlist that couldn't be read from its origin, `hole` for a time of which nothing could be kept), `status`, `fault` (the
+answer's first line, or why there is none), and `body`, what was sent. In place of a list's `body` there may be its `edit`: what
+it takes over from the list before it in the file, and what is new (edits.py). A file begins with the channel's body, its open
+decisions (events with `again`: they were sent before) and a whole list, so that it can be given again by itself.
+
+NAME.events is the newest file; NAME.events.1, .2 .. are those before it.
 """
+import errno
 import json
 import os
 from collections.abc import Callable, Iterator
-from dataclasses import dataclass
+from dataclasses import dataclass, replace
 from pathlib import Path
 
+from .edits import edit_of, edited, lines_of
 from .words import now_text
 
-MAX_BYTES = 16 << 20  # of a file, after which a new one is begun; the one before it is kept beside it
+MAX_BYTES = 4 << 20  # of a file, after which a new one is begun
+ROOM = 32 << 20  # bytes of all files of a channel
+FILES = 16  # at most
+WHOLE = 8  # times a list's length, after so much of differences it is kept as a whole again
 
 
 @dataclass(frozen=True)
 class Event:
-    """An event of a channel, as the module says."""
+    """An event of a channel, as the module says. The body of a list that was read has its `lines`; bytes that aren't UTF-8 are
+    lone surrogates in both."""
 
     at: str
     what: str
     status: int
     fault: str
-    body: str
+    body: str = ""
+    again: bool = False
+    lines: list[str] | None = None
+
+    def text(self) -> str:
+        """The body as a whole."""
+        return self.body if self.lines is None else "".join(self.lines)
+
+    def sent(self) -> bytes:
+        """The bytes that were sent."""
+        return self.text().encode("utf-8", "surrogateescape")
+
+
+def text_of(body: bytes) -> str:
+    """The bytes `body` as an event has them."""
+    return body.decode("utf-8", "surrogateescape")
+
+
+def line_of(event: Event, before: list[str] | None) -> str:
+    """The line of `event`; a list is told by its difference from the list of the lines `before`, if there is one."""
+    said: dict[str, object] = {"at": event.at, "what": event.what, "status": event.status, "fault": event.fault}
+    edit = edit_of(before, event.lines) if event.lines is not None and before is not None else None
+    said["body" if edit is None else "edit"] = event.text() if edit is None else edit
+    return json.dumps(said | ({"again": True} if event.again else {})) + "\n"
+
+
+class Reader:
+    """Reads the lines of a file in their order, and puts each list together by those before it."""
+
+    def __init__(self) -> None:
+        """No list was read yet."""
+        self.lines: list[str] | None = None
+
+    def event(self, line: str) -> Event | None:
+        """The event of the line `line`; none if it isn't one, as when a machine fell while it was written."""
+        try:
+            found = json.loads(line)
+            event = Event(str(found["at"]), str(found["what"]), int(found["status"]), str(found["fault"]), str(found.get("body", "")), bool(found.get("again")))
+            if event.what != "origin":
+                return event
+            self.lines = lines_of(event.body) if "edit" not in found else edited(self.lines or [], found["edit"])
+        except (ValueError, KeyError, TypeError, RecursionError):
+            return None
+        return replace(event, body="", lines=self.lines)
 
 
 class Journal:
-    """The events of one channel, in the file `path`, and those before them in the same path with `.1`."""
+    """The events of one channel in the file `path`, and those before them in the same path with `.1`, `.2` .."""
 
     def __init__(self, path: Path, opening: Callable[[], list[Event]]) -> None:
         """`opening`: what a new file begins with."""
         self.path, self.opening = path, opening
         path.parent.mkdir(parents=True, exist_ok=True)
-        self.size = path.stat().st_size if path.exists() else 0
+        self.end = "\n" if is_torn(path) else ""  # of a line that was left unfinished
+        self.lines: list[str] | None = None  # of the newest list in this file that this journal wrote
+        self.since = 0  # bytes that were written since the last whole list
+        self.hole: Event | None = None  # since when nothing could be kept
 
     def add(self, what: str, status: int, fault: str, body: bytes = b"") -> None:
-        """Keeps that the request of `what` with `body` was answered by `status` and `fault`."""
-        lines = [Event(now_text(), what, status, fault, body.decode("utf-8", "replace"))]
-        if self.size > MAX_BYTES:
-            os.replace(self.path, f"{self.path}.1")
-            self.size = 0
-        if not self.size:
-            lines = self.opening() + lines
-        text = "".join(json.dumps(it.__dict__) + "\n" for it in lines)
-        with open(self.path, "a", encoding="utf-8") as it:
-            it.write(text)
-        self.size += len(text)
+        """Keeps that the request of `what` with `body` was answered by `status` and `fault`. Raises OSError if it can't be kept;
+        what is lost is told by the next event that can."""
+        event = Event(now_text(), what, status, fault, text_of(body))
+        try:
+            self.put(event)
+        except OSError as lack:
+            self.hole = self.hole or Event(event.at, "hole", 0, lack.strerror or "")
+            self.lines = None
+            raise
+
+    def put(self, event: Event) -> None:
+        """Writes `event`, and before it what belongs there: the begin of a new file, and the hole that is over."""
+        size = self.path.stat().st_size if self.path.exists() else 0
+        if size > MAX_BYTES:
+            self.begin_file()
+            size = 0
+        if event.what == "origin":
+            event = replace(event, lines=lines_of(event.body))
+        if not size or (event.what == "origin" and self.since > WHOLE * len(event.body)):
+            self.lines, self.since = None, 0
+        opening = [] if size else [replace(it, again=True) for it in self.opening()]
+        told = [*opening, *([self.hole] if self.hole else []), event]
+        data = (self.end + "".join(line_of(it, self.lines) for it in told)).encode()
+        self.write(data, size)
+        self.end, self.since = "", self.since + len(data)
+        self.hole, self.lines = None, self.lines if event.lines is None else event.lines
+
+    def write(self, data: bytes, size: int) -> None:
+        """Adds `data` to the file of `size` bytes: all of it, or nothing."""
+        handle = os.open(self.path, os.O_WRONLY | os.O_APPEND | os.O_CREAT, 0o644)
+        try:
+            if os.write(handle, data) < len(data):
+                os.ftruncate(handle, size)
+                raise OSError(errno.ENOSPC, os.strerror(errno.ENOSPC))
+        finally:
+            os.close(handle)
+
+    def begin_file(self) -> None:
+        """Puts the file aside, and takes away the oldest ones that have no room."""
+        for number in range(FILES, 0, -1):
+            older = Path(f"{self.path}.{number - 1}") if number > 1 else self.path
+            if older.exists():
+                os.replace(older, f"{self.path}.{number}")
+        room = ROOM - MAX_BYTES
+        for it in reversed(files(self.path)):
+            room -= it.stat().st_size
+            if room < 0:
+                it.unlink()
 
 
-def read_line(line: str) -> Event | None:
-    """The event of the line `line`; none if it isn't one, as when a machine fell while it was written."""
-    try:
-        found = json.loads(line)
-        return Event(str(found["at"]), str(found["what"]), int(found["status"]), str(found["fault"]), str(found["body"]))
-    except (ValueError, KeyError, TypeError):
-        return None
+def is_torn(path: Path) -> bool:
+    """Whether the file `path` ends within a line, as when a machine fell while it was written."""
+    if not path.exists() or not path.stat().st_size:
+        return False
+    with open(path, "rb") as it:
+        it.seek(-1, os.SEEK_END)
+        return it.read() != b"\n"
+
+
+def files(path: Path) -> list[Path]:
+    """The files of the journal `path`, the oldest first."""
+    return [it for it in (*(Path(f"{path}.{number}") for number in range(FILES, 0, -1)), path) if it.exists()]
 
 
 def events(path: Path) -> Iterator[Event]:
-    """The events that the file `path` has, the one before it first."""
-    for it in (Path(f"{path}.1"), path):
-        if it.exists():
-            with open(it, encoding="utf-8") as lines:
-                yield from (found for line in lines if (found := read_line(line)))
+    """The events of the journal `path` in their order; what a file's begin says again of the file before it is left out."""
+    for place, file in enumerate(files(path)):
+        reader = Reader()
+        with open(file, encoding="utf-8", errors="replace", newline="\n") as lines:
+            for line in lines:
+                event = reader.event(line)
+                if event is not None and not (event.again and place):
+                    yield event

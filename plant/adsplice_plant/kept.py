@@ -6,7 +6,7 @@ from pathlib import Path
 from typing import Any
 
 from . import faults, playlist
-from .journal import Event, read_line
+from .journal import Event, Reader
 from .playlist import DateRange
 
 REQUESTS = ("channel", "origin", "decisions")
@@ -33,7 +33,9 @@ class Kept:
     unread: int = 0  # times that the origin couldn't be read
     pods: dict[str, Pod] = field(default_factory=dict)
     fallback: Pod | None = None
-    ranges: dict[str, DateRange] = field(default_factory=dict)  # those of the newest list
+    ranges: dict[str, DateRange] = field(default_factory=dict)  # those of the newest list that was taken
+    reader: Reader = field(default_factory=Reader)
+    newest: list[str] | None = None  # the lines of that list
     place: int = 0
     file: int = 0  # the inode of what was read
 
@@ -48,6 +50,8 @@ class Kept:
             self.place = 0
         self.file = found
         self.read(self.path)
+        if self.newest is not None:
+            self.ranges, self.newest = {it.id: it for it in playlist.ranges_of(self.newest)}, None
 
     def read(self, path: Path) -> None:
         """Reads the whole lines of `path` from the place on where it was left."""
@@ -59,20 +63,20 @@ class Kept:
             return
         whole = data[: data.rfind(b"\n") + 1]
         self.place += len(whole)
-        for line in whole.decode("utf-8", "replace").splitlines():
-            if (event := read_line(line)) is not None:
+        for line in whole.decode("utf-8", "replace").split("\n"):
+            if (event := self.reader.event(line)) is not None:
                 self.take(event)
 
     def take(self, event: Event) -> None:
         """Takes in one event."""
         if event.what == "read":
             self.unread += 1
-        if event.what in REQUESTS:
+        if event.what in REQUESTS and not event.again:
             self.answers[event.what, str(event.status), faults.name_of(event.fault)] += 1
         if event.status not in (201, 204):
             return
         if event.what == "origin":
-            self.ranges = {it.id: it for it in playlist.read(event.body.encode()).ranges}
+            self.newest = event.lines
         elif event.what == "decisions":
             said = json.loads(event.body)
             for it in said.get("breaks", []):

@@ -1,13 +1,14 @@
-"""Media playlists (RFC 8216) read leniently: what the programs of the plant need to know of a list that adsplice judges."""
-import re
+"""Media playlists (RFC 8216) read leniently: what the programs of the plant need to know of a list that adsplice judges. Its parts
+are read by the rules (adsplice_rules)."""
+from collections.abc import Iterator
 from dataclasses import dataclass, field
-from datetime import datetime, timedelta, timezone
 
-SECOND = 1_000_000_000  # nanoseconds, in which instants and durations are
-EPOCH = datetime(1970, 1, 1, tzinfo=timezone.utc)
-ATTRIBUTE = re.compile(r'([A-Z0-9-]+)=("[^"]*"|[^",]*)')
-TIME = re.compile(r"(\d{4}-\d\d-\d\dT\d\d:\d\d:\d\d)(?:\.(\d{1,9}))?(Z|[+-]\d\d(?::?\d\d)?)?")
-DURATION = re.compile(r"(\d*)(?:\.(\d*))?")
+from adsplice_rules import attributes, times
+from adsplice_rules.values import SECOND as SECOND  # (nanoseconds, in which instants and durations are)
+from adsplice_rules.values import Fault
+
+MOST = 10_000  # segments, and date ranges, that are read of a list: adsplice takes no more segments
+read_duration, read_instant, instant_text = times.duration_of, times.instant_of, times.instant_text
 
 
 @dataclass(frozen=True)
@@ -19,31 +20,18 @@ class Segment:
     duration: int
     begins: int | None
     is_stated: bool
-    has_init_section: bool
-    line: int
 
 
 @dataclass(frozen=True)
 class DateRange:
-    """An EXT-X-DATERANGE: its ID, its attributes without quotes, and the line where it stands."""
+    """An EXT-X-DATERANGE: its ID, and its attributes without quotes."""
 
     id: str
     attributes: dict[str, str]
-    line: int
 
     def start(self) -> int | None:
         """START-DATE in nanoseconds from 1970; none if it is missing or doesn't read."""
         return read_instant(self.attributes.get("START-DATE", ""))
-
-    def length(self) -> int | None:
-        """How long the range lasts in nanoseconds, by END-DATE, DURATION or PLANNED-DURATION; none if none of them says."""
-        start, end = self.start(), read_instant(self.attributes.get("END-DATE", ""))
-        if start is not None and end is not None:
-            return end - start
-        for name in ("DURATION", "PLANNED-DURATION"):
-            if (found := read_duration(self.attributes.get(name, ""))) is not None:
-                return found
-        return None
 
 
 @dataclass
@@ -70,48 +58,27 @@ class Listed:
         return found
 
 
-def read_duration(text: str) -> int | None:
-    """The nanoseconds of a duration such as `6.006`; none if `text` is no such decimal."""
-    found = DURATION.fullmatch(text)
-    if not found or not re.search(r"\d", text):
-        return None
-    return int(found[1] or 0) * SECOND + int((found[2] or "")[:9].ljust(9, "0"))
-
-
-def read_instant(text: str) -> int | None:
-    """The nanoseconds from 1970 of a date and time such as `2024-05-01T12:00:00.5Z`; none if `text` isn't one."""
-    found = TIME.fullmatch(text)
-    if not found:
-        return None
-    try:
-        day = datetime.fromisoformat(found[1]).replace(tzinfo=timezone.utc)
-    except ValueError:
-        return None
-    zone = (found[3] or "Z").replace(":", "")
-    minutes = 0 if zone == "Z" else (int(zone[1:3]) * 60 + int(zone[3:5] or 0)) * (-1 if zone[0] == "-" else 1)
-    whole = (day - EPOCH) // timedelta(seconds=1) - 60 * minutes
-    return whole * SECOND + int((found[2] or "").ljust(9, "0"))
-
-
-def instant_text(instant: int) -> str:
-    """The instant of `instant` nanoseconds from 1970 in UTC, to milliseconds, or to nanoseconds if these aren't zero."""
-    whole, rest = divmod(instant, SECOND)
-    digits = f"{rest:09}"
-    return f"{EPOCH + timedelta(seconds=whole):%Y-%m-%dT%H:%M:%S}.{digits[:3] if digits.endswith('000000') else digits}Z"
-
-
 def seconds_text(duration: int) -> str:
     """The duration of `duration` nanoseconds in seconds, as `2`, `0.35` or `-12.5`."""
-    sign, (whole, rest) = "-" if duration < 0 else "", divmod(abs(duration), SECOND)
-    return f"{sign}{whole}" + (f".{rest:09}".rstrip("0") if rest else "")
+    return f"{'-' if duration < 0 else ''}{times.duration_text(abs(duration))}"
 
 
 def attributes_of(text: str) -> dict[str, str]:
-    """The attributes of the list `text`, the first of each name, without their quotes."""
-    found: dict[str, str] = {}
-    for name, value in ATTRIBUTE.findall(text):
-        found.setdefault(name, value[1:-1] if value.startswith('"') else value)
-    return found
+    """The attributes of the list `text` without their quotes; none if it doesn't read (RFC 8216, 4.2)."""
+    try:
+        return {it.name: it.value for it in attributes.attributes_of(text)}
+    except Fault:
+        return {}
+
+
+def lines_in(text: str) -> Iterator[str]:
+    """The lines of `text`, one after the other: each ends with LF or CR LF (RFC 8216, 4.1)."""
+    begin = 0
+    while begin < len(text):
+        end = text.find("\n", begin)
+        end = len(text) if end < 0 else end
+        yield text[begin:end].removesuffix("\r")
+        begin = end + 1
 
 
 def is_whole(body: bytes) -> bool:
@@ -119,11 +86,20 @@ def is_whole(body: bytes) -> bool:
     return body.endswith(b"\n") or body.endswith(b"#EXT-X-ENDLIST")
 
 
+def ranges_of(lines: list[str]) -> list[DateRange]:
+    """The date ranges of the list with these `lines`, as far as they read."""
+    front = "#EXT-X-DATERANGE:"
+    found = [attributes_of(line[len(front):].rstrip("\r\n")) for line in lines if line.startswith(front)][:MOST]
+    return [DateRange(it["ID"], it) for it in found if "ID" in it]
+
+
 def read(body: bytes) -> Listed:
     """What the list `body` lists. What doesn't read is passed over: adsplice says what is wrong with it."""
     found, reader = Listed(), Reader()
-    for place, line in enumerate(body.decode("utf-8", "replace").splitlines(), 1):
-        reader.line(found, line.rstrip("\r"), place)
+    for line in lines_in(body.decode("utf-8", "replace")):
+        reader.line(found, line)
+        if max(len(found.segments), len(found.ranges)) >= MOST:
+            break
     fill_back(found.segments)
     return found
 
@@ -135,35 +111,30 @@ class Reader:
         self.duration: int | None = None
         self.stated: int | None = None
         self.next: int | None = None
-        self.has_init_section = False
 
-    def line(self, found: Listed, line: str, place: int) -> None:
-        """Takes in the line `line`, the list's line number `place`, to what was `found` so far."""
+    def line(self, found: Listed, line: str) -> None:
+        """Takes in the line `line` to what was `found` so far."""
         name, _, rest = line.partition(":")
         if name == "#EXTINF":
             self.duration = read_duration(rest.partition(",")[0])
         elif name == "#EXT-X-PROGRAM-DATE-TIME":
             self.stated = read_instant(rest)
-        elif name == "#EXT-X-MAP":
-            self.has_init_section = True
         elif name == "#EXT-X-TARGETDURATION":
-            found.target = int(rest) if rest.isascii() and rest.isdigit() else None
+            found.target = attributes.decimal_of(rest)
         elif name == "#EXT-X-MEDIA-SEQUENCE":
-            found.first = int(rest) if rest.isascii() and rest.isdigit() else 0
+            found.first = attributes.decimal_of(rest) or 0
         elif line == "#EXT-X-ENDLIST":
             found.is_ended = True
         elif name == "#EXT-X-DATERANGE":
-            attributes = attributes_of(rest)
-            if "ID" in attributes:
-                found.ranges.append(DateRange(attributes["ID"], attributes, place))
+            found.ranges += ranges_of([line])
         elif line.strip() and not line.startswith("#"):
-            self.segment(found, line, place)
+            self.segment(found, line)
 
-    def segment(self, found: Listed, uri: str, place: int) -> None:
-        """Adds the segment of the URI line `uri` at line `place` to what was `found`."""
+    def segment(self, found: Listed, uri: str) -> None:
+        """Adds the segment of the URI line `uri` to what was `found`."""
         begins = self.stated if self.stated is not None else self.next
         duration = self.duration or 0
-        found.segments.append(Segment(found.first + len(found.segments), uri, duration, begins, self.stated is not None, self.has_init_section, place))
+        found.segments.append(Segment(found.first + len(found.segments), uri, duration, begins, self.stated is not None))
         self.next = None if begins is None else begins + duration
         self.duration = self.stated = None
 
@@ -174,4 +145,4 @@ def fill_back(segments: list[Segment]) -> None:
     for n in range(first - 1, -1, -1):
         after, it = segments[n + 1], segments[n]
         begins = None if after.begins is None else after.begins - it.duration
-        segments[n] = Segment(it.number, it.uri, it.duration, begins, False, it.has_init_section, it.line)
+        segments[n] = Segment(it.number, it.uri, it.duration, begins, False)

@@ -4,9 +4,9 @@ import json
 import sys
 from typing import Any
 
-from . import faults, judge, playlist, words
+from . import judge, playlist, words
 from .ads import Advertisement, local_base, read_ad
-from .program import NEVER, find_program, run_vod
+from .program import find_program
 from .words import Fault
 
 HELP = """Makes a decision file for a break of the playlists of its ads, or judges a decision file.
@@ -20,7 +20,7 @@ the one of --at with the file's path behind it; an ad may also be named by its U
 standard error, a line each: a segment over the target duration, a pod that isn't as long as its break, ads of which some
 have an initialisation section and some haven't, an ad with several keys.
 
---check prints `right`, or the member that is wrong, in words. A member that adsplice doesn't know, and so ignores, is told.
+--check prints `right`, or the member that is wrong, in words, by the rules in adsplice_rules. A member that adsplice doesn't know, and so ignores, is told.
 
 Exit status: 0 done (or right); 1 a fault, or a wrong file; 2 wrong words; with --strict also 1 after a warning."""
 NEAR = playlist.SECOND // 10  # how far a pod's length may be from its break's
@@ -102,26 +102,18 @@ def written(ads: list[Advertisement], break_id: str | None) -> bytes:
     return (json.dumps(found, indent=2, ensure_ascii=False) + "\n").encode()
 
 
-def verdict(program: str, body: bytes) -> str:
-    """What is wrong with the decision file `body`, by `program`: the fault, and the member in words; empty if it is right."""
-    _, fault = run_vod(program, NEVER, b"", body)
-    if fault.startswith(("P3 ", "J11 ")):  # (the empty playlist was read, or a withdrawal found no pod: the file is right)
-        return ""
+def verdict(body: bytes) -> str:
+    """What is wrong with the decision file `body` by the rules: the member in words, and the fault; empty if it is right."""
     wrong = judge.judge(body)
-    if wrong is not None and wrong.code == faults.code_of(fault):
-        return f"{wrong.line()} ({fault})"
-    return f"{faults.meaning(0, fault)} ({fault})"
+    return "" if wrong is None else f"{wrong.line()} ({wrong.fault})"
 
 
-def check(program: str, name: str) -> int:
-    """Judges the decision file `name` by `program`; answers the exit status."""
+def check(name: str) -> int:
+    """Judges the decision file `name`; answers the exit status."""
     body = body_of(name)
-    wrong = verdict(program, body)
-    if wrong:
-        words.write_out(f"{name}: {wrong}\n")
-        return words.FAULT
-    words.write_out("".join(f"{name}: {it}\n" for it in [*judge.strange_members(body), "right"]))
-    return 0
+    wrong = verdict(body)
+    words.write_out("".join(f"{words.plain(f'{name}: {it}')}\n" for it in ([wrong] if wrong else [*judge.strange_members(body), "right"])))
+    return words.FAULT if wrong else 0
 
 
 def make(program: str, said: argparse.Namespace) -> int:
@@ -130,11 +122,10 @@ def make(program: str, said: argparse.Namespace) -> int:
     ads = read_ads(program, names, said.at)
     warnings = warnings_of(ads, said.target, said.length)
     body = written(ads, break_id)
-    wrong = verdict(program, body)
-    if wrong:
+    if wrong := verdict(body):
         raise Fault(wrong)
     for it in warnings:
-        print(f"adsplice-pod: {it}", file=sys.stderr)
+        print(words.plain(f"adsplice-pod: {it}"), file=sys.stderr)
     if warnings and said.strict:
         return words.FAULT
     words.write_out(body.decode())
@@ -146,7 +137,6 @@ def main(arguments: list[str]) -> int:
     said = read_words(arguments)
     words.ends_cleanly()
     try:
-        program = find_program(said.program)
-        return check(program, said.check) if said.check is not None else make(program, said)
+        return check(said.check) if said.check is not None else make(find_program(said.program), said)
     except Fault as fault:
         words.fail("adsplice-pod", str(fault))

@@ -13,7 +13,6 @@ from .words import Fault
 HERE = Path(__file__).resolve().parent.parent
 USUAL = (HERE / "adsplice", HERE.parent / "adsplice.bin", HERE.parent / "out" / "adsplice", Path("/opt/adsplice/adsplice"))
 SECONDS = 60  # for a run, and for an answer
-NEVER = "http://nowhere.invalid/index.m3u8"  # a base against which nothing is resolved
 
 
 def find_program(named: str | None) -> str:

@@ -68,9 +68,27 @@ def write_out(text: str) -> None:
         os.dup2(os.open(os.devnull, os.O_WRONLY), sys.stdout.fileno())
 
 
+def time_text(time: datetime) -> str:
+    """The instant `time` in UTC, to milliseconds."""
+    return time.astimezone(timezone.utc).isoformat(timespec="milliseconds").replace("+00:00", "Z")
+
+
 def now_text() -> str:
     """The time of day in UTC, to milliseconds."""
-    return datetime.now(timezone.utc).isoformat(timespec="milliseconds").replace("+00:00", "Z")
+    return time_text(datetime.now(timezone.utc))
+
+
+def plain(text: str) -> str:
+    """`text` as it may be shown on a terminal: what isn't printed, as a control character, a line end or a byte that isn't
+    UTF-8, is written as \\x1b or \\u2028."""
+    return "".join(it if it.isprintable() else shown_code(ord(it)) for it in text)
+
+
+def shown_code(code: int) -> str:
+    """How the character of the number `code` is written that can't be shown; a lone surrogate stands for a byte."""
+    if 0xDC80 <= code <= 0xDCFF:
+        code -= 0xDC00
+    return f"\\x{code:02x}" if code < 0x100 else f"\\u{code:04x}" if code < 0x10000 else f"\\U{code:08x}"
 
 
 def ends_by_signals() -> threading.Event:

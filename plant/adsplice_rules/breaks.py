@@ -107,14 +107,20 @@ def signal_nanos(one: Break) -> int | None:
 CLOSED = "closed"  # an end without an instant: no segment more is inside
 
 
-def end_of(one: Break, total: int) -> int | str | None:
-    """Where a break ends, by the first that is known: END-DATE; START-DATE with DURATION; a valid SCTE35-IN (closed); START-DATE
-    with PLANNED-DURATION, with the section's break_duration, with the `total` of its pod."""
+def ends_of(one: Break, total: int) -> list[tuple[str, int | str]]:
+    """What says where a break ends, the first one of which counts: END-DATE; START-DATE with DURATION; a valid SCTE35-IN (closed);
+    START-DATE with PLANNED-DURATION, with the section's break_duration, with the `total` of its pod."""
     def after(nanos: int | None) -> int | None:
         return None if one.start is None or nanos is None else one.start + nanos
     closed = CLOSED if is_returning(one) else None
+    by = ("END-DATE", "DURATION", "SCTE35-IN", "PLANNED-DURATION", "break_duration", "its pod")
     ends = [one.end, after(one.duration), closed, after(one.planned), after(signal_nanos(one)), after(total)]
-    return next((end for end in ends if end is not None), None)
+    return [(name, end) for name, end in zip(by, ends) if end is not None]
+
+
+def end_of(one: Break, total: int) -> int | str | None:
+    """Where a break ends: by the first that is known."""
+    return next((end for _, end in ends_of(one, total)), None)
 
 
 def is_inside(one: Break | None, pod: Pod, instant: int | None, tolerance: int) -> bool:

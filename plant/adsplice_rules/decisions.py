@@ -111,38 +111,38 @@ class Pod:
 Place = tuple[int | None, ...]
 
 
-def check(test: bool, code: str, place: Place) -> None:
-    """The fault at a place, which has the numbers of a break, an ad and a segment, unless the test holds."""
+def check(test: bool, code: str, place: Place, at: str) -> None:
+    """The fault of the member `at` at a place, which has the numbers of a break, an ad and a segment, unless the test holds."""
     if not test:
         words = zip((" break ", " ad ", " segment "), place)
-        raise Fault(code, "".join(f"{word}{number}" for word, number in words if number is not None))
+        raise Fault(code, "".join(f"{word}{number}" for word, number in words if number is not None), at)
 
 
-def text_at(value: Any, name: str, code: str, place: Place) -> str:
-    """A member that has to be a text."""
-    check(is_text(member(value, name)), code, place)
+def text_at(value: Any, name: str, code: str, place: Place, of: str = "") -> str:
+    """A member that has to be a text; `of` is `map.` or `key.` for one of these."""
+    check(is_text(member(value, name)), code, place, of + name)
     return str(value[name])
 
 
-def uri_checked(uri: str, place: Place) -> str:
+def uri_checked(uri: str, place: Place, of: str = "") -> str:
     """J3 unless it is an absolute http or https URL of printable ASCII without quotes."""
-    check(re.fullmatch(r"https?://[!#-~]+", uri) is not None, "J3", place)
+    check(re.fullmatch(r"https?://[!#-~]+", uri) is not None, "J3", place, f"{of}uri")
     return uri
 
 
-def range_said(value: Any, place: Place) -> Range | None:
+def range_said(value: Any, place: Place, of: str) -> Range | None:
     """J2 unless both or neither of `offset` and `length` are there, whole numbers whose sum is below 2^64."""
     said = member(value, "length"), member(value, "offset")
     if said == (..., ...):
         return None
     length, offset = (decimal_of(one) if isinstance(one, Numeral) else None for one in said)
-    check(length is not None and offset is not None and length + offset < PAST, "J2", place)
+    check(length is not None and offset is not None and length + offset < PAST, "J2", place, f"{of}range")
     return length or 0, offset or 0
 
 
-def part_said(value: Any, place: Place) -> tuple[str, Range | None]:
+def part_said(value: Any, place: Place, of: str = "") -> tuple[str, Range | None]:
     """A resource and its bytes: the text J2, the URI J3, the bytes J2."""
-    return uri_checked(text_at(value, "uri", "J2", place), place), range_said(value, place)
+    return uri_checked(text_at(value, "uri", "J2", place, of), place, of), range_said(value, place, of)
 
 
 def quotable(text: str) -> bool:
@@ -154,14 +154,14 @@ def key_said(value: Any, place: Place) -> Keys:
     """An ad's key, if it has one: not an object J2; METHOD, its URI's type, IV and format J5; its URI J3."""
     if value is ...:
         return ()
-    check(isinstance(value, dict), "J2", place)
-    method = text_at(value, "method", "J5", place)
-    check(is_name(method) and method != "NONE", "J5", place)
-    uri = uri_checked(text_at(value, "uri", "J5", place), place)
-    iv = hexadecimal_of(text_at(value, "iv", "J5", place))
-    check(iv is not None, "J5", place)
-    name = text_at(value, "format", "J5", place) if "format" in value else "identity"
-    check(quotable(name), "J5", place)
+    check(isinstance(value, dict), "J2", place, "key.uri")
+    method = text_at(value, "method", "J5", place, "key.")
+    check(is_name(method) and method != "NONE", "J5", place, "key.method")
+    uri = uri_checked(text_at(value, "uri", "J5", place, "key."), place, "key.")
+    iv = hexadecimal_of(text_at(value, "iv", "J5", place, "key."))
+    check(iv is not None, "J5", place, "key.iv")
+    name = text_at(value, "format", "J5", place, "key.") if "format" in value else "identity"
+    check(quotable(name), "J5", place, "key.format")
     return (Key(name, method, uri, iv, ""),)
 
 
@@ -169,27 +169,27 @@ def segments_said(value: Any, before: int, place: Place) -> tuple[PodSegment, ..
     """An ad's segments, after so many of its break: not a list J2, none J6, the 501st J7; each one's texts J2, URI J3, bytes J2,
     duration J4."""
     listed = member(value, "segments")
-    check(isinstance(listed, list), "J2", place)
-    check(listed != [], "J6", place)
+    check(isinstance(listed, list), "J2", place, "segments")
+    check(listed != [], "J6", place, "segments")
     found: list[PodSegment] = []
     for number, one in enumerate(listed):
         here = (*place, number)
-        check(before + number < MOST_POD_SEGMENTS, "J7", here)
+        check(before + number < MOST_POD_SEGMENTS, "J7", here, "")
         text_at(one, "uri", "J2", here)
         duration = text_at(one, "duration", "J2", here)
         uri, part = part_said(one, here)
-        check(duration_of(duration) is not None, "J4", here)
+        check(duration_of(duration) is not None, "J4", here, "duration")
         found.append(PodSegment(uri, part, duration_of(duration) or 0))
     return tuple(found)
 
 
 def pod_said(ads: list[Any], place: Place) -> Pod:
     """The ads of a break, or of the fallback: none J6; of each its `map`, its `key`, its `segments`."""
-    check(ads != [], "J6", place)
+    check(ads != [], "J6", place, "ads")
     found: list[Ad] = []
     for number, value in enumerate(ads):
         here = (*place, number)
-        part = part_said(value["map"], here) if member(value, "map") is not ... else None
+        part = part_said(value["map"], here, "map.") if member(value, "map") is not ... else None
         keys = key_said(member(value, "key"), here)
         segments = segments_said(value, sum(len(ad.segments) for ad in found), here)
         found.append(Ad(InitSection(part[0], part[1], keys) if part else None, keys, segments))
@@ -204,7 +204,8 @@ def is_id(text: str) -> bool:
 def break_said(value: Any, number: int, before: list[str]) -> tuple[str, Pod]:
     """A break: its ID J2, `ads` not a list J2, an ID that came before J2, then its ads."""
     name, ads = text_at(value, "id", "J2", (number,)), member(value, "ads")
-    check(is_id(name) and isinstance(ads, list) and name not in before, "J2", (number,))
+    check(is_id(name) and name not in before, "J2", (number,), "id")
+    check(isinstance(ads, list), "J2", (number,), "ads")
     return name, pod_said(ads, (number,))
 
 
@@ -222,7 +223,7 @@ def decisions_of(given: bytes) -> Decisions:
     `withdraw` and `fallback`, then what stands in that."""
     value = json_of(given)
     breaks, withdraw, fallback = (member(value, name) for name in ("breaks", "withdraw", "fallback"))
-    check([breaks, withdraw, fallback].count(...) == 2, "J2", ())
+    check([breaks, withdraw, fallback].count(...) == 2, "J2", (), "")
     if isinstance(breaks, list):
         found: list[tuple[str, Pod]] = []
         for number, one in enumerate(breaks):
@@ -232,7 +233,7 @@ def decisions_of(given: bytes) -> Decisions:
         return Decisions(withdraw=str(withdraw))
     if fallback is None:
         return Decisions()
-    check(isinstance(member(fallback, "ads"), list), "J2", ())
+    check(isinstance(member(fallback, "ads"), list), "J2", (), "fallback")
     return Decisions(fallback=pod_said(fallback["ads"], (None,)))
 
 

@@ -25,10 +25,11 @@ NAMES = {
 class Fault(Exception):
     """A refusal; as text its code, its name and its place (docs/OPERATING.md, Faults)."""
 
-    def __init__(self, code: str, place: str = "") -> None:
-        """Makes the fault of this code; `place` is what is printed after its name, such as ` line 4`."""
+    def __init__(self, code: str, place: str = "", member: str = "") -> None:
+        """Makes the fault of this code; `place` is what is printed after its name, such as ` line 4`, and `member` the one of a
+        decision file that is wrong there, such as `key.iv`."""
         super().__init__(f"{code} {NAMES[code]}{place}")
-        self.code = code
+        self.code, self.place, self.member = code, place, member
 
 
 def or_fault(value: Value | None, code: str, place: str = "") -> Value:

@@ -8,7 +8,7 @@ from tools import PLANT, decided, listed
 
 sys.path.insert(0, PLANT)
 from adsplice_plant import explain, faults  # noqa: E402
-from adsplice_plant.history import Given, replay  # noqa: E402
+from adsplice_plant.history import Given  # noqa: E402
 from adsplice_plant.pod import verdict  # noqa: E402
 from adsplice_plant.program import run_vod  # noqa: E402
 
@@ -72,9 +72,9 @@ def test_lists_of_the_table_may_not_follow(room):
         for case in cases:
             first, second = case if isinstance(case, tuple) else (LIST, case)
             given = [Given("channel", "c", b'{"base":"http://h/i.m3u8"}'), Given("origin", "1", first.encode()), Given("origin", "2", second.encode())]
-            steps = replay(room.program, given).steps
-            if steps[1].status != 204 or faults.code_of(steps[2].fault) != code:
-                found.append((code, second[:80], steps[1].fault, steps[2].fault))
+            _, one, two = (it.given for it in explain.run_beside(room.program, given).steps)
+            if one.status != 204 or faults.code_of(two.fault) != code:
+                found.append((code, second[:80], one.fault, two.fault))
     assert not found, found
 
 
@@ -82,18 +82,19 @@ def test_what_may_go_unseen_is_taken(room):
     base = b'{"base":"http://h/i.m3u8","tolerence":"1"}'
     lists = (LIST.replace("EXTINF:2,", "EXTINF:2,006,"), LIST.replace("EXTINF:2,", "EXTINF:9,"), LIST.replace("#EXTINF", "#EXT-X-CUE-OUT:4\n#EXTINF", 1))
     for text in lists:
-        steps = replay(room.program, [Given("channel", "c", base), Given("origin", "1", text.encode()), Given("decisions", "2", decided(("other", 1)).encode())]).steps
-        assert [it.status for it in steps] == [201, 204, 204], [it.fault for it in steps]
+        given = [Given("channel", "c", base), Given("origin", "1", text.encode()), Given("decisions", "2", decided(("other", 1)).encode())]
+        steps = explain.run_beside(room.program, given).steps
+        assert [it.given.status for it in steps] == [201, 204, 204], [it.given.fault for it in steps]
 
 
 def test_members_of_the_tables(room):
     text = page("DECISION_FILES.md")
     files = [it for it in re.findall(r"`(\{.*?\})` \|$", text, re.M)]
-    assert len(files) == 4 and not any(verdict(room.program, it.encode()) for it in files), files
+    assert len(files) == 4 and not any(verdict(it.encode()) for it in files), files
     rows = re.findall(r"^\| ([\w, ]+) \| (`[\w`, ]+) \| .* \| `(.+)` \| `(.+)` (J\d) \|$", text, re.M)
     assert len(rows) == 11, rows
     for of, _, right, wrong, code in rows:
-        said = [verdict(room.program, json.dumps(whole(of.split(",")[0], json.loads("{" + member + "}"))).encode()) for member in (right, wrong)]
+        said = [verdict(json.dumps(whole(of.split(",")[0], json.loads("{" + member + "}"))).encode()) for member in (right, wrong)]
         assert said[0] == "" and f"({code} " in said[1], (of, right, wrong, said)
 
 

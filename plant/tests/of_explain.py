@@ -12,7 +12,6 @@ from tools import FALLBACK, PLANT, PYTHON, decided, listed, until
 sys.path.insert(0, PLANT)
 from adsplice_plant import explain as explained  # noqa: E402
 from adsplice_plant.causes import Explainer  # noqa: E402
-from adsplice_plant.history import replay  # noqa: E402
 
 NEEDS = ("program",)
 MISTAKES = f"{PLANT}/mistakes"
@@ -46,7 +45,7 @@ def test_each_mistake_has_its_sentence(room):
             files, owed = parts_of(it.read())
         paths = [room.write(f"{name}.d/{file}", body) for file, body in files]
         given = explained.given_by_files([Path(it) for it in paths], explained.BASE, None)
-        lines, is_well = explained.report(Explainer(replay(room.program, given)), None)
+        lines, is_well = explained.report(Explainer(explained.run_beside(room.program, given)), None)
         if is_well or owed not in lines:
             found.append(f"{name}: owed\n    {owed}\n  said\n    " + "\n    ".join(lines))
     assert not found, "\n".join(found)
@@ -60,7 +59,7 @@ def test_filled_breaks_are_told_by_their_pods(room):
     room.write("i.m3u8", listed(0, 9, [("b1", 4, 4), ("b2", 12, 4)]))
     status, out, err = explain(room, "d.json", "f.json", "i.m3u8")
     assert (status, err) == (0, "") and out.splitlines() == [
-        "b1: it is filled by its own pod (2 segments, 4 s)", "b2: it is filled by the fallback (1 segment, 2 s), and lasts 4 s itself"], out
+        "b1: it is filled by its own pod (2 segments, 4 s)", "b2: it is filled by the fallback (1 segment, 2 s), and lasts 4 s itself (by DURATION)"], out
     assert explain(room, "d.json", "f.json", "i.m3u8", "--break", "b2")[:2] == (0, out.splitlines()[1] + "\n")
     assert explain(room, "d.json", "i.m3u8", "--break", "B2")[:2] == (3, "B2: no playlist has this ID; listed is b2, which is like it\n")
 

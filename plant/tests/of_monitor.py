@@ -171,7 +171,7 @@ def test_as_run_log_of_a_channel_that_is_made_anew_within_a_break(room):
     starts = {"b4": 20, "b5": 50}
 
     def look(first, numbers, words):
-        kept.ranges = {it: playlist.DateRange(it, {"START-DATE": instant(starts[it]), "DURATION": "10"}, 1) for it in words}
+        kept.ranges = {it: playlist.DateRange(it, {"START-DATE": instant(starts[it]), "DURATION": "10"}) for it in words}
         parts = [f"#EXTINF:2,\n{it}\n" if isinstance(it, str) else f"#EXT-X-PROGRAM-DATE-TIME:{instant(2 * it)}\n#EXTINF:2,\ns{it}\n" for it in numbers]
         run.look(playlist.read(f"#EXTM3U\n#EXT-X-TARGETDURATION:2\n#EXT-X-MEDIA-SEQUENCE:{first}\n{''.join(parts)}".encode()), words, kept)
 

@@ -1,6 +1,5 @@
 """Tests of adsplice-pod, with the built program."""
 import json
-import os
 import sys
 
 from tools import PLANT, decided
@@ -50,10 +49,10 @@ WRONG = [
     (ad(map=None), "break 0, ad 0: `map` has to be an object with `uri`"), (ad(map="http://a/i"), "`map` has to be an object"),
     (ad(map={}), "break 0, ad 0, map: `uri` is missing"), (ad(map={"uri": "i.mp4"}), "break 0, ad 0, map: `uri`"),
     (ad(map={"uri": "http://a/i", "offset": 0}), "break 0, ad 0, map: `offset` needs `length`"),
-    (ad(key=None), "break 0, ad 0: `key` has to be an object"), (ad(key=KEY | {"method": "NONE"}), "break 0, ad 0, key: `method` has to be"),
+    (ad(key=None), "break 0, ad 0: `key` has to be an object"), (ad(key=KEY | {"method": "NONE"}), 'break 0, ad 0, key: `method` "NONE" has to be'),
     (ad(key={"method": "AES-128", "uri": "http://a/k"}), "break 0, ad 0, key: `iv` is missing: it has to be a string of 0x"),
     (ad(key=KEY | {"iv": "12"}), 'break 0, ad 0, key: `iv` "12" doesn\'t read'), (ad(key=KEY | {"uri": "k"}), 'break 0, ad 0, key: `uri` "k" has to begin'),
-    (ad(key={"method": "AES-128", "iv": "0x1"}), "break 0, ad 0, key: `uri` is missing"), (ad(key=KEY | {"format": ""}), "break 0, ad 0, key: `format` has to be"),
+    (ad(key={"method": "AES-128", "iv": "0x1"}), "break 0, ad 0, key: `uri` is missing"), (ad(key=KEY | {"format": ""}), 'break 0, ad 0, key: `format` "" has to be'),
     (ad(segments=[]), "break 0, ad 0: `segments` is empty"), (ad(segments={}), "break 0, ad 0: `segments` has to be a list"), (ad(segments=[5]), "break 0, ad 0, segment 0: a segment has to be"),
     (ad(segments=[{"uri": "http://a/b", "duration": "1"}] * 501), "break 0, ad 0, segment 500: a pod has at most 500 segments"),
     ('{"breaks":[{"id":"b1","ads":[]}]}', "break 0: `ads` is empty"), ('{"breaks":[{"id":"b1"}]}', "break 0: `ads` is missing"),
@@ -73,7 +72,7 @@ RIGHT = [decided(("b1", 2), ("b2", 1)), '{"withdraw":"b1"}', '{"fallback":null}'
 def test_wrong_files_are_told_by_the_member(room):
     found = []
     for text, owed in WRONG:
-        said = verdict(room.program, text.encode())
+        said = verdict(text.encode())
         if owed not in said or "\n" in said:
             found.append((text[:100], owed, said))
     assert not found, found
@@ -83,7 +82,7 @@ def test_wrong_files_are_told_by_the_member(room):
 
 def test_right_files_are_right(room):
     for text in RIGHT:
-        assert verdict(room.program, text.encode()) == "", text
+        assert verdict(text.encode()) == "", text
     assert pod(room, "--check", room.write("d.json", RIGHT[0])) == (0, f"{room.path}/d.json: right\n", "")
     status, out, _ = pod(room, "--check", room.write("d.json", segment(durration="2")))
     assert status == 0 and "break 0, ad 0, segment 0: `durration` is no member of a segment, and is ignored" in out
@@ -133,4 +132,4 @@ def test_faults_are_one_line(room):
         status, out, err = pod(room, *words)
         assert (status, out, err.count("\n")) == (1, "", 1) and text in err, (words, status, err)
     assert pod(room, "b1")[0] == 2 and pod(room, "--check", "a", "b", "c")[0] == 2
-    assert "isn't a program" in room.run("adsplice-pod", "--check", os.devnull, "--program", "/nowhere")[2]
+    assert "isn't a program" in room.run("adsplice-pod", "b1", f"{room.path}/index.m3u8", "--at", "http://h", "--program", "/nowhere")[2]

@@ -33,7 +33,12 @@ def test_a_list(room):
     found = playlist.read(listed(7, 9, [("b1", 18, 4)]).encode())
     assert (found.target, found.first, [it.uri for it in found.segments]) == (2, 7, ["s7.ts", "s8.ts", "s9.ts"])
     assert [playlist.instant_text(it.begins)[17:23] for it in found.segments] == ["14.000", "16.000", "18.000"]
-    assert found.ids() == {"b1"} and found.ranges[0].length() == 4 * 10**9 and playlist.instant_text(found.end())[17:19] == "20"
+    assert found.ids() == {"b1"} and playlist.instant_text(found.ranges[0].start())[17:19] == "18" and playlist.instant_text(found.end())[17:19] == "20"
+
+
+def test_lines_end_with_lf_alone(room):
+    text = listed(7, 9).replace("s8.ts", "s8\u2028\x85\x0c.ts").replace("\n", "\r\n")
+    assert [it.uri for it in playlist.read(text.encode()).segments] == ["s7.ts", "s8\u2028\x85\x0c.ts", "s9.ts"]
 
 
 def test_instants_before_the_first_stated_one(room):
@@ -84,5 +89,5 @@ test_types.needs = ("mypy", "httpx", "prometheus_client")
 
 def test_wrong_members_are_found_in_order(room):
     wrong = judge.judge(b'{"breaks":[{"id":"b","ads":[{"segments":[{"uri":"//h/a","duration":2}]}]}]}')
-    assert wrong.line() == 'break 0, ad 0, segment 0: `duration` has to be a string, as "2"' and wrong.code == "J2"
+    assert wrong.line() == 'break 0, ad 0, segment 0: `duration` has to be a string, as "2"' and wrong.fault == "J2 Shape break 0 ad 0 segment 0"
     assert re.search("uri", judge.judge(b'{"breaks":[{"id":"b","ads":[{"segments":[{"uri":"//h/a","duration":"2"}]}]}]}').text)

@@ -1,0 +1,61 @@
+"""The difference of two texts by their lines: what a list takes over from the one before it, and what is new in it.
+
+An edit is a list of pieces which make the new text one after the other: a text that is new, or a pair of numbers, from which
+line of the old text to which (counted from 0, the second one not among them). A list whose window moved on takes a few pieces.
+Lines end with LF alone (RFC 8216, 4.1).
+"""
+Piece = str | list[int]
+LOOKS = 4  # at each line of the old text, after which what is out of order counts as new
+
+
+def lines_of(text: str) -> list[str]:
+    """The lines of `text`, each with its LF; the last one may lack it."""
+    parts = text.split("\n")
+    return [f"{it}\n" for it in parts[:-1]] + ([parts[-1]] if parts[-1] else [])
+
+
+def edit_of(old: list[str], new: list[str]) -> list[Piece]:
+    """The edit that makes the lines `new` of the lines `old`. It takes lines over in their order, and looks at each a few times."""
+    there, left = set(old), LOOKS * len(old)
+    pieces: list[Piece] = []
+    fresh: list[str] = []
+    upto = 0  # of the old lines, those before it are passed
+    for line in new:
+        at = upto if upto < len(old) and old[upto] == line else -1
+        if at < 0 and line in there and left > 0:
+            at = place_of(old, line, upto)
+            left -= (at if at >= 0 else len(old)) - upto
+        if at < 0:
+            fresh.append(line)
+            continue
+        if fresh:
+            pieces.append("".join(fresh))
+            fresh = []
+        if pieces and isinstance(last := pieces[-1], list) and last[1] == at:
+            last[1] = at + 1
+        else:
+            pieces.append([at, at + 1])
+        upto = at + 1
+    return pieces + (["".join(fresh)] if fresh else [])
+
+
+def place_of(lines: list[str], line: str, upto: int) -> int:
+    """Where in `lines` from `upto` on the text `line` is; -1 if it isn't."""
+    try:
+        return lines.index(line, upto)
+    except ValueError:
+        return -1
+
+
+def edited(old: list[str], edit: list[Piece]) -> list[str]:
+    """The lines that `edit` makes of the lines `old`; raises ValueError if it isn't one of theirs."""
+    made: list[str] = []
+    for it in edit:
+        if isinstance(it, str):
+            made += lines_of(it)
+        else:
+            first, past = it
+            if not 0 <= first < past <= len(old):
+                raise ValueError(f"an edit takes lines {first} to {past} of {len(old)}")
+            made += old[first:past]
+    return made
