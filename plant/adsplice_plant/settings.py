@@ -9,7 +9,7 @@ from pathlib import Path
 from . import words
 from .words import Fault
 
-NAMES = ("origin", "at", "base", "tolerance", "decisions", "fallback", "keep", "unended", "renditions")
+NAMES = ("origin", "at", "base", "tolerance", "decisions", "fallback", "keep", "unended", "renditions", "repair", "target", "endless", "times")
 PLACE = "{}"  # of a rendition's name in the texts of a ladder's section
 
 
@@ -18,7 +18,8 @@ class Settings:
     """One channel: its `name`, the `origin` of its list (a URL or a file), adsplice's address `at`, the `base` of its
     references, a `tolerance` in seconds, the folder of `decisions`, the `fallback` file, the folder `keep` of what is kept for
     the monitor and the explainer, whether its packager leaves the last line `unended`, and the `programme` whose rendition it
-    is, if it is one of a ladder."""
+    is, if it is one of a ladder. Of its lists: whether the feed puts them right (`repair`), the `target` duration in seconds
+    (that of the first list, if none), whether the channel is `endless`, and whether `times` are added if none are stated."""
 
     name: str
     origin: str
@@ -30,6 +31,10 @@ class Settings:
     keep: Path | None = None
     unended: bool = False
     programme: str = ""
+    repair: bool = True
+    target: int | None = None
+    endless: bool = True
+    times: bool = True
 
     def is_web(self) -> bool:
         """Whether the origin is a URL."""
@@ -81,10 +86,20 @@ def settings_of(name: str, said: Mapping[str, str | None]) -> Settings:
             raise Fault(f"channel {name}: decisions: {path}: {fault.strerror}") from None
     if (path := paths["fallback"]) and not path.is_file():
         raise Fault(f"channel {name}: fallback: there is no file {path}")
-    unended = (said.get("unended") or "no").lower()
-    if unended not in ("yes", "no"):
-        raise Fault(f"channel {name}: unended is yes or no, and not {unended}")
-    return Settings(name, origin, at, base, said.get("tolerance") or "", paths["decisions"], paths["fallback"], paths["keep"], unended == "yes")
+    target = said.get("target") or ""
+    if target and not (target.isascii() and target.isdigit() and 1 <= len(target) <= 5 and int(target)):
+        raise Fault(f"channel {name}: target is a whole number of seconds, and not {target}")
+    return Settings(name, origin, at, base, said.get("tolerance") or "", paths["decisions"], paths["fallback"], paths["keep"],
+                    is_yes(name, "unended", said, "no"), "", is_yes(name, "repair", said, "yes"), int(target) if target else None,
+                    is_yes(name, "endless", said, "yes"), is_yes(name, "times", said, "yes"))
+
+
+def is_yes(channel: str, name: str, said: Mapping[str, str | None], usual: str) -> bool:
+    """Whether the setting `name` of `channel` is yes by the texts `said`, or, if it isn't there, by what is `usual`; raises Fault."""
+    found = (said.get(name) or usual).lower()
+    if found not in ("yes", "no"):
+        raise Fault(f"channel {channel}: {name} is yes or no, and not {found}")
+    return found == "yes"
 
 
 def read_file(path: Path) -> list[Settings]:
