@@ -7,8 +7,8 @@ import subprocess
 import sys
 
 from sections import crc, digits, letters, section, segmentation, splice_insert, time_signal
-from styles import ALL, STYLES, Style, insert, range_of, signal
-from tools import PLANT, instant
+from styles import ALL, STYLES, Style, insert, named, range_of, signal
+from tools import PLANT, free_port, get, instant, put
 
 sys.path.insert(0, PLANT)
 from adsplice_plant import packaged, signals, spelling, splice  # noqa: E402
@@ -226,11 +226,6 @@ def told(style, **settings):
     return Run(style.lists(), style.pod, **settings).told
 
 
-def named(name):
-    """The style of a name."""
-    return next(it for it in ALL if it.name == name)
-
-
 def test_breaks_are_told_by_the_names_of_the_standard(room):
     assert told(named("dr-time-signal-34")) == [
         f"breaks/1001 Begins: at {instant(24)}, planned for 10 s (Provider Placement Opportunity Start)",
@@ -334,3 +329,27 @@ def test_tags_of_a_stranger_are_linear(room):
                  "#EXT-OATCLS-SCTE35:" + "/DA" * 70_000, '#EXT-X-DATERANGE:ID="a",SCTE35-OUT=0x' + "FC" * 100_000, "#EXT-X-CUE-OUT:PT" + "1H" * 100_000):
         run = Run([Style("odd", tags={2: [line]}).listed(4)])
         assert run.numbers() in ([], [2, 3, 4]) and len(run.told) <= 3, (line[:40], run.told, run.numbers())
+
+
+# ---- the built program
+
+def test_each_style_through_the_built_program(room):
+    port, wrong = free_port(), []
+    room.adsplice(port)
+    at = f"http://127.0.0.1:{port}/channels/style"
+    for style in ALL:
+        assert put(at, json.dumps({"base": BASE}).encode()) == 201 and put(f"{at}/decisions", fallback(style.pod)) == 204
+        translator, shown = Translator(), set()
+        for text in style.lists():
+            found = listed(text)
+            said = translator.take(found)
+            assert put(f"{at}/origin", text.encode() if said.ranges is None else packaged.write(found, said.ranges)) == 204, (style.name, said.ranges)
+            shown |= set(re.findall(r"/s(\d+)\.ts$", get(f"{at}/live.m3u8")[1], re.M))
+        replaced = sorted(set(range(style.begun + 1 - min(8, style.begun + 1), style.newest + 1)) - {int(it) for it in shown})
+        if replaced != style.filled():
+            wrong.append((style.name, replaced))
+        assert put(at, b"", "DELETE") == 204
+    assert not wrong, "\n".join(map(str, wrong))
+
+
+test_each_style_through_the_built_program.needs = ("program",)

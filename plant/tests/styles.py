@@ -213,3 +213,8 @@ RANGES = [
     Style("dr-of-another-kind", is_known=True, tags={12: ["#EXT-X-CUE-IN"]}, breaks=(), ranges=(range_of("chapter", 24, DURATION=10, X_TITLE='"a, b"'),)),
 ]
 ALL = STYLES + CUES + RANGES
+
+
+def named(name):
+    """The style of this name."""
+    return next(it for it in ALL if it.name == name)
