@@ -13,6 +13,7 @@ from .lists import Lists
 from .origin import CUT_OFF, FileOrigin, Origin, Read, WebOrigin, read_whole
 from .pauses import Pauses
 from .settings import Settings
+from .signalling import Signalling
 from .web import Answer, Client
 from .words import now_text
 
@@ -31,7 +32,8 @@ class Channel:
     """The feed of the channel that `settings` tell of. `client` makes its requests, and `say` prints a line. Each of its
     states is told once: one that is as it was isn't told again."""
 
-    def __init__(self, settings: Settings, client: Client, say: Say, longest_pause: float, keep_days: float) -> None:
+    def __init__(self, settings: Settings, client: Client, say: Say, longest_pause: float, keep_days: float, signalling: Signalling | None = None) -> None:
+        """`signalling`: that of the programme, if another rendition has one already."""
         self.settings, self.client, self.say = settings, client, say
         self.url = f"{settings.at}/channels/{settings.name}"
         self.origin: Origin = WebOrigin(settings.origin, client) if settings.is_web() else FileOrigin(Path(settings.origin))
@@ -42,7 +44,9 @@ class Channel:
         self.fallback_stamp: tuple[int, int, int] | None = None  # of the file that was given
         self.is_made = False
         self.states: dict[str, tuple[str, str]] = {}
-        self.lists = Lists(settings, self.tell, self.tell_repair)
+        self.signalling = signalling or Signalling(settings.programme or settings.name, settings, client, say, self.answered)
+        self.signalling.join(settings.rendition(), self.folder)
+        self.lists = Lists(settings, self.tell, self.tell_repair, self.signalling)
 
     # ---- telling
 
@@ -139,6 +143,13 @@ class Channel:
             if not self.give(it):
                 return False
         return True
+
+    def answered(self) -> None:
+        """The answer to a question is in the folder: gives it at once."""
+        with self.together:
+            if self.is_made:
+                self.folder.look()
+                self.decide()
 
     def give(self, decision: Decision) -> bool:
         """Gives one decision file; whether the feed may go on."""
@@ -249,6 +260,8 @@ class Channel:
     def take_turn(self, found: Read, begun: float) -> float:
         """The turn that began at `begun`, once `found` was found at the origin; answers the seconds to the next one."""
         self.look(found)
+        self.lists.prepare()
+        self.signalling.wait(self.settings.rendition())
         self.folder.look()
         if not self.give_all():
             return min(self.away.next(), self.longest())

@@ -16,6 +16,7 @@ from .channel import JUDGED, Channel, Say
 from .decisions import Decision
 from .playlist import SECOND
 from .settings import Settings
+from .signalling import Signalling
 from .web import Answer, Client
 from .words import now_text
 
@@ -32,16 +33,21 @@ class Rendition(Channel):
     """The feed of one rendition of the `ladder`; the rest is as in Channel."""
 
     def __init__(self, settings: Settings, client: Client, say: Say, longest_pause: float, keep_days: float, ladder: Ladder) -> None:
-        super().__init__(settings, client, say, longest_pause, keep_days)
-        self.ladder, self.together = ladder, ladder.lock
+        super().__init__(settings, client, say, longest_pause, keep_days, ladder.signalling)
+        self.ladder, self.together, ladder.signalling = ladder, ladder.lock, self.signalling
         self.tolerance = playlist.read_duration(settings.tolerance) if settings.tolerance else TOLERANCE
         self.reached = 0  # the instant at which the last segment that was taken begins
         self.debts: list[bytes] = []  # withdrawals that come before its next list
         ladder.members.append(self)
 
+    def answered(self) -> None:
+        """The answer to a question is in the renditions' folders: gives it at once."""
+        with self.together:
+            if all(it.is_made for it in self.ladder.members):
+                self.ladder.decide()
+
     def give_all(self) -> bool:
         """Gives what is new to the ladder, and the list to this rendition; whether all was answered."""
-        self.lists.prepare()
         return self.ladder.give_all(self)
 
     def again(self) -> bool:
@@ -90,6 +96,7 @@ class Ladder:
         self.name, self.say = name, say
         self.lock = threading.RLock()
         self.members: list[Rendition] = []
+        self.signalling: Signalling | None = None
         self.states: dict[str, str] = {}
         self.step_since = 0.0  # since when the channels wait for lists in step; 0 if they don't
         self.held: dict[str, float] = {}  # files that a rendition which is away holds up, and since when

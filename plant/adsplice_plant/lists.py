@@ -11,16 +11,18 @@ from .numbers import Standing, Viewed
 from .packaged import PackagedList
 from .repair import Choices, Repaired, Repairer
 from .settings import Settings
+from .signalling import Signalling, as_listed
 
 Tell = Callable[[str, int, str, str], None]  # who, status, fault, text: told unless the state of who is as it was
 SIGNAL = "SCTE35-OUT"
 
 
 class Lists:
-    """The lists of the channel that `settings` tell of. `tell` prints a state once, and `say` a line of a repair."""
+    """The lists of the channel that `settings` tell of. `tell` prints a state once, and `say` a line of a repair. `signalling`
+    translates their signals."""
 
-    def __init__(self, settings: Settings, tell: Tell, say: Callable[[str, str], None]) -> None:
-        self.settings, self.tell, self.say = settings, tell, say
+    def __init__(self, settings: Settings, tell: Tell, say: Callable[[str, str], None], signalling: Signalling) -> None:
+        self.settings, self.tell, self.say, self.signalling = settings, tell, say, signalling
         self.path: Path | None = settings.keep / f"{settings.name}.numbers" if settings.keep and settings.repair else None
         choices = Choices(settings.target, settings.endless, settings.times)
         self.stands = Standing(Repairer(choices), Viewed(), b"", Counter())
@@ -82,8 +84,10 @@ class Lists:
     def take(self, body: bytes) -> None:
         """Takes in the list `body`."""
         if not self.settings.repair:
-            self.pending, self.text, self.is_open, self.is_new = None, body, True, False
-            self.learn(read(body))
+            listed = as_listed(read(body))
+            is_changed = self.signalling.translate(listed, self.settings.rendition())
+            self.pending, self.text, self.is_open, self.is_new = None, packaged.write(listed) if is_changed else body, True, False
+            self.learn(listed)
             return
         found = self.stands.repairer.take(body, time.monotonic(), time.time_ns())
         self.is_new = found.waits
@@ -92,6 +96,8 @@ class Lists:
             return
         self.count(found)
         if found.found is not None:
+            if self.signalling.translate(found.found, self.settings.rendition()):
+                found.came = None
             self.learn(found.found)
         text = found.body()
         if text != self.stands.text:
@@ -145,6 +151,7 @@ class Lists:
 
     def begin_anew(self) -> None:
         """The channel is new: its first list begins where viewers' list stood."""
+        self.signalling.begin_anew()
         self.is_anew = bool(self.stands.repairer.last)
         if self.is_anew:
             self.pending, self.is_open, self.is_new = None, False, self.came is not None
@@ -155,6 +162,8 @@ class Lists:
         self.is_anew = False
         repairer, viewed = self.stands.repairer, self.stands.viewed
         newest = repairer.take(self.came, time.monotonic(), time.time_ns()) if self.came is not None else Repaired()
+        if newest.found is not None:
+            self.signalling.translate(newest.found, self.settings.rendition())
         listed = newest.found.segments if newest.found is not None else repairer.last
         head = newest.head or repairer.head
         history = [it for it in (*repairer.past, *repairer.last) if it.number < listed[0].number] + listed

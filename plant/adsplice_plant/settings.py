@@ -46,6 +46,10 @@ class Settings:
     ask: str = ""
     hold: float = 1.0
 
+    def rendition(self) -> str:
+        """The rendition's name; none for a channel by itself."""
+        return self.name[len(self.programme) + 1:] if self.programme else ""
+
     def is_web(self) -> bool:
         """Whether the origin is a URL."""
         return self.origin.startswith(("http://", "https://"))

@@ -73,11 +73,11 @@ class Signalling:
 
     # ---- lists
 
-    def translate(self, found: PackagedList, rendition: str = "") -> None:
+    def translate(self, found: PackagedList, rendition: str = "") -> bool:
         """Puts date ranges that adsplice knows in place of the signals of the list `found` of a `rendition`, and asks for the breaks
-        that became known."""
+        that became known. Whether the list has changed by that."""
         if not self.is_on or not found.segments:
-            return
+            return False
         with self.lock:
             said = self.translator.take(found, rendition)
             for it in said.told:
@@ -89,6 +89,7 @@ class Signalling:
             self.save()
             if self.asker is not None and said.known:
                 self.asker.ask(said.known, found.target, self.end[rendition])
+            return said.ranges is not None
 
     def wait(self, rendition: str = "") -> None:
         """Waits for answers that the newest list of the `rendition` needs."""
@@ -108,3 +109,17 @@ def put_ranges(found: PackagedList, ranges: list[str]) -> None:
         it.tags = [line for line in it.tags if not line.startswith(DATE_RANGE)]
     found.tail_tags = [line for line in found.tail_tags if not line.startswith(DATE_RANGE)]
     found.segments[0].tags = ranges + found.segments[0].tags
+
+
+def as_listed(found: PackagedList) -> PackagedList:
+    """The list `found` with the packager's own numbers and instants, for a feed that doesn't put lists right (RFC 8216, 4.3.2.6)."""
+    discontinuity, begins = found.discontinuity_sequence, None
+    for it in found.segments:
+        discontinuity += it.discontinuities
+        it.number, it.discontinuity = it.own, discontinuity
+        it.begins = begins = it.stated if it.stated is not None else begins
+        begins = None if begins is None else begins + it.duration
+    for it, later in zip(reversed(found.segments[:-1]), reversed(found.segments)):
+        if it.begins is None and later.begins is not None:
+            it.begins = later.begins - it.duration
+    return found

@@ -1,19 +1,29 @@
 """Tests of asking for decisions: with an ad server that is good, slow, dead or wrong, and through a folder."""
 import json
 import os
+import re
+import signal
 import sys
 import threading
 import time
 from pathlib import Path
 
 from styles import named
-from tools import PLANT, FakeServer, Room, decided, free_port, instant, until
+from tools import FALLBACK, PLANT, FakeController, FakeServer, Room, decided, free_port, get, instant, until
 
 sys.path.insert(0, PLANT)
 NEEDS = ("httpx",)
 SECOND = 10**9
 STYLE = named("dr-time-signal-34")
 MODULES = {}
+
+
+def needs(*names):
+    """Says what a test needs."""
+    def mark(test):
+        test.needs = names
+        return test
+    return mark
 
 
 def modules():
@@ -240,3 +250,156 @@ def test_what_is_kept_on_disk_goes_on(room):
     for text in ("{", '{"breaks":[{"id":1}]}', "[1]", '{"breaks":1,"done":[],"cancelled":[],"styles":[],"seen":[]}'):
         (keep / "news.signals").write_text(text, encoding="utf-8")
         assert "Broken" in Asking(room, "", keep=keep).told[0], text
+
+
+# ---- through the feed
+
+class Fed:
+    """A channel's feed in this process, whose turns are made by hand: of a style's lists, to adsplice or a fake of it at `at`."""
+
+    def __init__(self, room, at, style, **settings):
+        from adsplice_plant.channel import Channel
+        it = modules()
+        self.room, self.style, self.lines, self.path = room, style, [], Path(room.path) / "index.m3u8"
+        settings = {"decisions": Path(room.path) / "decisions", "keep": Path(room.path) / "kept", **settings}
+        for folder in (settings["decisions"], settings["keep"]):
+            folder.mkdir(exist_ok=True)
+        self.settings = it["settings"].Settings("news", str(self.path), at, "http://origin.example/ch/index.m3u8", **settings)
+        self.begin = lambda: Channel(self.settings, it["web"].Client(5.0), self.lines.append, 5.0, 7.0)
+        self.channel = self.begin()
+
+    def turn(self, newest):
+        """The packager's list goes up to this segment, and the feed has a turn; answers the seconds that it took."""
+        self.room.write("index.m3u8", self.style.listed(newest))
+        begun = time.monotonic()
+        self.channel.turn()
+        return time.monotonic() - begun
+
+
+def test_lists_that_adsplice_knows_pass_byte_for_byte(room):
+    controller = room.server(FakeController())
+    for name, is_same in (("dr-insert-planned-in", True), ("dr-program-start", True), ("dr-announced", True), ("cue-elemental", False), ("dr-cmd-insert", False)):
+        with Room(None) as place:
+            fed = Fed(place, controller.url, named(name))
+            controller.channels.clear()
+            del controller.asked[:]
+            for newest in range(2, 31):
+                fed.turn(newest)
+            texts = [fed.style.listed(newest).encode() for newest in range(2, 31)]
+            assert (controller.puts("origin") == texts) == is_same, name
+            assert all(it.count(b"SCTE35-OUT") <= 1 for it in controller.puts("origin"))
+
+
+def test_a_signal_is_told_and_may_be_left_as_it_is(room):
+    controller = room.server(FakeController())
+    fed = Fed(room, controller.url, named("cue-elemental"))
+    for newest in range(10, 20):
+        fed.turn(newest)
+    assert [it.split(" ", 1)[1] for it in fed.lines if "breaks/" in it] == [
+        f"news breaks/cue-12 - Begins: at {instant(24)}, planned for 10 s (a tag without a section)",
+        f"news breaks/cue-12 - Ends: at {instant(34)}, after 10 s (a tag without a section)"]
+    with Room(None) as place:
+        fed = Fed(place, controller.url, named("cue-elemental"), signals=False)
+        fed.turn(14)
+        assert controller.puts("origin")[-1] == fed.style.listed(14).encode() and not any("breaks/" in it for it in fed.lines)
+
+
+def test_a_feed_that_does_not_repair_translates_too(room):
+    controller = room.server(FakeController())
+    fed = Fed(room, controller.url, named("cue-elemental"), repair=False)
+    fed.turn(11)
+    fed.turn(12)
+    texts = controller.puts("origin")
+    assert texts[0] == fed.style.listed(11).encode() and b'#EXT-X-DATERANGE:ID="cue-12"' in texts[1]
+
+
+def shown_by(at):
+    """The segments of the written playlist: their URIs' last parts."""
+    return [line.rsplit("/", 1)[1] for line in get(f"{at}/live.m3u8")[1].splitlines() if line and not line.startswith("#")]
+
+
+@needs("httpx", "program")
+def test_a_decision_answered_in_time_fills_its_own_break(room):
+    server, port = room.server(Decider(pause=0.2)), free_port()
+    room.adsplice(port)
+    at = f"http://127.0.0.1:{port}/channels/news"
+    fed = Fed(room, f"http://127.0.0.1:{port}", named("cue-enhanced-time-signal"), ask=server.url, fallback=Path(room.write("f.json", FALLBACK)))
+    took = {newest: fed.turn(newest) for newest in range(9, 20)}
+    assert shown_by(at) == [*(f"1001-12-{n}.ts" for n in range(5)), "s17.ts", "s18.ts", "s19.ts"]
+    assert 0.2 <= took[12] < 0.7 and max(it for newest, it in took.items() if newest not in (9, 12)) < 0.2, took
+
+
+@needs("httpx", "program")
+def test_a_feed_started_again_goes_on_with_the_same_breaks(room):
+    server, port = room.server(Decider()), free_port()
+    room.adsplice(port)
+    fed = Fed(room, f"http://127.0.0.1:{port}", named("cue-without-duration"), ask=server.url)
+    for newest in range(9, 23):
+        fed.channel = fed.begin()
+        fed.turn(newest)
+    seen = [json.loads(line)["body"] for line in open(f"{room.path}/kept/news.events", encoding="utf-8") if '"what": "origin"' in line]
+    ids = {name for text in seen for name in re.findall('DATERANGE:ID="([^"]*)"', text)}
+    assert ids == {"cue-12"} and len(server.questions) == 1 and sum("Begins" in it for it in fed.lines) == 1, (ids, fed.lines)
+    assert get(f"http://127.0.0.1:{port}/channels/news/why")[1] == "cue-12\tFilled\n"
+
+
+@needs("httpx", "program")
+def test_an_adsplice_started_again_fills_the_break_as_it_was(room):
+    server, port = room.server(Decider()), free_port()
+    first = room.adsplice(port)
+    fed = Fed(room, f"http://127.0.0.1:{port}", named("dr-in-comes-early"), ask=server.url)
+    for newest in range(9, 19):
+        fed.turn(newest)
+    before = shown_by(f"http://127.0.0.1:{port}/channels/news")
+    first.kill()
+    first.wait()
+    room.adsplice(port)
+    fed.turn(19)
+    after = shown_by(f"http://127.0.0.1:{port}/channels/news")
+    place = before.index(after[0])
+    assert after[:len(before) - place] == before[place:] and after[-1] == "s19.ts" and "1001-4.ts" in after, (before, after)
+
+
+@needs("httpx", "program")
+def test_a_late_answer_is_given_at_once(room):
+    server, port = room.server(Decider(pause=0.9)), free_port()
+    room.adsplice(port)
+    fed = Fed(room, f"http://127.0.0.1:{port}", named("dr-announced-time-signal"), ask=server.url, hold=0.1)
+    for newest in (8, 9):
+        fed.turn(newest)
+    until(lambda: any("decisions/1001.json 204" in it for it in fed.lines), 3, "the answer")
+    assert any("ask/1001 200 Late: answered after 0.9" in it or "ask/1001 200 Late: answered after 1.0" in it for it in fed.lines), fed.lines
+    for newest in range(10, 19):
+        fed.turn(newest)
+    assert "1001-4.ts" in shown_by(f"http://127.0.0.1:{port}/channels/news")
+
+
+def test_other_channels_do_not_wait(room):
+    server, controller = room.server(Decider(pause=3)), room.server(FakeController())
+    room.write("a.m3u8", named("cue-elemental").listed(11))
+    room.write("b.m3u8", named("cue-elemental").listed(11))
+    at = f"at = {controller.url}\nbase = http://origin.example/i.m3u8\nhold = 0.9\n"
+    sections = f"[DEFAULT]\n{at}[a]\norigin = {room.path}/a.m3u8\nask = {server.url}\ndecisions = {room.path}/d\n[b]\norigin = {room.path}/b.m3u8\n"
+    feed = room.feed("--config", room.write("feed.ini", sections))
+    for name in "ab":
+        feed.sees(f" {name} adsplice 204 -: the list is taken")
+    room.write("a.m3u8", named("cue-elemental").listed(12))
+    until(lambda: server.questions, 5, "the question")
+    room.write("b.m3u8", named("cue-elemental").listed(12))
+    feed.sees(" b breaks/cue-12 - Begins", 0.7)
+    assert feed.end(signal.SIGTERM) == 0
+
+
+def test_wrong_settings_are_told(room):
+    said = {"origin": "http://127.0.0.1/i.m3u8", "at": "http://127.0.0.1:1"}
+    settings_of = modules()["settings"].settings_of
+    for more, owed in (({"ask": "http://h/"}, "ask needs decisions"), ({"ask": "ftp://h", "decisions": room.path}, "isn't a URL"), ({"hold": "-1"}, "isn't a number of seconds"),
+                       ({"signals": "0x10"}, "signals is auto, no, or types of 0x22, 0x30"), ({"signals": "yes"}, "and not yes"), ({"nearest": "half"}, "nearest is yes or no"),
+                       ({"ask": "folder", "decisions": room.path, "signals": "no"}, "ask needs signals")):
+        try:
+            settings_of("news", said | more)
+            raise AssertionError(more)
+        except modules()["settings"].Fault as fault:
+            assert owed in str(fault), (more, str(fault))
+    found = settings_of("news", said | {"signals": "0x34, 54", "hold": "0", "ask": "folder", "decisions": room.path, "nearest": "no"})
+    assert (found.types, found.hold, found.ask, found.nearest, found.signals) == (frozenset({0x34, 0x36}), 0.0, "folder", False, True)
