@@ -1,4 +1,5 @@
-"""The first channel's plant: a packager, two processes of adsplice behind nginx, relays, and a site for page and media."""
+"""The first channel's plant: a packager, two processes of adsplice behind nginx, relays, an ad server, a site for page and media."""
+import json
 import os
 import shutil
 import subprocess
@@ -9,14 +10,18 @@ import media
 from relay import Relay, listen
 from tools import HERE, ROOT, configure_nginx, free_ports, request, wait_for, write_aside
 
-# The page, the media, the master playlists and `why`: what a real plant has on its own servers.
+# The page, the media, the master playlists, `why` and what was asked: what a real plant has on its own servers. The page may read
+# from this host alone, whatever its address says.
 SITE = """
-    types { text/html html; video/mp2t ts; application/vnd.apple.mpegurl m3u8; }
+    types { text/html html; text/css css; text/javascript js; video/mp2t ts; application/vnd.apple.mpegurl m3u8; }
     server {
         listen HOST:PORT;
         root ROOM/site;
         add_header Access-Control-Allow-Origin "*";
+        add_header Content-Security-Policy "default-src 'none'; script-src 'self'; style-src 'self'; connect-src http://$host:*; media-src http://$host:* blob:; base-uri 'none'; form-action 'none'; frame-ancestors 'none'";
+        add_header X-Content-Type-Options nosniff;
         location ~ "^/channels/[a-z0-9-]+/why$" { proxy_pass http://adsplice; }
+        location = /asked { proxy_pass http://127.0.0.1:ASKED; }
     }
 """
 
@@ -28,17 +33,18 @@ class Plant:
         """`port`, `viewers`, `operator`: of the page, of viewers' playlists, and for PUTs; `tell` prints what is done next."""
         self.processes, self.room, self.renditions = processes, room, renditions
         self.site, self.viewers = f"http://{host}:{port}", f"http://{host}:{viewers}"
-        self.ports = free_ports(2)
+        *self.ports, self.decider = free_ports(3)
         self.operator = f"http://127.0.0.1:{operator}"
         self.relays = []
         processes.stops.append(self.stop)
         os.makedirs(f"{room}/site/media/programme")
-        shutil.copy(f"{HERE}/watch.html", f"{room}/site/index.html")
+        for name, copy in (("watch.html", "index.html"), ("watch.css", "watch.css"), ("watch.js", "watch.js")):
+            shutil.copy(f"{HERE}/{name}", f"{room}/site/{copy}")
         tell("makes the advertisements")
         media.make_ads(f"{room}/site/media/ads", renditions)
         tell("starts adsplice, nginx, the packager and the feed")
         self.running = {it: processes.adsplice(program, it) for it in self.ports}
-        server = SITE.replace("HOST", host).replace("PORT", str(port)).replace("ROOM", room)
+        server = SITE.replace("HOST", host).replace("PORT", str(port)).replace("ROOM", room).replace("ASKED", str(self.decider))
         self.configuration = configure_nginx(room, self.ports, f"{host}:{viewers}", operator, server)
         self.nginx = processes.nginx(self.configuration)
         wait_for(operator)
@@ -58,15 +64,25 @@ class Plant:
         """The channels of a programme, one for each rendition."""
         return [f"{name}-{n}" for n in range(1, self.renditions + 1)]
 
-    def programme(self, name, plan, words=()):
-        """Starts a programme as a ladder with a plan of breaks: a channel for each rendition, one feed for all, with these words
-        more, and the master playlist; answers the relays, which share their list of faults."""
-        relays = [self.relay(it, plan, n) for n, it in enumerate(self.names(name), 1)]
+    def decide(self, plan):
+        """Starts an ad decision server with a rotation of pods for a plan's breaks: ads a and b, b and a, and none; answers the address
+        at which it is asked."""
+        pods = [media.pod(media.pod_kinds(kinds, plan.length), f"{self.site}/media/ads/{{}}", plan.cut) for kinds in (("ad a", "ad b"), ("ad b", "ad a"))]
+        write_aside(f"{self.room}/pods.json", json.dumps([*pods, None]))
+        self.processes.start([f"{HERE}/decision_server", f"{self.room}/pods.json", "--port", str(self.decider)], stderr=None)
+        wait_for(self.decider)
+        return f"http://127.0.0.1:{self.decider}/decide"
+
+    def programme(self, name, plan, words=(), kind=Relay, ask=None):
+        """Starts a programme as a ladder with a plan of breaks: a channel for each rendition with a kind of relay, one feed for all,
+        with these words more, and the master playlist. `ask`: the address of its ad server. Answers the relays, which share their list
+        of faults."""
+        relays = [self.relay(it, plan, n, kind) for n, it in enumerate(self.names(name), 1)]
         folder = f"{self.room}/feed/{name}-{{}}"
         numbers = " ".join(str(n) for n in range(1, self.renditions + 1))
         write_aside(f"{self.room}/feed/{name}.ini", f"[{name}]\nrenditions = {numbers}\nat = {self.operator}\norigin = {folder}/index.m3u8\n"
                     f"base = {self.site}/media/programme/{{}}/index.m3u8\ndecisions = {folder}/decisions\nfallback = {folder}/fallback.json\n"
-                    f"keep = {self.room}/feed/kept\n")
+                    f"keep = {self.room}/feed/kept\n" + (f"ask = {ask}\n" if ask else ""))
         write_aside(f"{self.room}/site/{name}.m3u8", media.master([self.playlist(it) for it in self.names(name)]))
         self.start_feed(name, relays, words)
         for it in relays:

@@ -1,8 +1,9 @@
-"""The relay of the first channel: between the packager and adsplice-feed, it signals breaks and decides them.
+"""The relays of the first channel: between the packager and adsplice-feed, they signal breaks; a `Relay` decides them, too.
 
-In a real plant two parties do this: the encoder turns the cue of the programme (SCTE 35) into a date range, and an ad server
-chooses the advertisements. Here one loop does it by the clock of the segments: it writes the signalled list to a file, which
-adsplice-feed reads and gives to adsplice, and the decisions into the feed's folder.
+In a real plant the encoder turns the cue of the programme (SCTE 35) into signals, and an ad server chooses the advertisements.
+Here a loop does it by the clock of the segments: it writes the signalled list to a file, which adsplice-feed reads and gives to
+adsplice. A `Relay` writes date ranges ten seconds ahead, and the decisions into the feed's folder. A `Signaller` writes tags
+where a break begins and ends, as most packagers do: adsplice-feed translates them, and asks the ad server.
 """
 import json
 import os
@@ -17,6 +18,8 @@ from tools import ROOT, write_aside
 
 # A splice_info_section with a splice_insert that leaves the network (ANSI/SCTE 35, 9.6 and 9.7.3)
 OUT = "0xFC302000000000000000FFF00F05000000017FFFFE002932E00001" + "0" * 16
+# Two with a time_signal each: Provider Placement Opportunity Start and End (9.7.4 and 10.3.3), in base64
+START, END = "/DAjAAAAAAAAAP/wAQZ/ABECD0NVRUkAAAABf78AADQBAUfYX1Y=", "/DAjAAAAAAAAAP/wAQZ/ABECD0NVRUkAAAABf78AADUBAUYA89E="
 
 
 class Plan:
@@ -147,3 +150,24 @@ class Relay:
         self.start_feed(processes)
         self.thread.start()
         return self
+
+
+class Signaller(Relay):
+    """A relay that signals by tags, and decides nothing."""
+
+    def tags(self, segment):
+        """The tags before a segment of the programme."""
+        turn, place = divmod(segment - self.plan.first, self.plan.every)
+        if turn >= 0 and place == 0:
+            return [f"#EXT-OATCLS-SCTE35:{START}", f"#EXT-X-CUE-OUT:{self.plan.length * media.SECONDS}"]
+        return [f"#EXT-OATCLS-SCTE35:{END}", "#EXT-X-CUE-IN"] if turn >= 0 and place == self.plan.length else []
+
+    def signalled(self, text):
+        """The packager's playlist with the tags before their segments."""
+        number, lines = int(re.search(r"^#EXT-X-MEDIA-SEQUENCE:(\d+)$", text, re.M)[1]), []
+        for line in text.split("\n"):
+            if line.startswith("#EXTINF:"):
+                lines += self.tags(number)
+                number += 1
+            lines.append(line)
+        return "\n".join(lines)

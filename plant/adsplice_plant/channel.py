@@ -6,24 +6,24 @@ import time
 from collections.abc import Callable
 from pathlib import Path
 
-from . import decisions, faults, playlist
+from . import decisions, faults
 from .decisions import Decision, Folder
 from .journal import Event, Journal
+from .lists import Lists
 from .origin import CUT_OFF, FileOrigin, Origin, Read, WebOrigin, read_whole
 from .pauses import Pauses
 from .settings import Settings
+from .signalling import Signalling
 from .web import Answer, Client
 from .words import now_text
 
-REFUSALS = 2  # in a row that make a channel anew
-LAGS = {"N5", "N7"}  # faults of a list that may only lag: these have to last for a target duration, too
-MOST_REFUSALS = 32  # if it has to be made anew again and again
-QUIET = 60.0  # seconds without a refusal after which two are enough again
 OFTEN = 0.25  # seconds between two looks at a file, and the least between two at a URL
 SOON = 1.0  # seconds to the next look if the target duration isn't known
+STAYS = "if that stays, only a new channel takes it, which a person makes by a DELETE of this one"
 JUDGED = {409, 413, 422}  # statuses by which adsplice refuses what it was given; after others the same is tried again with pauses
 
 READ = ("200", "")  # the state of an origin that is read
+QUIET = ("list", "numbers")  # of which it isn't told that all is well at first
 
 Say = Callable[[str], None]
 
@@ -32,7 +32,8 @@ class Channel:
     """The feed of the channel that `settings` tell of. `client` makes its requests, and `say` prints a line. Each of its
     states is told once: one that is as it was isn't told again."""
 
-    def __init__(self, settings: Settings, client: Client, say: Say, longest_pause: float, keep_days: float) -> None:
+    def __init__(self, settings: Settings, client: Client, say: Say, longest_pause: float, keep_days: float, signalling: Signalling | None = None) -> None:
+        """`signalling`: that of the programme, if another rendition has one already."""
         self.settings, self.client, self.say = settings, client, say
         self.url = f"{settings.at}/channels/{settings.name}"
         self.origin: Origin = WebOrigin(settings.origin, client) if settings.is_web() else FileOrigin(Path(settings.origin))
@@ -41,14 +42,11 @@ class Channel:
         self.journal = Journal(settings.keep / f"{settings.name}.events", self.opening) if settings.keep else None
         self.away, self.missing = Pauses(0.5, longest_pause), Pauses(0.5, longest_pause)
         self.fallback_stamp: tuple[int, int, int] | None = None  # of the file that was given
-        self.list: bytes | None = None  # the newest whole one
-        self.is_made = self.is_pushed = False
-        self.target: int | None = None
-        self.listed: set[str] = set()
+        self.is_made = False
         self.states: dict[str, tuple[str, str]] = {}
-        self.refused = 0  # lists in a row
-        self.since = 0.0  # when the first of these was refused
-        self.patience, self.remade = REFUSALS, 0.0
+        self.signalling = signalling or Signalling(settings.programme or settings.name, settings, client, say, self.answered)
+        self.signalling.join(settings.rendition(), self.folder)
+        self.lists = Lists(settings, self.tell, self.tell_repair, self.signalling)
 
     # ---- telling
 
@@ -58,8 +56,14 @@ class Channel:
         state = (str(status or "-"), fault)
         if self.states.get(who) == state:
             return
+        is_first = who not in self.states
         self.states[who] = state
-        self.say(f"{now_text()} {self.settings.name} {who} {status or '-'} {fault or '-'}: {text}")
+        if text and not (is_first and who in QUIET and not fault):
+            self.say(f"{now_text()} {self.settings.name} {who} {status or '-'} {fault or '-'}: {text}")
+
+    def tell_repair(self, kind: str, text: str) -> None:
+        """Prints the line of a repair of the packager's lists."""
+        self.say(f"{now_text()} {self.settings.name} list - Repaired: {text}")
 
     def note(self, what: str, answer: Answer, body: bytes = b"") -> None:
         """Keeps an event for the monitor and the explainer."""
@@ -103,7 +107,9 @@ class Channel:
         if answer.status not in (201, 409):
             self.failed(answer, "makes the channel as soon as it can")
             return False
-        self.is_made, self.is_pushed = True, False
+        self.is_made = True
+        if answer.status == 201:
+            self.lists.begin_anew()
         self.folder.start_anew()
         self.folder.look()
         text = "makes the channel" if answer.status == 201 else "the channel is there already; goes on with it"
@@ -137,6 +143,13 @@ class Channel:
             if not self.give(it):
                 return False
         return True
+
+    def answered(self) -> None:
+        """The answer to a question is in the folder: gives it at once."""
+        with self.together:
+            if self.is_made:
+                self.folder.look()
+                self.decide()
 
     def give(self, decision: Decision) -> bool:
         """Gives one decision file; whether the feed may go on."""
@@ -189,62 +202,37 @@ class Channel:
     # ---- lists
 
     def push(self) -> bool:
-        """PUTs the newest list; whether that is over, and not to be tried again with a pause."""
-        assert self.list is not None
-        answer = self.put("origin", self.list)
-        line = answer.line()
-        if answer.status == 204:
-            self.taken()
-            return True
-        if answer.status not in JUDGED:
-            self.gone(answer)
-            return False
-        self.is_pushed = not faults.follows_badly(line)  # (one that doesn't read needn't be sent again)
-        if faults.follows_badly(line):
-            return self.refuse(answer)
-        self.tell("adsplice", answer.status, line, f"{faults.meaning(answer.status, line)}; waits for the next list")
+        """PUTs each list that is to be pushed; whether that is over, and not to be tried again with a pause."""
+        while (text := self.lists.next()) is not None:
+            self.lists.save()
+            answer = self.put("origin", text)
+            line = answer.line()
+            if answer.status == 204:
+                self.taken()
+            elif answer.status not in JUDGED:
+                self.gone(answer)
+                return False
+            else:
+                self.lists.refused()
+                what = f"{faults.meaning(answer.status, line)}" + (f" ({line})" if faults.follows_badly(line) else "")
+                does = f"; {STAYS}" if faults.follows_badly(line) else ""
+                self.tell("adsplice", answer.status, line, f"{what}; waits for the next list{does}")
         return True
 
     def taken(self) -> None:
-        """A list was taken."""
-        self.is_pushed = True
-        if time.monotonic() - self.remade > QUIET:
-            self.patience = REFUSALS
-        text = f"the list is taken again, after {self.refused} that followed badly" if self.refused else "the list is taken"
-        self.refused = 0
-        self.tell("adsplice", 204, "", text)
-
-    def refuse(self, answer: Answer) -> bool:
-        """A list doesn't follow the last one. If that stays, the channel is made anew; whether that came to its end."""
-        self.refused += 1
-        self.since = time.monotonic() if self.refused == 1 else self.since
-        name = faults.name_of(answer.line())
-        what = f"{faults.meaning(answer.status, answer.line())} ({answer.line()})"
-        lasts = self.longest() if faults.code_of(name) in LAGS else 0.0
-        if self.refused < self.patience or time.monotonic() - self.since < lasts:
-            at = f"refusal {self.patience} in a row" + (f", after {lasts:g} s at the earliest" if lasts else "")
-            self.tell("adsplice", answer.status, name, f"{what}; tries again, and makes the channel anew at {at}")
-            return True
-        self.states.pop("adsplice", None)
-        self.tell("adsplice", answer.status, name, f"{what}; it stays so: deletes the channel and makes it anew")
-        self.patience = min(MOST_REFUSALS, self.patience * 2)
-        self.remade, self.refused, self.is_made = time.monotonic(), 0, False
-        gone = self.client.ask("DELETE", self.url)
-        self.note("delete", gone)
-        if gone.status not in (204, 404):
-            self.failed(gone, "tries again with growing pauses")
-            return False
-        return self.again()
+        """A list was taken: learns its numbers, and tells of it."""
+        if self.lists.taken():
+            answer = self.client.ask("GET", f"{self.url}/live.m3u8")
+            if answer.status == 200:
+                self.lists.see(answer.body)
+        self.tell("adsplice", 204, "", "the list is taken")
 
     # ---- turns
 
     def look(self, found: Read) -> None:
         """Takes in what was `found` at the origin, and what its list lists if that is new."""
         if found.body is not None:
-            if found.body != self.list:
-                self.list, self.is_pushed = found.body, False
-                listed = playlist.read(found.body)
-                self.target, self.listed = listed.target or self.target, listed.ids()
+            self.lists.came_in(found.body)
         if found.moved:
             self.tell("redirect", found.status, "", f"the origin leads to {found.moved}; references stay relative to {self.settings.base} (--base)")
         if found.why:
@@ -255,12 +243,12 @@ class Channel:
 
     def interval(self) -> float:
         """The seconds from one look at the origin to the next: half of the target duration, and of a file no more than OFTEN."""
-        pause = max(OFTEN, self.target / 2) if self.target else SOON
+        pause = max(OFTEN, self.lists.target / 2) if self.lists.target else SOON
         return pause if self.settings.is_web() else min(pause, OFTEN)
 
     def longest(self) -> float:
         """The seconds that a pause before another trial may grow to: a target duration."""
-        return max(1.0, float(self.target or SOON))
+        return max(1.0, float(self.lists.target or SOON))
 
     def turn(self) -> float:
         """One turn: looks at the origin and the folder, gives adsplice what is new, and answers the seconds to the next one."""
@@ -272,11 +260,13 @@ class Channel:
     def take_turn(self, found: Read, begun: float) -> float:
         """The turn that began at `begun`, once `found` was found at the origin; answers the seconds to the next one."""
         self.look(found)
+        self.lists.prepare()
+        self.signalling.wait(self.settings.rendition())
         self.folder.look()
         if not self.give_all():
             return min(self.away.next(), self.longest())
         self.away.reset()
-        for it in self.folder.retire(self.listed) if self.list is not None else []:
+        for it in self.folder.retire(self.lists.listed) if self.lists.listed is not None else []:
             self.tell(f"decisions/{it.path.name}", 0, "", f"{', '.join(it.ids)} is no longer listed; moves the file to done")
             self.states.pop(f"decisions/{it.path.name}", None)
         if found.why:
@@ -295,10 +285,8 @@ class Channel:
             self.tell("fallback", 204, "", "the file has changed: sets it anew")
         if not self.decide():
             return self.is_made is False and self.again()
-        if self.list is None or self.is_pushed:
-            return True
         return self.push() or (self.is_made is False and self.again())
 
     def again(self) -> bool:
         """adsplice was started anew: makes the channel, and gives it all that is open, at once; whether all was answered."""
-        return self.make() and self.decide() and (self.list is None or self.push())
+        return self.make() and self.decide() and self.push()

@@ -19,8 +19,12 @@ HELP = """Reads a packager's playlist and gives it to adsplice, with the decisio
 
 The origin is asked at half the target duration. Its list is PUT when it changed, and as a whole: one that is cut off within
 its last line is read again. The channel is made if it isn't there, with the fallback and the open decisions before the
-first list. A list that doesn't follow the last one (N1 to N9) twice in a row makes the channel anew. If the origin or
-adsplice is away, it is tried again with pauses that grow to a target duration, for ever.
+first list, and is never deleted. If the origin or adsplice is away, it is tried again with pauses that grow to a target
+duration, for ever.
+
+A list that breaks RFC 8216 is put right, and each kind of repair is told once (--repair no pushes lists as they are). One in
+which nothing is wrong is pushed as it came. Media numbers go on when the packager begins again, when adsplice was started anew,
+and, with --keep, when the feed was. A list without a segment of the last one is taken if it stays so for a target duration.
 
 Decision files (*.json) that are renamed into DIR are given to adsplice, stay there while their breaks are listed, are given
 again after a new start, and are then moved to DIR/done. One that is refused stays, and is taken once it is written anew.
@@ -63,9 +67,18 @@ def read_words(arguments: list[str]) -> argparse.Namespace:
     it.add_argument("--tolerance", metavar="SECONDS", help="the channel's tolerance (adsplice's own is 0.1)")
     it.add_argument("--decisions", metavar="DIR")
     it.add_argument("--fallback", metavar="FILE", help="a decision file with a fallback, given whenever the channel is made")
-    it.add_argument("--keep", metavar="DIR", help="keeps NAME.events there, for adsplice-monitor and adsplice-explain")
+    it.add_argument("--keep", metavar="DIR", help="keeps NAME.events there, for adsplice-monitor and adsplice-explain, and NAME.numbers for itself")
     it.add_argument("--renditions", metavar="NAMES", help="a ladder: a channel NAME-R for each rendition R of NAMES, such as '1080 720 360'")
     it.add_argument("--unended", action="store_const", const="yes", help="the packager never ends its last line: take it so")
+    yes_or_no = ("yes", "no")
+    it.add_argument("--repair", choices=yes_or_no, help="puts the packager's lists right (yes)")
+    it.add_argument("--target", metavar="SECONDS", help="the target duration of all lists (that of the first one)")
+    it.add_argument("--endless", choices=yes_or_no, help="leaves EXT-X-ENDLIST out, so that the packager can begin again (yes)")
+    it.add_argument("--times", choices=yes_or_no, help="adds EXT-X-PROGRAM-DATE-TIME by this machine's clock if none is stated (yes)")
+    it.add_argument("--signals", metavar="TYPES", help="auto (the usual), no, or the segmentation types that begin a break, such as '0x34 0x36'")
+    it.add_argument("--nearest", choices=("yes", "no"), help="puts a break's start on the begin of a segment that is near (yes)")
+    it.add_argument("--ask", metavar="URL", help="where each break's decision is asked for: an ad server, or the word folder")
+    it.add_argument("--hold", metavar="SECONDS", help="that a list may wait for an answer (1, and below half a target duration)")
     it.add_argument("--timeout", type=words.seconds, default=5.0, metavar="SECONDS", help="for a request with its answer (5)")
     it.add_argument("--longest-pause", type=words.seconds, default=5.0, metavar="SECONDS", help="between two trials (5, and no more than a target duration)")
     it.add_argument("--keep-days", type=float, default=7.0, metavar="DAYS", help="that files are kept in DIR/done (7)")

@@ -11,11 +11,12 @@ import threading
 import time
 from dataclasses import replace
 
-from . import faults, playlist
+from . import faults, packaged, playlist
 from .channel import JUDGED, Channel, Say
 from .decisions import Decision
-from .playlist import SECOND, Listed
+from .playlist import SECOND
 from .settings import Settings
+from .signalling import Signalling
 from .web import Answer, Client
 from .words import now_text
 
@@ -32,17 +33,21 @@ class Rendition(Channel):
     """The feed of one rendition of the `ladder`; the rest is as in Channel."""
 
     def __init__(self, settings: Settings, client: Client, say: Say, longest_pause: float, keep_days: float, ladder: Ladder) -> None:
-        super().__init__(settings, client, say, longest_pause, keep_days)
-        self.ladder, self.together = ladder, ladder.lock
+        super().__init__(settings, client, say, longest_pause, keep_days, ladder.signalling)
+        self.ladder, self.together, ladder.signalling = ladder, ladder.lock, self.signalling
         self.tolerance = playlist.read_duration(settings.tolerance) if settings.tolerance else TOLERANCE
-        self.newest, self.reached = Listed(), 0  # of the newest list; the instant at which the last segment that was taken begins
+        self.reached = 0  # the instant at which the last segment that was taken begins
         self.debts: list[bytes] = []  # withdrawals that come before its next list
         ladder.members.append(self)
 
+    def answered(self) -> None:
+        """The answer to a question is in the renditions' folders: gives it at once."""
+        with self.together:
+            if all(it.is_made for it in self.ladder.members):
+                self.ladder.decide()
+
     def give_all(self) -> bool:
         """Gives what is new to the ladder, and the list to this rendition; whether all was answered."""
-        if self.list is not None and not self.is_pushed:
-            self.newest = playlist.read(self.list)
         return self.ladder.give_all(self)
 
     def again(self) -> bool:
@@ -50,7 +55,7 @@ class Rendition(Channel):
         return self.ladder.again(self)
 
     def push(self) -> bool:
-        """PUTs the newest list, once what has to be withdrawn is; whether that is over."""
+        """PUTs each list that is to be pushed, once what has to be withdrawn is; whether that is over."""
         while self.debts:
             answer = self.put("decisions", self.debts[0])
             if answer.status != 204 and answer.status not in JUDGED:
@@ -62,11 +67,24 @@ class Rendition(Channel):
     def taken(self) -> None:
         """A list was taken."""
         super().taken()
-        self.reached = max((it.begins or 0 for it in self.newest.segments), default=0)
+        self.reached = max((it.begins or 0 for it in self.lists.stands.repairer.last), default=0)
 
-    def anew(self) -> None:
-        """Its channel was made: all is to be given to it again."""
-        self.is_made, self.is_pushed, self.refused, self.reached, self.debts = True, False, 0, 0, []
+    def is_answered(self) -> bool:
+        """Whether its last list was taken."""
+        return self.states.get("adsplice", ("", ""))[0] == "204"
+
+    def starts(self) -> dict[str, int]:
+        """When each break of its newest list begins, in nanoseconds from 1970."""
+        found = [packaged.attributes_of(line.partition(":")[2]) for line in self.lists.newest.date_ranges()]
+        said = [(it.get("ID"), packaged.instant_of(it.get("START-DATE", ""))) for it in found]
+        return {name: start for name, start in said if name and start is not None}
+
+    def anew(self, is_new: bool) -> None:
+        """Its channel is there, and all is to be given to it again; `is_new`: it was made."""
+        self.is_made, self.debts = True, []
+        if is_new:
+            self.reached = 0
+            self.lists.begin_anew()
         self.folder.start_anew()
         self.folder.look()
 
@@ -78,9 +96,11 @@ class Ladder:
         self.name, self.say = name, say
         self.lock = threading.RLock()
         self.members: list[Rendition] = []
+        self.signalling: Signalling | None = None
         self.states: dict[str, str] = {}
         self.step_since = 0.0  # since when the channels wait for lists in step; 0 if they don't
         self.held: dict[str, float] = {}  # files that a rendition which is away holds up, and since when
+        self.given_up: set[str] = set()  # those of them without which the others have gone on
         self.is_resumed = False  # the channels were there when the feed began: a break that has begun has the pod that it is given again
         self.seen: dict[str, float] = {}  # files that aren't there in all renditions, and since when
 
@@ -92,13 +112,14 @@ class Ladder:
 
     def target(self) -> float:
         """The target duration in seconds; one second if it isn't known."""
-        return float(max((it.target or 1 for it in self.members), default=1))
+        return float(max((it.lists.target or 1 for it in self.members), default=1))
 
     # ---- making the channels
 
     def is_in_step(self) -> bool:
         """Whether all renditions' newest lists have the same first and last media number."""
-        return len({(it.newest.first, len(it.newest.segments)) for it in self.members}) == 1 and bool(self.members[0].newest.segments)
+        listed = [it.lists.newest.segments for it in self.members]
+        return all(listed) and len({(it[0].number, len(it)) for it in listed}) == 1
 
     def give_all(self, one: Rendition) -> bool:
         """Gives what is new to all renditions, and its list to `one`; whether all was answered."""
@@ -106,45 +127,41 @@ class Ladder:
             return self.again(one)
         if not self.decide():
             return not all(it.is_made for it in self.members) and self.again(one)
-        if one.list is None or one.is_pushed:
-            return True
         if not one.push():
             return not one.is_made and self.again(one)
         self.compare()
         return True
 
     def again(self, one: Rendition) -> bool:
-        """Makes all channels anew, once their lists are in step, and gives each all that is open; whether all was answered."""
+        """Makes the channels that aren't there, and gives each all that is open; whether all was answered. Channels that never were
+        there wait until their lists are in step; the others go on with the numbers that viewers have."""
         now = time.monotonic()
         self.step_since = self.step_since or now
-        if not self.is_in_step() and now - self.step_since < STEP * self.target():
+        is_first = not all(it.lists.stands.repairer.last for it in self.members)
+        if is_first and not self.is_in_step() and now - self.step_since < STEP * self.target():
             return True
-        if not self.is_in_step():
+        if is_first and not self.is_in_step():
             self.tell("ladder", "Unequal", "the renditions' lists don't begin and end with the same media numbers; makes the channels all the same")
         if not self.make(one) or not self.decide(is_anew=True):
             return False
         self.step_since, self.is_resumed = 0.0, False
-        pushed = [it.push() for it in self.members if it.list is not None]
+        pushed = [it.push() for it in self.members]
         self.compare()
         return all(pushed)
 
     def make(self, one: Rendition) -> bool:
-        """Makes the channels. If some of them are new, those that were there are made anew with them; whether all are there."""
-        answers = {it: it.put("", it.settings.body()) for it in self.members}
-        if 201 in {it.status for it in answers.values()}:
-            for it in [it for it, answer in answers.items() if answer.status == 409]:
-                gone = it.client.ask("DELETE", it.url)
-                it.note("delete", gone)
-                answers[it] = it.put("", it.settings.body()) if gone.status in (204, 404) else gone
+        """Makes the channels that aren't there; whether all are there."""
+        answers = {it: it.put("", it.settings.body()) for it in self.members if not it.is_made}
         for it, answer in answers.items():
             if answer.status not in (201, 409):
                 one.failed(answer, f"makes {it.settings.name} with the other renditions as soon as it can")
                 return False
         for it, answer in answers.items():
-            it.anew()
+            it.anew(answer.status == 201)
             it.states.pop("adsplice", None)
             it.tell("adsplice", answer.status, "", "makes the channel" if answer.status == 201 else "the channel is there already; goes on with it")
         self.held.clear()
+        self.given_up.clear()
         self.is_resumed = all(it.status == 409 for it in answers.values())
         return True
 
@@ -192,7 +209,8 @@ class Ladder:
     def give_file(self, name: str) -> bool:
         """Gives the decision that the renditions have in files of the name `name`; whether the feed may go on."""
         found = [(it, decision) for it in self.members if (decision := it.folder.named(name)) is not None]
-        late = self.begun(sorted({id_ for _, decision in found for id_ in decision.ids}))
+        is_given = any(decision.state == "given" for _, decision in found)  # (and one channel was made anew since)
+        late = [] if is_given else self.begun(sorted({id_ for _, decision in found for id_ in decision.ids}))
         absent = [it.settings.name for it in self.members if it.folder.named(name) is None]
         if absent:
             return self.wait_for_rest(name, found, absent, late)
@@ -237,15 +255,17 @@ class Ladder:
         """Those of the breaks `ids` that have begun in a list that a rendition has taken."""
         starts: dict[str, int] = {}
         for it in self.members:
-            starts |= {found.id: start for found in it.newest.ranges if (start := found.start()) is not None}
+            starts |= it.starts()
         return [id_ for id_ in ids if id_ in starts and any(it.reached >= starts[id_] - (it.tolerance or 0) for it in self.members)]
 
     def give(self, name: str, group: Group) -> bool:
         """Gives the decision `name` of `group` to all renditions, or to none; whether the feed may go on."""
-        if name in self.held and time.monotonic() - self.held[name] > HELD * self.target():
-            return True  # (given once the rendition that is away is back, and all are made anew)
+        if name in self.given_up and not all(it.is_answered() for it in self.members):
+            return True
         answers = []
         for it, decision in group:
+            if (file := it.folder.named(name)) is not None and file.state == "given":
+                continue  # (its channel was there while another one was made anew)
             answers.append((it, it.put("decisions", decision.body)))
             if answers[-1][1].status in JUDGED and faults.code_of(answers[-1][1].line()) not in (("J9", "J11") if self.is_resumed else ("J11",)):
                 return self.take_back(name, group, *answers[-1])
@@ -253,6 +273,8 @@ class Ladder:
             return self.hold(name, group, away)
         for it, decision in group:
             it.folder.given(it.folder.named(name) or decision)
+        self.held.pop(name, None)
+        self.given_up.discard(name)
         text = Channel.taken_text(group[0][1])
         self.tell(f"decisions/{name}", "", f"{text} in all renditions")
         return True
@@ -289,12 +311,13 @@ class Ladder:
         the decision. Whether the feed may go on."""
         for it, answer in away:
             it.gone(answer)
-        if len(away) == len(group) or any(not it.is_made for it, _ in away):
+        if len(away) == len(self.members) or any(not it.is_made for it, _ in away):
             return False
         if time.monotonic() - self.held.setdefault(name, time.monotonic()) <= HELD * self.target():
             return False
         self.withdraw(group)
-        self.tell(f"decisions/{name}", "Away", f"{', '.join(it.settings.name for it, _ in away)} doesn't answer; no rendition is given it until all are made anew")
+        self.given_up.add(name)
+        self.tell(f"decisions/{name}", "Away", f"{', '.join(it.settings.name for it, _ in away)} doesn't answer; no rendition is given it until all answer")
         return True
 
     # ---- numbers
@@ -302,7 +325,7 @@ class Ladder:
     def compare(self) -> None:
         """Compares the written numbers of the renditions once all have taken lists of the same media numbers, and tells where
         they come apart."""
-        if not self.is_in_step() or not all(it.is_pushed and it.states.get("adsplice", ("", ""))[0] == "204" for it in self.members):
+        if not self.is_in_step() or not all(it.is_answered() and not it.lists.is_open for it in self.members):
             return
         answers = {it: it.client.ask("GET", f"{it.url}/live.m3u8") for it in self.members}
         if any(it.status != 200 for it in answers.values()):

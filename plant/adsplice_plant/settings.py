@@ -6,11 +6,13 @@ from collections.abc import Mapping
 from dataclasses import dataclass, replace
 from pathlib import Path
 
-from . import words
+from . import splice, words
 from .words import Fault
 
-NAMES = ("origin", "at", "base", "tolerance", "decisions", "fallback", "keep", "unended", "renditions")
+NAMES = ("origin", "at", "base", "tolerance", "decisions", "fallback", "keep", "unended", "renditions", "repair", "target", "endless", "times",
+         "signals", "nearest", "ask", "hold")
 PLACE = "{}"  # of a rendition's name in the texts of a ladder's section
+FOLDER = "folder"  # in place of a URL: who decides watches the folder of decisions
 
 
 @dataclass(frozen=True)
@@ -18,7 +20,11 @@ class Settings:
     """One channel: its `name`, the `origin` of its list (a URL or a file), adsplice's address `at`, the `base` of its
     references, a `tolerance` in seconds, the folder of `decisions`, the `fallback` file, the folder `keep` of what is kept for
     the monitor and the explainer, whether its packager leaves the last line `unended`, and the `programme` whose rendition it
-    is, if it is one of a ladder."""
+    is, if it is one of a ladder. Of its lists: whether the feed puts them right (`repair`), the `target` duration in seconds
+    (that of the first list, if none), whether the channel is `endless`, and whether `times` are added if none are stated. Of its
+    signals: whether they are translated (`signals`), the segmentation `types` that begin a break if some are named, and whether a
+    start is put on the `nearest` segment; where to `ask` for a break's decision (a URL, FOLDER, or nowhere), and how many seconds a
+    list may wait for it (`hold`)."""
 
     name: str
     origin: str
@@ -30,6 +36,19 @@ class Settings:
     keep: Path | None = None
     unended: bool = False
     programme: str = ""
+    repair: bool = True
+    target: int | None = None
+    endless: bool = True
+    times: bool = True
+    signals: bool = True
+    types: frozenset[int] | None = None
+    nearest: bool = True
+    ask: str = ""
+    hold: float = 1.0
+
+    def rendition(self) -> str:
+        """The rendition's name; none for a channel by itself."""
+        return self.name[len(self.programme) + 1:] if self.programme else ""
 
     def is_web(self) -> bool:
         """Whether the origin is a URL."""
@@ -81,10 +100,49 @@ def settings_of(name: str, said: Mapping[str, str | None]) -> Settings:
             raise Fault(f"channel {name}: decisions: {path}: {fault.strerror}") from None
     if (path := paths["fallback"]) and not path.is_file():
         raise Fault(f"channel {name}: fallback: there is no file {path}")
-    unended = (said.get("unended") or "no").lower()
-    if unended not in ("yes", "no"):
-        raise Fault(f"channel {name}: unended is yes or no, and not {unended}")
-    return Settings(name, origin, at, base, said.get("tolerance") or "", paths["decisions"], paths["fallback"], paths["keep"], unended == "yes")
+    target = said.get("target") or ""
+    if target and not (target.isascii() and target.isdigit() and 1 <= len(target) <= 5 and int(target)):
+        raise Fault(f"channel {name}: target is a whole number of seconds, and not {target}")
+    found = Settings(name, origin, at, base, said.get("tolerance") or "", paths["decisions"], paths["fallback"], paths["keep"],
+                     is_yes(name, "unended", said, "no"), "", is_yes(name, "repair", said, "yes"), int(target) if target else None,
+                     is_yes(name, "endless", said, "yes"), is_yes(name, "times", said, "yes"))
+    return with_signals(found, said)
+
+
+def with_signals(found: Settings, said: Mapping[str, str | None]) -> Settings:
+    """The settings `found` with what the texts `said` say of signals and of asking; raises Fault."""
+    signals, ask, hold = ((said.get(it) or "").strip() for it in ("signals", "ask", "hold"))
+    try:
+        if ask and ask != FOLDER:
+            words.web_address(ask)
+        if ask and found.decisions is None:
+            raise Fault("ask needs decisions, the folder in which answers become decision files")
+        if ask and signals == "no":
+            raise Fault("ask needs signals: only the breaks that the feed knows are asked for")
+        types = None if signals in ("", "auto", "no") else frozenset(type_of(it) for it in signals.replace(",", " ").split())
+        seconds = 1.0 if not hold else 0.0 if hold == "0" else words.seconds(hold)
+    except (argparse.ArgumentTypeError, Fault) as fault:
+        raise Fault(f"channel {found.name}: {fault}") from None
+    return replace(found, signals=signals != "no", types=types, nearest=is_yes(found.name, "nearest", said, "yes"), ask=ask, hold=seconds)
+
+
+def type_of(text: str) -> int:
+    """The segmentation type `text`, such as 0x34; raises Fault if it begins no span for advertisements (ANSI/SCTE 35, 10.3.3.1)."""
+    try:
+        found = int(text, 0)
+    except ValueError:
+        found = -1
+    if found not in splice.SPANS:
+        raise Fault(f"signals is auto, no, or types of {', '.join(f'0x{it:02X}' for it in sorted(splice.SPANS))}, and not {text}")
+    return found
+
+
+def is_yes(channel: str, name: str, said: Mapping[str, str | None], usual: str) -> bool:
+    """Whether the setting `name` of `channel` is yes by the texts `said`, or, if it isn't there, by what is `usual`; raises Fault."""
+    found = (said.get(name) or usual).lower()
+    if found not in ("yes", "no"):
+        raise Fault(f"channel {channel}: {name} is yes or no, and not {found}")
+    return found == "yes"
 
 
 def read_file(path: Path) -> list[Settings]:

@@ -13,10 +13,12 @@ INSERT = 5  # splice_insert's splice_command_type
 @dataclass(frozen=True)
 class Insert:
     """9.7.3: what a splice_insert says of a break: whether it leaves the network (None if it is cancelled), and its
-    break_duration's ticks."""
+    break_duration's ticks. Its event and whether it is immediate mean nothing to adsplice."""
 
     out_of_network: bool | None = None
     ticks: int | None = None
+    event: int = 0
+    is_immediate: bool = False
 
 
 @dataclass(frozen=True)
@@ -34,13 +36,13 @@ class Bits:
 
     def __init__(self, given: bytes) -> None:
         """All of the bytes are still to be read."""
-        self.given, self.place = given, 0
+        self.given, self.place, self.whole = given, 0, int.from_bytes(given, "big")
 
     def take(self, count: int) -> int:
         """The number in the next bits."""
         if self.place + count > 8 * len(self.given):
             raise Fault("S7")
-        number = int.from_bytes(self.given, "big") >> (8 * len(self.given) - self.place - count)
+        number = self.whole >> (8 * len(self.given) - self.place - count)
         self.place += count
         return number & ((1 << count) - 1)
 
@@ -63,10 +65,9 @@ def break_duration(bits: Bits) -> int:
 def splice_insert(bits: Bits) -> Insert:
     """9.7.3: splice_event_id, a flag that cancels it, and what it says else: its flags, the time of the program or of each
     component unless it is immediate, its duration, three numbers. Reserved bits are read whatever they are (CONFORMANCE)."""
-    bits.take(32)
-    cancelled, _ = bits.take(1), bits.take(7)
+    event, cancelled, _ = bits.take(32), bits.take(1), bits.take(7)
     if cancelled:
-        return Insert()
+        return Insert(event=event)
     out, program, has_duration, immediate, _ = bits.take(1), bits.take(1), bits.take(1), bits.take(1), bits.take(4)
     for _ in range(1 if program else bits.take(8)):
         if not program:
@@ -75,7 +76,7 @@ def splice_insert(bits: Bits) -> Insert:
             splice_time(bits)
     ticks = break_duration(bits) if has_duration else None
     bits.take(32)
-    return Insert(out == 1, ticks)
+    return Insert(out == 1, ticks, event, immediate == 1)
 
 
 def command_at(given: bytes, length: int, kind: int) -> tuple[Insert | None, bytes]:

@@ -98,48 +98,45 @@ def test_redirect_is_followed_and_told(room):
     until(lambda: len(controller.puts("origin")) == 2, 5, "the new list")
 
 
-def test_refusal_that_stays_makes_the_channel_anew(room):
-    origin, controller, feed = started(room, listed(10, 15))
-    controller.refusals[("PUT", "origin")] = [(409, "N6 Gap\n"), (409, "N6 Gap\n")]
-    origin.text = listed(30, 35)
-    after = feed.sees("news adsplice 409 N6 Gap: .*tries again")
-    after = feed.sees("news adsplice 409 N6 Gap: .*it stays so: deletes the channel and makes it anew", 20, after)
-    after = feed.sees("news adsplice 201 -: makes the channel", 20, after)
-    feed.sees("news adsplice 204 -: the list is taken", 20, after)
-    assert controller.count("DELETE", "/channels/news") == 1
+def test_packager_that_begins_again_keeps_the_channel(room):
+    origin, controller, feed = started(room, listed(30, 35))
+    origin.text = listed(0, 5, name="t")
+    after = feed.sees("news list - Held: the list has no segment of the last one; it is taken if it stays so for 2 s")
+    after = feed.sees("news list - Repaired: .*media numbers from 0 on, after 35.*goes on at 36 with one discontinuity .RFC 8216, 6.2.1.", 20, after)
+    until(lambda: len(controller.puts("origin")) == 2, 5, "the new list")
+    text = controller.puts("origin")[1].decode()
+    assert "#EXT-X-MEDIA-SEQUENCE:36\n#EXT-X-DISCONTINUITY-SEQUENCE:0\n#EXT-X-DISCONTINUITY\n#EXTINF:2,\n" in text and text.count("EXT-X-DISCONTINUITY\n") == 1, text
+    assert controller.count("DELETE", "/channels/news") == 0
 
 
-def test_list_that_may_only_lag_is_refused_for_a_target_duration_first(room):
+def test_list_that_lags_is_passed_over(room):
     origin, controller, feed = started(room, listed(10, 15))
-    controller.refusals[("PUT", "origin")] = [(409, "N5 Back\n")] * 2
     origin.text = listed(7, 12)
-    after = feed.sees("news adsplice 409 N5 Back: .*tries again, and makes the channel anew at refusal 2 in a row, after 2 s at the earliest")
-    until(lambda: len(controller.puts("origin")) >= 3, 5, "the second refusal")
+    feed.sees("news list - Lags: the list is older than the last one, and is passed over")
+    time.sleep(2.5)
+    assert len(controller.puts("origin")) == 1
     origin.text = listed(11, 16)
-    feed.sees("news adsplice 204 -: the list is taken again", 20, after)
-    assert controller.count("DELETE", "/channels/news") == 0
-    controller.refusals[("PUT", "origin")] = [(409, "N5 Back\n")] * 9
-    origin.text = listed(0, 5)
-    feed.sees("it stays so: deletes the channel and makes it anew", 20, after)
+    feed.sees("news list - -: the lists go on")
+    until(lambda: len(controller.puts("origin")) == 2, 5, "the new list")
+    assert controller.puts("origin")[1] == listed(11, 16).encode() and controller.count("DELETE", "/channels/news") == 0
 
 
-def test_single_refusal_leaves_the_channel(room):
+def test_refused_list_leaves_the_channel(room):
     origin, controller, feed = started(room, listed(10, 15))
-    controller.refusals[("PUT", "origin")] = [(409, "N7 Shrunk\n")]
-    origin.text = listed(10, 14)
-    after = feed.sees("news adsplice 409 N7 Shrunk: ")
-    feed.sees("news adsplice 204 -: the list is taken again, after 1 that followed badly", 20, after)
-    assert controller.count("DELETE", "/channels/news") == 0
+    controller.refusals[("PUT", "origin")] = [(409, "N4 MapsChanged\n")]
+    origin.text = listed(11, 16)
+    after = feed.sees("news adsplice 409 N4 MapsChanged: .*waits for the next list; if that stays, only a new channel takes it")
+    origin.text = listed(12, 17)
+    feed.sees("news adsplice 204 -: the list is taken", 20, after)
+    assert controller.puts("origin")[-1] == listed(12, 17).encode() and controller.count("DELETE", "/channels/news") == 0
 
 
-def test_channel_that_has_to_be_made_again_and_again_needs_more_refusals(room):
-    origin, controller, feed = started(room, listed(10, 15))
-    controller.refusals[("PUT", "origin")] = [(409, "N8 Changed 11\n")] * 2 + [(204, "")] + [(409, "N6 Gap\n")] * 3
-    origin.text = listed(0, 5)
-    after = feed.sees("makes it anew")
-    after = feed.sees("204 -: the list is taken", 20, after)
-    origin.text = listed(1, 6)
-    feed.sees("409 N6 Gap: .* makes the channel anew at refusal 4 in a row", 20, after)
+def test_lists_are_pushed_as_they_are_if_one_says_so(room):
+    origin, controller, feed = started(room, listed(10, 15), "--repair", "no")
+    for text in (listed(3, 8, name="t"), "\ufeff" + listed(4, 9, name="t")):
+        origin.text = text
+        until(lambda text=text: controller.puts("origin")[-1] == text.encode(), 5, "the list")
+    assert not any(" news list " in line for line in feed.lines)
 
 
 def test_list_that_does_not_read_is_not_sent_twice(room):
@@ -309,5 +306,6 @@ def test_goes_on_after_numbers_began_again(room):
     feed = room.feed("--channel", "news", "--origin", playlist, "--base", "http://origin.example/ch/index.m3u8", "--at", f"http://127.0.0.1:{port}")
     feed.sees("204 -: the list is taken")
     room.write("index.m3u8", listed(0, 5, name="t"))
-    feed.sees("news adsplice 409 N5 Back")
-    until(lambda: "/t5.ts" in get(f"http://127.0.0.1:{port}/channels/news/live.m3u8")[1], 6, "the new list")
+    after = until(lambda: (lambda it: it if "/t5.ts" in it else None)(get(f"http://127.0.0.1:{port}/channels/news/live.m3u8")[1]), 6, "the new list")
+    assert "#EXT-X-MEDIA-SEQUENCE:56\n" in after and after.count("#EXT-X-DISCONTINUITY\n") == 1, after
+    assert not any(" 409 " in line for line in feed.lines), feed.lines

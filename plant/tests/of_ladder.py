@@ -131,7 +131,7 @@ def test_ladder_fallback_that_one_refuses_is_none_in_all(room):
     assert [asked(controller, it, "decisions")[-1] for it in NAMES] == ['{"fallback":null}'] * 3
 
 
-def test_ladder_one_that_is_gone_makes_all_anew_together(room):
+def test_ladder_one_that_is_gone_is_made_anew_by_itself(room):
     controller = room.server(FakeController())
     ladder = Ladder(room, controller.url, listed(0, 5, [("b1", 14, 4)]))
     ladder.taken()
@@ -139,36 +139,30 @@ def test_ladder_one_that_is_gone_makes_all_anew_together(room):
     after = ladder.feed.sees("decides b1 in all renditions")
     controller.channels.discard("news-2")
     ladder.push(listed(0, 6, [("b1", 14, 4)]))
-    for name in NAMES:
-        ladder.feed.sees(f"news-{name} adsplice 201 -: makes the channel", 20, after)
-    ladder.taken(after)
-    assert [controller.count("DELETE", f"/channels/news-{it}") for it in NAMES] == [1, 0, 1]
-    assert all(asked(controller, name, "decisions") == [decided(("b1", 2))] * 2 for name in NAMES)
+    after = ladder.feed.sees("news-2 adsplice 201 -: makes the channel", 20, after)
+    ladder.feed.sees("news-2 adsplice 204 -: the list is taken", 20, after)
+    assert [controller.count("DELETE", f"/channels/news-{it}") for it in NAMES] == [0, 0, 0]
+    assert [asked(controller, it, "decisions") for it in NAMES] == [[decided(("b1", 2))] * count for count in (1, 2, 1)]
 
 
-def test_ladder_one_whose_list_follows_badly_makes_all_anew_together(room):
+def test_ladder_one_whose_packager_begins_again_leaves_the_others(room):
     controller = room.server(FakeController())
     ladder = Ladder(room, controller.url, listed(10, 15))
     after = ladder.taken()
-    controller.refusals[("PUT", "origin")] = [(409, "N6 Gap\n")] * 6
-    ladder.push(listed(0, 5))
-    ladder.feed.sees("it stays so: deletes the channel and makes it anew", 20, after)
-    for name in NAMES:
-        ladder.feed.sees(f"news-{name} adsplice 201 -: makes the channel", 20, after)
+    ladder.push(listed(0, 5, name="t"), NAMES[1:2])
+    ladder.feed.sees("news-2 list - Repaired: .* goes on at 16 with one discontinuity", 20, after)
+    until(lambda: "t5.ts" in asked(controller, "2", "origin")[-1], 5, "the list of news-2")
+    assert [len(asked(controller, it, "origin")) for it in NAMES] == [1, 2, 1]
+    assert not any(controller.count("DELETE", f"/channels/news-{it}") for it in NAMES)
 
 
 def test_ladder_waits_for_lists_in_step(room):
     controller = room.server(FakeController())
-    for name in NAMES:
-        room.write(f"{name}/index.m3u8", listed(0, 5))
-    ladder = Ladder(room, controller.url, listed(0, 5))
+    ladder = Ladder(room, controller.url, listed(1, 6))
+    ladder.push(listed(0, 5), NAMES[1:])
+    ladder.push(listed(1, 6))
     ladder.taken()
-    controller.channels.clear()
-    ladder.push(listed(1, 6), NAMES[:1])
-    ladder.feed.sees("news-1 adsplice 404 -")
-    count = len(controller.puts("origin"))
-    until(lambda: not ladder.push(listed(1, 6)) and len(controller.puts("origin")) == count + 3, 10, "all lists")
-    assert controller.puts("origin")[-3:] == [listed(1, 6).encode()] * 3
+    assert controller.puts("origin") == [listed(1, 6).encode()] * 3
 
 
 def test_ladder_by_a_config_file(room):
@@ -207,7 +201,7 @@ def test_ladder_has_equal_numbers_after_one_rendition_was_deleted(room):
     urllib.request.urlopen(urllib.request.Request(f"http://127.0.0.1:{port}/channels/news-2", method="DELETE")).close()
     after = len(ladder.feed.lines)
     ladder.push(listed(1, 8, breaks))
-    ladder.taken(after)
+    ladder.feed.sees("news-2 adsplice 204 -: the list is taken", 20, after)
     found = until(lambda: (lambda it: it if len(set(it)) == 1 and it[0] else None)(numbers(port)), 10, "equal lists")
     assert found[0].count("#EXTINF") == 8 and found[0].count("#EXT-X-DISCONTINUITY\n") == 2, found[0]
 

@@ -66,7 +66,7 @@ class FakeServer:
                     return
                 outer.write(self, *said)
 
-            do_GET = do_PUT = do_DELETE = handle_any
+            do_GET = do_PUT = do_POST = do_DELETE = handle_any
 
             def log_message(self, *_):
                 pass
@@ -200,6 +200,15 @@ def get(url):
         return it.code, it.read().decode()
     except OSError:
         return 0, ""
+
+
+def put(url, body, method="PUT"):
+    """The status of a request with a body."""
+    try:
+        with urllib.request.urlopen(urllib.request.Request(url, body, method=method), timeout=10) as it:
+            return it.status
+    except urllib.error.HTTPError as it:
+        return it.code
 
 
 def until(check, seconds=90, what="it"):

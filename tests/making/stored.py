@@ -58,7 +58,8 @@ def reads(section: dict[str, Any]) -> bool:
     fields, given = section["fields"], bytes.fromhex(section["hex"])
     found = section_of(given).insert
     out = None if fields["cancel"] else fields["out"] == 1
-    return crc_of(given) == 0 and found == Insert(out, fields.get("ticks"))
+    owed = Insert(out, fields.get("ticks"), fields["event"], fields.get("immediate") == 1)
+    return crc_of(given) == 0 and found == owed
 
 
 def lines_again(files: list[Path]) -> list[str]:

@@ -1,0 +1,298 @@
+"""The breaks that a packager has signalled, and what each further signal makes of them."""
+from __future__ import annotations
+
+from bisect import bisect_left, insort
+from collections import deque
+from dataclasses import asdict, dataclass
+from typing import Any
+
+from . import splice
+from .packaged import PackagedSegment
+from .playlist import SECOND, instant_text, seconds_text
+from .signals import LONGEST, Signal
+from .splice import Kind, Message
+
+AUTO = frozenset(it for it in splice.SPANS if it not in splice.PROMOS)  # the types that begin a break if the settings name none
+TOLERANCE = SECOND // 10  # adsplice's own
+STALE = 1800 * SECOND  # after which a break without a duration that nothing ended is over
+MOST = 256  # breaks known at a time: adsplice decides no more
+SHOWN = 100  # letters of an ID that are told
+
+
+@dataclass
+class Break:
+    """A signalled break: its `id`; its `start`, the instant of a segment once that is listed (`is_settled`); how long it was
+    `planned` to last; the instant `until` which it lasts if a signal said so, which is a segment's once that is listed
+    (`is_ended`). What began it: its `name` by the standard, the segmentation `type` (none for a splice_insert and for a tag), the
+    `event` and the `upid`. `number`: of its first segment. `latest`: the instant of the newest signal that spoke of it.
+    `is_in_step`: its SCTE35-IN came before any segment after it. `others`: further attributes of its tag. `is_told`: its end was
+    told."""
+
+    id: str
+    start: int
+    number: int
+    name: str
+    type: int | None = None
+    event: int = 0
+    upid: str = ""
+    planned: int | None = None
+    until: int | None = None
+    is_settled: bool = True
+    is_ended: bool = False
+    is_in_step: bool = False
+    latest: int = 0
+    others: str = ""
+    is_told: bool = False
+
+    def end(self) -> int | None:
+        """Where it ends as far as that is known, by a signal or else by its planned duration."""
+        return self.until if self.until is not None else self.start + self.planned if self.planned is not None else None
+
+    def is_over(self, instant: int) -> bool:
+        """Whether it is over at the `instant`."""
+        end = self.end()
+        return instant >= (end if end is not None else max(self.start, self.latest) + STALE)
+
+
+@dataclass(frozen=True)
+class Placed:
+    """A `signal` with its place: the instant `at`, the `number` of the segment before which it stands, and the `order` in which it
+    came. `id` is that of its date range. `is_own_end`: it ends the break of that ID, whatever began it. `others`: further
+    attributes of its tag. `is_in_step`: no new segment is listed before it."""
+
+    signal: Signal
+    at: int
+    number: int
+    order: int
+    id: str = ""
+    is_own_end: bool = False
+    others: str = ""
+    is_in_step: bool = False
+
+    def key(self) -> tuple[int, int, int, int]:
+        """The order in which signals count: by instants, ends before begins, an outer span before those within it."""
+        message = self.signal.message
+        rank = splice.SPANS.index(message.type) if message.kind == Kind.BEGIN and message.type in splice.SPANS else -1
+        return self.at, message.kind, rank, self.order
+
+
+@dataclass(frozen=True)
+class Line:
+    """Something to tell: of `who`, with a `word` in place of a fault."""
+
+    who: str
+    word: str
+    text: str
+
+
+class Timeline:
+    """The instants of a list's `segments`, of which each has one. With `aligns` what lies within half a segment of a segment's
+    begin is put there."""
+
+    def __init__(self, segments: list[PackagedSegment], aligns: bool = True) -> None:
+        self.segments, self.aligns = segments, aligns
+        self.begins = [it.begins or 0 for it in segments]
+        self.end = self.begins[-1] + segments[-1].duration
+
+    def half(self, instant: int) -> int:
+        """Half the duration of the segment in which the `instant` is, or of the one nearest to it."""
+        place = min(max(bisect_left(self.begins, instant + 1) - 1, 0), len(self.segments) - 1)
+        return self.segments[place].duration // 2
+
+    def nearest(self, instant: int) -> PackagedSegment | None:
+        """The listed segment that begins within half a segment of the `instant`; none if there is none, or if the end of the list,
+        where the next segment will begin, is nearer."""
+        place = bisect_left(self.begins, instant)
+        near = [place for place in (place - 1, place) if 0 <= place < len(self.begins)]
+        found = min(near, key=lambda it: abs(self.begins[it] - instant))
+        by = abs(self.begins[found] - instant)
+        return self.segments[found] if by <= self.half(instant) and by <= abs(self.end - instant) else None
+
+    def aligned(self, instant: int) -> int:
+        """The begin of the listed segment that is nearest to the `instant`; that itself if none is."""
+        found = self.nearest(instant) if self.aligns else None
+        return instant if found is None or found.begins is None else found.begins
+
+    def is_reached(self, instant: int) -> bool:
+        """Whether a segment is listed that begins at the `instant` or after it, or within half a segment before it."""
+        return self.begins[-1] >= instant or self.nearest(instant) is self.segments[-1]
+
+    def will_begin(self, instant: int) -> bool:
+        """Whether a segment begins at the `instant` after the listed ones, if these go on like the newest one."""
+        duration = self.segments[-1].duration
+        rest = (instant - self.end) % duration if duration else 0
+        return instant >= self.end - TOLERANCE and min(rest, duration - rest) <= TOLERANCE
+
+
+def shown(text: str) -> str:
+    """The ID `text` as a word of a line: its first letters, without spaces and what isn't printable."""
+    return "".join(it if it.isprintable() and it != " " else "_" for it in text[:SHOWN]) + ("…" if len(text) > SHOWN else "")
+
+
+class Breaks:
+    """The known breaks in the order of their starts. `types` are the segmentation types that begin one; with `is_narrowed` a tag
+    beside a section of another type begins none, either."""
+
+    def __init__(self, types: frozenset[int] = AUTO, is_narrowed: bool = False) -> None:
+        self.types, self.is_narrowed = types, is_narrowed
+        self.known: list[Break] = []
+        self.cancelled: set[str] = set()  # IDs of breaks that were cancelled before they began
+        self.told: list[Line] = []
+        self.recent: deque[Line] = deque(maxlen=MOST)  # that were told: each rendition of a programme says the same
+        self.is_first = True  # no list was looked at before
+
+    def tell(self, who: str, word: str, text: str) -> None:
+        """Tells a line, once."""
+        line = Line(who, word, text)
+        if line not in self.recent:
+            self.recent.append(line)
+            self.told.append(line)
+
+    def ignore(self, it: Placed, why: str) -> None:
+        """Tells that the signal `it` is ignored, and `why`."""
+        message = it.signal.message
+        event = f" (event {message.event})" if message.event else ""
+        self.tell("signals", "Ignored", f"segment {it.number}: {message.name()}{event} {why}")
+
+    def too_many(self) -> None:
+        """Tells that there are more breaks, or signals, than are looked at."""
+        self.tell("signals", "TooMany", f"there are more signals than are looked at, or more than {MOST} breaks that aren't over; the rest is ignored")
+
+    def latest(self, instant: int) -> Break | None:
+        """The break that begins last of those that have begun at the `instant`."""
+        return next((it for it in reversed(self.known) if it.start <= instant), None)
+
+    def named(self, name: str) -> Break | None:
+        """The break of the ID `name`."""
+        return next((it for it in self.known if it.id == name), None)
+
+    # ---- begins
+
+    def begin(self, it: Placed, line: Timeline) -> Break | None:
+        """The signal `it` begins a break; that, if it isn't one that is known, or within one."""
+        message = it.signal.message
+        if message.type is not None and message.type not in self.types and (self.is_narrowed or not it.signal.is_cue):
+            self.ignore(it, "begins no break by the settings")
+            return None
+        start, half = line.aligned(it.at), line.half(it.at)
+        before = self.latest(start + half)
+        planned = self.duration_of(it)
+        if self.named(it.id) or it.id in self.cancelled or planned is not None and start + planned <= line.begins[0]:
+            return None  # (it is known, or was over before this list)
+        if before is not None and self.is_spoken_of(before, it, start, half, planned):
+            return None
+        if len(self.known) == MOST:
+            self.too_many()
+            return None
+        if before is not None and not before.is_over(start + half):
+            before.until = start
+        return self.add(it, line, start, planned)
+
+    def duration_of(self, it: Placed) -> int | None:
+        """How long the break of the signal `it` is planned to last: by its tag, or else by its section."""
+        planned = it.signal.planned or it.signal.message.duration
+        if planned is not None and planned > LONGEST:
+            self.ignore(it, f"says that it lasts {seconds_text(planned)} s, over a day: taken as no duration")
+            return None
+        return planned
+
+    def is_spoken_of(self, before: Break, it: Placed, start: int, half: int, planned: int | None) -> bool:
+        """Whether the signal `it`, at `start`, says once more that the break `before` begins or is open, or is of a span within it.
+        Then that break isn't over: with the same event, or without one, it is the same; with another type it is an inner one."""
+        message = it.signal.message
+        is_same = message.type == before.type and message.event in (0, before.event) or it.signal.is_cue and message.event == 0
+        if start - before.start <= half:
+            before.planned = planned if before.planned is None and before.until is None and is_same else before.planned
+        elif before.is_over(start + half):
+            return False
+        elif is_same and before.end() is None and start - before.latest > 5 * half:
+            return False  # (nothing spoke of it for two segments, so nothing says that it goes on)
+        elif not is_same and message.type == before.type:
+            return False
+        if is_same:
+            before.latest = max(before.latest, start)
+        else:
+            self.ignore(it, f"is within the break {shown(before.id)}")
+        return True
+
+    def add(self, it: Placed, line: Timeline, start: int, planned: int | None) -> Break:
+        """A new break by the signal `it`, which begins at `start` and is `planned` so."""
+        message, found = it.signal.message, line.nearest(start)
+        is_section = message.type is not None or message.event
+        name = message.name() if is_section or not it.signal.is_cue else "a tag without a section"
+        number = found.number if found else it.number
+        new = Break(it.id or f"{message.event or 'cue'}-{number}", start, number, name, message.type, message.event, message.upid, planned,
+                    is_settled=found is not None or start < line.end, latest=start, others=it.others)
+        insort(self.known, new, key=lambda one: one.start)
+        length = "without a duration" if planned is None else f"planned for {seconds_text(planned)} s"
+        self.tell(f"breaks/{shown(new.id)}", "Begins", f"at {instant_text(start)}, {length} ({name})")
+        return new
+
+    def goes_on(self, it: Placed, line: Timeline, has_begun: bool) -> Break | None:
+        """The signal `it` says that a break goes on. If the feed began within it, it becomes known, as one that began before; but
+        not if a signal of the same list said more of it (`has_begun`)."""
+        half, elapsed, planned = line.half(it.at), it.signal.elapsed or 0, self.duration_of(it)
+        before = self.latest(it.at + half)
+        if before is not None and not before.is_over(it.at):
+            before.latest = max(before.latest, it.at)
+            before.planned = planned if before.end() is None else before.planned
+            return None
+        if has_begun or not self.is_first or not elapsed or planned is not None and elapsed >= planned - half:
+            return None
+        return self.begin(Placed(it.signal, it.at - elapsed, it.number - (elapsed + half) // max(2 * half, 1), it.order), line)
+
+    # ---- ends
+
+    def finish(self, it: Placed, line: Timeline) -> None:
+        """The signal `it` ends a break: the one of its own ID; by a tag that says so the newest open one; by a section one of
+        its type, and of its event if both have one."""
+        message, at, half = it.signal.message, line.aligned(it.at), line.half(it.at)
+        own = self.named(it.id) if it.is_own_end else None
+        if it.is_own_end and own is None and it.signal.is_cue:
+            return
+        for one in [own] if own else reversed(self.known):
+            if one.is_ended or at - one.start <= half or one.is_over(at - half):
+                continue
+            is_its = one.type == message.type and (0 in (one.event, message.event) or one.event == message.event)
+            if own or it.signal.is_cue or is_its:
+                end = one.end()
+                one.until = at if end is None else min(at, end)
+                one.is_in_step = it.is_in_step
+                return
+
+    def cancel(self, it: Placed, of: list[Break]) -> None:
+        """The signal `it` cancels the breaks of its event among `of`: one that hasn't begun is forgotten, one that has ends."""
+        message = it.signal.message
+        for one in [one for one in of if message.event and one.event == message.event]:
+            if one.start >= it.at - TOLERANCE:
+                self.known.remove(one)
+                self.cancelled.add(one.id)
+                self.tell(f"breaks/{shown(one.id)}", "Cancelled", f"before it began ({message.name()}, event {message.event})")
+            elif not one.is_over(it.at) and not one.is_ended:
+                one.until = it.at
+                self.tell(f"breaks/{shown(one.id)}", "Cancelled", f"within ({message.name()}, event {message.event})")
+
+    # ---- what a list shows of them
+
+    def settle(self, line: Timeline) -> None:
+        """Puts starts and ends that the list `line` reaches on its segments, and tells of the ends."""
+        for one in self.known:
+            if not one.is_settled and line.is_reached(one.start):
+                found = line.nearest(one.start)
+                one.number = found.number if found else one.number
+                one.start, one.is_settled = line.aligned(one.start), True
+            if one.until is not None and not one.is_ended and line.is_reached(one.until):
+                one.until, one.is_ended = line.aligned(one.until), True
+            end = one.end()
+            if end is not None and not one.is_told and line.is_reached(end):
+                one.is_told = True
+                self.tell(f"breaks/{shown(one.id)}", "Ends", f"at {instant_text(end)}, after {seconds_text(end - one.start)} s ({one.name})")
+        self.known.sort(key=lambda it: it.start)
+
+    def forget(self, first: int) -> None:
+        """Forgets the breaks that were over at the instant `first`, since which segments are listed."""
+        self.known = [it for it in self.known if not it.is_over(first)]
+
+    def kept(self) -> list[dict[str, Any]]:
+        """The breaks as JSON."""
+        return [asdict(it) for it in self.known]

@@ -1,0 +1,192 @@
+"""The lists of one channel on their way from its packager to adsplice: put right, numbered, and kept on disk."""
+from __future__ import annotations
+
+import time
+from collections import Counter
+from collections.abc import Callable
+from pathlib import Path
+
+from . import numbers, packaged, repairs, spelling
+from .numbers import Standing, Viewed
+from .packaged import PackagedList
+from .repair import Choices, Repaired, Repairer
+from .settings import Settings
+from .signalling import Signalling, as_listed
+
+Tell = Callable[[str, int, str, str], None]  # who, status, fault, text: told unless the state of who is as it was
+SIGNAL = "SCTE35-OUT"
+
+
+class Lists:
+    """The lists of the channel that `settings` tell of. `tell` prints a state once, and `say` a line of a repair. `signalling`
+    translates their signals."""
+
+    def __init__(self, settings: Settings, tell: Tell, say: Callable[[str, str], None], signalling: Signalling) -> None:
+        self.settings, self.tell, self.say, self.signalling = settings, tell, say, signalling
+        self.path: Path | None = settings.keep / f"{settings.name}.numbers" if settings.keep and settings.repair else None
+        choices = Choices(settings.target, settings.endless, settings.times)
+        self.stands = Standing(Repairer(choices), Viewed(), b"", Counter())
+        self.came: bytes | None = None  # the newest whole list
+        self.is_new = False  # whether it is still to be taken in
+        self.pending: Repaired | None = None  # what is to be pushed
+        self.text: bytes | None = None  # of it, or of what was pushed last
+        self.is_open = False  # whether `text` is to be pushed, or was pushed and not answered
+        self.is_anew = False  # whether the channel is new, and begins where viewers' list stood
+        self.told: set[str] = set()
+        self.target: int | None = None
+        self.newest = PackagedList()  # the newest list that may be pushed
+        self.listed: set[str] | None = None  # the IDs of its date ranges
+        self.load(choices)
+
+    # ---- on disk
+
+    def load(self, choices: Choices) -> None:
+        """Takes in where the channel stood when an earlier feed ended."""
+        if self.path is None:
+            return
+        try:
+            found = numbers.load(self.path, choices)
+        except ValueError as fault:
+            self.tell("numbers", 0, "Broken", f"{self.path}: {fault}; goes on without it")
+            return
+        if found is not None:
+            self.stands, self.text, self.is_open = found, found.text, True
+            self.target = found.repairer.head.target if found.repairer.head else None
+
+    def save(self) -> None:
+        """Keeps where the channel stands."""
+        if self.path is None or not self.stands.repairer.last:
+            return
+        try:
+            numbers.save(self.path, numbers.pack(self.stands))
+            self.tell("numbers", 0, "", "")
+        except OSError as fault:
+            self.tell("numbers", 0, "Unkept", f"{self.path}: {fault.strerror}; after a new start of the feed numbers may go back")
+
+    # ---- from the packager
+
+    def came_in(self, body: bytes) -> None:
+        """The packager's newest list is `body`."""
+        if body != self.came:
+            self.came, self.is_new = body, True
+
+    def prepare(self) -> None:
+        """Takes in the newest list, unless one is to be pushed first that was pushed and not answered."""
+        if not self.is_open and self.is_new and self.came is not None:
+            self.take(self.came)
+
+    def next(self) -> bytes | None:
+        """The list to be pushed now; none if there is none."""
+        if not self.is_anew or not self.resume():
+            self.prepare()
+        return self.text if self.is_open else None
+
+    def take(self, body: bytes) -> None:
+        """Takes in the list `body`."""
+        if not self.settings.repair:
+            listed = as_listed(read(body))
+            is_changed = self.signalling.translate(listed, self.settings.rendition())
+            self.pending, self.text, self.is_open, self.is_new = None, packaged.write(listed) if is_changed else body, True, False
+            self.learn(listed)
+            return
+        found = self.stands.repairer.take(body, time.monotonic(), time.time_ns())
+        self.is_new = found.waits
+        self.tell_why(found)
+        if found.found is None and found.came is None:
+            return
+        self.count(found)
+        if found.found is not None:
+            if self.signalling.translate(found.found, self.settings.rendition()):
+                found.came = None
+            self.learn(found.found)
+        text = found.body()
+        if text != self.stands.text:
+            self.pending, self.text, self.is_open = found, text, True
+
+    def learn(self, found: PackagedList) -> None:
+        """Learns from the newest list, which says `found`, what the channel needs to know of it."""
+        self.newest, self.target = found, found.target or self.target
+        self.listed = {name for line in found.date_ranges() if (name := packaged.attributes_of(line.partition(":")[2]).get("ID"))}
+
+    def tell_why(self, found: Repaired) -> None:
+        """Tells why nothing is pushed of a list, or that lists are pushed again."""
+        word = next((word for word, text in (("Lags", repairs.LAGS), ("Empty", repairs.EMPTY)) if found.why == text), "Held" if found.waits else "Untaken")
+        self.tell("list", 0, word if found.why else "", found.why or "the lists go on")
+
+    def count(self, found: Repaired) -> None:
+        """Counts the repairs of a list, and tells each kind once."""
+        for kind, detail in found.kinds.items():
+            self.stands.repairs[kind] += 1
+            name = f"{kind}{detail}" if kind in repairs.TOLD_EACH else kind
+            if name not in self.told:
+                self.told.add(name)
+                self.say(kind, repairs.told(kind, detail))
+
+    # ---- to adsplice
+
+    def taken(self) -> bool:
+        """The list was pushed and taken. Whether the written playlist has to be looked at to know its numbers."""
+        self.is_open = False
+        if self.pending is None or self.pending.found is None:
+            return False
+        found, stands = self.pending.found, self.stands
+        stands.repairer.accept(self.pending)
+        stands.text = self.text or b""
+        lines = found.date_ranges()
+        stands.viewed.note(lines, found.segments[-1].number)
+        first = stands.repairer.past[0].number if stands.repairer.past else found.segments[0].number
+        stands.viewed.forget(first)
+        return not stands.viewed.reckon(found.segments) or any(SIGNAL in it for it in lines)
+
+    def see(self, written: bytes) -> None:
+        """Adsplice wrote `written` after the list that was taken last."""
+        if (items := numbers.items_of(written)) and self.stands.repairer.last:
+            self.stands.viewed.see(items, self.stands.repairer.last)
+
+    def refused(self) -> None:
+        """The list was refused: the next one follows the one before it."""
+        self.is_open, self.pending = False, None
+
+    # ---- a channel that was made anew
+
+    def begin_anew(self) -> None:
+        """The channel is new: its first list begins where viewers' list stood."""
+        self.signalling.begin_anew()
+        self.is_anew = bool(self.stands.repairer.last)
+        if self.is_anew:
+            self.pending, self.is_open, self.is_new = None, False, self.came is not None
+
+    def resume(self) -> bool:
+        """Makes the first list of a new channel ready, by which it writes what viewers have: the newest list, and before it the
+        segments from which on its first one has its numbers. Whether there is one."""
+        self.is_anew = False
+        repairer, viewed = self.stands.repairer, self.stands.viewed
+        newest = repairer.take(self.came, time.monotonic(), time.time_ns()) if self.came is not None else Repaired()
+        if newest.found is not None:
+            self.signalling.translate(newest.found, self.settings.rendition())
+        listed = newest.found.segments if newest.found is not None else repairer.last
+        head = newest.head or repairer.head
+        history = [it for it in (*repairer.past, *repairer.last) if it.number < listed[0].number] + listed
+        place = numbers.first_needed(viewed, history, listed[0].number)
+        if head is None or place is None:
+            return False
+        first = history[place]
+        media, discontinuity = viewed.begins[first.number]
+        lines = [line for line, number in viewed.ranges.values() if number >= first.number]
+        lines += newest.found.date_ranges() if newest.found is not None else []
+        media, discontinuity = media - first.number, discontinuity - first.discontinuity
+        repairer.renumber(media, discontinuity, listed)
+        viewed.renumber(media)
+        found = PackagedList(head.version, head.target, kind=head.kind, segments=history[place:])
+        found.is_independent = newest.found is not None and newest.found.is_independent
+        self.pending = Repaired(found, head, kinds={"times": ""} if repairer.adds or "times" in newest.kinds else {})
+        self.text, self.is_open, self.is_new = packaged.write(found, list(dict.fromkeys(lines))), True, self.came is not None
+        return True
+
+
+def read(body: bytes) -> PackagedList:
+    """What the list `body` says as it came; nothing if it isn't read."""
+    try:
+        return packaged.read(spelling.lines_of(body, set()))
+    except spelling.Unread:
+        return PackagedList()

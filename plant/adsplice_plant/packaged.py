@@ -1,0 +1,329 @@
+"""A packager's media playlist as data (RFC 8216, 4.3): each line as it came, what it says, and the list written again.
+
+The reader takes each list that adsplice could take, and some that it wouldn't: it judges nothing. It goes through the lines once.
+The writer states keys and initialisation sections where they change, and every instant that is known.
+"""
+from __future__ import annotations
+
+from collections.abc import Callable, Iterable
+from dataclasses import dataclass, field
+from typing import NamedTuple
+
+from . import playlist
+from .spelling import Unread
+
+MOST_SEGMENTS = 10_000  # of a list that adsplice takes
+MOST_ATTRIBUTES = 64  # of a tag that adsplice takes
+EARLIEST, LATEST = -2_208_988_800 * playlist.SECOND, 7_258_118_400 * playlist.SECOND  # instants from 1900 on, before 2200
+MOST_NUMBER = 2**64 - 1  # of a decimal-integer (RFC 8216, 4.2)
+IDENTITY = "identity"  # the KEYFORMAT of a key that names none (4.3.2.4)
+DATE_RANGE, EXTINF = "#EXT-X-DATERANGE:", "#EXTINF:"
+
+
+class Key(NamedTuple):
+    """A key in force (RFC 8216, 4.3.2.4): its KEYFORMAT, the attributes of its tag, and whether these state its IV."""
+
+    format: str
+    text: str
+    has_iv: bool
+
+    def takes_number(self) -> bool:
+        """Whether its IV is the segment's Media Sequence Number (5.2)."""
+        return self.format == IDENTITY and not self.has_iv
+
+
+Keys = tuple[Key, ...]
+
+
+class InitSection(NamedTuple):
+    """An initialisation section in force (RFC 8216, 4.3.2.5): the attributes of its tag, and the keys in force at its line."""
+
+    text: str
+    keys: Keys
+
+
+@dataclass(slots=True)
+class PackagedSegment:
+    """A listed segment.
+
+    As the packager has it: its `uri`, its media number `own`, its `duration` in nanoseconds, its `byte_range` (length and offset;
+    no offset if nothing says it), the `keys` and the `section` in force, the instant `stated` by its EXT-X-PROGRAM-DATE-TIME (in
+    nanoseconds from 1970), how many EXT-X-DISCONTINUITY stand right before it (`discontinuities`), and its other lines (`tags`),
+    of which EXTINF is one; whether it isn't there (`is_gap`), and how many nanoseconds of such segments come before it (`gap`).
+
+    As the feed has it: its Media Sequence Number `number`, its Discontinuity Sequence Number `discontinuity`, and the instant
+    `begins` at which it begins, if that is known."""
+
+    uri: str
+    own: int
+    duration: int = 0
+    byte_range: tuple[int, int | None] | None = None
+    keys: Keys = ()
+    section: InitSection | None = None
+    stated: int | None = None
+    discontinuities: int = 0
+    tags: list[str] = field(default_factory=list)
+    is_gap: bool = False
+    gap: int = 0
+    number: int = 0
+    discontinuity: int = 0
+    begins: int | None = None
+
+    def effective_keys(self) -> Keys:
+        """Its keys. If the feed's number is another than the packager's, the packager's is the IV of a key that has the number as
+        IV (RFC 8216, 5.2)."""
+        if self.number == self.own or not any(it.takes_number() for it in self.keys):
+            return self.keys
+        return tuple(Key(it.format, f"{it.text},IV=0x{self.own:032X}", True) if it.takes_number() else it for it in self.keys)
+
+    def title(self) -> str:
+        """Its EXTINF line; none if it has none."""
+        return next((it for it in self.tags if it.startswith(EXTINF)), "")
+
+
+@dataclass(slots=True)
+class PackagedList:
+    """A media playlist: the values of its tags (RFC 8216, 4.3.3), none for those that it hasn't, its `segments`, and the
+    lines after the last one: `tail_tags` and `tail_discontinuities`. `others` are the names of tags
+    that change what the list means, and of instants that don't read."""
+
+    version: int | None = None
+    target: int | None = None
+    first: int = 0
+    discontinuity_sequence: int = 0
+    kind: str | None = None
+    is_independent: bool = False
+    is_ended: bool = False
+    segments: list[PackagedSegment] = field(default_factory=list)
+    tail_tags: list[str] = field(default_factory=list)
+    tail_discontinuities: int = 0
+    others: set[str] = field(default_factory=set)
+
+    def date_ranges(self) -> list[str]:
+        """Its EXT-X-DATERANGE lines, those after the last segment, too."""
+        lines = [line for it in self.segments for line in it.tags] + self.tail_tags
+        return [line for line in lines if line.startswith(DATE_RANGE)]
+
+
+def attributes_of(text: str) -> dict[str, str]:
+    """The attributes of the list `text` (RFC 8216, 4.2), the first of each name, without their quotes. After MOST_ATTRIBUTES of
+    them the rest isn't read."""
+    found: dict[str, str] = {}
+    place = 0
+    for _ in range(MOST_ATTRIBUTES):
+        if (equals := text.find("=", place)) < 0:
+            break
+        if text[equals + 1: equals + 2] == '"':
+            end = text.find('"', equals + 2)
+            end = len(text) if end < 0 else end
+            value, comma = text[equals + 2: end], text.find(",", end)
+        else:
+            comma = text.find(",", equals)
+            value = text[equals + 1: len(text) if comma < 0 else comma]
+        found.setdefault(text[place: equals].strip(), value)
+        if comma < 0:
+            break
+        place = comma + 1
+    return found
+
+
+def decimal_of(text: str) -> int | None:
+    """The decimal-integer `text` (RFC 8216, 4.2); none if it isn't one."""
+    if not (text.isascii() and text.isdigit() and len(text) <= 20):
+        return None
+    return number if (number := int(text)) <= MOST_NUMBER else None
+
+
+def instant_of(text: str) -> int | None:
+    """The nanoseconds from 1970 of the date and time `text`; none if it isn't one of the years 1900 to 2199."""
+    found = playlist.read_instant(text) if len(text) <= 40 else None
+    return found if found is not None and is_instant(found) else None
+
+
+def is_instant(instant: int) -> bool:
+    """Whether `instant`, in nanoseconds from 1970, is one that adsplice takes: of the years 1900 to 2199."""
+    return EARLIEST <= instant < LATEST
+
+
+def duration_of(text: str) -> int | None:
+    """The nanoseconds of an EXTINF's value `text`, up to its first comma (RFC 8216, 4.3.2.1); none if it isn't one."""
+    seconds = text.partition(",")[0]
+    return playlist.read_duration(seconds) if len(seconds) <= 40 and seconds.isascii() else None
+
+
+class Reader:
+    """The state of reading a list, from line to line: what was `found`, and what waits for the next segment's URI."""
+
+    def __init__(self) -> None:
+        self.found = PackagedList()
+        self.next = PackagedSegment("", 0)
+        self.keys: Keys = ()
+        self.section: InitSection | None = None
+
+    def version(self, line: str, rest: str) -> None:
+        """EXT-X-VERSION (RFC 8216, 4.3.1.2)."""
+        self.found.version = decimal_of(rest) if self.found.version is None else self.found.version
+
+    def target(self, line: str, rest: str) -> None:
+        """EXT-X-TARGETDURATION (4.3.3.1)."""
+        self.found.target = decimal_of(rest) if self.found.target is None else self.found.target
+
+    def first(self, line: str, rest: str) -> None:
+        """EXT-X-MEDIA-SEQUENCE (4.3.3.2)."""
+        self.found.first = decimal_of(rest) or 0
+
+    def discontinuity_sequence(self, line: str, rest: str) -> None:
+        """EXT-X-DISCONTINUITY-SEQUENCE (4.3.3.3)."""
+        self.found.discontinuity_sequence = decimal_of(rest) or 0
+
+    def kind(self, line: str, rest: str) -> None:
+        """EXT-X-PLAYLIST-TYPE (4.3.3.5)."""
+        self.found.kind = rest
+
+    def independent(self, line: str, rest: str) -> None:
+        """EXT-X-INDEPENDENT-SEGMENTS (4.3.5.1)."""
+        self.found.is_independent = True
+
+    def ended(self, line: str, rest: str) -> None:
+        """EXT-X-ENDLIST (4.3.3.4)."""
+        self.found.is_ended = True
+
+    def other(self, line: str, rest: str) -> None:
+        """A tag of which its name alone matters here."""
+        self.found.others.add(line.partition(":")[0][1:])
+
+    def discontinuity(self, line: str, rest: str) -> None:
+        """EXT-X-DISCONTINUITY (4.3.2.3)."""
+        self.next.discontinuities += 1
+
+    def time(self, line: str, rest: str) -> None:
+        """EXT-X-PROGRAM-DATE-TIME (4.3.2.6)."""
+        self.next.stated = instant_of(rest)
+        if self.next.stated is None:
+            self.found.others.add("EXT-X-PROGRAM-DATE-TIME")
+
+    def duration(self, line: str, rest: str) -> None:
+        """EXTINF (4.3.2.1)."""
+        self.next.duration = duration_of(rest) or 0
+        self.next.tags.append(line)
+
+    def gap(self, line: str, rest: str) -> None:
+        """EXT-X-GAP (of later drafts): the segment isn't there."""
+        self.next.is_gap = True
+
+    def byte_range(self, line: str, rest: str) -> None:
+        """EXT-X-BYTERANGE (4.3.2.2)."""
+        length, at, offset = rest.partition("@")
+        size = decimal_of(length)
+        self.next.byte_range = None if size is None else (size, decimal_of(offset) if at else None)
+
+    def key(self, line: str, rest: str) -> None:
+        """EXT-X-KEY (4.3.2.4): METHOD=NONE ends the keys of every format (docs/CONFORMANCE.md)."""
+        said = attributes_of(rest)
+        name = said.get("KEYFORMAT", IDENTITY)
+        if said.get("METHOD") == "NONE":
+            self.keys = ()
+        elif (key := Key(name, rest, "IV" in said)) not in self.keys:
+            self.keys = (*(it for it in self.keys if it.format != name), key)[-17:]  # (one more than adsplice takes, which it tells)
+
+    def init_section(self, line: str, rest: str) -> None:
+        """EXT-X-MAP (4.3.2.5)."""
+        self.section = InitSection(rest, self.keys)
+
+    def segment(self, uri: str) -> None:
+        """The line `uri`, with all that was said for it."""
+        segments, it = self.found.segments, self.next
+        if len(segments) == MOST_SEGMENTS:
+            raise Unread(f"it has more than {MOST_SEGMENTS} segments")
+        it.uri, it.own, it.keys, it.section = uri, len(segments), self.keys, self.section
+        if it.byte_range is not None and it.byte_range[1] is None and segments:
+            before = segments[-1].byte_range
+            if before is not None and before[1] is not None and segments[-1].uri == uri:
+                it.byte_range = it.byte_range[0], before[0] + before[1]
+        segments.append(it)
+        self.next = PackagedSegment("", 0)
+
+    def end(self) -> PackagedList:
+        """What was found, once all lines were read. EXT-X-MEDIA-SEQUENCE counts wherever it stood."""
+        found = self.found
+        found.tail_tags, found.tail_discontinuities = self.next.tags, self.next.discontinuities
+        for it in found.segments:
+            it.own += found.first
+        return found
+
+
+def nothing(reader: Reader, line: str, rest: str) -> None:
+    """A tag that says nothing more."""
+
+
+TAGS: dict[str, Callable[[Reader, str, str], None]] = {
+    "#EXTM3U": nothing, "#EXT-X-VERSION": Reader.version, "#EXT-X-TARGETDURATION": Reader.target, "#EXT-X-MEDIA-SEQUENCE": Reader.first,
+    "#EXT-X-DISCONTINUITY-SEQUENCE": Reader.discontinuity_sequence, "#EXT-X-PLAYLIST-TYPE": Reader.kind,
+    "#EXT-X-INDEPENDENT-SEGMENTS": Reader.independent, "#EXT-X-ENDLIST": Reader.ended, "#EXT-X-DISCONTINUITY": Reader.discontinuity,
+    "#EXT-X-PROGRAM-DATE-TIME": Reader.time, "#EXTINF": Reader.duration, "#EXT-X-BYTERANGE": Reader.byte_range, "#EXT-X-KEY": Reader.key,
+    "#EXT-X-MAP": Reader.init_section, "#EXT-X-GAP": Reader.gap,
+} | {f"#{name}": Reader.other for name in (
+    "EXT-X-SKIP", "EXT-X-DEFINE", "EXT-X-I-FRAMES-ONLY", "EXT-X-STREAM-INF", "EXT-X-MEDIA", "EXT-X-I-FRAME-STREAM-INF",
+    "EXT-X-SESSION-DATA", "EXT-X-SESSION-KEY")}
+
+
+def read(lines: Iterable[str]) -> PackagedList:
+    """What the `lines` of a list say, without their ends, blank lines and comments; raises Unread if there are too many segments."""
+    reader = Reader()
+    for line in lines:
+        if line[0] != "#":
+            reader.segment(line)
+            continue
+        name, _, rest = line.partition(":")
+        if (tag := TAGS.get(name)) is None:
+            reader.next.tags.append(line)
+        else:
+            tag(reader, line, rest)
+    return reader.end()
+
+
+# ---- writing
+
+def write(found: PackagedList, signals: list[str] | None = None) -> bytes:
+    """The list `found` as text, with the feed's numbers and instants. `signals`: the EXT-X-DATERANGE lines that stand in its head
+    in place of those among its tags."""
+    first = found.segments[0]
+    lines = ["#EXTM3U"] + ([f"#EXT-X-VERSION:{found.version}"] if found.version is not None else [])
+    lines += [f"#EXT-X-TARGETDURATION:{found.target}", f"#EXT-X-MEDIA-SEQUENCE:{first.number}",
+              f"#EXT-X-DISCONTINUITY-SEQUENCE:{first.discontinuity - first.discontinuities}"]
+    lines += [f"#EXT-X-PLAYLIST-TYPE:{found.kind}"] if found.kind else []
+    lines += (["#EXT-X-INDEPENDENT-SEGMENTS"] if found.is_independent else []) + (signals or [])
+    keys: Keys = ()
+    section: InitSection | None = None
+    for it in found.segments:
+        lines += ["#EXT-X-DISCONTINUITY"] * it.discontinuities
+        if it.section is not None and it.section != section:
+            lines += [*changed_keys(keys, it.section.keys), f"#EXT-X-MAP:{it.section.text}"]
+            section, keys = it.section, it.section.keys
+        effective = it.effective_keys()
+        if effective != keys:
+            lines += changed_keys(keys, effective)
+            keys = effective
+        lines += media_lines(it, signals is not None)
+    lines += [line for line in found.tail_tags if line.startswith(DATE_RANGE)] if signals is None else []
+    lines += ["#EXT-X-ENDLIST"] if found.is_ended else []
+    return "".join(f"{line}\n" for line in lines).encode()
+
+
+def changed_keys(old: Keys, new: Keys) -> list[str]:
+    """The tags that lead from the keys `old` to `new` (RFC 8216, 4.3.2.4): those that are new, or, if a format ends, none and then all."""
+    is_ended = {it.format for it in old} - {it.format for it in new}
+    none = ["#EXT-X-KEY:METHOD=NONE"] if is_ended else []
+    return none + [f"#EXT-X-KEY:{it.text}" for it in new if is_ended or it not in old]
+
+
+def media_lines(it: PackagedSegment, is_signalled: bool) -> list[str]:
+    """The lines of the segment `it` from its tags to its URI; without its date ranges if `is_signalled` says that they stand in
+    the head."""
+    lines = [line for line in it.tags if not (is_signalled and line.startswith(DATE_RANGE))]
+    if it.byte_range is not None:
+        length, offset = it.byte_range
+        lines.append(f"#EXT-X-BYTERANGE:{length}" + ("" if offset is None else f"@{offset}"))
+    if it.begins is not None:
+        lines.append(f"#EXT-X-PROGRAM-DATE-TIME:{playlist.instant_text(it.begins)}")
+    return [*lines, it.uri]

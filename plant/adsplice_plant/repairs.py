@@ -1,0 +1,44 @@
+"""The kinds of repairs that the feed does to a packager's list: the section of RFC 8216 that each is by, and what is told of it."""
+
+# Each kind with its section and what is told; `{}` stands for what is known of the case.
+KINDS = {
+    "byte order mark": ("4.1", "the list begins with a byte order mark, which is left out"),
+    "bytes": ("4.1", "the list isn't UTF-8: its other bytes become U+FFFD in tags and are percent-encoded in URIs"),
+    "control characters": ("4.1", "control characters in tags and titles become spaces"),
+    "spaces": ("4.1", "spaces around lines, numbers and durations are left out"),
+    "attribute lists": ("4.2", "spaces around attributes, and a comma after the last one, are left out"),
+    "last line": ("4.1", "the last line has no end; it is ended"),
+    "durations": ("4.3.2.1", "a duration with an exponent is written as a decimal"),
+    "dates": ("4.3.2.6", "a date and time is written with a T and without spaces"),
+    "instants": ("4.3.2.6", "a date and time that doesn't read is left out"),
+    "target duration": ("4.3.3.1", "EXT-X-TARGETDURATION is a whole number, rounded up"),
+    "version": ("4.3.1.2", "EXT-X-VERSION {} throughout"),
+    "target": ("4.3.3.1", "EXT-X-TARGETDURATION doesn't change: it is {} throughout"),
+    "long segment": ("4.3.3.1", "a segment of {}"),
+    "type": ("4.3.3.5", "EXT-X-PLAYLIST-TYPE doesn't change, and is EVENT or VOD: {}"),
+    "end": ("4.3.3.4", "EXT-X-ENDLIST is left out, since the channel is endless (endless = no lets it end)"),
+    "sequence tags": ("4.3.3", "tags of the whole list come once, before the first segment"),
+    "discontinuity sequence": ("6.2.2", "EXT-X-DISCONTINUITY-SEQUENCE is counted on when a discontinuity leaves the list"),
+    "numbers": ("6.2.1", "the packager's media numbers don't say which segments went: the segments themselves do"),
+    "own numbers": ("6.2.1", "media numbers go on from what viewers have; the packager's are others"),
+    "changed segments": ("6.2.1", "a segment that was listed isn't what it was; it stays as it was"),
+    "began again": ("6.2.1", "{}"),
+    "older segments": ("6.2.2", "segments that had left the list came back; they stay away"),
+    "queries": ("6.2.1", "a segment's URI changes in its query; it keeps the first one"),
+    "keys": ("5.2", "a key without IV has the packager's number as IV, which is stated"),
+    "times": ("4.3.2.6", "no segment states EXT-X-PROGRAM-DATE-TIME: it is added by this machine's clock (times = no leaves it out)"),
+    "gaps": ("6.2.1", "a segment of EXT-X-GAP isn't there, and is left out with a discontinuity after it"),
+}
+TOLD_EACH = ("long segment", "began again")  # each time that it is another case
+# What is told of a list that isn't taken, or not yet.
+HELD = "the list has no segment of the last one; it is taken if it stays so for {} s"
+BEGAN_AGAIN = "the list has no segment of the last one (media numbers from {} on, after {}): goes on at {} with one discontinuity"
+LAGS = "the list is older than the last one, and is passed over"
+EMPTY = "the list has no segment yet; waits for one"
+NEEDS = "{} is in the list, which doesn't say all without what came before: it isn't given to adsplice (have the packager leave it out)"
+
+
+def told(kind: str, detail: str = "") -> str:
+    """What is told of the repair `kind`, with its `detail`."""
+    section, text = KINDS[kind]
+    return f"{text.replace('{}', detail)} (RFC 8216, {section})"

@@ -1,0 +1,122 @@
+"""How a packager's list follows the one before it (RFC 8216, 6.2.1 and 6.2.2): where it goes on, if it does.
+
+A segment is known by what it is: its URI, byte range, duration, keys and initialisation section, and by the instant that it
+states. Where a list goes on is told by the packager's numbers if these are true, else by what the segments are, else (a token
+that changes) by their paths.
+"""
+from __future__ import annotations
+
+from collections.abc import Callable, Sequence
+from dataclasses import dataclass
+
+from .packaged import PackagedSegment
+from .playlist import SECOND
+
+MOST_PLACES = 16  # that are tried for a list that doesn't go on by its numbers
+LAG = 15.0  # seconds by which a list without instants may end earlier and still only lag, or LAG_TARGETS target durations
+LAG_TARGETS = 3
+
+Segments = Sequence[PackagedSegment]
+Way = Callable[[PackagedSegment, PackagedSegment], bool]
+
+
+@dataclass(frozen=True)
+class Place:
+    """Where a list goes on: its segment i is the one at `offset` + i of the last list. `way`: how that was found: `numbers`,
+    `segments`, `queries`, or `newest`, if the newest segment alone is what it was."""
+
+    offset: int
+    way: str
+
+
+def is_same(one: PackagedSegment, other: PackagedSegment) -> bool:
+    """Whether they are one segment, but for the instants that they state."""
+    return one.uri == other.uri and is_alike(one, other)
+
+
+def is_alike(one: PackagedSegment, other: PackagedSegment) -> bool:
+    """The same, but for the queries of their URIs."""
+    return (path_of(one) == path_of(other) and one.byte_range == other.byte_range and one.duration == other.duration and one.keys == other.keys
+            and one.section == other.section and (one.own == other.own or not any(it.takes_number() for it in one.keys)))
+
+
+def path_of(it: PackagedSegment) -> str:
+    """The URI of `it` without its query."""
+    return it.uri.partition("?")[0]
+
+
+def is_in_time(one: PackagedSegment, other: PackagedSegment) -> bool:
+    """Whether the instant that `one` states is within a second of the one at which `other` began; so it is if either is none."""
+    return one.stated is None or other.begins is None or abs(one.stated - other.begins) < SECOND
+
+
+def overlap(offset: int, last: Segments, new: Segments) -> range:
+    """The places in `new` of the segments that are at `offset` + place in `last`."""
+    return range(max(0, -offset), min(len(new), len(last) - offset))
+
+
+def goes_on(offset: int, last: Segments, new: Segments, way: Way) -> bool:
+    """Whether `new` goes on at `offset`: it ends no earlier than `last`, and by `way` they have the same segments where they overlap."""
+    return len(new) + offset >= len(last) and all(way(new[it], last[it + offset]) for it in overlap(offset, last, new))
+
+
+def in_time(way: Way, has_instants: bool) -> Way:
+    """The `way`, and with `has_instants` that the segments' instants agree."""
+    return (lambda one, other: way(one, other) and is_in_time(one, other)) if has_instants else way
+
+
+def place_of(last: Segments, new: Segments, has_instants: bool, is_held: bool) -> Place | None:
+    """Where the list of segments `new` goes on after that of `last`; none if it doesn't. `has_instants`: the packager states
+    instants. `is_held`: the list before wasn't taken, since it didn't go on; then one whose instants are others doesn't either."""
+    offset = new[0].own - last[0].own
+    is_near = -len(new) < offset <= len(last)
+    exact = in_time(is_same, has_instants)
+    if is_near and goes_on(offset, last, new, exact):
+        return Place(offset, "numbers")
+    places = [len(last) - 1 - it for it in range(len(new) - 1, -1, -1) if exact(new[it], last[-1])][:MOST_PLACES]
+    for it in places:
+        if goes_on(it, last, new, exact):
+            return Place(it, "segments")
+    if is_near and not is_held and overlap(offset, last, new) and goes_on(offset, last, new, is_same):
+        return Place(offset, "numbers")  # (a packager that set its clock)
+    return place_by_paths(last, new, has_instants, offset if is_near else None) or place_by_newest(last, new, places)
+
+
+def place_by_paths(last: Segments, new: Segments, has_instants: bool, offset: int | None) -> Place | None:
+    """Where `new` goes on after `last` if the queries of URIs don't count, or the newest segment of `last` was listed before it was
+    whole. `offset`: where its numbers say, if they say a place."""
+    alike = in_time(is_alike, has_instants)
+    if offset is not None and goes_on(offset, last[:-1], new, in_time(is_same, has_instants)) and len(new) + offset >= len(last):
+        pair = new[len(last) - 1 - offset] if 0 <= len(last) - 1 - offset < len(new) else None
+        if pair is not None and pair.uri == last[-1].uri and is_in_time(pair, last[-1]) and len(overlap(offset, last, new)) > 1:
+            return Place(offset, "newest")
+    if not any("?" in it.uri for it in new) or len({(path_of(it), it.byte_range) for it in new}) < len(new):
+        return None
+    places = [] if offset is None else [offset]
+    places += [len(last) - 1 - it for it in range(len(new) - 1, -1, -1) if alike(new[it], last[-1])][:MOST_PLACES]
+    return next((Place(it, "queries") for it in places if overlap(it, last, new) and goes_on(it, last, new, alike)), None)
+
+
+def place_by_newest(last: Segments, new: Segments, places: list[int]) -> Place | None:
+    """Where `new` goes on if the newest segment of `last` is in it at the first of `places`, others aren't what they were, and what
+    comes after it is new."""
+    if not places:
+        return None
+    known = {(it.uri, it.byte_range) for it in last}
+    later = new[len(last) - places[0]:]
+    return None if any((it.uri, it.byte_range) in known for it in later) else Place(places[0], "newest")
+
+
+def lags(history: Segments, new: Segments, has_instants: bool, target: int) -> bool:
+    """Whether `new` is an older list: each of its segments is in `history`, the segments that were listed, in order, and its last
+    one isn't the newest. Without instants it may also be of a packager that began again with the same URIs: then it lags if it ends
+    at most LAG seconds, or LAG_TARGETS target durations (`target`, in seconds), earlier."""
+    same = in_time(is_same, has_instants)
+    places = [it for it in range(len(history) - 2, -1, -1) if same(new[-1], history[it])][:MOST_PLACES]
+    for end in places:
+        count = min(len(new), end + 1)
+        if all(same(new[len(new) - 1 - it], history[end - it]) for it in range(count)):
+            behind = sum(it.duration for it in history[end + 1:])
+            is_stated = has_instants and any(it.stated is not None for it in new)
+            return is_stated or behind <= max(LAG, LAG_TARGETS * target) * SECOND
+    return False

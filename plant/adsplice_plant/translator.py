@@ -1,0 +1,206 @@
+"""The translator: signals of every style become date ranges that adsplice knows, one for each break.
+
+It has the state of one channel, or of all renditions of a programme: which breaks are known, and which signals were looked at.
+A list that it was given before changes nothing."""
+from __future__ import annotations
+
+from dataclasses import dataclass, field
+from typing import Any, NamedTuple
+
+from . import packaged, signals, splice
+from .breaks import AUTO, TOLERANCE, Break, Breaks, Line, Placed, Timeline
+from .date_ranges import STATED, DateRange, RangeReader, is_leaving, is_same, ranges_of
+from .packaged import DATE_RANGE, PackagedList
+from .playlist import instant_text, seconds_text
+from .signals import SPLICES
+from .splice import Kind
+
+MOST_LINES = 16  # told of one list
+MOST_STYLES = 32  # that are told as not translated
+MOST_SIGNALS = 1024  # date ranges with sections, and signals of other tags, of one list that are looked at
+
+
+@dataclass
+class Translated:
+    """What a list became: the EXT-X-DATERANGE lines in place of its own (`ranges`; none if it may pass as it is), what to tell,
+    and the breaks that became known."""
+
+    ranges: list[str] | None = None
+    told: list[Line] = field(default_factory=list)
+    known: list[Break] = field(default_factory=list)
+
+
+class Mark(NamedTuple):
+    """The newest segment of a list that was looked at: by its URI and instant it is found again, whatever number it has then."""
+
+    number: int
+    uri: str
+    begins: int
+
+
+class Translator:
+    """Translates lists. `types`: the segmentation types that begin a break, if they are named. With `aligns` starts are put on
+    the begin of a segment that is near. `tolerance`: the channel's, in nanoseconds."""
+
+    def __init__(self, types: frozenset[int] | None = None, aligns: bool = True, tolerance: int = TOLERANCE) -> None:
+        self.breaks, self.aligns, self.tolerance = Breaks(AUTO if types is None else types, types is not None), aligns, tolerance
+        self.done: dict[str, Mark] = {}  # of each rendition
+        self.firsts: dict[str, int] = {}  # the instant of the first one
+        self.seen: dict[str, dict[str, set[str]]] = {}  # of each rendition's listed date ranges the attributes that were looked at
+        self.styles: set[str] = set()  # that were told as not translated
+
+    # ---- what a list says
+
+    def take(self, found: PackagedList, rendition: str = "") -> Translated:
+        """Looks at the list `found` of a `rendition`, and answers what it becomes."""
+        if not found.segments:
+            return Translated()
+        ranges, fresh = ranges_of(found), self.first_new(found, rendition)
+        self.look_for_styles(found, ranges, fresh)
+        if any(it.begins is None for it in found.segments):
+            return Translated(None, self.tellings())
+        line, before = Timeline(found.segments, self.aligns), {it.id for it in self.breaks.known}
+        self.count(self.of_segments(found, fresh) + self.of_ranges(ranges, line, fresh, rendition), line)
+        self.breaks.settle(line)
+        newest = found.segments[-1]
+        if fresh < len(found.segments):
+            self.done[rendition] = Mark(newest.number, newest.uri, line.begins[-1])
+        self.firsts[rendition], self.breaks.is_first = line.begins[0], False
+        self.breaks.forget(min(self.firsts.values()))
+        listed = [it for it in self.breaks.known if self.is_listed(it, line)]
+        is_known = self.passes(ranges, listed, line)
+        others = [it.line for it in ranges if not it.is_translated() and self.breaks.named(it.id) is None]
+        lines = None if is_known else others + [self.written(it) for it in listed]
+        return Translated(lines, self.tellings(), [it for it in self.breaks.known if it.id not in before])
+
+    def first_new(self, found: PackagedList, rendition: str) -> int:
+        """The place of the first segment of the list `found` that the `rendition` hasn't listed before; past the last one if none is."""
+        done = self.done.get(rendition)
+        if done is None:
+            return 0
+        for place in range(len(found.segments) - 1, -1, -1):
+            it = found.segments[place]
+            if it.begins == done.begins and it.uri == done.uri:
+                return place + 1
+        return next((place for place, it in enumerate(found.segments) if it.number > done.number), len(found.segments))
+
+    def count(self, placed: list[Placed], line: Timeline) -> None:
+        """Takes in the signals that are `placed` on `line`: a cancellation first of all for the breaks that were known, and at the
+        end for those that came before it in the same list."""
+        begun: dict[str, int] = {}
+        cancels = [it for it in placed if it.signal.message.kind == Kind.CANCEL]
+        for it in cancels:
+            self.breaks.cancel(it, list(self.breaks.known))
+        for it in sorted(placed, key=Placed.key):
+            if it.signal.message.kind == Kind.OTHER:
+                self.breaks.ignore(it, "is of no break")
+            elif it.signal.message.kind == Kind.END:
+                self.breaks.finish(it, line)
+            elif it.signal.message.kind == Kind.BEGIN:
+                goes_on = it.signal.elapsed is not None
+                new = self.breaks.goes_on(it, line, bool(begun)) if goes_on else self.breaks.begin(it, line)
+                begun |= {new.id: it.order} if new else {"": -1} if not goes_on else {}
+        for it in cancels:
+            self.breaks.cancel(it, [one for one in self.breaks.known if begun.get(one.id, it.order) < it.order])
+
+    def of_segments(self, found: PackagedList, fresh: int) -> list[Placed]:
+        """The signals of the tags before the segments from the place `fresh` on, which weren't listed before."""
+        placed, order = list[Placed](), sum(len(it.tags) for it in found.segments[:fresh])
+        for it in found.segments[fresh:]:
+            order += len(it.tags)
+            if len(placed) >= MOST_SIGNALS:
+                self.breaks.too_many()
+                break
+            said = signals.of_segment(it.tags)
+            for text in said.unread:
+                self.breaks.tell("signals", "Unread", f"segment {it.number}: {text}")
+            placed += [Placed(one, it.begins or 0, it.number, order) for one in said.signals]
+        return placed
+
+    def of_ranges(self, ranges: list[DateRange], line: Timeline, fresh: int, rendition: str) -> list[Placed]:
+        """The signals of those attributes of the date ranges `ranges` that weren't looked at before, in a list of `rendition` whose
+        first new segment is at the place `fresh`."""
+        starts: dict[str, int] = {it.id: it.start for it in self.breaks.known}
+        owners = set(starts) | {it.id for it in ranges if "SCTE35-OUT" in it.said or "SCTE35-CMD" in it.said}
+        listed = {it.id for it in ranges}
+        seen = self.seen[rendition] = {name: said for name, said in self.seen.get(rendition, {}).items() if name in listed}
+        self.breaks.cancelled &= {name for it in self.seen.values() for name in it}
+        placed = list[Placed]()
+        for it in ranges:
+            if (start := it.start()) is not None:
+                starts.setdefault(it.id, line.aligned(start))
+            new = {name for name in (*SPLICES, *STATED) if name in it.said} - seen.get(it.id, set())
+            if not new or not it.is_splice() and it.id not in owners:
+                continue
+            if it.id not in seen and len(seen) >= MOST_SIGNALS:
+                self.breaks.too_many()
+                break
+            seen.setdefault(it.id, set()).update(new)
+            reader = RangeReader(it, line, fresh, starts.get(it.id) if it.id in owners else None, self.breaks)
+            placed += [one for name in SPLICES if name in new for one in reader.signals(name)]
+            placed += reader.stated() if not new & set(SPLICES) else []
+        return placed
+
+    def look_for_styles(self, found: PackagedList, ranges: list[DateRange], fresh: int) -> None:
+        """Tells, once for each, of the styles of the list `found` that aren't translated, and of signals without instants. `fresh`: the
+        place of its first new segment."""
+        names = {signals.style_of(line) for it in found.segments[fresh:] for line in it.tags if not line.startswith(DATE_RANGE)} - {""}
+        if any(it.begins is None for it in found.segments) and (names or any(it.is_splice() for it in ranges)):
+            self.breaks.tell("signals", "NoTimes", "no segment has an instant, so no break of this list is entered")
+        for it in sorted(names - self.styles):
+            if not signals.is_translated(it) and len(self.styles) < MOST_STYLES:
+                self.styles.add(it)
+                self.breaks.tell("signals", "Untranslated", f"the list signals by {it}, a style that isn't translated: it begins no break")
+
+    def tellings(self) -> list[Line]:
+        """What is to be told since the last time; one line in place of many."""
+        told, self.breaks.told = self.breaks.told, []
+        if len(told) <= MOST_LINES:
+            return told
+        one = next((it for it in told if it.word == "TooMany"), told[0])
+        return [Line(one.who, one.word, f"{one.text}; {len(told) - 1} more that this list says isn't told")]
+
+    # ---- what is written
+
+    def is_listed(self, one: Break, line: Timeline) -> bool:
+        """Whether the break `one` is written in the list of `line`: a segment of it is listed, or is to come. One without an end is
+        written as long as its first segment is listed; one that may yet be put on a segment isn't written before that is listed."""
+        if not one.is_settled and not line.will_begin(one.start):
+            return False
+        end = one.end()
+        return end > line.begins[0] if end is not None else one.start >= line.begins[0] - TOLERANCE
+
+    def passes(self, ranges: list[DateRange], listed: list[Break], line: Timeline) -> bool:
+        """Whether adsplice by itself makes of the date ranges `ranges` just the breaks that are `listed`. It keeps the first value of
+        each attribute, so one of a break that was cancelled, or isn't written yet, may not pass."""
+        said: dict[str, dict[str, str]] = {}
+        for it in ranges:
+            said[it.id] = it.said | said.get(it.id, {})
+        if said.keys() & (self.breaks.cancelled | {it.id for it in self.breaks.known if not it.is_settled and it not in listed}):
+            return False
+        earliest = line.begins[0] - TOLERANCE
+        begun = {name for name, it in said.items() if is_leaving(it) and (packaged.instant_of(it["START-DATE"]) or 0) >= earliest}
+        return begun <= {it.id for it in listed} and all(it.id in said and is_leaving(said[it.id]) and is_same(it, said[it.id], self.tolerance) for it in listed)
+
+    def written(self, one: Break) -> str:
+        """The EXT-X-DATERANGE of the break `one`."""
+        end = one.end()
+        planned = None if end is None else one.planned if one.planned is not None else end - one.start
+        text = f'ID="{one.id}",START-DATE="{instant_text(one.start)}"' + one.others
+        text += f',END-DATE="{instant_text(one.until)}"' if one.is_ended and one.until is not None else ""
+        text += f",PLANNED-DURATION={seconds_text(planned)}" if planned is not None else ""
+        return f"{DATE_RANGE}{text},SCTE35-OUT={splice.insert_text((one.event or one.number) % 2**32, planned)}"
+
+    # ---- what is kept
+
+    def kept(self) -> dict[str, Any]:
+        """The state as JSON."""
+        return {"breaks": self.breaks.kept(), "done": self.done, "cancelled": sorted(self.breaks.cancelled), "styles": sorted(self.styles),
+                "seen": {name: {id_: sorted(said) for id_, said in it.items()} for name, it in self.seen.items()}}
+
+    def resume(self, kept: dict[str, Any]) -> None:
+        """Goes on from the state that `kept` answered; raises if that isn't one (KeyError, TypeError, ValueError)."""
+        self.breaks.known = [Break(**it) for it in kept["breaks"]]
+        self.done = {name: Mark(*it) for name, it in kept["done"].items()}
+        self.seen = {name: {id_: set(said) for id_, said in it.items()} for name, it in kept["seen"].items()}
+        self.breaks.cancelled, self.styles, self.breaks.is_first = set(kept["cancelled"]), set(kept["styles"]), not self.done

@@ -1,0 +1,405 @@
+"""Tests of asking for decisions: with an ad server that is good, slow, dead or wrong, and through a folder."""
+import json
+import os
+import re
+import signal
+import sys
+import threading
+import time
+from pathlib import Path
+
+from styles import named
+from tools import FALLBACK, PLANT, FakeController, FakeServer, Room, decided, free_port, get, instant, until
+
+sys.path.insert(0, PLANT)
+NEEDS = ("httpx",)
+SECOND = 10**9
+STYLE = named("dr-time-signal-34")
+MODULES = {}
+
+
+def needs(*names):
+    """Says what a test needs."""
+    def mark(test):
+        test.needs = names
+        return test
+    return mark
+
+
+def modules():
+    """The modules that need httpx."""
+    if not MODULES:
+        from adsplice_plant import asking, breaks, decisions, settings, signalling, web
+        MODULES.update(asking=asking, breaks=breaks, decisions=decisions, settings=settings, signalling=signalling, web=web)
+    return MODULES
+
+
+class Decider(FakeServer):
+    """An ad decision server: answers each question by `answer_to(question)`, (status, text), after `pause` seconds."""
+
+    def __init__(self, answer_to=None, pause=0.0, port=0):
+        self.answer_to = answer_to or (lambda question: (200, decided((question["id"], 5))))
+        self.pause, self.questions = pause, []
+        super().__init__(port)
+
+    @property
+    def url(self):
+        return f"http://127.0.0.1:{self.port}/decide"
+
+    def answer(self, method, path, body, fields):
+        assert (method, fields.get("Content-Type")) == ("POST", "application/json")
+        self.questions.append(json.loads(body))
+        time.sleep(self.pause)
+        status, text = self.answer_to(self.questions[-1])
+        return status, {}, text if isinstance(text, bytes) else text.encode()
+
+
+class Asking:
+    """The signals of one channel, of a ladder if `renditions` are named, and what was told of them."""
+
+    def __init__(self, room, ask, hold=0.4, renditions=("",), timeout=2.0, keep=None):
+        it = modules()
+        self.told, self.answered, self.room = [], threading.Event(), room
+        settings = it["settings"].Settings("news", "http://origin.example/i.m3u8", "http://127.0.0.1:1", "http://origin.example/i.m3u8", keep=keep,
+                                           decisions=Path(room.path), ask=ask, hold=hold)
+        self.signalling = it["signalling"].Signalling("news", settings, it["web"].Client(timeout), self.told.append, self.answered.set)
+        for name in renditions:
+            os.makedirs(f"{room.path}/{name}", exist_ok=True)
+            self.signalling.join(name, it["decisions"].Folder(Path(room.path) / name, 7))
+
+    def give(self, newest, rendition="", style=STYLE):
+        """Gives the list up to this segment, as a turn of the feed does; answers the seconds that it took."""
+        begun = time.monotonic()
+        self.signalling.translate(listed(style.listed(newest)), rendition)
+        self.signalling.wait(rendition)
+        return time.monotonic() - begun
+
+    def sees(self, word):
+        """Waits for a line that has `word`."""
+        return until(lambda: next((it for it in self.told if word in it), None), 10, f"{word} in {self.told}")
+
+    def lines(self):
+        """What was told of questions, without the times of day."""
+        return [it.split(" ", 1)[1] for it in self.told if " ask/" in it or " ask " in it]
+
+
+def listed(text):
+    """A list with the packager's numbers and times."""
+    from of_signals import listed as read
+    return read(text)
+
+
+def test_a_break_is_asked_for_once_and_its_list_waits_for_the_answer(room):
+    server = room.server(Decider(pause=0.2))
+    it = Asking(room, server.url)
+    assert it.give(11) < 0.1 and not server.questions
+    assert 0.2 <= it.give(12) < 0.4
+    assert server.questions == [{"channel": "news", "id": "1001", "start": instant(24), "planned": 10, "event": 1001, "type": 0x34,
+                                 "name": "Provider Placement Opportunity Start", "upid": "000000002CA0A18A", "target": 2, "renditions": []}]
+    with open(f"{room.path}/1001.json", encoding="utf-8") as file:
+        assert file.read() == json.dumps(json.loads(decided(("1001", 5))))
+    for newest in range(13, 20):
+        assert it.give(newest) < 0.1
+    again = Asking(room, server.url)
+    again.give(14)
+    assert len(server.questions) == 1 and it.answered.is_set()
+    assert [line[:32] for line in it.lines()] == ["news ask/1001 200 -: answered af"] and not again.lines(), it.lines()
+
+
+def test_a_break_that_was_decided_before_is_not_asked_for(room):
+    server = room.server(Decider())
+    room.write("any.json", decided(("1001", 5)))
+    it = Asking(room, server.url)
+    it.signalling.asker.folders[""].look()
+    it.give(12)
+    assert not server.questions and not it.lines()
+
+
+def test_a_slow_server_is_waited_for_as_long_as_a_list_may_wait(room):
+    server = room.server(Decider(pause=1.0))
+    it = Asking(room, server.url)
+    assert 0.4 <= it.give(12) < 0.6
+    assert it.give(13) < 0.1 and not os.path.exists(f"{room.path}/1001.json")
+    it.sees("ask/1001 200 Late: answered after 1.")
+    assert it.answered.wait(1) and os.path.exists(f"{room.path}/1001.json") and len(server.questions) == 1
+
+
+def test_a_list_waits_for_less_than_half_its_target_duration(room):
+    it = Asking(room, room.server(Decider(pause=3)).url, hold=60, timeout=1.5)
+    assert 0.8 <= it.give(12) < 1.0
+
+
+def test_an_announced_break_holds_no_list(room):
+    server = room.server(Decider(pause=0.3))
+    it = Asking(room, server.url)
+    style = named("dr-announced")
+    assert it.give(9, style=style) < 0.1 and until(lambda: server.questions, 2)
+    assert it.give(10, style=style) < 0.1
+    it.sees("ask/1001 200 -: answered")
+
+
+def test_what_a_server_may_do_wrong_is_one_line_each(room):
+    good = decided(("1001", 5))
+    cases = {
+        "204": ((204, ""), "204 -: no ads, after 0."),
+        "404": ((404, "no"), "404 Unanswered: the ad server answers 404, after 0."),
+        "302": ((302, ""), "302 Unanswered"),
+        "empty": ((200, ""), "200 Wrong: the answer isn't taken: line 1, column 1: the file isn't JSON"),
+        "html": ((200, "<html>"), "200 Wrong: the answer isn't taken: line 1, column 1: the file isn't JSON"),
+        "deep": ((200, "[" * 100_000), "200 Wrong: the answer isn't taken: the file isn't JSON"),
+        "other": ((200, decided(("b9", 5))), "200 Wrong: the answer isn't taken: it decides b9, and not this one"),
+        "none": ((200, '{"breaks":[]}'), "200 Wrong: the answer isn't taken: it decides no break, and not this one"),
+        "fallback": ((200, '{"fallback":null}'), "200 Wrong: the answer isn't taken: it has no `breaks`"),
+        "number": ((200, good.replace('"2"', "2")), "200 Wrong: the answer isn't taken: break 0, ad 0, segment 0: `duration` has to be a string"),
+        "twice": ((200, decided(("1001", 5), ("1001", 4))), "200 Wrong: the answer isn't taken: break 1: the `id` \"1001\" came before in this file"),
+        "more": ((200, decided(("1001", 5), ("b9", 4))), "200 -: answered after 0."),
+        "large": ((200, b"[" + b"1," * 50_000_000 + b"1]"), "- Unanswered: an answer of more than 4194304 bytes"),
+    }
+    for name, (said, owed) in cases.items():
+        with Room(None) as place:
+            server = place.server(Decider(lambda question, said=said: said))
+            it = Asking(place, server.url, timeout=5.0)
+            it.give(12)
+            it.sees("ask/1001")
+            assert len(it.lines()) == 1 and owed in it.lines()[0], (name, it.lines())
+            assert os.path.exists(f"{place.path}/1001.json") == (name == "more"), name
+            assert it.give(13) < 0.1
+
+
+def test_a_dead_server_is_tried_again_while_a_list_may_wait(room):
+    port = free_port()
+    it = Asking(room, f"http://127.0.0.1:{port}/decide", hold=0.8)
+    threading.Timer(0.3, lambda: room.server(Decider(port=port))).start()
+    assert 0.3 <= it.give(12) < 0.8
+    it.sees("ask/1001 200 -: answered")
+    dead = Asking(room, f"http://127.0.0.1:{free_port()}/decide", hold=0.3)
+    assert dead.give(12, style=named("cue-elemental")) < 0.5
+    dead.sees("ask/cue-12 - Unanswered: Connection refused")
+    assert len(dead.lines()) == 1
+
+
+def test_a_server_that_fails_at_first_is_asked_again(room):
+    said = [(503, ""), (500, ""), (200, decided(("1001", 5)))]
+    server = room.server(Decider(lambda question: said.pop(0)))
+    it = Asking(room, server.url, hold=0.9)
+    it.give(12)
+    assert len(server.questions) == 3 and len(it.lines()) == 1, it.lines()
+
+
+def test_whoever_watches_the_folder_answers_there(room):
+    it = Asking(room, "folder", hold=0.8)
+
+    def watch():
+        path = f"{room.path}/asked/1001.json"
+        until(lambda: os.path.exists(path), 5)
+        with open(path, encoding="utf-8") as file:
+            room.write("whatever.json", decided((json.load(file)["id"], 5)))
+
+    threading.Thread(target=watch, daemon=True).start()
+    assert it.give(11) < 0.1 and it.give(12) < 0.7 and it.signalling.asker.is_decided("1001")
+    assert it.lines() == ["news ask/1001 - Asked: asked/1001.json is there; its decision is expected in the folder"]
+    silent = Asking(room, "folder", hold=0.3)
+    assert 0.3 <= silent.give(12, style=named("cue-elemental")) < 0.5 and silent.give(13, style=named("cue-elemental")) < 0.1
+
+
+def test_a_programme_is_asked_for_once_and_each_rendition_gets_its_own_uris(room):
+    server = room.server(Decider(lambda question: (200, decided((question["id"], 5)).replace("ads.example/", "ads.example/{}/"))))
+    it = Asking(room, server.url, renditions=("1080", "720"))
+    for name in ("720", "1080"):
+        it.give(12, name)
+    assert len(server.questions) == 1 and server.questions[0]["renditions"] == ["1080", "720"]
+    for name in ("1080", "720"):
+        with open(f"{room.path}/{name}/1001.json", encoding="utf-8") as file:
+            assert f"http://ads.example/{name}/1001-0.ts" in file.read()
+
+
+def test_ids_become_names_of_files(room):
+    name = modules()["asking"].file_name
+    assert [name(it) for it in ("break-17", "../a b", ".a.b", "é")] == ["break-17", "..%2Fa%20b".replace("..", "%2E%2E"), "%2Ea%2Eb", "%C3%A9"]
+    assert len(name("x" * 255)) == 64
+
+
+def test_an_id_that_comes_again_is_asked_for_again(room):
+    server, later = room.server(Decider()), modules()["breaks"].Break("1001", 24 * SECOND, 12, "splice_insert")
+    it = Asking(room, server.url)
+    it.give(12)
+    os.remove(f"{room.path}/1001.json")
+    it.signalling.asker.folders[""].look()
+    it.signalling.asker.ask([later], 2, 0)
+    until(lambda: len(server.questions) == 2, 2, "the second question")
+
+
+def test_many_breaks_are_asked_for_in_bounds(room):
+    server = room.server(Decider(pause=0.05))
+    it = Asking(room, server.url, hold=0.5)
+    known = [modules()["breaks"].Break(f"b{n}", n * SECOND, n, "splice_insert") for n in range(1000)]
+    it.signalling.asker.ask(known, 2, 0)
+    until(lambda: len(server.questions) == 16, 5, "sixteen questions")
+    assert "news ask - TooMany: 16 questions are open; b16 isn't asked for" in it.lines()
+
+
+def test_what_is_kept_on_disk_goes_on(room):
+    keep = Path(room.path) / "kept"
+    os.makedirs(keep)
+    style = named("cue-without-duration")
+    for newest in range(2, 31):
+        it, found = Asking(room, "", keep=keep), listed(style.listed(newest))
+        it.signalling.translate(found)
+        begun = [line.partition(",END")[0].partition(",SCTE")[0] for line in found.date_ranges()]
+        assert begun == [f'#EXT-X-DATERANGE:ID="cue-12",START-DATE="{instant(24)}"'] * (12 <= newest < 24), (newest, begun)
+    for text in ("{", '{"breaks":[{"id":1}]}', "[1]", '{"breaks":1,"done":[],"cancelled":[],"styles":[],"seen":[]}'):
+        (keep / "news.signals").write_text(text, encoding="utf-8")
+        assert "Broken" in Asking(room, "", keep=keep).told[0], text
+
+
+# ---- through the feed
+
+class Fed:
+    """A channel's feed in this process, whose turns are made by hand: of a style's lists, to adsplice or a fake of it at `at`."""
+
+    def __init__(self, room, at, style, **settings):
+        from adsplice_plant.channel import Channel
+        it = modules()
+        self.room, self.style, self.lines, self.path = room, style, [], Path(room.path) / "index.m3u8"
+        settings = {"decisions": Path(room.path) / "decisions", "keep": Path(room.path) / "kept", **settings}
+        for folder in (settings["decisions"], settings["keep"]):
+            folder.mkdir(exist_ok=True)
+        self.settings = it["settings"].Settings("news", str(self.path), at, "http://origin.example/ch/index.m3u8", **settings)
+        self.begin = lambda: Channel(self.settings, it["web"].Client(5.0), self.lines.append, 5.0, 7.0)
+        self.channel = self.begin()
+
+    def turn(self, newest):
+        """The packager's list goes up to this segment, and the feed has a turn; answers the seconds that it took."""
+        self.room.write("index.m3u8", self.style.listed(newest))
+        begun = time.monotonic()
+        self.channel.turn()
+        return time.monotonic() - begun
+
+
+def test_lists_that_adsplice_knows_pass_byte_for_byte(room):
+    controller = room.server(FakeController())
+    for name, is_same in (("dr-insert-planned-in", True), ("dr-program-start", True), ("dr-announced", True), ("cue-elemental", False), ("dr-cmd-insert", False)):
+        with Room(None) as place:
+            fed = Fed(place, controller.url, named(name))
+            controller.channels.clear()
+            del controller.asked[:]
+            for newest in range(2, 31):
+                fed.turn(newest)
+            texts = [fed.style.listed(newest).encode() for newest in range(2, 31)]
+            assert (controller.puts("origin") == texts) == is_same, name
+            assert all(it.count(b"SCTE35-OUT") <= 1 for it in controller.puts("origin"))
+
+
+def test_a_signal_is_told_and_may_be_left_as_it_is(room):
+    controller = room.server(FakeController())
+    fed = Fed(room, controller.url, named("cue-elemental"))
+    for newest in range(10, 20):
+        fed.turn(newest)
+    assert [it.split(" ", 1)[1] for it in fed.lines if "breaks/" in it] == [
+        f"news breaks/cue-12 - Begins: at {instant(24)}, planned for 10 s (a tag without a section)",
+        f"news breaks/cue-12 - Ends: at {instant(34)}, after 10 s (a tag without a section)"]
+    with Room(None) as place:
+        fed = Fed(place, controller.url, named("cue-elemental"), signals=False)
+        fed.turn(14)
+        assert controller.puts("origin")[-1] == fed.style.listed(14).encode() and not any("breaks/" in it for it in fed.lines)
+
+
+def test_a_feed_that_does_not_repair_translates_too(room):
+    controller = room.server(FakeController())
+    fed = Fed(room, controller.url, named("cue-elemental"), repair=False)
+    fed.turn(11)
+    fed.turn(12)
+    texts = controller.puts("origin")
+    assert texts[0] == fed.style.listed(11).encode() and b'#EXT-X-DATERANGE:ID="cue-12"' in texts[1]
+
+
+def shown_by(at):
+    """The segments of the written playlist: their URIs' last parts."""
+    return [line.rsplit("/", 1)[1] for line in get(f"{at}/live.m3u8")[1].splitlines() if line and not line.startswith("#")]
+
+
+@needs("httpx", "program")
+def test_a_decision_answered_in_time_fills_its_own_break(room):
+    server, port = room.server(Decider(pause=0.2)), free_port()
+    room.adsplice(port)
+    at = f"http://127.0.0.1:{port}/channels/news"
+    fed = Fed(room, f"http://127.0.0.1:{port}", named("cue-enhanced-time-signal"), ask=server.url, fallback=Path(room.write("f.json", FALLBACK)))
+    took = {newest: fed.turn(newest) for newest in range(9, 20)}
+    assert shown_by(at) == [*(f"1001-12-{n}.ts" for n in range(5)), "s17.ts", "s18.ts", "s19.ts"]
+    assert 0.2 <= took[12] < 0.7 and max(it for newest, it in took.items() if newest not in (9, 12)) < 0.2, took
+
+
+@needs("httpx", "program")
+def test_a_feed_started_again_goes_on_with_the_same_breaks(room):
+    server, port = room.server(Decider()), free_port()
+    room.adsplice(port)
+    fed = Fed(room, f"http://127.0.0.1:{port}", named("cue-without-duration"), ask=server.url)
+    for newest in range(9, 23):
+        fed.channel = fed.begin()
+        fed.turn(newest)
+    seen = [json.loads(line)["body"] for line in open(f"{room.path}/kept/news.events", encoding="utf-8") if '"what": "origin"' in line]
+    ids = {name for text in seen for name in re.findall('DATERANGE:ID="([^"]*)"', text)}
+    assert ids == {"cue-12"} and len(server.questions) == 1 and sum("Begins" in it for it in fed.lines) == 1, (ids, fed.lines)
+    assert get(f"http://127.0.0.1:{port}/channels/news/why")[1] == "cue-12\tFilled\n"
+
+
+@needs("httpx", "program")
+def test_an_adsplice_started_again_fills_the_break_as_it_was(room):
+    server, port = room.server(Decider()), free_port()
+    first = room.adsplice(port)
+    fed = Fed(room, f"http://127.0.0.1:{port}", named("dr-in-comes-early"), ask=server.url)
+    for newest in range(9, 19):
+        fed.turn(newest)
+    before = shown_by(f"http://127.0.0.1:{port}/channels/news")
+    first.kill()
+    first.wait()
+    room.adsplice(port)
+    fed.turn(19)
+    after = shown_by(f"http://127.0.0.1:{port}/channels/news")
+    place = before.index(after[0])
+    assert after[:len(before) - place] == before[place:] and after[-1] == "s19.ts" and "1001-4.ts" in after, (before, after)
+
+
+@needs("httpx", "program")
+def test_a_late_answer_is_given_at_once(room):
+    server, port = room.server(Decider(pause=0.9)), free_port()
+    room.adsplice(port)
+    fed = Fed(room, f"http://127.0.0.1:{port}", named("dr-announced-time-signal"), ask=server.url, hold=0.1)
+    for newest in (8, 9):
+        fed.turn(newest)
+    until(lambda: any("decisions/1001.json 204" in it for it in fed.lines), 3, "the answer")
+    assert any("ask/1001 200 Late: answered after 0.9" in it or "ask/1001 200 Late: answered after 1.0" in it for it in fed.lines), fed.lines
+    for newest in range(10, 19):
+        fed.turn(newest)
+    assert "1001-4.ts" in shown_by(f"http://127.0.0.1:{port}/channels/news")
+
+
+def test_other_channels_do_not_wait(room):
+    server, controller = room.server(Decider(pause=3)), room.server(FakeController())
+    room.write("a.m3u8", named("cue-elemental").listed(11))
+    room.write("b.m3u8", named("cue-elemental").listed(11))
+    at = f"at = {controller.url}\nbase = http://origin.example/i.m3u8\nhold = 0.9\n"
+    sections = f"[DEFAULT]\n{at}[a]\norigin = {room.path}/a.m3u8\nask = {server.url}\ndecisions = {room.path}/d\n[b]\norigin = {room.path}/b.m3u8\n"
+    feed = room.feed("--config", room.write("feed.ini", sections))
+    for name in "ab":
+        feed.sees(f" {name} adsplice 204 -: the list is taken")
+    room.write("a.m3u8", named("cue-elemental").listed(12))
+    until(lambda: server.questions, 5, "the question")
+    room.write("b.m3u8", named("cue-elemental").listed(12))
+    feed.sees(" b breaks/cue-12 - Begins", 0.7)
+    assert feed.end(signal.SIGTERM) == 0
+
+
+def test_wrong_settings_are_told(room):
+    said = {"origin": "http://127.0.0.1/i.m3u8", "at": "http://127.0.0.1:1"}
+    settings_of = modules()["settings"].settings_of
+    for more, owed in (({"ask": "http://h/"}, "ask needs decisions"), ({"ask": "ftp://h", "decisions": room.path}, "isn't a URL"), ({"hold": "-1"}, "isn't a number of seconds"),
+                       ({"signals": "0x10"}, "signals is auto, no, or types of 0x22, 0x30"), ({"signals": "yes"}, "and not yes"), ({"nearest": "half"}, "nearest is yes or no"),
+                       ({"ask": "folder", "decisions": room.path, "signals": "no"}, "ask needs signals")):
+        try:
+            settings_of("news", said | more)
+            raise AssertionError(more)
+        except modules()["settings"].Fault as fault:
+            assert owed in str(fault), (more, str(fault))
+    found = settings_of("news", said | {"signals": "0x34, 54", "hold": "0", "ask": "folder", "decisions": room.path, "nearest": "no"})
+    assert (found.types, found.hold, found.ask, found.nearest, found.signals) == (frozenset({0x34, 0x36}), 0.0, "folder", False, True)
