@@ -62,7 +62,7 @@ def question_of(channel: str, renditions: list[str], target: int, one: Break) ->
 def decision_of(body: bytes, name: str) -> tuple[dict[str, Any] | None, str]:
     """The decision file for the break `name` alone that the answer `body` gives; or none, and why not. Further breaks are told."""
     if (wrong := judge.judge(body)) is not None:
-        return None, f"{wrong.line()} ({wrong.code})"
+        return None, f"{wrong.line()} ({wrong.fault})"
     found = json.loads(body)
     breaks = found.get("breaks")
     if breaks is None:

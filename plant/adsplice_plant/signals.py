@@ -80,16 +80,24 @@ def said_by(text: str) -> dict[str, str]:
     return found
 
 
+def seconds_of(text: str) -> int | None:
+    """The nanoseconds of a number of seconds, of any length of time; none if `text` isn't one."""
+    whole = text.partition(".")[0]
+    if whole.isascii() and whole.isdigit() and 6 < len(whole) <= 20:  # (more than an EXTINF may say)
+        return int(whole) * SECOND
+    return packaged.duration_of(text)
+
+
 def duration_of(text: str) -> int | None:
     """The nanoseconds of a duration in seconds (`10.5`), or by ISO 8601 (`PT1M10.5S`); none if `text` is none, or is 0."""
     text = text.strip().strip('"').upper()
     if not text.startswith("PT"):
-        return packaged.duration_of(text) or None if text else None
+        return seconds_of(text) or None
     total, rest = 0, text[2:]
     for unit, seconds in (("H", 3600), ("M", 60), ("S", 1)):
         number, sign, after = rest.partition(unit)
         if sign:
-            if (found := packaged.duration_of(number)) is None:
+            if (found := seconds_of(number)) is None:
                 return None
             total, rest = total + found * seconds, after
     return None if rest else total or None
