@@ -26,6 +26,9 @@ A list that breaks RFC 8216 is put right, and each kind of repair is told once (
 which nothing is wrong is pushed as it came. Media numbers go on when the packager begins again, when adsplice was started anew,
 and, with --keep, when the feed was. A list without a segment of the last one is taken if it stays so for a target duration.
 
+Signals of breaks of every style (SCTE35-CMD, time_signal, EXT-X-CUE-OUT ..) become date ranges that adsplice knows. With --ask
+each break's decision is asked for once, of an ad server or in the folder of decisions, and its list waits for the answer.
+
 Decision files (*.json) that are renamed into DIR are given to adsplice, stay there while their breaks are listed, are given
 again after a new start, and are then moved to DIR/done. One that is refused stays, and is taken once it is written anew.
 
@@ -45,6 +48,7 @@ EPILOG = """A config file has a section for each channel, and in [DEFAULT] what 
   origin = http://origin.example/ch/index.m3u8
   decisions = /var/lib/adsplice/decisions/news
   fallback = /etc/adsplice/fallback.json
+  ask = http://127.0.0.1:9083/decide
 
   [sport]
   renditions = 1080 720 360

@@ -48,9 +48,10 @@ class Decider(FakeServer):
 
     def answer(self, method, path, body, fields):
         assert (method, fields.get("Content-Type")) == ("POST", "application/json")
-        self.questions.append(json.loads(body))
+        question = json.loads(body)
+        self.questions.append(question)
         time.sleep(self.pause)
-        status, text = self.answer_to(self.questions[-1])
+        status, text = self.answer_to(question)
         return status, {}, text if isinstance(text, bytes) else text.encode()
 
 
@@ -283,9 +284,9 @@ def test_lists_that_adsplice_knows_pass_byte_for_byte(room):
             fed = Fed(place, controller.url, named(name))
             controller.channels.clear()
             del controller.asked[:]
-            for newest in range(2, 31):
+            for newest in range(8, 21):
                 fed.turn(newest)
-            texts = [fed.style.listed(newest).encode() for newest in range(2, 31)]
+            texts = [fed.style.listed(newest).encode() for newest in range(8, 21)]
             assert (controller.puts("origin") == texts) == is_same, name
             assert all(it.count(b"SCTE35-OUT") <= 1 for it in controller.puts("origin"))
 

@@ -11,7 +11,7 @@ from styles import ALL, STYLES, Style, insert, named, range_of, signal
 from tools import PLANT, free_port, get, instant, put
 
 sys.path.insert(0, PLANT)
-from adsplice_plant import packaged, signals, spelling, splice  # noqa: E402
+from adsplice_plant import packaged, signals, spelling, splice, unseen  # noqa: E402
 from adsplice_plant.splice import Kind, Message  # noqa: E402
 from adsplice_plant.translator import Translator  # noqa: E402
 from adsplice_rules.channel import Channel, decide, refreshed  # noqa: E402
@@ -193,12 +193,13 @@ def check_styles(styles, ways):
     for style in styles:
         for way, (step, offset, starts_again) in ways.items():
             run = Run(style.lists(step, offset), style.pod, starts_again)
-            if run.numbers() != style.filled() or style.ids and run.ids() != style.ids or len(run.ids()) != len(style.breaks):
+            is_right = run.numbers() == style.filled() and run.ids() == (style.ids or run.ids()) and len(run.ids()) == len(style.breaks)
+            if not is_right or step == 1 and style.is_known != all(run.unchanged):
                 wrong.append((style.name, way, run.numbers(), run.ids(), run.told))
     return wrong
 
 
-def test_each_style_replaces_what_it_means(room):
+def test_each_style_replaces_what_it_means_and_passes_as_it_is_if_adsplice_knows_it(room):
     assert len(STYLES) == 18 and len({it.name for it in ALL}) == len(ALL)
     wrong = check_styles(ALL, {"as listed": (1, 0, False)})
     assert not wrong, "\n".join(map(str, wrong))
@@ -212,11 +213,6 @@ def test_each_style_in_every_split_into_lists(room):
 def test_each_style_with_a_feed_that_starts_again_before_each_list(room):
     wrong = check_styles(ALL, {"started again": (1, 0, True)})
     assert not wrong, "\n".join(map(str, wrong))
-
-
-def test_what_adsplice_knows_passes_as_it_is(room):
-    wrong = [it.name for it in ALL if it.is_known != all(Run(it.lists(), it.pod).unchanged)]
-    assert not wrong, wrong
 
 
 # ---- what is told
@@ -255,6 +251,33 @@ def test_each_message_is_told_once_in_all_renditions(room):
 def test_a_list_without_instants_is_told_once(room):
     texts = [re.sub("#EXT-X-PROGRAM.*\n", "", it) for it in named("cue-no-in").lists()]
     assert Run(texts).told == ["signals NoTimes: no segment has an instant, so no break of this list is entered"]
+
+
+# ---- what adsplice doesn't see by itself
+
+UNSEEN = (
+    ("#EXT-X-CUE-OUT:10", "EXT-X-CUE-OUT begins a break of 10 s"), ("#EXT-X-CUE-OUT", "EXT-X-CUE-OUT begins a break"), ("#EXT-X-CUE-IN", "EXT-X-CUE-IN ends a break"),
+    ("#EXT-X-CUE-OUT-CONT:4/10", "EXT-X-CUE-OUT-CONT says that a break goes on, after 4 s"),
+    (f"#EXT-OATCLS-SCTE35:{letters(insert(seconds=10))}", "EXT-OATCLS-SCTE35 begins a break of 10 s of event 1001"),
+    (f'#EXT-X-SCTE35:TYPE=0x34,CUE="{letters(signal(0x34, 10))}",CUE-OUT=YES',
+     "EXT-X-SCTE35 begins a break of 10 s of event 1001 (Provider Placement Opportunity Start)"),
+    (f"#EXT-X-SPLICEPOINT-SCTE35:{letters(insert(False))}", "EXT-X-SPLICEPOINT-SCTE35 ends a break of event 1001"),
+    ('#EXT-X-CUE:TYPE="SpliceOut",ID="7",DURATION=10.0', "EXT-X-CUE begins a break of 10 s of event 7"),
+    (f'#EXT-X-DATERANGE:ID="c",SCTE35-CMD={digits(insert(is_cancelled=True))}', "SCTE35-CMD of c cancels the break of event 1001"),
+    (f'#EXT-X-DATERANGE:ID="c",SCTE35-CMD={digits(signal(0x35))}', "SCTE35-CMD of c ends a break of event 1001 (Provider Placement Opportunity End)"))
+
+
+def test_each_style_is_told_that_adsplice_does_not_see_by_itself(room):
+    for line, owed in UNSEEN:
+        (_, said), = unseen.unseen(["#EXTM3U", line, line])
+        assert said == f"line 2: {owed}: {unseen.BY_ITSELF}", said
+    for line, owed in (("#EXT-X-PLACEMENT-OPPORTUNITY", "EXT-X-PLACEMENT-OPPORTUNITY signals in a style that nobody here translates: it begins no break"),
+                       ("#EXT-OATCLS-SCTE35:/DA0", "EXT-OATCLS-SCTE35: a section that doesn't read: it has 3 bytes, and a section has at least 20"),
+                       ('#EXT-X-DATERANGE:ID="c",SCTE35-CMD=0xFC', "SCTE35-CMD of c: a section that doesn't read: it has 1 bytes, and a section has at least 20")):
+        assert unseen.unseen([line]) == [(signals.style_of(line), f"line 1: {owed}")], unseen.unseen([line])
+    for line in ("#EXTINF:2,", "#EXT-X-KEY:METHOD=NONE", f'#EXT-X-DATERANGE:ID="p",SCTE35-CMD={digits(signal(0x10))}', "#EXT-X-DISCONTINUITY", "#EXT-X-ASSET:CAID=0x1",
+                 f'#EXT-X-DATERANGE:ID="b",SCTE35-OUT={digits(insert())}', f"#EXT-OATCLS-SCTE35:{letters(signal(0x10))}", "s0.ts", "# a comment on CUE-OUT"):
+        assert unseen.unseen([line]) == [], line
 
 
 # ---- settings
