@@ -44,7 +44,14 @@ class DateRange:
 
     def is_translated(self) -> bool:
         """Whether it signals a break's begin or end, so that the break's own date range stands in its place."""
-        return "SCTE35-OUT" in self.said or "SCTE35-IN" in self.said
+        return "SCTE35-OUT" in self.said or "SCTE35-IN" in self.said or any(it.kind != Kind.OTHER for it in self.commands())
+
+    def commands(self) -> list[Message]:
+        """The messages of its SCTE35-CMD; none if it has none that reads."""
+        try:
+            return splice.read(self.said["SCTE35-CMD"]).messages if "SCTE35-CMD" in self.said else []
+        except Unread:
+            return []
 
     def others(self) -> str:
         """Its attributes that say something to players: CLASS and those that begin with X-, as they came."""

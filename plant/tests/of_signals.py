@@ -8,7 +8,7 @@ import sys
 
 from sections import crc, digits, letters, section, segmentation, splice_insert, time_signal
 from styles import ALL, STYLES, Style, insert, named, range_of, signal
-from tools import PLANT, free_port, get, instant, put
+from tools import PLANT, PYTHON, free_port, get, instant, put
 
 sys.path.insert(0, PLANT)
 from adsplice_plant import packaged, signals, spelling, splice, unseen  # noqa: E402
@@ -187,32 +187,36 @@ class Run:
         return tuple(dict.fromkeys(name for _, name in self.marks))
 
 
-def check_styles(styles, ways):
-    """Each of `styles` in each of `ways`: what isn't as it has to be."""
+def wrong_styles(step, offset, starts_again):
+    """What isn't as it has to be with the styles whose lists come so: `step` segments at a time from `offset` on."""
     wrong = []
-    for style in styles:
-        for way, (step, offset, starts_again) in ways.items():
-            run = Run(style.lists(step, offset), style.pod, starts_again)
-            is_right = run.numbers() == style.filled() and run.ids() == (style.ids or run.ids()) and len(run.ids()) == len(style.breaks)
-            if not is_right or step == 1 and style.is_known != all(run.unchanged):
-                wrong.append((style.name, way, run.numbers(), run.ids(), run.told))
+    for style in ALL if step == 1 else [it for it in ALL if it.begun == 2]:
+        run = Run(style.lists(step, offset), style.pod, starts_again)
+        is_right = run.numbers() == style.filled() and run.ids() == (style.ids or run.ids()) and len(run.ids()) == len(style.breaks)
+        if not is_right or step == 1 and style.is_known != all(run.unchanged):
+            wrong.append((style.name, run.numbers(), run.ids(), run.told, style.is_known, all(run.unchanged)))
     return wrong
+
+
+def check_styles(*ways):
+    """Looks at all styles in each of the `ways`: in processes of their own, which leave the other tests their time."""
+    running = [subprocess.Popen([PYTHON, __file__, *(str(int(it)) for it in way)], stdout=subprocess.PIPE, text=True) for way in ways]
+    found = [it.communicate()[0] for it in running]
+    assert found == ["right\n"] * len(ways), "\n".join(found)
 
 
 def test_each_style_replaces_what_it_means_and_passes_as_it_is_if_adsplice_knows_it(room):
     assert len(STYLES) == 18 and len({it.name for it in ALL}) == len(ALL)
-    wrong = check_styles(ALL, {"as listed": (1, 0, False)})
-    assert not wrong, "\n".join(map(str, wrong))
+    check_styles((1, 0, False))
 
 
 def test_each_style_in_every_split_into_lists(room):
-    wrong = check_styles([it for it in ALL if it.begun == 2], {f"{step} at a time from {offset}": (step, offset, False) for step, offset in ((2, 1), (3, 0), (5, 1), (5, 4))})
-    assert not wrong, "\n".join(map(str, wrong))
+    check_styles((2, 1, False), (5, 4, False))
+    check_styles((3, 0, False), (5, 1, False))
 
 
 def test_each_style_with_a_feed_that_starts_again_before_each_list(room):
-    wrong = check_styles(ALL, {"started again": (1, 0, True)})
-    assert not wrong, "\n".join(map(str, wrong))
+    check_styles((1, 0, True))
 
 
 # ---- what is told
@@ -256,27 +260,32 @@ def test_a_list_without_instants_is_told_once(room):
 # ---- what adsplice doesn't see by itself
 
 UNSEEN = (
-    ("#EXT-X-CUE-OUT:10", "EXT-X-CUE-OUT begins a break of 10 s"), ("#EXT-X-CUE-OUT", "EXT-X-CUE-OUT begins a break"), ("#EXT-X-CUE-IN", "EXT-X-CUE-IN ends a break"),
-    ("#EXT-X-CUE-OUT-CONT:4/10", "EXT-X-CUE-OUT-CONT says that a break goes on, after 4 s"),
+    ("#EXT-X-CUE-OUT:10", "EXT-X-CUE-OUT begins a break of 10 s"), ("#EXT-X-CUE-OUT", "EXT-X-CUE-OUT begins a break"),
     (f"#EXT-OATCLS-SCTE35:{letters(insert(seconds=10))}", "EXT-OATCLS-SCTE35 begins a break of 10 s of event 1001"),
     (f'#EXT-X-SCTE35:TYPE=0x34,CUE="{letters(signal(0x34, 10))}",CUE-OUT=YES',
      "EXT-X-SCTE35 begins a break of 10 s of event 1001 (Provider Placement Opportunity Start)"),
-    (f"#EXT-X-SPLICEPOINT-SCTE35:{letters(insert(False))}", "EXT-X-SPLICEPOINT-SCTE35 ends a break of event 1001"),
+    (f"#EXT-X-SPLICEPOINT-SCTE35:{letters(insert())}", "EXT-X-SPLICEPOINT-SCTE35 begins a break of event 1001"),
     ('#EXT-X-CUE:TYPE="SpliceOut",ID="7",DURATION=10.0', "EXT-X-CUE begins a break of 10 s of event 7"),
+    (f'#EXT-X-DATERANGE:ID="c",SCTE35-CMD={digits(insert())}', "SCTE35-CMD of c begins a break of event 1001"))
+# Beside a break that adsplice knows.
+BESIDE = (
     (f'#EXT-X-DATERANGE:ID="c",SCTE35-CMD={digits(insert(is_cancelled=True))}', "SCTE35-CMD of c cancels the break of event 1001"),
     (f'#EXT-X-DATERANGE:ID="c",SCTE35-CMD={digits(signal(0x35))}', "SCTE35-CMD of c ends a break of event 1001 (Provider Placement Opportunity End)"))
+KNOWN = f'#EXT-X-DATERANGE:ID="b",START-DATE="{instant(24)}",SCTE35-OUT={digits(insert())}'
 
 
 def test_each_style_is_told_that_adsplice_does_not_see_by_itself(room):
     for line, owed in UNSEEN:
-        (_, said), = unseen.unseen(["#EXTM3U", line, line])
-        assert said == f"line 2: {owed}: {unseen.BY_ITSELF}", said
+        assert [text for _, text in unseen.unseen(["#EXTM3U", line, line])] == [f"line 2: {owed}: {unseen.BY_ITSELF}"], line
+        assert unseen.unseen([KNOWN, line]) == [], line
+    for line, owed in BESIDE:
+        assert [text for _, text in unseen.unseen([KNOWN, line])] == [f"line 2: {owed}: {unseen.BY_ITSELF}"] and unseen.unseen([line]) == [], line
     for line, owed in (("#EXT-X-PLACEMENT-OPPORTUNITY", "EXT-X-PLACEMENT-OPPORTUNITY signals in a style that nobody here translates: it begins no break"),
                        ("#EXT-OATCLS-SCTE35:/DA0", "EXT-OATCLS-SCTE35: a section that doesn't read: it has 3 bytes, and a section has at least 20"),
                        ('#EXT-X-DATERANGE:ID="c",SCTE35-CMD=0xFC', "SCTE35-CMD of c: a section that doesn't read: it has 1 bytes, and a section has at least 20")):
-        assert unseen.unseen([line]) == [(signals.style_of(line), f"line 1: {owed}")], unseen.unseen([line])
+        assert unseen.unseen([line]) == [(signals.style_of(line), f"line 1: {owed}")], line
     for line in ("#EXTINF:2,", "#EXT-X-KEY:METHOD=NONE", f'#EXT-X-DATERANGE:ID="p",SCTE35-CMD={digits(signal(0x10))}', "#EXT-X-DISCONTINUITY", "#EXT-X-ASSET:CAID=0x1",
-                 f'#EXT-X-DATERANGE:ID="b",SCTE35-OUT={digits(insert())}', f"#EXT-OATCLS-SCTE35:{letters(signal(0x10))}", "s0.ts", "# a comment on CUE-OUT"):
+                 "#EXT-X-CUE-IN", "#EXT-X-CUE-OUT-CONT:4/10", f"#EXT-OATCLS-SCTE35:{letters(signal(0x10))}", "s0.ts", "# a comment on CUE-OUT", KNOWN):
         assert unseen.unseen([line]) == [], line
 
 
@@ -376,3 +385,7 @@ def test_each_style_through_the_built_program(room):
 
 
 test_each_style_through_the_built_program.needs = ("program",)
+
+
+if __name__ == "__main__":
+    print("\n".join(map(str, wrong_styles(*map(int, sys.argv[1:])))) or "right")
