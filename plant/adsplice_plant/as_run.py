@@ -2,15 +2,17 @@
 import json
 import os
 import threading
+from bisect import bisect_left
 from dataclasses import dataclass, field
 from pathlib import Path
 
 from . import playlist
 from .kept import Kept, Pod
-from .playlist import DateRange, Listed, Segment, instant_text
+from .playlist import DateRange, Listed, instant_text
 from .words import now_text
 
 NEAR = 10 * playlist.SECOND  # how far a pod may begin from its break: the greatest tolerance
+MOST = 5000  # places at which a pod may begin that are looked at
 REMEMBERED = 500  # lines of a file that were written before: no break of theirs is written again
 
 
@@ -90,16 +92,15 @@ class AsRun:
         pod = seen.pod or kept.pods.get(name, kept.fallback)
         if pod is None or start is None:
             return
-        found = [(abs(begins - start), first, begins) for it in listed.segments for begins, first in starts_of(it, pod)
-                 if abs(begins - start) <= NEAR and not self.is_claimed(first, seen)]
+        taken = self.claims(seen)
+        found = [(abs(begins - start), first, begins) for begins, first in starts_of(listed, pod, start) if not any(low <= first < past for low, past in taken)]
         if found:
             _, seen.first, begins = min(found)
             seen.pod, seen.is_own, seen.begins = pod, is_own, begins if seen.begins is None else seen.begins
 
-    def is_claimed(self, first: int, seen: Seen) -> bool:
-        """Whether another break than `seen` has the segment of the number `first`."""
-        others = [it for it in self.breaks.values() if it is not seen and it.first is not None and it.pod is not None]
-        return any(it.first is not None and it.pod is not None and it.first <= first < it.first + len(it.pod.segments) for it in others)
+    def claims(self, seen: Seen) -> list[tuple[int, int]]:
+        """The numbers of the segments that other breaks than `seen` have: of each the first, and the one after the last."""
+        return [(it.first, it.first + len(it.pod.segments)) for it in self.breaks.values() if it is not seen and it.first is not None and it.pod is not None]
 
     @staticmethod
     def count(seen: Seen, listed: Listed) -> None:
@@ -135,11 +136,20 @@ class AsRun:
             "shown": len(seen.shown), "of": len(seen.pod.segments) if seen.pod else 0})
 
 
-def starts_of(segment: Segment, pod: Pod) -> list[tuple[int, int]]:
-    """Where `pod` would begin if the written `segment` were one of it: each as the instant and the number of its first segment."""
-    found, before = [], 0
+def starts_of(listed: Listed, pod: Pod, start: int) -> list[tuple[int, int]]:
+    """Where `pod` would begin near the instant `start`, if a segment of the written list `listed` were one of it: each as the
+    instant and the number of its first segment. A pod of which each segment is the same has MOST of them at most."""
+    places: dict[str, list[tuple[int, int]]] = {}  # by URI: how long after the pod's begin, and which segment of it
+    before = 0
     for place, (uri, duration) in enumerate(pod.segments):
-        if uri == segment.uri and not segment.is_stated and segment.begins is not None and segment.number >= place:
-            found.append((segment.begins - before, segment.number - place))
+        places.setdefault(uri, []).append((before, place))
         before += duration
+    found: list[tuple[int, int]] = []
+    for segment in listed.segments:
+        if segment.uri in places and not segment.is_stated and segment.begins is not None:
+            near = places[segment.uri]
+            low, past = (bisect_left(near, (segment.begins - start + by, -1)) for by in (-NEAR, NEAR + 1))
+            found += [(segment.begins - after, segment.number - place) for after, place in near[low:past] if segment.number >= place]
+        if len(found) > MOST:
+            break
     return found

@@ -12,13 +12,16 @@ from dataclasses import dataclass, field
 from pathlib import Path
 
 DAY = 86400
+DONE = "done"  # the folder in the folder
+MOST_TOLD = 100  # names of what isn't taken
 MAX_BYTES = 4_194_304  # adsplice takes no longer file
 
 
 @dataclass
 class Decision:
     """A file of the folder: `kind` is `breaks`, `withdraw` or `fallback`, and empty if it doesn't say; `ids` are those of
-    its breaks; `state` is `new`, `given`, `refused` or `done`; `listed` are the breaks that were seen in a playlist."""
+    its breaks; `state` is `new`, `given`, `refused` or `done`; `listed` are the breaks that were seen in a playlist; `since` is
+    when it was found, by a clock that doesn't jump."""
 
     path: Path
     stamp: tuple[int, int, int]
@@ -27,6 +30,7 @@ class Decision:
     ids: list[str]
     state: str = "new"
     listed: set[str] = field(default_factory=set)
+    since: float = field(default_factory=time.monotonic)
 
 
 def stamp_of(path: Path) -> tuple[int, int, int] | None:
@@ -65,11 +69,13 @@ class Folder:
     def __init__(self, path: Path | None, keep_days: float) -> None:
         self.path, self.keep_days = path, keep_days
         self.decisions: dict[Path, Decision] = {}
+        self.passed_over: dict[str, str] = {}  # what of the folder isn't taken, by its name, and why
 
     def look(self) -> None:
         """Finds new and changed files, and forgets those that somebody took away."""
         if self.path is None:
             return
+        self.passed_over = {}
         found = dict(self.files(self.path))
         self.decisions = {path: it for path, it in self.decisions.items() if path in found}
         for path, stamp in found.items():
@@ -82,20 +88,34 @@ class Folder:
         found = []
         try:
             for it in os.scandir(folder):
-                if it.name.endswith(".json") and not it.name.startswith(".") and it.is_file() and (stamp := stamp_of(Path(it.path))):
+                if it.name.startswith(".") or it.is_dir():
+                    continue
+                if not it.name.endswith(".json") or not it.is_file():
+                    self.pass_over(it.name, "isn't a file whose name ends in .json")
+                elif stamp := stamp_of(Path(it.path)):
                     found.append((Path(it.path), stamp))
-        except OSError:
+        except OSError as fault:
+            self.pass_over("", f"the folder {folder} can't be read: {fault.strerror}")
             return []
         return sorted(found, key=lambda it: (it[1][0], it[0]))
 
     def take(self, path: Path, stamp: tuple[int, int, int]) -> None:
         """Reads the file `path`, which has the stamp `stamp`."""
+        if stamp[1] > MAX_BYTES:
+            return self.pass_over(path.name, f"has {stamp[1]} bytes, over {MAX_BYTES}")
         try:
-            body = path.read_bytes()[: MAX_BYTES + 1]
-        except OSError:
-            return
+            with open(path, "rb") as it:
+                body = it.read(MAX_BYTES + 1)
+        except OSError as fault:
+            return self.pass_over(path.name, f"can't be read: {fault.strerror}")
         self.decisions.pop(path, None)  # (a changed one comes last)
         self.decisions[path] = Decision(path, stamp, body, *said_by(body))
+        return None
+
+    def pass_over(self, name: str, why: str) -> None:
+        """What the folder has under `name` isn't taken; `why` says why."""
+        if len(self.passed_over) < MOST_TOLD:
+            self.passed_over[name] = why
 
     def waiting(self) -> list[Decision]:
         """Those that were not yet given to the controller."""
@@ -128,13 +148,13 @@ class Folder:
 
     def retire(self, listed: set[str]) -> list[Decision]:
         """Moves away the files whose breaks have all been listed and are no more, of which `listed` are the IDs that are; and
-        those that are a day old and whose breaks never came."""
+        those that were found a day ago and whose breaks never came."""
         gone = []
         for it in self.open():
             if it.kind != "breaks":
                 continue
             it.listed |= listed & set(it.ids)
-            is_old = time.time() - it.stamp[0] / 1e9 > DAY
+            is_old = time.monotonic() - it.since > DAY
             if not listed & set(it.ids) and (it.listed >= set(it.ids) or is_old):
                 self.finish(it)
                 gone.append(it)
@@ -143,7 +163,7 @@ class Folder:
     def finish(self, decision: Decision) -> None:
         """Moves the file of `decision` to `done`, and takes away what has been there too long."""
         decision.state = "done"
-        done = decision.path.parent / "done"
+        done = decision.path.parent / DONE
         try:
             done.mkdir(exist_ok=True)
             os.replace(decision.path, done / decision.path.name)

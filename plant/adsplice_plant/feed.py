@@ -104,10 +104,7 @@ def channels_of(said: argparse.Namespace) -> list[Settings]:
 def feeds_of(channels: list[Settings], said: argparse.Namespace) -> list[Channel]:
     """The feeds of `channels` by the words `said`; those of one programme share a ladder."""
     ladders: dict[str, Ladder] = {}
-
-    def say(line: str) -> None:
-        words.write_out(f"{line}\n")
-
+    say = words.Teller().say
     found: list[Channel] = []
     for it in channels:
         client = Client(said.timeout)

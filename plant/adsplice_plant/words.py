@@ -11,6 +11,7 @@ from types import FrameType
 from typing import NoReturn
 
 FAULT, WRONG_WORDS = 1, 2  # exit statuses
+OUT, ERROR = 1, 2  # descriptors of standard output and standard error
 NAME = re.compile(r"[a-z0-9-]{1,32}")  # of a channel
 
 
@@ -59,13 +60,36 @@ def fail(name: str, text: str, status: int = FAULT) -> NoReturn:
     sys.exit(status)
 
 
-def write_out(text: str) -> None:
-    """Writes `text` to standard output in UTF-8; if nobody reads it any more (`| head`), the rest is dropped."""
+def write_out(text: str, number: int = OUT) -> None:
+    """Writes `text` in UTF-8 to standard output, or to the file of the descriptor `number`; if nobody reads it any more
+    (`| head`), the rest is dropped. Raises Fault if it can't be written."""
+    data = memoryview(text.encode("utf-8", "replace"))
     try:
-        sys.stdout.buffer.write(text.encode("utf-8", "replace"))
-        sys.stdout.buffer.flush()
+        while data:
+            data = data[os.write(number, data):]
     except BrokenPipeError:
-        os.dup2(os.open(os.devnull, os.O_WRONLY), sys.stdout.fileno())
+        os.dup2(os.open(os.devnull, os.O_WRONLY), number)
+    except OSError as fault:
+        raise Fault(f"standard {'output' if number == OUT else 'error'}: {fault.strerror}") from None
+
+
+class Teller:
+    """Tells lines on standard output, or the file of the descriptor `number`, for a program that goes on if it can't: a full disk
+    costs lines and nothing else."""
+
+    def __init__(self, number: int = OUT) -> None:
+        """No line was lost yet."""
+        self.number, self.lost, self.lock = number, 0, threading.Lock()
+
+    def say(self, line: str) -> None:
+        """Prints `line`, or counts it as lost; how many were lost is told by the next one that can be printed."""
+        with self.lock:
+            lost = f"\n{now_text()} {self.lost} lines couldn't be written\n" if self.lost else ""
+            try:
+                write_out(f"{lost}{plain(line)}\n", self.number)
+                self.lost = 0
+            except Fault:
+                self.lost += 1
 
 
 def time_text(time: datetime) -> str:

@@ -45,6 +45,19 @@ def test_package(room):
         assert "ExecStart=/usr/lib/adsplice/adsplice live %i" in it.read()
 
 
+def test_package_has_no_fault_by_lintian(room):
+    if not shutil.which("dpkg-deb") or not shutil.which("lintian"):
+        return
+    path = install("--deb", "--program", room.program, f"{room.path}/deb")[1].rstrip()
+    said = subprocess.run(["lintian", "--tag-display-limit", "0", path], capture_output=True, text=True, check=False, env={**os.environ, "TMPDIR": room.path}).stdout
+    assert not [line for line in said.split("\n") if line.startswith("E:") or "systemctl" in line], said
+
+
+def test_maintainer_scripts_read(room):
+    for name in ("postinst", "prerm", "postrm"):
+        assert subprocess.run(["sh", "-n", f"{PLANT}/debian/{name}"], check=False).returncode == 0, name
+
+
 def test_wrong_words(room):
     for words, status, text in (([], 2, "usage: ./install"), (["--plant"], 2, "usage"), (["--nothing", "x"], 2, "usage"), (["a", "b"], 2, "usage"),
                                 (["--program", "/nowhere", room.path], 1, "isn't a program")):
