@@ -3,6 +3,7 @@ from __future__ import annotations
 
 import threading
 import time
+import traceback
 from collections.abc import Callable
 from pathlib import Path
 
@@ -15,15 +16,18 @@ from .pauses import Pauses
 from .settings import Settings
 from .signalling import Signalling
 from .web import Answer, Client
-from .words import now_text
+from .words import now_text, without_user
 
 OFTEN = 0.25  # seconds between two looks at a file, and the least between two at a URL
 SOON = 1.0  # seconds to the next look if the target duration isn't known
+MOST = 10.0  # seconds between two looks or trials, whatever the target duration is
 STAYS = "if that stays, only a new channel takes it, which a person makes by a DELETE of this one"
 JUDGED = {409, 413, 422}  # statuses by which adsplice refuses what it was given; after others the same is tried again with pauses
 
 READ = ("200", "")  # the state of an origin that is read
 QUIET = ("list", "numbers")  # of which it isn't told that all is well at first
+
+HERE = str(Path(__file__).parent)
 
 Say = Callable[[str], None]
 
@@ -92,10 +96,14 @@ class Channel:
         if self.settings.fallback is None:
             return None
         try:
-            return self.settings.fallback.read_bytes()
+            body = self.settings.fallback.read_bytes()
         except OSError as fault:
             self.tell("fallback", 0, "", f"{self.settings.fallback}: {fault.strerror}; goes on without it")
             return None
+        if (kind := decisions.said_by(body)[0]) and kind != "fallback":
+            self.tell("fallback", 0, "Other", f"{self.settings.fallback}: it has `{kind}` and no `fallback`; goes on without it")
+            return None
+        return body
 
     def stamp(self) -> tuple[int, int, int] | None:
         """What shows that the fallback file changed; none if there is none."""
@@ -108,6 +116,7 @@ class Channel:
             self.failed(answer, "makes the channel as soon as it can")
             return False
         self.is_made = True
+        self.compare(answer.status)
         if answer.status == 201:
             self.lists.begin_anew()
         self.folder.start_anew()
@@ -117,6 +126,20 @@ class Channel:
         self.tell("adsplice", answer.status, "", text)
         body = self.fallback()
         return body is None or self.give_fallback(body)
+
+    def compare(self, status: int) -> None:
+        """Keeps how the channel was made (201), or tells if it was made otherwise than the settings say now (409)."""
+        if self.settings.keep is None:
+            return
+        path, body = self.settings.keep / f"{self.settings.name}.made", self.settings.body()
+        try:
+            if status == 201:
+                path.write_bytes(body)
+            elif path.exists() and (made := path.read_bytes()) != body:
+                self.tell("settings", status, "Other", f"the channel was made with {made[:500].decode('utf-8', 'replace')}, and the settings say {body.decode()}; "
+                                                       "it stays as it was made until a person deletes it")
+        except OSError as fault:
+            self.tell("settings", 0, "Unkept", f"{path}: {fault.strerror}; a change of base or tolerance won't be told")
 
     def give_fallback(self, body: bytes) -> bool:
         """Gives the fallback file's `body`; whether the feed may go on."""
@@ -234,7 +257,7 @@ class Channel:
         if found.body is not None:
             self.lists.came_in(found.body)
         if found.moved:
-            self.tell("redirect", found.status, "", f"the origin leads to {found.moved}; references stay relative to {self.settings.base} (--base)")
+            self.tell("redirect", found.status, "", f"the origin leads to {without_user(found.moved)}; references stay relative to {self.settings.base} (--base)")
         if found.why:
             self.note("read", Answer(found.status, why=found.why))
             self.tell("origin", found.status, "CutOff" if found.why == CUT_OFF else "", f"{found.why}; reads it again with growing pauses")
@@ -243,17 +266,28 @@ class Channel:
 
     def interval(self) -> float:
         """The seconds from one look at the origin to the next: half of the target duration, and of a file no more than OFTEN."""
-        pause = max(OFTEN, self.lists.target / 2) if self.lists.target else SOON
+        pause = min(MOST, max(OFTEN, self.lists.target / 2)) if self.lists.target else SOON
         return pause if self.settings.is_web() else min(pause, OFTEN)
 
     def longest(self) -> float:
         """The seconds that a pause before another trial may grow to: a target duration."""
-        return max(1.0, float(self.lists.target or SOON))
+        return min(MOST, max(1.0, self.lists.target or SOON))
+
+    def begin_anew(self, fault: Exception) -> float:
+        """Nobody foresaw this `fault`: tells it once with its place, and begins anew after the pause that is answered: the channel is
+        made if it isn't there, and is given all that is open."""
+        places = [it for it in traceback.extract_tb(fault.__traceback__) if it.filename.startswith(HERE)]
+        place = f"{Path(places[-1].filename).name}:{places[-1].lineno}" if places else "an unknown place"
+        self.is_made = False
+        self.origin.forget()
+        self.tell("feed", 0, f"{type(fault).__name__} {place}", f"{str(fault)[:200]}; begins anew with growing pauses")
+        self.note("restart", Answer(0, why=f"{type(fault).__name__} {place}"))
+        return min(MOST, self.away.next())
 
     def turn(self) -> float:
         """One turn: looks at the origin and the folder, gives adsplice what is new, and answers the seconds to the next one."""
         begun = time.monotonic()
-        found = read_whole(self.origin, self.settings.unended)
+        found = read_whole(self.origin, self.settings.unended, self.settings.line)
         with self.together:
             return self.take_turn(found, begun)
 
@@ -263,6 +297,8 @@ class Channel:
         self.lists.prepare()
         self.signalling.wait(self.settings.rendition())
         self.folder.look()
+        for name, why in self.folder.passed_over.items():
+            self.tell(f"decisions/{name}", 0, "Passed", f"it {why}; passes over it" if name else f"{why}; goes on without it")
         if not self.give_all():
             return min(self.away.next(), self.longest())
         self.away.reset()

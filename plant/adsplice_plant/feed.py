@@ -2,6 +2,7 @@
 import argparse
 import random
 import threading
+import time
 from pathlib import Path
 
 from . import settings as told
@@ -11,6 +12,8 @@ from .ladder import Ladder, Rendition
 from .settings import Settings
 from .web import Client
 from .words import Fault
+
+LAST = 1.0  # seconds that turns may take to their end once a signal came
 
 HELP = """Reads a packager's playlist and gives it to adsplice, with the decisions of its breaks.
 
@@ -37,7 +40,7 @@ A decision is a file of one name in each rendition's DIR. It is given to all of 
 to none; they are made anew together, and it is told if their numbers come apart.
 
 Standard output has a line for each change of state: time, channel, who (origin, adsplice, or a file), status, fault, and
-what is done about it. Exit status: 0 after SIGTERM, SIGINT or SIGHUP; 1 if it can't begin; 2 for wrong words."""
+what is done about it. Exit status: 0 after SIGTERM, SIGINT or SIGHUP; 1 if it can't begin or go on; 2 for wrong words."""
 
 EPILOG = """A config file has a section for each channel, and in [DEFAULT] what all have:
 
@@ -83,6 +86,8 @@ def read_words(arguments: list[str]) -> argparse.Namespace:
     it.add_argument("--nearest", choices=("yes", "no"), help="puts a break's start on the begin of a segment that is near (yes)")
     it.add_argument("--ask", metavar="URL", help="where each break's decision is asked for: an ad server, or the word folder")
     it.add_argument("--hold", metavar="SECONDS", help="that a list may wait for an answer (1, and below half a target duration)")
+    it.add_argument("--redirects", choices=yes_or_no, help="follows the origin's redirects to other hosts, too (no)")
+    it.add_argument("--line", metavar="BYTES", help="that a list's line may have (16384); a list with a longer one isn't pushed")
     it.add_argument("--timeout", type=words.seconds, default=5.0, metavar="SECONDS", help="for a request with its answer (5)")
     it.add_argument("--longest-pause", type=words.seconds, default=5.0, metavar="SECONDS", help="between two trials (5, and no more than a target duration)")
     it.add_argument("--keep-days", type=float, default=7.0, metavar="DAYS", help="that files are kept in DIR/done (7)")
@@ -107,7 +112,7 @@ def feeds_of(channels: list[Settings], said: argparse.Namespace) -> list[Channel
     say = words.Teller().say
     found: list[Channel] = []
     for it in channels:
-        client = Client(said.timeout)
+        client = Client(said.timeout, it.redirects)
         if it.programme:
             ladder = ladders.setdefault(it.programme, Ladder(it.programme, say))
             found.append(Rendition(it, client, say, said.longest_pause, said.keep_days, ladder))
@@ -122,9 +127,9 @@ def run(channel: Channel, ending: threading.Event, delay: float) -> None:
     while not ending.is_set():
         try:
             pause = channel.turn()
+            channel.states.pop("feed", None)
         except Exception as fault:  # noqa: BLE001  (a channel's fault isn't to end the others)
-            channel.tell("feed", 0, type(fault).__name__, f"{fault}; goes on with the next turn")
-            pause = channel.away.next()
+            pause = channel.begin_anew(fault)
         ending.wait(pause)
 
 
@@ -139,10 +144,15 @@ def main(arguments: list[str]) -> int:
     ending = words.ends_by_signals()
     spread = min(1.0, 0.05 * (len(feeds) - 1))
     threads = [threading.Thread(target=run, args=(it, ending, random.uniform(0, spread)), name=it.settings.name, daemon=True) for it in feeds]
-    for it in threads:
+    for feed, it in zip(feeds, threads):
+        for text in feed.settings.idle:
+            feed.tell(f"settings/{text}", 0, "Idle", text)
         it.start()
-    while not ending.wait(3600):
-        pass
+    while not ending.wait(1):
+        for it in threads:
+            if not it.is_alive():
+                words.fail("adsplice-feed", f"the thread of {it.name} has ended; what starts the feed may start it again")
+    until = time.monotonic() + LAST
     for it in threads:
-        it.join(2)
+        it.join(max(0.0, until - time.monotonic()))
     return 0

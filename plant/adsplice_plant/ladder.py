@@ -12,7 +12,7 @@ import time
 from dataclasses import replace
 
 from . import faults, packaged, playlist
-from .channel import JUDGED, Channel, Say
+from .channel import JUDGED, MOST, Channel, Say
 from .decisions import Decision
 from .playlist import SECOND
 from .settings import Settings
@@ -112,7 +112,7 @@ class Ladder:
 
     def target(self) -> float:
         """The target duration in seconds; one second if it isn't known."""
-        return float(max((it.lists.target or 1 for it in self.members), default=1))
+        return min(MOST, float(max((it.lists.target or 1 for it in self.members), default=1)))
 
     # ---- making the channels
 
@@ -158,6 +158,7 @@ class Ladder:
                 return False
         for it, answer in answers.items():
             it.anew(answer.status == 201)
+            it.compare(answer.status)
             it.states.pop("adsplice", None)
             it.tell("adsplice", answer.status, "", "makes the channel" if answer.status == 201 else "the channel is there already; goes on with it")
         self.held.clear()

@@ -1,6 +1,5 @@
 """adsplice-monitor: figures of channels and processes for Prometheus, a check for Nagios and cron, and the as-run log."""
 import argparse
-import sys
 import threading
 import time
 from collections.abc import Iterator
@@ -134,6 +133,7 @@ class Figures(Collector):
         """The figures of what the feeds kept."""
         answers = CounterMetricFamily("adsplice_feed_requests", "Requests of the feed by status and fault", labels=["channel", "what", "status", "fault"])
         unread = CounterMetricFamily("adsplice_feed_unread", "Times that the feed couldn't read its origin", labels=["channel"])
+        restarts = CounterMetricFamily("adsplice_feed_restarts", "Times that a channel's feed began anew after a fault that nobody foresaw", labels=["channel"])
         for it in self.watches:
             if it.kept is None:
                 continue
@@ -141,7 +141,8 @@ class Figures(Collector):
                 for (what, status, fault), count in sorted(it.kept.answers.items()):
                     answers.add_metric([it.name, what, status, fault], count)
                 unread.add_metric([it.name], it.kept.unread)
-        yield from (answers, unread)
+                restarts.add_metric([it.name], it.kept.restarts)
+        yield from (answers, unread, restarts)
 
 
 def is_open(watch: Watch, begun: bytes, until: float) -> bool:
@@ -172,11 +173,12 @@ def once(watches: list[Watch], processes: Processes, registry: CollectorRegistry
 
 def follow(watch: Watch, ending: threading.Event, interval: float) -> None:
     """Looks at `watch` every `interval` seconds until `ending` is set."""
+    say = words.Teller(words.ERROR).say
     while not ending.wait(interval):
         try:
             watch.look()
         except Exception as fault:  # noqa: BLE001  (one channel's fault isn't to end the figures of the others)
-            print(f"{words.now_text()} {watch.name}: {type(fault).__name__}: {fault}", file=sys.stderr, flush=True)
+            say(f"{words.now_text()} {watch.name}: {type(fault).__name__}: {str(fault)[:200]}")
 
 
 def serve(watches: list[Watch], processes: Processes, registry: CollectorRegistry, said: argparse.Namespace) -> int:
@@ -189,10 +191,17 @@ def serve(watches: list[Watch], processes: Processes, registry: CollectorRegistr
     ending = words.ends_by_signals()
     for it in watches:
         threading.Thread(target=follow, args=(it, ending, said.interval), daemon=True).start()
+    threading.Thread(target=look_on, args=(processes, ending, max(said.interval, 1)), daemon=True).start()
+    while not ending.wait(3600):
+        pass
+    return 0
+
+
+def look_on(processes: Processes, ending: threading.Event, interval: float) -> None:
+    """Looks at `processes` every `interval` seconds until `ending` is set."""
     while not ending.is_set():
         processes.look()
-        ending.wait(max(said.interval, 1))
-    return 0
+        ending.wait(interval)
 
 
 def main(arguments: list[str]) -> int:

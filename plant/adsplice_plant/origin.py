@@ -6,10 +6,14 @@ from dataclasses import dataclass
 from pathlib import Path
 
 from . import playlist
-from .web import Client
+from .settings import LINE
+from .web import MAX_BYTES, Client
 
 READS = 4  # of a list that is cut off within a line, before it is left for the next turn
 BETWEEN = 0.15  # seconds between these
+LINES = 100_000  # of a list: adsplice takes 10,000 segments
+NAME = 255  # bytes of a break's ID and of a key's format
+NEWLINE = b"\n"
 CUT_OFF = "the list is cut off within its last line"
 
 
@@ -39,7 +43,7 @@ class FileOrigin:
                 stamp = (found.st_mtime_ns, found.st_size, found.st_ino)
                 if stamp == self.stamp:
                     return Read()
-                body = it.read()
+                body = it.read(MAX_BYTES + 1)
         except OSError as fault:
             self.stamp = None
             return Read(why=f"{self.path}: {fault.strerror}")
@@ -79,13 +83,42 @@ class WebOrigin:
 Origin = FileOrigin | WebOrigin
 
 
-def read_whole(origin: Origin, takes_unended: bool, sleep: Callable[[float], object] = time.sleep) -> Read:
+def over_bound(body: bytes, line: int) -> str:
+    """What of the list `body` is over a bound that no packager meets, and costs adsplice its time: a line of more than `line`
+    bytes, or an ID or a key's format of more than NAME. Empty if nothing is. It looks at each byte once or twice."""
+    if body.count(NEWLINE) > LINES:
+        return f"it has more than {LINES} lines"
+    begin = 0
+    while len(body) - begin > line:
+        end = body.rfind(b"\n", begin, begin + line + 1)
+        if end < 0:
+            return f"line {body.count(NEWLINE, 0, begin) + 1} has more than {line} bytes (`line`)"
+        begin = end + 1
+    for tag, names in ((b"#EXT-X-DATERANGE:", (b':ID="', b',ID="')), (b"#EXT-X-KEY:", (b':KEYFORMAT="', b',KEYFORMAT="'))):
+        begin = body.find(tag)
+        while begin >= 0:
+            end = body.find(NEWLINE, begin)
+            end = len(body) if end < 0 else end
+            for name in names:
+                at = body.find(name, begin, end)
+                close = body.find(b'"', at + len(name), end) if at >= 0 else -1
+                if at >= 0 and (close if close >= 0 else end) - at - len(name) > NAME:
+                    return f"line {body.count(NEWLINE, 0, begin) + 1}: {name[1:-2].decode()} has more than {NAME} bytes"
+            begin = body.find(tag, end)
+    return ""
+
+
+def read_whole(origin: Origin, takes_unended: bool, line: int = LINE, sleep: Callable[[float], object] = time.sleep) -> Read:
     """A whole list of `origin`. One that is cut off within its last line is read again, by a packager who writes it in
-    place; if it stays so, it isn't taken, unless `takes_unended` says that this packager never ends its last line.
-    `sleep`: waits between two reads."""
+    place; if it stays so, it isn't taken, unless `takes_unended` says that this packager never ends its last line. One that is
+    over a bound, such as a `line` of so many bytes, isn't taken either. `sleep`: waits between two reads."""
     for left in range(READS, 0, -1):
         found = origin.read()
-        if found.body is None or takes_unended or playlist.is_whole(found.body):
+        if found.body is None:
+            return found
+        if why := over_bound(found.body, line):
+            return Read(status=found.status, why=why)
+        if takes_unended or playlist.is_whole(found.body):
             return found
         origin.forget()
         if left > 1:

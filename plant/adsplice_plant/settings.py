@@ -2,6 +2,7 @@
 import argparse
 import configparser
 import json
+from collections import Counter
 from collections.abc import Mapping
 from dataclasses import dataclass, replace
 from pathlib import Path
@@ -10,8 +11,9 @@ from . import splice, words
 from .words import Fault
 
 NAMES = ("origin", "at", "base", "tolerance", "decisions", "fallback", "keep", "unended", "renditions", "repair", "target", "endless", "times",
-         "signals", "nearest", "ask", "hold")
+         "signals", "nearest", "ask", "hold", "redirects", "line")
 PLACE = "{}"  # of a rendition's name in the texts of a ladder's section
+LINE = 16_384  # bytes of a list's line: a key may be a data URI of some thousands
 FOLDER = "folder"  # in place of a URL: who decides watches the folder of decisions
 
 
@@ -24,7 +26,8 @@ class Settings:
     (that of the first list, if none), whether the channel is `endless`, and whether `times` are added if none are stated. Of its
     signals: whether they are translated (`signals`), the segmentation `types` that begin a break if some are named, and whether a
     start is put on the `nearest` segment; where to `ask` for a break's decision (a URL, FOLDER, or nowhere), and how many seconds a
-    list may wait for it (`hold`)."""
+    list may wait for it (`hold`). Of what its origin may do: whether `redirects` to other hosts are followed, and how many bytes a
+    `line` has at most. `idle` has a sentence for each setting that has no effect beside the others."""
 
     name: str
     origin: str
@@ -45,6 +48,9 @@ class Settings:
     nearest: bool = True
     ask: str = ""
     hold: float = 1.0
+    redirects: bool = False
+    line: int = LINE
+    idle: tuple[str, ...] = ()
 
     def rendition(self) -> str:
         """The rendition's name; none for a channel by itself."""
@@ -90,6 +96,7 @@ def settings_of(name: str, said: Mapping[str, str | None]) -> Settings:
         if not base:
             raise Fault("its origin is a file, so it needs base, the URL under which the packager publishes it")
         words.web_address(base)
+        base = words.without_user(base)
     except (argparse.ArgumentTypeError, Fault) as fault:
         raise Fault(f"channel {name}: {fault}") from None
     paths = {it: Path(text) if (text := said.get(it)) else None for it in ("decisions", "fallback", "keep")}
@@ -106,7 +113,18 @@ def settings_of(name: str, said: Mapping[str, str | None]) -> Settings:
     found = Settings(name, origin, at, base, said.get("tolerance") or "", paths["decisions"], paths["fallback"], paths["keep"],
                      is_yes(name, "unended", said, "no"), "", is_yes(name, "repair", said, "yes"), int(target) if target else None,
                      is_yes(name, "endless", said, "yes"), is_yes(name, "times", said, "yes"))
-    return with_signals(found, said)
+    return with_bounds(with_signals(found, said), said)
+
+
+def with_bounds(found: Settings, said: Mapping[str, str | None]) -> Settings:
+    """The settings `found` with what the texts `said` say of what an origin may do, and with those that have no effect; raises Fault."""
+    line = said.get("line") or str(LINE)
+    if not (line.isascii() and line.isdigit() and len(line) <= 7 and 256 <= int(line)):
+        raise Fault(f"channel {found.name}: line is a number of bytes of at least 256, and not {line}")
+    idle = [f"`{name}` has no effect {why}" for is_so, why, names in (
+        (not found.is_web(), "on an origin that is a file", ("redirects",)), (not found.repair, "without repair", ("target", "endless", "times")),
+        (not found.signals, "without signals", ("nearest",)), (not found.ask, "without ask", ("hold",))) if is_so for name in names if said.get(name)]
+    return replace(found, redirects=is_yes(found.name, "redirects", said, "no"), line=int(line), idle=tuple(idle))
 
 
 def with_signals(found: Settings, said: Mapping[str, str | None]) -> Settings:
@@ -162,4 +180,12 @@ def read_file(path: Path) -> list[Settings]:
         channels += ladder_of(name, dict(found[name]))
     if not channels:
         raise Fault(f"{path}: it has no channel: a section such as [news]")
+    each_once(path, "name", [it.name for it in channels])
+    each_once(path, "folder of decisions", [str(it.decisions.resolve()) for it in channels if it.decisions])
     return channels
+
+
+def each_once(path: Path, what: str, values: list[str]) -> None:
+    """Raises Fault if one of `values`, which are the channels' `what` in the file `path`, comes twice: two feeds would do harm."""
+    if twice := [it for it, count in Counter(values).items() if count > 1]:
+        raise Fault(f"{path}: two channels have the {what} {twice[0]}")

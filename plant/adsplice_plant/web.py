@@ -167,9 +167,10 @@ class Client:
                 if is_of_this_machine(at.host) and not is_of_this_machine(first.host):
                     return Answer(0, why=f"a redirect to {at.host}, an address of this machine")
             return Answer(0, why=f"more than {MOST_REDIRECTS} redirects")
-        except httpx.TimeoutException:
+        except (httpx.TimeoutException, httpcore.TimeoutException):
             return Answer(0, why=f"no {'whole ' if self.bounds.has_begun else ''}answer within {self.limit:g} s")
-        except (httpx.HTTPError, httpx.InvalidURL, httpcore.UnsupportedProtocol, OSError, ValueError) as fault:
+        except (httpx.HTTPError, httpx.InvalidURL, httpx.StreamError, httpcore.UnsupportedProtocol, httpcore.ProtocolError, httpcore.NetworkError,
+                OSError, ValueError) as fault:
             return Answer(0, why=re.sub(r"^\[Errno -?[0-9]{1,5}\] ", "", str(fault)[:200].partition("\n")[0]) or type(fault).__name__)
 
     def once(self, method: str, url: httpx.URL, body: bytes | None, fields: dict[str, str]) -> Answer:

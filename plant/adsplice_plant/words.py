@@ -43,6 +43,12 @@ def web_address(text: str) -> str:
     return text.rstrip("/")
 
 
+def without_user(url: str) -> str:
+    """The web address `url` without `user:password@`: what viewers, logs and pages may have of it."""
+    parts = urllib.parse.urlsplit(url)
+    return urllib.parse.urlunsplit(parts._replace(netloc=parts.netloc.rpartition("@")[2]))
+
+
 def seconds(text: str) -> float:
     """The number of seconds `text`, more than 0 and at most a day."""
     try:

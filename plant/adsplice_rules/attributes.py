@@ -25,11 +25,14 @@ class Attribute:
 
 def pieces_of(text: str) -> list[str]:
     """4.2: the text cut at each comma that isn't between quotes."""
-    pieces = [""]
+    pieces: list[list[str]] = []
+    quotes = 0
     for part in text.split(","):
-        is_open = pieces[-1].count('"') % 2 == 1
-        pieces = [*pieces[:-1], f"{pieces[-1]},{part}"] if is_open else [*pieces, part]
-    return pieces[1:]
+        if quotes % 2 == 0:
+            pieces.append([])
+        pieces[-1].append(part)
+        quotes += part.count('"')
+    return [",".join(parts) for parts in pieces]
 
 
 def is_name(text: str) -> bool:

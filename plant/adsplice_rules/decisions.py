@@ -201,7 +201,7 @@ def is_id(text: str) -> bool:
     return quotable(text) and len(text.encode()) <= 255
 
 
-def break_said(value: Any, number: int, before: list[str]) -> tuple[str, Pod]:
+def break_said(value: Any, number: int, before: set[str]) -> tuple[str, Pod]:
     """A break: its ID J2, `ads` not a list J2, an ID that came before J2, then its ads."""
     name, ads = text_at(value, "id", "J2", (number,)), member(value, "ads")
     check(is_id(name) and name not in before, "J2", (number,), "id")
@@ -226,8 +226,10 @@ def decisions_of(given: bytes) -> Decisions:
     check([breaks, withdraw, fallback].count(...) == 2, "J2", (), "")
     if isinstance(breaks, list):
         found: list[tuple[str, Pod]] = []
+        before: set[str] = set()
         for number, one in enumerate(breaks):
-            found.append(break_said(one, number, [name for name, _ in found]))
+            found.append(break_said(one, number, before))
+            before.add(found[-1][0])
         return Decisions(breaks=tuple(found))
     if is_text(withdraw) and is_id(withdraw):
         return Decisions(withdraw=str(withdraw))

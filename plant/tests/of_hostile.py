@@ -1,1 +1,291 @@
-NEEDS = ()
+"""Tests of the feed against hostile origins and ad servers, full disks, jumping clocks, and of readers against hostile texts."""
+import json
+import os
+import re
+import resource
+import signal
+import subprocess
+import sys
+import threading
+import time
+from pathlib import Path
+
+import attacks
+from attacks import Hostile
+from tools import PLANT, PYTHON, FakeController, FakeOrigin, decided, free_port, listed, until
+
+sys.path.insert(0, PLANT)
+
+NEEDS = ("httpx",)
+LIMIT = 1.0
+SLACK = 0.5  # seconds that a good channel may be late
+
+
+def high_water(pid):
+    """The most memory that a process has had, in MiB."""
+    with open(f"/proc/{pid}/status", encoding="ascii") as it:
+        return int(re.search(r"VmHWM:\s+(\d+)", it.read())[1]) // 1024
+
+
+def longest_gap(times):
+    """The longest time between two of these moments that follow one another."""
+    return max((after - before for before, after in zip(times, times[1:])), default=0)
+
+
+def test_each_answer_is_bounded(room):
+    # (in a process of its own: each attack within its time, and all within 120 MiB)
+    hostile = room.server(Hostile())
+    code = ("import sys, time, json; sys.path.insert(0, sys.argv[1])\nfrom adsplice_plant.web import Client\n"
+            "found, client = {}, Client(float(sys.argv[3]))\n"
+            "for kind in sys.argv[4:]:\n    begun = time.monotonic()\n    answer = client.ask('GET', f'http://127.0.0.1:{sys.argv[2]}/{kind}/i.m3u8')\n"
+            "    found[kind] = (answer.status, answer.why, time.monotonic() - begun, len(answer.body))\n"
+            "client.ask('GET', f'http://127.0.0.1:{sys.argv[2]}/good/i.m3u8')\n"
+            "print(json.dumps([found, int(open('/proc/self/status').read().partition('VmHWM:')[2].split()[0]) // 1024]))\n")
+    done = subprocess.run([PYTHON, "-c", code, PLANT, str(hostile.port), str(LIMIT), *attacks.KINDS], capture_output=True, text=True, timeout=120, check=False)
+    assert done.returncode == 0, done.stderr
+    found, memory = json.loads(done.stdout)
+    assert memory < 120, memory
+    for kind, (status, why, took, size) in found.items():
+        assert took < LIMIT + SLACK and size <= 4_194_304, (kind, took, size)
+        assert (status == 200) == (kind in attacks.LISTS) or kind in ("status", "redirect-round", "cookies"), (kind, status, why)
+        assert why.isprintable() and (why or status), (kind, why)
+    with hostile.lock:
+        assert max(size for _, _, size in hostile.asked) < 400, "a cookie was sent"  # (each head as it was sent)
+
+
+class Control:
+    """A feed of one good channel and no attack: how late a channel is because of this machine alone."""
+
+    def __init__(self, room):
+        self.hostile, controller = room.server(Hostile()), room.server(FakeController())
+        feed_of(room, self.hostile, controller.url, ())
+        until(lambda: len(self.hostile.times("/good/")) > 3, 30)
+
+    def gap(self, begun):
+        """The longest time between two of its looks since then."""
+        return max(0.5, longest_gap([it for it in self.hostile.times("/good/") if it > begun]))
+
+
+def feed_of(room, hostile, at, kinds, good=1, **more):
+    """Starts a feed of so many good channels and one for each kind of attack."""
+    lines = ["[DEFAULT]", f"at = {at}", *(f"{name} = {value}" for name, value in more.items())]
+    for n in range(good):
+        lines += [f"[good-{n}]", f"origin = http://127.0.0.1:{hostile.port}/good/{n}.m3u8"]
+    for kind in kinds:
+        lines += [f"[x-{kind}]", f"origin = http://127.0.0.1:{hostile.port}/{kind}/i.m3u8"]
+    return room.feed("--config", room.write(f"feed-{hostile.port}.ini", "\n".join(lines) + "\n"), "--timeout", "3")
+
+
+def test_attacks_leave_the_other_channels_in_time(room):
+    # (64 channels: all attacks at once, and 15 or so good ones; each good one is asked for twice a second)
+    hostile, controller = room.server(Hostile()), room.server(FakeController())
+    kinds = [it for it in attacks.KINDS if it not in ("letters", "line-feeds", "comments", "tags", "ranges", "one-range", "keys", "discontinuities", "capitals-4m")]
+    control = Control(room)
+    feed = feed_of(room, hostile, controller.url, kinds, 64 - len(kinds))
+    until(lambda: len(hostile.times("/good/0.")) > 3, 30)
+    begun = time.monotonic()
+    time.sleep(6)
+    for n in range(64 - len(kinds)):
+        gap = longest_gap([it for it in hostile.times(f"/good/{n}.") if it > begun])
+        assert gap < control.gap(begun) + SLACK, (n, gap, control.gap(begun))
+    memory = high_water(feed.process.pid)
+    assert memory < 256, memory
+    assert controller.count("PUT", "/channels/good-0/origin") > 6
+    assert not any("\x1b" in line for line in feed.lines)
+    for kind, word in (("gzip", "content coding"), ("capitals", "line 3 has more than 16384 bytes"), ("long-id", "line 3: ID has more than 255 bytes"), ("redirect", "another host"),
+                       ("slow-head", "no answer within 3 s"), ("pieces", "pieces of a few bytes|no whole answer")):
+        feed.sees(f"x-{kind} .*{word}")
+    asked = hostile.times("/target-12/")
+    begun = time.monotonic()
+    feed.process.send_signal(signal.SIGTERM)
+    assert feed.process.wait(5) == 0 and time.monotonic() - begun < 2 and asked
+    assert not any("feed - " in line for line in feed.lines), [line for line in feed.lines if "feed - " in line]
+
+
+def test_texts_that_are_large_leave_the_other_channel_in_time(room):
+    hostile, controller, control = room.server(Hostile()), room.server(FakeController()), Control(room)
+    for kind in ("letters", "line-feeds", "ranges", "keys"):
+        feed = feed_of(room, hostile, controller.url, [kind])
+        until(lambda kind=kind: hostile.times(f"/{kind}/"), 30)
+        begun = time.monotonic()
+        time.sleep(2.5)
+        gap, memory = longest_gap([it for it in hostile.times("/good/0.") if it > begun - 1]), high_water(feed.process.pid)
+        assert gap < control.gap(begun - 1) + SLACK and memory < 256, (kind, gap, memory)
+        begun = time.monotonic()
+        assert feed.end(signal.SIGTERM) == 0 and time.monotonic() - begun < 2, kind
+
+
+def test_a_target_duration_of_years_is_asked_again_within_seconds(room):
+    from adsplice_plant import channel
+    from adsplice_plant.settings import settings_of
+    it = channel.Channel(settings_of("news", {"origin": "http://h/i.m3u8", "at": "http://h"}), None, print, 5, 7)
+    for target in (10**9, 10**12, 2**64 - 1):
+        it.lists.target = target
+        assert it.interval() == 10 and it.longest() == 10, target
+
+
+def test_sigterm_is_heeded_in_each_state(room):
+    hostile, origin = room.server(Hostile()), room.server(FakeOrigin(listed(0, 5)))
+    for name, words in (("a silent origin", ("--origin", f"http://127.0.0.1:{hostile.port}/silent/i.m3u8", "--at", f"http://127.0.0.1:{free_port()}")),
+                        ("a silent adsplice", ("--origin", origin.url, "--at", f"http://127.0.0.1:{hostile.port}/silent")),
+                        ("an origin of pieces", ("--origin", f"http://127.0.0.1:{hostile.port}/endless/i.m3u8", "--at", f"http://127.0.0.1:{free_port()}"))):
+        feed = room.feed("--channel", "news", *words, "--timeout", "8")
+        time.sleep(1.5)
+        begun = time.monotonic()
+        assert feed.end(signal.SIGTERM) == 0 and time.monotonic() - begun < 2, name
+
+
+def test_a_full_disk_costs_lines_and_nothing_else(room):
+    # (files of the feed may have 200 bytes, and later as many as they want)
+    origin, controller = room.server(FakeOrigin(listed(0, 5))), room.server(FakeController())
+    with open(f"{room.path}/out", "wb") as out:
+        it = subprocess.Popen([PYTHON, f"{PLANT}/adsplice-feed", "--channel", "news", "--origin", origin.url, "--at", controller.url, "--timeout", "1"], stdout=out,
+                              stderr=subprocess.STDOUT, preexec_fn=lambda: resource.setrlimit(resource.RLIMIT_FSIZE, (200, resource.RLIM_INFINITY)))
+    room.running.append(it)
+    until(lambda: controller.puts("origin"), 20)
+    for status in (503, 500, 404, 200):
+        origin.status = status
+        time.sleep(1.2)
+    origin.text = listed(1, 6)
+    until(lambda: len(controller.puts("origin")) > 1, 20)
+    assert it.poll() is None and os.path.getsize(f"{room.path}/out") <= 200
+    resource.prlimit(it.pid, resource.RLIMIT_FSIZE, (resource.RLIM_INFINITY, resource.RLIM_INFINITY))
+    origin.status = 503
+    text = until(lambda: (found := Path(room.path, "out").read_text(encoding="utf-8")).count("couldn't") and found, 20)
+    assert re.search(r"\n\S+ \d+ lines couldn't be written\n", text), text
+
+
+def test_a_fault_that_nobody_foresaw_begins_the_channel_anew(room):
+    from adsplice_plant import feed
+    from adsplice_plant.channel import Channel
+    from adsplice_plant.kept import Kept
+    from adsplice_plant.settings import settings_of
+    from adsplice_plant.web import Client
+    origin, controller, lines, ending = room.server(FakeOrigin(listed(0, 5))), room.server(FakeController()), [], threading.Event()
+    said = settings_of("news", {"origin": origin.url, "at": controller.url, "keep": room.path})
+    it = Channel(said, Client(2), lines.append, 0.2, 7)
+    right, faults = it.look, [ZeroDivisionError("a fault"), ZeroDivisionError("a fault"), MemoryError()]
+
+    def look(found):
+        if faults:
+            raise faults.pop(0)
+        right(found)
+
+    it.look = look
+    it.away.first = it.away.most = 0.05
+    thread = threading.Thread(target=feed.run, args=(it, ending, 0), daemon=True)
+    thread.start()
+    until(lambda: controller.puts("origin"), 20)
+    ending.set()
+    thread.join(5)
+    told = [line for line in lines if " feed - " in line]
+    assert len(told) == 2 and re.search(r"news feed - ZeroDivisionError channel\.py:\d+: a fault; begins anew", told[0]) and "MemoryError" in told[1], told
+    kept = Kept(Path(room.path, "news.events"))
+    kept.follow()
+    assert kept.restarts == 3
+
+
+def test_what_is_passed_over_is_told(room):
+    origin, controller = room.server(FakeOrigin(listed(0, 5))), room.server(FakeController())
+    room.write("d/notes.txt", "x")
+    room.write("d/.hidden", "x")
+    os.symlink("/nowhere", f"{room.path}/d/gone.json")
+    with open(f"{room.path}/d/long.json", "wb") as it:
+        it.truncate(4_194_305)
+    room.write("fallback.json", decided(("b1", 1)))
+    origin.url.replace("http://", "http://user:secret@")
+    words = ("--channel", "news", "--origin", origin.url.replace("http://", "http://user:secret@"), "--at", controller.url, "--decisions", f"{room.path}/d", "--keep", f"{room.path}/k",
+             "--fallback", f"{room.path}/fallback.json", "--hold", "1")
+    os.mkdir(f"{room.path}/k")
+    feed = room.feed(*words)
+    for word in ("decisions/notes.txt - Passed: it isn't a file whose name ends in .json", "decisions/gone.json - Passed", "decisions/long.json - Passed: it has 4194305 bytes, over 4194304",
+                 "fallback - Other: .* it has `breaks` and no `fallback`", "Idle: `hold` has no effect without ask", "adsplice 204 -: the list is taken"):
+        feed.sees(word)
+    assert not any("hidden" in line or "secret" in line for line in feed.lines), feed.lines
+    assert json.loads(next(body for method, path, body in controller.asked if path == "/channels/news"))["base"] == origin.url
+    feed.end(signal.SIGTERM)
+    feed = room.feed(*words, "--base", "http://other.example/i.m3u8")
+    feed.sees("settings 409 Other: the channel was made with .*, and the settings say .*other.example")
+
+
+def test_channels_that_harm_each_other_are_refused(room):
+    one = "[DEFAULT]\nat = http://127.0.0.1:9\norigin = http://h/{}.m3u8\n[news-1080]\n"
+    for text, owed in ((f"{one}[news]\nrenditions = 1080 720\n", "two channels have the name news-1080"),
+                       (f"{one}decisions = {room.path}/d\n[sport]\ndecisions = {room.path}/../{os.path.basename(room.path)}/d\n", "two channels have the folder of decisions"),
+                       (f"{one}line = 5\n", "line is a number of bytes of at least 256"), (f"{one}redirects = maybe\n", "redirects is yes or no")):
+        status, out, err = room.run("adsplice-feed", "--config", room.write("feed.ini", text))
+        assert (status, out, err.count("\n")) == (1, "", 1) and owed in err, (text, status, err)
+
+
+def test_a_clock_that_jumps_retires_no_decision(room):
+    from adsplice_plant import decisions
+    path = room.write("d/b1.json", decided(("b1", 1)))
+    os.utime(path, (1, 1))  # (copied with its old time)
+    folder, now = decisions.Folder(Path(room.path, "d"), 7), time.time
+    folder.look()
+    folder.given(folder.decisions[Path(path)])
+    try:
+        for jump in (0, 400 * 86400, -400 * 86400):
+            decisions.time.time = lambda jump=jump: now() + jump
+            assert not folder.retire({"other"}) and folder.open(), jump
+        decisions.time.monotonic, clock = (lambda: clock() + 86401), time.monotonic
+        assert folder.retire({"other"}) and not folder.open()
+    finally:
+        decisions.time.time, decisions.time.monotonic = now, clock
+
+
+def test_answers_of_a_hostile_ad_server_are_judged(room):
+    from adsplice_plant.asking import decision_of
+    for body in (b"[" * 100_000, b'{"breaks":' * 50_000, b"9" * 10_000, b'{"breaks":[' + b'{"id":"a","ads":[]},' * 50_000 + b"0]}", b'"\\ud800"', b"\xff" * 100, b"{}", b"null",
+                 b'{"breaks":[{"id":"' + b"a" * 70_000 + b'","ads":[]}]}', decided(("other", 1)).encode(), b'{"breaks":[{"id":"b1","ads":[{"segments":[{"uri":"http://h/\x1b[31m","duration":"2"}]}]}]}'):
+        begun = time.process_time()
+        found, why = decision_of(body, "b1")
+        assert found is None and why and time.process_time() - begun < 1.5, (body[:40], found, why)
+
+
+def test_readers_take_time_by_their_bytes(room):
+    # (each reader at two sizes of each hostile kind, in a process of its own)
+    code = ("import sys, time; sys.path.insert(0, sys.argv[1])\n"
+            "from adsplice_plant import asking, decisions, excerpt, judge, numbers, origin, packaged, playlist, seen, spelling\n"
+            "from adsplice_plant.history import Given\n"
+            "H, E = b'#EXTM3U\\n#EXT-X-TARGETDURATION:2\\n', b'\\n#EXTINF:2,\\ns0.ts\\n'\n"
+            "KINDS = {'capitals': lambda n: H + b'#EXT-X-DATERANGE:' + b'A' * n + E, 'open quotes': lambda n: H + b'#EXT-X-DATERANGE:' + b'A=\"' * (n // 3) + E,\n"
+            "         'commas': lambda n: H + b'#EXT-X-DATERANGE:' + b',' * n + E, 'pairs': lambda n: H + b'#EXT-X-KEY:' + b'A=1,' * (n // 4) + E, 'spaces': lambda n: H + b'#EXTINF:' + b' ' * n + E,\n"
+            "         'digits': lambda n: H + b'#EXTINF:' + b'9' * n + E, 'lines': lambda n: H + b'\\n' * n, 'letters': lambda n: H + b'a\\n' * (n // 2), 'ranges': lambda n: H + b'#EXT-X-DATERANGE:ID=\"a\"\\n' * (n // 24) + E,\n"
+            "         'keys': lambda n: H + b''.join(b'#EXT-X-KEY:METHOD=A,URI=\"k\",KEYFORMAT=\"%d\"\\n' % i for i in range(n // 40)) + E, 'times': lambda n: H + b'#EXT-X-PROGRAM-DATE-TIME:2024-05-01T12:00:00Z\\n' * (n // 46) + E}\n"
+            "def packed(body):\n    try:\n        return packaged.read(spelling.lines_of(body, set()))\n    except spelling.Unread:\n        return None\n"
+            "READERS = {'playlist': playlist.read, 'bounds': lambda body: origin.over_bound(body, 16384), 'packaged': packed, 'numbers': numbers.items_of,\n"
+            "           'seen': lambda body: seen.strange_in(Given('origin', 'x', body)), 'ranges': lambda body: list(Given('origin', 'x', body).ranges()), 'said': decisions.said_by, 'judge': judge.judge}\n"
+            "def took(read, body):\n    begun = time.process_time(); read(body); return time.process_time() - begun\n"
+            "for kind, make in KINDS.items():\n    for name, read in READERS.items():\n        small, large = (min(took(read, make(n)) for _ in range(2)) for n in (60_000, 240_000))\n"
+            "        if large > 7 * small + 0.03 or large > 1:\n            print(kind, name, round(small, 3), round(large, 3))\n")
+    done = subprocess.run([PYTHON, "-c", code, PLANT], capture_output=True, text=True, timeout=120, check=False)
+    assert (done.returncode, done.stdout) == (0, ""), (done.stdout, done.stderr[-500:])
+
+
+def test_readers_end_with_any_text(room):
+    from hypothesis import given, settings
+    from hypothesis import strategies as some
+
+    from adsplice_plant import decisions, edits, excerpt, judge, journal, origin, playlist, words
+    parts = some.sampled_from([b"#EXTM3U\n", b"#EXTINF:", b"2,\n", b"s.ts\n", b"#EXT-X-DATERANGE:", b'ID="', b'"', b",", b"=", b"START-DATE=", b"2024-05-01T12:00:00Z", b"\r\n", b"#EXT-X-KEY:",
+                               b"METHOD=NONE", b"#EXT-X-TARGETDURATION:", b"9" * 25, "\u2028é".encode(), b"\x1b[", b"\xff", b"{", b"[", b'"breaks":', b'"id":"b1"', b"]", b"}"])
+    texts = some.one_of(some.binary(max_size=200), some.lists(parts, max_size=40).map(b"".join))
+
+    @settings(max_examples=300, deadline=None, database=None, derandomize=False)
+    @given(texts, texts)
+    def holds(one, other):
+        playlist.read(one)
+        decisions.said_by(one)
+        judge.judge(one)
+        excerpt.event_in(one)
+        journal.Reader().event(one.decode("utf-8", "replace"))
+        assert words.plain(one.decode("utf-8", "surrogateescape")).isprintable()
+        old, new = edits.lines_of(journal.text_of(one)), edits.lines_of(journal.text_of(other))
+        assert edits.edited(old, json.loads(json.dumps(edits.edit_of(old, new)))) == new and "".join(new).encode("utf-8", "surrogateescape") == other
+        assert bool(origin.over_bound(one, 20)) == any(len(line) > 20 for line in one.split(b"\n"))
+
+    holds()
+
+
+test_readers_end_with_any_text.needs = ("httpx", "hypothesis")
