@@ -1,47 +1,79 @@
 """The as-run log: a JSON line for each break that has left the window, with what viewers were shown in its place."""
 import json
-import os
 import threading
+import time
 from bisect import bisect_left
+from collections import Counter
 from dataclasses import dataclass, field
+from datetime import datetime, timezone
 from pathlib import Path
+from typing import Any
 
 from . import playlist
+from .journal import append, is_torn
 from .kept import Kept, Pod
 from .playlist import DateRange, Listed, instant_text
-from .words import now_text
+from .words import now_text, time_text
 
 NEAR = 10 * playlist.SECOND  # how far a pod may begin from its break: the greatest tolerance
 MOST = 5000  # places at which a pod may begin that are looked at
-REMEMBERED = 500  # lines of a file that were written before: no break of theirs is written again
+REMEMBERED_BYTES = 1 << 20  # of a file that were written before: no break of these lines is written again
+UNWRITTEN = 1000  # lines that wait until they can be written
+BEAT = 10.0  # seconds between two signs that a monitor runs
 
 
 class Log:
-    """The file `path`, to which lines are added; each break once."""
+    """The file `path`, to which lines are added; each break once. A line is whole or not there."""
 
     def __init__(self, path: Path) -> None:
+        """Takes in the breaks of the newest lines, of which none is written again."""
         self.path, self.lock, self.written = path, threading.Lock(), set[tuple[str, str, str]]()
-        if path.exists():
-            with open(path, encoding="utf-8") as it:
-                for line in it.readlines()[-REMEMBERED:]:
-                    try:
-                        said = json.loads(line)
-                        self.written.add((said["channel"], said["id"], said["start"]))
-                    except (ValueError, KeyError, TypeError):
-                        continue
+        self.end = "\n" if is_torn(path) else ""  # of a line that was left unfinished
+        for said in lines_of(path, REMEMBERED_BYTES):
+            if "id" in said:
+                self.written.add((str(said.get("channel")), str(said["id"]), str(said.get("start"))))
 
     def add(self, line: dict[str, object]) -> bool:
-        """Adds `line`, unless its break is there already; whether it was added."""
-        key = (str(line["channel"]), str(line["id"]), str(line["start"]))
+        """Adds `line`, unless it is of a break that is there already; whether it was added. Raises OSError if it can't be written."""
+        key = (str(line["channel"]), str(line["id"]), str(line["start"])) if "id" in line else None
         with self.lock:
             if key in self.written:
                 return False
-            with open(self.path, "a", encoding="utf-8") as it:
-                it.write(json.dumps(line, ensure_ascii=False) + "\n")
-                it.flush()
-                os.fsync(it.fileno())
-            self.written.add(key)
+            append(self.path, (self.end + json.dumps(line, ensure_ascii=False) + "\n").encode("utf-8", "replace"), True)
+            self.end = ""
+            if key is not None:
+                self.written.add(key)
         return True
+
+    def begin(self) -> None:
+        """A monitor begins: what there was since one ran last isn't recorded, which is a line. Raises OSError."""
+        seen = self.path.with_name(f"{self.path.name}.seen")
+        if seen.exists() and time.time() - seen.stat().st_mtime > 2 * BEAT:
+            before = time_text(datetime.fromtimestamp(seen.stat().st_mtime, timezone.utc))
+            self.add({"at": now_text(), "gap": {"from": before, "to": now_text()}, "why": "no monitor ran"})
+        self.beat()
+
+    def beat(self) -> None:
+        """A monitor runs: keeps when it did. Raises OSError."""
+        self.path.with_name(f"{self.path.name}.seen").touch()
+
+
+def lines_of(path: Path, most: int) -> list[dict[str, Any]]:
+    """The lines of the as-run log `path`, of its last `most` bytes, without those that aren't whole."""
+    if not path.exists():
+        return []
+    with open(path, "rb") as it:
+        it.seek(max(0, path.stat().st_size - most))
+        data = it.read(most)
+    found = []
+    for line in data.decode("utf-8", "replace").split("\n"):
+        try:
+            said = json.loads(line)
+        except (ValueError, RecursionError):
+            continue
+        if isinstance(said, dict):
+            found.append(said)
+    return found
 
 
 @dataclass
@@ -60,19 +92,32 @@ class Seen:
 
 @dataclass
 class AsRun:
-    """What is seen of the breaks of `channel`, and written to `log` once they have left the window."""
+    """What is seen of the breaks of `channel`, and written to `log` once they have left the window. `last` is the newest media
+    number that was seen, and `seen_at` when; `waiting` are lines that can't be written yet, of which `lost` ones had no room since
+    `lost_since`; `counts` are lines by the pod (own, fallback or none) and the word of why."""
 
     channel: str
     log: Log
     breaks: dict[str, Seen] = field(default_factory=dict)
     first: int = 0
+    last: int | None = None
+    seen_at: str = ""
+    waiting: list[dict[str, object]] = field(default_factory=list)
+    lost: int = 0
+    lost_since: str = ""
+    counts: Counter[tuple[str, str]] = field(default_factory=Counter)
 
-    def look(self, listed: Listed, words: dict[str, str], kept: Kept) -> int:
-        """Takes in the written list `listed`, the words of `why` and what the feed kept; answers how many lines were written."""
+    def look(self, listed: Listed, words: dict[str, str], kept: Kept) -> None:
+        """Takes in the written list `listed`, the words of `why` and what the feed kept, and writes what is over. Raises OSError if
+        the log can't be written: then its lines wait for the next look."""
         if listed.first < self.first:  # (the channel was made anew: its numbers begin again, and what was shown was shown)
+            self.last = None
             for it in self.breaks.values():
                 it.first = None
-        self.first = listed.first
+        now = now_text()
+        if self.last is not None and listed.first > self.last + 1:
+            self.put({"at": now, "channel": self.channel, "gap": {"from": self.seen_at, "to": now}, "why": f"segments {self.last + 1} to {listed.first - 1} weren't seen"})
+        self.first, self.last, self.seen_at = listed.first, listed.first + len(listed.segments) - 1, now
         for name, found in kept.ranges.items():
             self.breaks.setdefault(name, Seen(found))
         for name, it in self.breaks.items():
@@ -81,7 +126,29 @@ class AsRun:
             if it.word == "Filled":
                 self.place(name, it, listed, kept)
                 self.count(it, listed)
-        return sum(self.write(name, it, kept) for name, it in list(self.breaks.items()) if self.has_left(name, it, listed, words, kept))
+        for name, it in list(self.breaks.items()):
+            if self.has_left(name, it, listed, words, kept):
+                self.over(name, it, kept)
+        self.write()
+
+    def put(self, line: dict[str, object]) -> None:
+        """The `line` is to be written; one that has no room is lost, which will be a line."""
+        if len(self.waiting) < UNWRITTEN:
+            self.waiting.append(line)
+            return
+        self.lost_since = self.lost_since or now_text()
+        self.lost += 1
+
+    def write(self) -> None:
+        """Writes the lines that wait; raises OSError if that can't be."""
+        while self.waiting:
+            line = self.waiting[0]
+            if self.log.add(line) and "id" in line:
+                self.counts[str(line["pod"] or "none"), str(line["why"])] += 1
+            self.waiting.pop(0)
+        if self.lost:
+            self.log.add({"at": now_text(), "channel": self.channel, "gap": {"from": self.lost_since, "to": now_text()}, "why": f"{self.lost} lines couldn't be written"})
+            self.lost, self.lost_since = 0, ""
 
     def place(self, name: str, seen: Seen, listed: Listed, kept: Kept) -> None:
         """Finds where in `listed` the pod of the break `name` begins: the pod's URIs, nearest to its START-DATE."""
@@ -121,19 +188,20 @@ class AsRun:
             return name not in words or words[name] != "Filled"
         return listed.first >= seen.first + len(seen.pod.segments)
 
-    def write(self, name: str, seen: Seen, kept: Kept) -> bool:
-        """Writes the line of the break `name`; whether it was written. A pod that no list had, since the channel was made anew
-        as soon as the break began, is the one that `kept` has for it."""
+    def over(self, name: str, seen: Seen, kept: Kept) -> None:
+        """The break `name` is over: its line is to be written. A pod that no list had, since the channel was made anew as soon as
+        the break began, is the one that `kept` has for it."""
         del self.breaks[name]
         if seen.pod is None and seen.word == "Filled":
             seen.pod, seen.is_own = kept.pods.get(name, kept.fallback), name in kept.pods
         start = seen.range.start()
         begins = seen.begins if seen.begins is not None else start
         pod = None if seen.word != "Filled" or seen.pod is None else "own" if seen.is_own else "fallback"
-        return self.log.add({
+        segments = seen.pod.segments if seen.pod else []
+        self.put({
             "at": now_text(), "channel": self.channel, "id": name, "start": "" if start is None else instant_text(start),
             "begin": "" if begins is None else instant_text(begins), "pod": pod, "why": seen.word,
-            "shown": len(seen.shown), "of": len(seen.pod.segments) if seen.pod else 0})
+            "shown": len(seen.shown), "of": len(segments), "segments": [segments[place][0] for place in sorted(seen.shown)]})
 
 
 def starts_of(listed: Listed, pod: Pod, start: int) -> list[tuple[int, int]]:

@@ -3,6 +3,7 @@ from __future__ import annotations
 
 import difflib
 import re
+from datetime import datetime
 
 from adsplice_rules.breaks import Break, Mark, Moment, end_of, ends_of, last_entered, obstacle
 from adsplice_rules.channel import Channel, words
@@ -95,12 +96,36 @@ class Explainer:
         if word == "":
             return f"{name}: no list that has it was taken"
         if word == "Filled":
-            return f"{name}: {filled(name, *self.filled_at[name])}"
+            life, place = self.filled_at[name]
+            return f"{name}: {filled(name, life, place)}" + self.why_fallback(name, life, place)
         life, channel = self.run.known[name]
         one = next(it for it in channel.moments[-1].breaks if it.id == name)
         ways = {"NoStart": self.no_start, "NotSignalled": self.not_signalled, "NotDecided": self.not_decided,
                 "DoesNotFit": self.does_not_fit, "Waiting": self.waiting}
         return f"{name}: {ways[word](one, life, channel)} ({word})"
+
+    def named(self, name: str) -> list[tuple[str, Step]]:
+        """The steps of the decision files that name the break `name`, each with its kind."""
+        return [(kind, it) for it in self.run.steps if it.given.what == "decisions" for kind, ids in (said_by(it.given.body),) if name in ids]
+
+    def why_fallback(self, name: str, life: Life, place: int) -> str:
+        """If the fallback fills the break `name`, whose first segment is at `place` of the history: why no pod of its own does."""
+        channel, first = life.channel, life.shown_by(place)
+        own = channel.moments[channel.shown_by[place]].store.entry(name)
+        if own is not None and not own.copied:
+            return ""
+        named, at = self.named(name), self.run.steps.index(first)
+        after = [it for kind, it in named if kind == "breaks" and self.run.steps.index(it) > at]
+        before = [(kind, it) for kind, it in named if self.run.steps.index(it) < at]
+        taken = [kind for kind, it in before if it.is_taken()]
+        if taken and taken[-1] == "withdraw":
+            return "; its own pod was withdrawn"
+        refused = next((it for kind, it in reversed(before) if kind == "breaks" and not it.is_taken()), None)
+        if refused is not None:
+            return f"; {refused.given.name}, which names it, is refused ({refused.given.fault})"
+        if after:
+            return f"; {after[0].given.name} came{late_by(first, after[0])} after {first.given.name}, which was the first to list {segment_text(channel, place)}"
+        return "; no decision file gives it a pod"
 
     def no_start(self, one: Break, _life: Life, _channel: Channel) -> str:
         """The break `one` has no START-DATE."""
@@ -117,7 +142,7 @@ class Explainer:
 
     def not_decided(self, one: Break, life: Life, _channel: Channel) -> str:
         """Who decided what in the place of the break `one`."""
-        named = [(said_by(it.given.body)[0], it) for it in self.run.steps if it.given.what == "decisions" and one.id in said_by(it.given.body)[1]]
+        named = self.named(one.id)
         taken = [kind for kind, it in named if it.is_taken()]
         if taken and taken[-1] == "withdraw":
             return "its pod was withdrawn, and there is no fallback"
@@ -192,6 +217,14 @@ class Explainer:
         late = next((it for it, kind, ids in kinds if kind == "fallback" and which == kind or kind == "breaks" and which == "decision" and one.id in ids), None)
         told = f", and the {which} is {late.given.name}" if late else ""
         return f"the {which} came after {segment_text(channel, place)}, near its START-DATE: that one was listed first by {life.shown_by(place).given.name}{told}"
+
+
+def late_by(first: Step, then: Step) -> str:
+    """How many seconds the step `then` came after the step `first`, if that is known."""
+    if not first.given.at or not then.given.at:
+        return ""
+    by = datetime.fromisoformat(then.given.at) - datetime.fromisoformat(first.given.at)
+    return f" {by.total_seconds():g} s"
 
 
 def answer_text(status: int, fault: str) -> str:

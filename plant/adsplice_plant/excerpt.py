@@ -254,4 +254,4 @@ class Excerpt:
 def given_of(said: dict[str, Any], body: str) -> Given:
     """What the event `said` with the `body` gave to the channel."""
     fault = "" if said["status"] in TAKEN else said["fault"]
-    return Given(said["what"], f"{NAMES[said['what']]} {said['at']}", body.encode("utf-8", "surrogateescape"), said["status"], fault)
+    return Given(said["what"], f"{NAMES[said['what']]} {said['at']}", body.encode("utf-8", "surrogateescape"), said["status"], fault, said["at"])

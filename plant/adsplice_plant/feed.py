@@ -13,7 +13,7 @@ from .settings import Settings
 from .web import Client
 from .words import Fault
 
-LAST = 1.0  # seconds that turns may take to their end once a signal came
+LAST = 0.5  # seconds that turns may take to their end once a signal came
 
 HELP = """Reads a packager's playlist and gives it to adsplice, with the decisions of its breaks.
 

@@ -18,13 +18,15 @@ PATHS = {"channel": "", "delete": "", "origin": "/origin", "decisions": "/decisi
 @dataclass(frozen=True)
 class Given:
     """Something that a channel is given: `what` is `channel`, `delete`, `decisions`, `origin`, or `hole` for a time of which
-    nothing is known; `name` says where it is from. `status` and `fault` are what adsplice answered."""
+    nothing is known; `name` says where it is from. `status` and `fault` are what adsplice answered, and `at` when (a text in UTC),
+    if that is known."""
 
     what: str
     name: str
     body: bytes
     status: int = 0
     fault: str = ""
+    at: str = ""
 
     def text(self) -> str:
         """The body, with `\\xE9` in place of a byte that isn't UTF-8."""

@@ -115,19 +115,9 @@ class Journal:
         opening = [] if size else [replace(it, again=True) for it in self.opening()]
         told = [*opening, *([self.hole] if self.hole else []), event]
         data = (self.end + "".join(line_of(it, self.lines) for it in told)).encode()
-        self.write(data, size)
+        append(self.path, data)
         self.end, self.since = "", self.since + len(data)
         self.hole, self.lines = None, self.lines if event.lines is None else event.lines
-
-    def write(self, data: bytes, size: int) -> None:
-        """Adds `data` to the file of `size` bytes: all of it, or nothing."""
-        handle = os.open(self.path, os.O_WRONLY | os.O_APPEND | os.O_CREAT, 0o644)
-        try:
-            if os.write(handle, data) < len(data):
-                os.ftruncate(handle, size)
-                raise OSError(errno.ENOSPC, os.strerror(errno.ENOSPC))
-        finally:
-            os.close(handle)
 
     def begin_file(self) -> None:
         """Puts the file aside, and takes away the oldest ones that have no room."""
@@ -140,6 +130,20 @@ class Journal:
             room -= it.stat().st_size
             if room < 0:
                 it.unlink()
+
+
+def append(path: Path, data: bytes, is_synced: bool = False) -> None:
+    """Adds `data` to the file `path`: all of it, or nothing. It is on disk after that if `is_synced`."""
+    handle = os.open(path, os.O_WRONLY | os.O_APPEND | os.O_CREAT, 0o644)
+    try:
+        size = os.fstat(handle).st_size
+        if os.write(handle, data) < len(data):
+            os.ftruncate(handle, size)
+            raise OSError(errno.ENOSPC, os.strerror(errno.ENOSPC))
+        if is_synced:
+            os.fsync(handle)
+    finally:
+        os.close(handle)
 
 
 def is_torn(path: Path) -> bool:

@@ -31,6 +31,7 @@ class Kept:
     path: Path
     answers: Counter[tuple[str, str, str]] = field(default_factory=Counter)  # by request, status and fault's name
     unread: int = 0  # times that the origin couldn't be read
+    holes: int = 0  # times that events couldn't be kept
     restarts: int = 0  # times that the channel's feed began anew after a fault that nobody foresaw
     pods: dict[str, Pod] = field(default_factory=dict)
     fallback: Pod | None = None
@@ -72,8 +73,8 @@ class Kept:
         """Takes in one event."""
         if event.what == "read":
             self.unread += 1
-        if event.what == "restart":
-            self.restarts += 1
+        self.restarts += event.what == "restart"
+        self.holes += event.what == "hole"
         if event.what in REQUESTS and not event.again:
             self.answers[event.what, str(event.status), faults.name_of(event.fault)] += 1
         if event.status not in (201, 204):

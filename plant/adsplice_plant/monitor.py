@@ -11,8 +11,9 @@ from prometheus_client.registry import Collector
 
 from . import settings as told
 from . import words
-from .as_run import AsRun, Log
+from .as_run import BEAT, AsRun, Log
 from .kept import Kept
+from .reconcile import report
 from .watch import WORDS, Watch
 from .web import Client
 from .words import Fault
@@ -22,6 +23,7 @@ HELP = """Figures of adsplice's channels for Prometheus, and an as-run log.
   adsplice-monitor --at http://127.0.0.1:8090 --viewers http://127.0.0.1:8080 --channel news --process http://127.0.0.1:8081 \\
                    --kept /var/lib/adsplice/kept --as-run /var/lib/adsplice/as-run.jsonl
   adsplice-monitor --config /etc/adsplice/feed.ini --once      the channels of a feed; prints the figures, for Nagios and cron
+  adsplice-monitor --reconcile /var/lib/adsplice/decisions/news --as-run as-run.jsonl --channel news     what was sold and shown
 
 Serves /metrics (--listen) until a signal ends it. With --once it looks at each channel until its list has changed or its
 limit is over, prints the figures behind a comment with what is wrong, and ends.
@@ -31,7 +33,9 @@ for --still; both are three target durations if they aren't named. An ended list
 
 Refused pushes and the as-run log need what adsplice-feed --keep has kept (--kept, or `keep` of --config).
 
-Exit status with --once: 0 all is well; 2 a channel is late, stands still or doesn't answer, or a process doesn't answer;
+--reconcile compares the decision files of a folder with the as-run log: which sold break was shown whole, in part or not, and why.
+
+Exit status with --reconcile: 0 if all that was sold was shown whole; 2 if not. With --once: 0 all is well; 2 a channel is late, stands still or doesn't answer, or a process doesn't answer;
 1 a fault. Wrong words are 2, too. Without --once: 0 after SIGTERM, SIGINT or SIGHUP."""
 CRITICAL = 2
 AGAIN = 3.0  # seconds for which a channel without a list is looked at again
@@ -53,7 +57,12 @@ def read_words(arguments: list[str]) -> argparse.Namespace:
     it.add_argument("--interval", type=words.seconds, default=1.0, metavar="SECONDS", help="between two looks (1)")
     it.add_argument("--listen", default="127.0.0.1:9465", metavar="HOST:PORT", help="for Prometheus (127.0.0.1:9465)")
     it.add_argument("--once", action="store_true")
+    it.add_argument("--reconcile", type=Path, metavar="DIR", help="a channel's folder of decisions, which is compared with the as-run log")
     said = it.parse_args(arguments)
+    if said.reconcile is not None:
+        if said.as_run is None:
+            it.error("--reconcile needs --as-run")
+        return said
     if said.config is None and not (said.channel and said.at):
         it.error("--channel and --at are needed, or --config")
     if said.as_run is not None and said.kept is None and said.config is None:
@@ -113,7 +122,8 @@ class Figures(Collector):
         target = GaugeMetricFamily("adsplice_target_duration_seconds", "EXT-X-TARGETDURATION", labels=["channel"])
         ended = GaugeMetricFamily("adsplice_ended", "Whether the playlist has ended (EXT-X-ENDLIST)", labels=["channel"])
         breaks = GaugeMetricFamily("adsplice_breaks", "Known breaks by the word of why", labels=["channel", "why"])
-        lines = CounterMetricFamily("adsplice_as_run", "Breaks that were written to the as-run log", labels=["channel"])
+        lines = CounterMetricFamily("adsplice_as_run", "Breaks that were written to the as-run log, by the pod that was shown", labels=["channel", "pod", "why"])
+        waiting = GaugeMetricFamily("adsplice_as_run_waiting", "Lines of the as-run log that can't be written", labels=["channel"])
         for it in self.watches:
             with it.lock:
                 answers.add_metric([it.name], float(it.status == 200))
@@ -126,13 +136,17 @@ class Figures(Collector):
                     target.add_metric([it.name], it.target)
                 for word in WORDS:
                     breaks.add_metric([it.name, word], it.words[word])
-                lines.add_metric([it.name], it.lines)
-        yield from (answers, behind, still, target, ended, breaks, lines)
+                if it.as_run:
+                    for (pod, why), count in sorted(it.as_run.counts.items()):
+                        lines.add_metric([it.name, pod, why], count)
+                    waiting.add_metric([it.name], len(it.as_run.waiting) + it.as_run.lost)
+        yield from (answers, behind, still, target, ended, breaks, lines, waiting)
 
     def pushes(self) -> Iterator[Metric]:
         """The figures of what the feeds kept."""
         answers = CounterMetricFamily("adsplice_feed_requests", "Requests of the feed by status and fault", labels=["channel", "what", "status", "fault"])
         unread = CounterMetricFamily("adsplice_feed_unread", "Times that the feed couldn't read its origin", labels=["channel"])
+        holes = CounterMetricFamily("adsplice_feed_unkept", "Times that the feed couldn't keep its events", labels=["channel"])
         restarts = CounterMetricFamily("adsplice_feed_restarts", "Times that a channel's feed began anew after a fault that nobody foresaw", labels=["channel"])
         for it in self.watches:
             if it.kept is None:
@@ -142,7 +156,8 @@ class Figures(Collector):
                     answers.add_metric([it.name, what, status, fault], count)
                 unread.add_metric([it.name], it.kept.unread)
                 restarts.add_metric([it.name], it.kept.restarts)
-        yield from (answers, unread, restarts)
+                holes.add_metric([it.name], it.kept.holes)
+        yield from (answers, unread, restarts, holes)
 
 
 def is_open(watch: Watch, begun: bytes, until: float) -> bool:
@@ -192,9 +207,23 @@ def serve(watches: list[Watch], processes: Processes, registry: CollectorRegistr
     for it in watches:
         threading.Thread(target=follow, args=(it, ending, said.interval), daemon=True).start()
     threading.Thread(target=look_on, args=(processes, ending, max(said.interval, 1)), daemon=True).start()
+    if log := next((it.as_run.log for it in watches if it.as_run), None):
+        threading.Thread(target=beat_on, args=(log, ending), daemon=True).start()
     while not ending.wait(3600):
         pass
     return 0
+
+
+def beat_on(log: Log, ending: threading.Event) -> None:
+    """Keeps that a monitor runs beside its as-run log `log`, until `ending` is set."""
+    say, beat = words.Teller(words.ERROR).say, log.begin
+    while not ending.is_set():
+        try:
+            beat()
+            beat = log.beat
+        except OSError as fault:
+            say(f"{words.now_text()} {log.path}: {fault.strerror}")
+        ending.wait(BEAT)
 
 
 def look_on(processes: Processes, ending: threading.Event, interval: float) -> None:
@@ -208,6 +237,10 @@ def main(arguments: list[str]) -> int:
     """Watches; answers the exit status."""
     said = read_words(arguments)
     try:
+        if said.reconcile is not None:
+            lines, is_well = report(said.reconcile, said.as_run, said.channel)
+            words.write_out("".join(f"{words.plain(it)}\n" for it in lines))
+            return 0 if is_well else CRITICAL
         watches, processes = watches_of(said), Processes(said.process)
         registry = CollectorRegistry()
         registry.register(Figures(watches, processes))

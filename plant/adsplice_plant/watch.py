@@ -34,7 +34,6 @@ class Watch:
     is_ended: bool = False
     changed: float = field(default_factory=time.monotonic)
     words: Counter[str] = field(default_factory=Counter)
-    lines: int = 0  # of the as-run log
 
     def look(self) -> None:
         """Asks for the playlist and for `why`, and reads what the feed kept since the last look."""
@@ -50,7 +49,7 @@ class Watch:
             if answer.status == 200:
                 self.take(answer.body)
                 if self.as_run and self.kept and why.status == 200:
-                    self.lines += self.as_run.look(playlist.read(answer.body), told, self.kept)
+                    self.as_run.look(playlist.read(answer.body), told, self.kept)
 
     def take(self, body: bytes) -> None:
         """Takes in the list `body`."""

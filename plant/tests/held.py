@@ -125,13 +125,16 @@ class Held:
         return ways[word](said.removesuffix(f" ({word})"), one, life, channel)
 
     def filled(self, name, said, marked):
-        found = re.fullmatch(r"it is filled by (its own pod|the fallback) \((\d+) segments?, ([\d.]+) s\)(?:, and lasts (-?[\d.]+) s itself \(by ([\w -]+)\))?", said)
+        found = re.fullmatch(r"it is filled by (its own pod|the fallback) \((\d+) segments?, ([\d.]+) s\)(?:, and lasts (-?[\d.]+) s itself \(by ([\w -]+)\))?(?:; (.*))?", said)
         life, first = next(it for n, it in enumerate(marked) if all(self.is_run(it, other) for other in marked[n:]))
         channel = life.channel
         mark, moment = channel.history[first].mark, channel.moments[channel.shown_by[first]]
         own = moment.store.entry(name)
         assert found[1] == ("its own pod" if own and not own.copied else "the fallback")
         assert int(found[2]) == sum(len(ad.segments) for ad in mark.pod.ads) and nanos_of(found[3]) == mark.pod.total()
+        assert bool(found[6]) == (found[1] == "the fallback")
+        if found[6]:
+            self.fallback(name, found[6], life, first)
         one = next(it for it in moment.breaks if it.id == name)
         end = end_of(one, mark.pod.total())
         if found[4]:
@@ -139,6 +142,22 @@ class Held:
             assert abs(end - one.start - mark.pod.total()) > channel.tolerance
         else:
             assert not isinstance(end, int) or abs(end - one.start - mark.pod.total()) <= channel.tolerance
+
+    def fallback(self, name, said, life, first):
+        """Why the fallback fills a break."""
+        self.counts["fallback"] += 1
+        step = life.lists[life.channel.shown_by[first]]
+        place = self.run.steps.index(step)
+        named = [(n, it, kind) for n, it in enumerate(self.run.steps) if it.given.what == "decisions" and (kind := kind_for(it.given.body, name))]
+        if found := re.fullmatch(r"(\w+), which names it, is refused \((.*)\)", said):
+            assert any(n < place and it.given.name == found[1] and it.given.fault == found[2] and not it.is_taken() for n, it, _ in named)
+        elif found := re.fullmatch(r"(\w+) came after (\w+), which was the first to list " + SEGMENT, said):
+            assert found[2] == step.given.name and int(found["number"]) == life.channel.history[first].segment.number
+            assert any(n > place and it.given.name == found[1] and kind == "breaks" for n, it, kind in named)
+        elif said == "its own pod was withdrawn":
+            assert [kind for n, it, kind in named if n < place and it.is_taken()][-1] == "withdraw"
+        else:
+            assert said == "no decision file gives it a pod" and not any(kind == "breaks" and not it.is_taken() for n, it, kind in named)
 
     @staticmethod
     def is_run(one, other):

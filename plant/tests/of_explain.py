@@ -59,9 +59,24 @@ def test_filled_breaks_are_told_by_their_pods(room):
     room.write("i.m3u8", listed(0, 9, [("b1", 4, 4), ("b2", 12, 4)]))
     status, out, err = explain(room, "d.json", "f.json", "i.m3u8")
     assert (status, err) == (0, "") and out.splitlines() == [
-        "b1: it is filled by its own pod (2 segments, 4 s)", "b2: it is filled by the fallback (1 segment, 2 s), and lasts 4 s itself (by DURATION)"], out
+        "b1: it is filled by its own pod (2 segments, 4 s)", "b2: it is filled by the fallback (1 segment, 2 s), and lasts 4 s itself (by DURATION); no decision file gives it a pod"], out
     assert explain(room, "d.json", "f.json", "i.m3u8", "--break", "b2")[:2] == (0, out.splitlines()[1] + "\n")
     assert explain(room, "d.json", "i.m3u8", "--break", "B2")[:2] == (3, "B2: no playlist has this ID; listed is b2, which is like it\n")
+
+
+def test_why_the_fallback_played(room):
+    room.write("f.json", FALLBACK)
+    room.write("d.json", decided(("b1", 2)))
+    room.write("w.json", '{"withdraw":"b1"}')
+    room.write("wrong.json", decided(("b1", 2)).replace('"2"', "2"))
+    room.write("one.m3u8", listed(0, 5, [("b1", 4, 4)]))
+    room.write("two.m3u8", listed(0, 9, [("b1", 4, 4)]))
+    filled = "b1: it is filled by the fallback (1 segment, 2 s), and lasts 4 s itself (by DURATION); "
+    for files, owed in ((("f.json", "one.m3u8"), "no decision file gives it a pod"), (("f.json", "d.json", "w.json", "one.m3u8"), "its own pod was withdrawn"),
+                        (("f.json", "wrong.json", "one.m3u8"), "wrong.json, which names it, is refused (J2 Shape break 0 ad 0 segment 0)"),
+                        (("f.json", "one.m3u8", "d.json", "two.m3u8"),
+                         "d.json came after one.m3u8, which was the first to list segment 2 (s2.ts), which begins at 2024-05-01T12:00:04.000Z")):
+        assert filled + owed in explain(room, *files)[1].splitlines(), (files, explain(room, *files))
 
 
 def test_tolerance_is_the_channels(room):

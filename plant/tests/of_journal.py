@@ -141,6 +141,14 @@ def test_old_files_and_new_ones_are_explained(room):
     assert explain(room, "--kept", path, "--break", "b2")[:2] == (1, "") and "has the break b2" in explain(room, "--kept", path, "--break", "b2")[2]
 
 
+def test_how_late_a_decision_was_is_told(room):
+    events = [event(0, "channel", 201, MADE), event(1, "decisions", 204, FALLBACK), event(10, "origin", 204, listed(0, 5, [("b1", 4, 4)])),
+              event(10.4, "decisions", 409, decided(("b1", 2)), "J9 Used"), event(12, "origin", 204, listed(0, 6, [("b1", 4, 4)]))]
+    out = explain(room, "--kept", room.write("news.events", "".join(events)), "--break", "b1")[1]
+    assert out == (f"b1: it is filled by the fallback (1 segment, 2 s), and lasts 4 s itself (by DURATION); the decision of {at(10.4)} came 0.4 s after the list of {at(10)}, "
+                   "which was the first to list segment 2 (s2.ts), which begins at 2024-05-01T12:00:04.000Z\n"), out
+
+
 def test_a_time_says_which_of_two_breaks_of_one_id(room):
     events = [event(0, "channel", 201, MADE)]
     for n in range(200):

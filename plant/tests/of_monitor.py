@@ -180,7 +180,68 @@ def test_as_run_log_of_a_channel_that_is_made_anew_within_a_break(room):
         look(0, [it if it < 25 else f"f{it - 25}" for it in range(12, last)], {"b4": "Waiting", "b5": "Filled" if last > 25 else "Waiting"})
     look(20, [40, 41], {})
     with open(path, encoding="utf-8") as it:
-        assert [(said["id"], said["pod"], said["shown"], said["of"]) for said in map(json.loads, it)] == [("b4", "own", 2, 5), ("b5", "fallback", 5, 5)]
+        assert [(said["id"], said["pod"], said["shown"], said["of"]) for said in map(json.loads, it) if "id" in said] == [("b4", "own", 2, 5), ("b5", "fallback", 5, 5)]
+
+
+def as_run_line(name, pod="own", why="Filled", segments=(), of=3, **more):
+    """A line of an as-run log."""
+    return {"at": instant(60), "channel": "news", "id": name, "start": instant(20), "begin": instant(20), "pod": pod, "why": why, "shown": len(segments), "of": of,
+            "segments": [f"http://ads.example/{name}-{n}.ts" for n in segments]} | more
+
+
+def test_as_run_lines_wait_for_room_and_are_whole(room):
+    # (in a process whose files may have no byte, for a while; the file's last line was left unfinished by another one)
+    code = ("import json, resource, sys; sys.path.insert(0, sys.argv[1])\nfrom pathlib import Path\nfrom adsplice_plant.as_run import AsRun, Log, UNWRITTEN\n"
+            "run = AsRun('news', Log(Path(sys.argv[2])))\n"
+            "def line(n): return {'at': 'a', 'channel': 'news', 'id': f'b{n}', 'start': 's', 'pod': 'own', 'why': 'Filled'}\n"
+            "resource.setrlimit(resource.RLIMIT_FSIZE, (0, -1))\n"
+            "for n in range(UNWRITTEN + 2):\n    run.put(line(n))\n    if n < 3:\n        try:\n            run.write()\n            raise SystemExit('it was written')\n        except OSError: pass\n"
+            "resource.setrlimit(resource.RLIMIT_FSIZE, (-1, -1))\nrun.write()\nrun.put(line(0)); run.write()\nprint(run.counts)\n")
+    path = room.write("as-run.jsonl", json.dumps(as_run_line("a1")) + "\n" + '{"at": "2024')
+    done = subprocess.run([PYTHON, "-c", code, PLANT, path], capture_output=True, text=True, timeout=60, check=False)
+    assert (done.returncode, done.stdout) == (0, "Counter({('own', 'Filled'): 1000})\n"), done
+    with open(path, encoding="utf-8") as it:
+        lines = it.read().split("\n")
+    said = [json.loads(line) for line in (lines[0], *lines[2:-1])]
+    assert [it.get("id") for it in said] == ["a1", *(f"b{n}" for n in range(1000)), None] and said[-1]["why"] == "2 lines couldn't be written", said[-3:]
+
+
+def test_what_is_not_recorded_is_a_line(room):
+    from pathlib import Path
+    from adsplice_plant import playlist
+    from adsplice_plant.as_run import AsRun, Log
+    path = Path(room.path) / "as-run.jsonl"
+    log = Log(path)
+    log.begin()
+    run = AsRun("news", log)
+    for first in (0, 3, 20, 21):
+        run.look(playlist.read(listed(first, first + 5).encode()), {}, Kept(Path("none")))
+    os.utime(f"{path}.seen", (time.time() - 100, time.time() - 100))
+    Log(path).begin()
+    Log(path).begin()
+    with open(path, encoding="utf-8") as it:
+        said = [json.loads(line) for line in it]
+    assert [it["why"] for it in said] == ["segments 9 to 19 weren't seen", "no monitor ran"] and all(it["gap"]["from"] <= it["gap"]["to"] for it in said), said
+
+
+def test_what_was_sold_is_held_against_what_was_shown(room):
+    room.write("orders/1.json", decided(("b1", 3), ("b2", 3), ("b3", 3)))
+    room.write("orders/done/2.json", decided(("b4", 3), ("b5", 3), ("b6", 3)))
+    room.write("orders/done/3.json", '{"fallback":null}')
+    lines = [as_run_line("b1", segments=(0, 1, 2)), as_run_line("b2", segments=(0, 1)), as_run_line("b3", pod="fallback"), as_run_line("b4", pod=None, why="NotDecided", of=0),
+             as_run_line("b6", channel="sport", segments=(0, 1, 2)), {"at": instant(90), "gap": {"from": instant(30), "to": instant(90)}, "why": "no monitor ran"}]
+    log = room.write("as-run.jsonl", "".join(json.dumps(it) + "\n" for it in lines) + '{"at"')
+    status, out, err = room.run("adsplice-monitor", "--reconcile", f"{room.path}/orders", "--as-run", log, "--channel", "news")
+    at = f"at {instant(20)}"
+    assert (status, err) == (2, "") and sorted(out.splitlines()[:-2]) == sorted([
+        f"b1 (1.json): shown whole {at} (3 of 3 segments)", f"b2 (1.json): shown in part {at} (2 of 3 segments)", f"b3 (1.json): not shown {at}: the fallback was in its place (Filled)",
+        f"b4 (2.json): not shown {at}: nothing was in its place (NotDecided)", "b5 (2.json): not shown, or not over yet: the log has no line of it",
+        "b6 (2.json): not shown, or not over yet: the log has no line of it"]), out
+    assert out.splitlines()[-2:] == [f"from {instant(30)} to {instant(90)} not recorded: no monitor ran", "6 sold: 1 shown whole, 1 in part, 4 not"], out
+    assert room.run("adsplice-monitor", "--reconcile", f"{room.path}/orders", "--as-run", log, "--channel", "sport")[1].count("shown whole at") == 1
+    for words, status, text in ((("--reconcile", "nowhere", "--as-run", log), 1, "no such folder"), (("--reconcile", room.path), 2, "needs --as-run"), (("--reconcile", room.path, "--as-run", "no"), 1, "no such as-run log")):
+        found, out, err = room.run("adsplice-monitor", *words)
+        assert (found, out) == (status, "") and text in err, (words, found, err)
 
 
 def test_alerts_and_dashboard_name_figures_that_there_are(room):
