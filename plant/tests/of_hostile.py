@@ -27,6 +27,14 @@ def high_water(pid):
         return int(re.search(r"VmHWM:\s+(\d+)", it.read())[1]) // 1024
 
 
+def slowness():
+    """How many times longer than its own work a piece of work takes here now, since others work beside it; 1 on an idle machine."""
+    wall, work = time.monotonic(), time.thread_time()
+    while time.thread_time() - work < 0.05:
+        pass
+    return max(1.0, (time.monotonic() - wall) / 0.05)
+
+
 def longest_gap(times):
     """The longest time between two of these moments that follow one another."""
     return max((after - before for before, after in zip(times, times[1:])), default=0)
@@ -45,8 +53,9 @@ def test_each_answer_is_bounded(room):
     assert done.returncode == 0, done.stderr
     found, memory = json.loads(done.stdout)
     assert memory < 120, memory
+    slow = slowness()
     for kind, (status, why, took, size) in found.items():
-        assert took < LIMIT + SLACK and size <= 4_194_304, (kind, took, size)
+        assert took < LIMIT + SLACK * slow and size <= 4_194_304, (kind, took, size)
         assert (status == 200) == (kind in attacks.LISTS) or kind in ("status", "redirect-round", "cookies"), (kind, status, why)
         assert why.isprintable() and (why or status), (kind, why)
     with hostile.lock:
@@ -59,7 +68,7 @@ class Control:
     def __init__(self, room):
         self.hostile, controller = room.server(Hostile()), room.server(FakeController())
         feed_of(room, self.hostile, controller.url, ())
-        until(lambda: len(self.hostile.times("/good/")) > 3, 30)
+        until(lambda: len(self.hostile.times("/good/")) > 3, 90)
 
     def gap(self, begun):
         """The longest time between two of its looks since then."""
@@ -82,12 +91,13 @@ def test_attacks_leave_the_other_channels_in_time(room):
     kinds = [it for it in attacks.KINDS if it not in ("letters", "line-feeds", "comments", "tags", "ranges", "one-range", "keys", "discontinuities", "capitals-4m")]
     control = Control(room)
     feed = feed_of(room, hostile, controller.url, kinds, 64 - len(kinds))
-    until(lambda: len(hostile.times("/good/0.")) > 3, 30)
-    begun = time.monotonic()
+    until(lambda: len(hostile.times("/good/0.")) > 3, 90)
+    begun, slow = time.monotonic(), slowness()
     time.sleep(6)
+    slow = max(slow, slowness())
     for n in range(64 - len(kinds)):
         gap = longest_gap([it for it in hostile.times(f"/good/{n}.") if it > begun])
-        assert gap < control.gap(begun) + SLACK, (n, gap, control.gap(begun))
+        assert gap < control.gap(begun) + SLACK * slow, (n, gap, control.gap(begun), slow)
     memory = high_water(feed.process.pid)
     assert memory < 256, memory
     assert controller.count("PUT", "/channels/good-0/origin") > 6
@@ -98,7 +108,7 @@ def test_attacks_leave_the_other_channels_in_time(room):
     asked = hostile.times("/target-12/")
     begun = time.monotonic()
     feed.process.send_signal(signal.SIGTERM)
-    assert feed.process.wait(5) == 0 and time.monotonic() - begun < 2 and asked
+    assert feed.process.wait(30) == 0 and time.monotonic() - begun < 2 * slow and asked
     assert not any("feed - " in line for line in feed.lines), [line for line in feed.lines if "feed - " in line]
 
 
@@ -106,13 +116,14 @@ def test_texts_that_are_large_leave_the_other_channel_in_time(room):
     hostile, controller, control = room.server(Hostile()), room.server(FakeController()), Control(room)
     for kind in ("letters", "line-feeds", "ranges", "keys"):
         feed = feed_of(room, hostile, controller.url, [kind])
-        until(lambda kind=kind: hostile.times(f"/{kind}/"), 30)
+        until(lambda kind=kind: hostile.times(f"/{kind}/"), 90)
         begun = time.monotonic()
         time.sleep(2.5)
-        gap, memory = longest_gap([it for it in hostile.times("/good/0.") if it > begun - 1]), high_water(feed.process.pid)
-        assert gap < control.gap(begun - 1) + SLACK and memory < 256, (kind, gap, memory)
+        gap, memory, slow = longest_gap([it for it in hostile.times("/good/0.") if it > begun - 1]), high_water(feed.process.pid), slowness()
+        assert gap < control.gap(begun - 1) + SLACK * slow and memory < 256, (kind, gap, memory, slow)
         begun = time.monotonic()
-        assert feed.end(signal.SIGTERM) == 0 and time.monotonic() - begun < 2, kind
+        feed.process.send_signal(signal.SIGTERM)
+        assert feed.process.wait(30) == 0 and time.monotonic() - begun < 2 * slow, (kind, slow)
 
 
 def test_a_target_duration_of_years_is_asked_again_within_seconds(room):
@@ -130,9 +141,10 @@ def test_sigterm_is_heeded_in_each_state(room):
                         ("a silent adsplice", ("--origin", origin.url, "--at", f"http://127.0.0.1:{hostile.port}/silent")),
                         ("an origin of pieces", ("--origin", f"http://127.0.0.1:{hostile.port}/endless/i.m3u8", "--at", f"http://127.0.0.1:{free_port()}"))):
         feed = room.feed("--channel", "news", *words, "--timeout", "8")
-        time.sleep(1.5)
-        begun = time.monotonic()
-        assert feed.end(signal.SIGTERM) == 0 and time.monotonic() - begun < 2, name
+        time.sleep(1.5 * slowness())
+        begun, slow = time.monotonic(), slowness()
+        feed.process.send_signal(signal.SIGTERM)
+        assert feed.process.wait(30) == 0 and time.monotonic() - begun < 2 * max(slow, slowness()), (name, slow)
 
 
 def test_a_full_disk_costs_lines_and_nothing_else(room):
