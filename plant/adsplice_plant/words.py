@@ -62,7 +62,7 @@ def seconds(text: str) -> float:
 
 def fail(name: str, text: str, status: int = FAULT) -> NoReturn:
     """Ends the program `name` with the line `text` on standard error, and with exit status `status`."""
-    print(f"{name}: {text}", file=sys.stderr, flush=True)
+    print(f"{name}: {plain(text)}", file=sys.stderr, flush=True)
     sys.exit(status)
 
 
