@@ -92,7 +92,7 @@ def listed(text):
 
 def test_a_break_is_asked_for_once_and_its_list_waits_for_the_answer(room):
     server = room.server(Decider(pause=0.2))
-    it = Asking(room, server.url)
+    it = Asking(room, server.url, hold=0.9)
     it.give(11)
     assert not server.questions
     assert 0.2 <= it.give(12)
@@ -405,3 +405,28 @@ def test_wrong_settings_are_told(room):
             assert owed in str(fault), (more, str(fault))
     found = settings_of("news", said | {"signals": "0x34, 54", "hold": "0", "ask": "folder", "decisions": room.path, "nearest": "no"})
     assert (found.types, found.hold, found.ask, found.nearest, found.signals) == (frozenset({0x34, 0x36}), 0.0, "folder", False, True)
+
+
+@needs("httpx", "program")
+def test_a_ladder_asks_once_and_fills_all_renditions_alike(room):
+    server, port = room.server(Decider(lambda it: (200, decided((it["id"], 5)).replace("ads.example/", "ads.example/{}/")), pause=0.1)), free_port()
+    room.adsplice(port)
+    style = named("cue-enhanced-time-signal")
+
+    def push(newest):
+        for name in "12":
+            room.write(f"{name}.m3u8", style.listed(newest))
+
+    push(9)
+    feed = room.feed("--channel", "news", "--renditions", "1 2", "--origin", f"{room.path}/{{}}.m3u8", "--at", f"http://127.0.0.1:{port}", "--ask", server.url,
+                     "--base", "http://origin.example/{}/index.m3u8", "--decisions", f"{room.path}/d{{}}", "--keep", f"{room.path}/kept")
+    for name in "12":
+        feed.sees(f" news-{name} adsplice 204 -: the list is taken")
+    at = [f"http://127.0.0.1:{port}/channels/news-{name}" for name in "12"]
+    for newest in range(10, 20):
+        push(newest)
+        until(lambda newest=newest: all(shown_by(it)[-1:] == [f"s{newest}.ts"] if newest < 12 or newest > 16 else f"1001-12-{newest - 12}.ts" in shown_by(it) for it in at), 10)
+    assert len(server.questions) == 1 and server.questions[0]["channel"] == "news" and server.questions[0]["renditions"] == ["1", "2"]
+    lists = [get(f"{it}/live.m3u8")[1] for it in at]
+    assert lists[0].replace("/1/", "/2/") == lists[1] and "ads.example/1/1001-12-4.ts" in lists[0]
+    assert sum("breaks/1001-12 - Begins" in it for it in feed.lines) == 1 and not any("Apart" in it for it in feed.lines), feed.lines
