@@ -10,6 +10,7 @@ from .playlist import SECOND
 from .splice import Kind, Message, Unread
 
 LONGEST = 86_400 * SECOND  # of a break: a longer duration is no duration
+LONGEST_NAME = 60  # letters of a tag's name that is told
 SPLICES = ("SCTE35-CMD", "SCTE35-OUT", "SCTE35-IN")  # attributes of a date range (RFC 8216, 4.3.2.7.1)
 # The tags of a segment by which a packager signals, each with the name of its style.
 CUES = {
@@ -235,7 +236,7 @@ def style_of(line: str) -> str:
     if name == "#EXT-X-DATERANGE":
         said = packaged.attributes_of(line.partition(":")[2])
         return next((f"EXT-X-DATERANGE with {it}" for it in SPLICES if it in said), "")
-    if name.startswith("#EXT-") and set(name[5:].split("-")) & WORDS:
+    if name.startswith("#EXT-") and len(name) <= LONGEST_NAME and name.isascii() and name.isprintable() and set(name[5:].split("-")) & WORDS:
         return name[1:]
     return ""
 

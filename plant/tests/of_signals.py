@@ -219,6 +219,13 @@ def test_each_style_with_a_feed_that_starts_again_before_each_list(room):
     check_styles((1, 0, True))
 
 
+def test_drawn_sequences_replace_what_they_mean(room):
+    seed = random.randrange(10**6)
+    print(f"plant: sequences of seed {seed} (plant/tests/drawn.py {seed} 40)", flush=True)
+    done = subprocess.run([PYTHON, f"{PLANT}/tests/drawn.py", str(seed), "40"], capture_output=True, text=True, check=False)
+    assert done.returncode == 0, done.stdout + done.stderr
+
+
 # ---- what is told
 
 def told(style, **settings):
