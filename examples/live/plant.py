@@ -72,7 +72,7 @@ class Plant:
         at which it is asked."""
         pods = [media.pod(media.pod_kinds(kinds, plan.length), f"{self.site}/media/ads/{{}}", plan.cut) for kinds in (("ad a", "ad b"), ("ad b", "ad a"))]
         write_aside(f"{self.room}/pods.json", json.dumps([*pods, None]))
-        self.processes.start([f"{HERE}/decision_server", f"{self.room}/pods.json", "--port", str(self.decider)], stderr=None)
+        self.processes.start([f"{HERE}/decision_server", f"{self.room}/pods.json", "--port", str(self.decider)])
         wait_for(self.decider)
         return f"http://127.0.0.1:{self.decider}/decide"
 

@@ -7,9 +7,10 @@ from collections.abc import Callable
 from pathlib import Path
 
 from . import playlist
-from .asking import Asker, write_aside
+from .asking import Asker
 from .breaks import TOLERANCE
 from .decisions import Folder
+from .numbers import save
 from .packaged import DATE_RANGE, PackagedList
 from .settings import Settings
 from .translator import Translator
@@ -64,7 +65,7 @@ class Signalling:
         if self.path is None or (text := json.dumps(self.translator.kept())) == self.saved:
             return
         try:
-            write_aside(self.path, text.encode())
+            save(self.path, text.encode())
             self.saved, self.is_kept = text, True
         except OSError as fault:
             if self.is_kept:
