@@ -71,7 +71,7 @@ def read_words(arguments: list[str]) -> argparse.Namespace:
     it.add_argument("--tolerance", metavar="SECONDS", help="the channel's tolerance (adsplice's own is 0.1)")
     it.add_argument("--decisions", metavar="DIR")
     it.add_argument("--fallback", metavar="FILE", help="a decision file with a fallback, given whenever the channel is made")
-    it.add_argument("--keep", metavar="DIR", help="keeps NAME.events there, for adsplice-monitor and adsplice-explain, and NAME.numbers for itself")
+    it.add_argument("--keep", metavar="DIR", help="keeps NAME.events there, for adsplice-monitor and adsplice-explain, and NAME.numbers and NAME.signals for itself")
     it.add_argument("--renditions", metavar="NAMES", help="a ladder: a channel NAME-R for each rendition R of NAMES, such as '1080 720 360'")
     it.add_argument("--unended", action="store_const", const="yes", help="the packager never ends its last line: take it so")
     yes_or_no = ("yes", "no")

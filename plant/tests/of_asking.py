@@ -262,6 +262,7 @@ class Fed:
         from adsplice_plant.channel import Channel
         it = modules()
         self.room, self.style, self.lines, self.path = room, style, [], Path(room.path) / "index.m3u8"
+        self.dropped = ""  # what the tags begin with that the packager doesn't write
         settings = {"decisions": Path(room.path) / "decisions", "keep": Path(room.path) / "kept", **settings}
         for folder in (settings["decisions"], settings["keep"]):
             folder.mkdir(exist_ok=True)
@@ -271,7 +272,8 @@ class Fed:
 
     def turn(self, newest):
         """The packager's list goes up to this segment, and the feed has a turn; answers the seconds that it took."""
-        self.room.write("index.m3u8", self.style.listed(newest))
+        lines = self.style.listed(newest).split("\n")
+        self.room.write("index.m3u8", "\n".join(it for it in lines if not self.dropped or not it.startswith(self.dropped)))
         begun = time.monotonic()
         self.channel.turn()
         return time.monotonic() - begun
@@ -328,6 +330,17 @@ def test_a_decision_answered_in_time_fills_its_own_break(room):
     took = {newest: fed.turn(newest) for newest in range(9, 20)}
     assert shown_by(at) == [*(f"1001-12-{n}.ts" for n in range(5)), "s17.ts", "s18.ts", "s19.ts"]
     assert 0.2 <= took[12] < 1.0, took
+
+
+@needs("httpx", "program")
+def test_lists_without_times_are_filled_by_the_times_that_the_feed_adds(room):
+    server, port = room.server(Decider()), free_port()
+    room.adsplice(port)
+    fed = Fed(room, f"http://127.0.0.1:{port}", named("cue-elemental"), ask=server.url)
+    fed.dropped = "#EXT-X-PROGRAM-DATE-TIME"
+    for newest in range(9, 20):
+        fed.turn(newest)
+    assert shown_by(f"http://127.0.0.1:{port}/channels/news") == [*(f"cue-12-{n}.ts" for n in range(5)), "s17.ts", "s18.ts", "s19.ts"]
 
 
 @needs("httpx", "program")
