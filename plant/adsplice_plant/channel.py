@@ -204,7 +204,7 @@ class Channel:
     def push(self) -> bool:
         """PUTs each list that is to be pushed; whether that is over, and not to be tried again with a pause."""
         while (text := self.lists.next()) is not None:
-            self.lists.save()
+            self.lists.sending()
             answer = self.put("origin", text)
             line = answer.line()
             if answer.status == 204:

@@ -4,25 +4,31 @@ from __future__ import annotations
 import time
 from collections import Counter
 from collections.abc import Callable
+from copy import copy
+from dataclasses import replace
 from pathlib import Path
 
 from . import numbers, packaged, repairs, spelling
 from .numbers import Standing, Viewed
-from .packaged import PackagedList
+from .packaged import PackagedList, PackagedSegment
 from .repair import Choices, Repaired, Repairer
 from .settings import Settings
+from .siblings import Siblings
 from .signalling import Signalling, as_listed
 
 Tell = Callable[[str, int, str, str], None]  # who, status, fault, text: told unless the state of who is as it was
 SIGNAL = "SCTE35-OUT"
+MOST_REMEMBERED = 120  # segments that left the list, for other renditions
 
 
 class Lists:
     """The lists of the channel that `settings` tell of. `tell` prints a state once, and `say` a line of a repair. `signalling`
-    translates their signals."""
+    translates their signals. `now` are the seconds of a clock that never goes back, and `clock` the time of day in nanoseconds
+    from 1970."""
 
-    def __init__(self, settings: Settings, tell: Tell, say: Callable[[str, str], None], signalling: Signalling) -> None:
-        self.settings, self.tell, self.say, self.signalling = settings, tell, say, signalling
+    def __init__(self, settings: Settings, tell: Tell, say: Callable[[str, str], None], signalling: Signalling, now: Callable[[], float] = time.monotonic,
+                 clock: Callable[[], int] = time.time_ns) -> None:
+        self.settings, self.tell, self.say, self.signalling, self.now, self.clock = settings, tell, say, signalling, now, clock
         self.path: Path | None = settings.keep / f"{settings.name}.numbers" if settings.keep and settings.repair else None
         choices = Choices(settings.target, settings.endless, settings.times)
         self.stands = Standing(Repairer(choices), Viewed(), b"", Counter())
@@ -31,12 +37,29 @@ class Lists:
         self.pending: Repaired | None = None  # what is to be pushed
         self.text: bytes | None = None  # of it, or of what was pushed last
         self.is_open = False  # whether `text` is to be pushed, or was pushed and not answered
+        self.before: Standing | None = None  # where the channel stood before it, if it was pushed
         self.is_anew = False  # whether the channel is new, and begins where viewers' list stood
         self.told: set[str] = set()
         self.target: int | None = None
         self.newest = PackagedList()  # the newest list that may be pushed
         self.listed: set[str] | None = None  # the IDs of its date ranges
         self.load(choices)
+
+    def join(self, siblings: Siblings) -> None:
+        """The channel is one of a programme's renditions, of which `siblings` are the others."""
+        self.stands.repairer.siblings = siblings
+
+    def listed_segments(self) -> list[PackagedSegment]:
+        """The segments that were listed, the oldest first, as far as they are remembered for other renditions."""
+        return self.stands.repairer.past[-MOST_REMEMBERED:] + self.stands.repairer.last
+
+    def is_held(self) -> bool:
+        """Whether a list that doesn't go on is held back."""
+        return self.stands.repairer.held_since is not None
+
+    def owe(self, steps: int) -> None:
+        """The next new segment has so many discontinuities (`steps`) more."""
+        self.stands.repairer.owed = steps
 
     # ---- on disk
 
@@ -89,7 +112,7 @@ class Lists:
             self.pending, self.text, self.is_open, self.is_new = None, packaged.write(listed) if is_changed else body, True, False
             self.learn(listed)
             return
-        found = self.stands.repairer.take(body, time.monotonic(), time.time_ns())
+        found = self.stands.repairer.take(body, self.now(), self.clock())
         self.is_new = found.waits
         self.tell_why(found)
         if found.found is None and found.came is None:
@@ -124,19 +147,27 @@ class Lists:
 
     # ---- to adsplice
 
+    def sending(self) -> None:
+        """The list is about to be pushed: keeps where the channel stands then, so that a feed that is killed now goes on from there."""
+        if self.pending is not None and self.pending.found is not None and self.before is None:
+            repairer, viewed, found = self.stands.repairer, self.stands.viewed, self.pending.found
+            self.before = replace(self.stands, repairer=copy(repairer), viewed=Viewed(viewed.begins, viewed.end, viewed.is_replaced, dict(viewed.ranges)))
+            repairer.accept(self.pending)
+            viewed.note(found.date_ranges(), found.segments[-1].number)
+            viewed.forget((repairer.past or repairer.last)[0].number)
+            self.stands.text = self.text or b""
+        self.save()
+
     def taken(self) -> bool:
-        """The list was pushed and taken. Whether the written playlist has to be looked at to know its numbers."""
-        self.is_open = False
-        if self.pending is None or self.pending.found is None:
-            return False
-        found, stands = self.pending.found, self.stands
-        stands.repairer.accept(self.pending)
-        stands.text = self.text or b""
-        lines = found.date_ranges()
-        stands.viewed.note(lines, found.segments[-1].number)
-        first = stands.repairer.past[0].number if stands.repairer.past else found.segments[0].number
-        stands.viewed.forget(first)
-        return not stands.viewed.reckon(found.segments) or any(SIGNAL in it for it in lines)
+        """The list was taken. Whether the written playlist has to be looked at to know its numbers."""
+        self.is_open, self.before, self.pending = False, None, None
+        last = self.stands.repairer.last
+        return bool(last) and (not self.stands.viewed.reckon(last) or self.is_signalled())
+
+    def is_signalled(self) -> bool:
+        """Whether the list that was pushed last has a break."""
+        newest = self.stands.repairer.last[-1].number
+        return any(SIGNAL in line and number == newest for line, number in self.stands.viewed.ranges.values())
 
     def see(self, written: bytes) -> None:
         """Adsplice wrote `written` after the list that was taken last."""
@@ -145,6 +176,9 @@ class Lists:
 
     def refused(self) -> None:
         """The list was refused: the next one follows the one before it."""
+        if self.before is not None:
+            self.stands, self.before = replace(self.before, repairs=self.stands.repairs), None
+            self.save()
         self.is_open, self.pending = False, None
 
     # ---- a channel that was made anew
@@ -152,16 +186,16 @@ class Lists:
     def begin_anew(self) -> None:
         """The channel is new: its first list begins where viewers' list stood."""
         self.signalling.begin_anew()
-        self.is_anew = bool(self.stands.repairer.last)
+        self.is_anew, self.stands.text = bool(self.stands.repairer.last), b""
         if self.is_anew:
-            self.pending, self.is_open, self.is_new = None, False, self.came is not None
+            self.pending, self.before, self.is_open, self.is_new = None, None, False, self.came is not None
 
     def resume(self) -> bool:
         """Makes the first list of a new channel ready, by which it writes what viewers have: the newest list, and before it the
         segments from which on its first one has its numbers. Whether there is one."""
         self.is_anew = False
         repairer, viewed = self.stands.repairer, self.stands.viewed
-        newest = repairer.take(self.came, time.monotonic(), time.time_ns()) if self.came is not None else Repaired()
+        newest = repairer.take(self.came, self.now(), self.clock()) if self.came is not None else Repaired()
         if newest.found is not None:
             self.signalling.translate(newest.found, self.settings.rendition())
         listed = newest.found.segments if newest.found is not None else repairer.last

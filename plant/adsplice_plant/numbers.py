@@ -61,7 +61,7 @@ class Viewed:
         for place, item in enumerate(items):
             if item.instant is not None:
                 places.setdefault(item.instant, []).append(place)
-        later, was_replaced = 0, segments[0].number in self.begins  # (a run that began before, or at the first segment)
+        later, was_replaced = 0, bool(self.begins)  # (a run that begins with the very first list begins at its first segment)
         for it in segments:
             found = later if it.begins is None else next((one for one in places.get(it.begins, []) if one >= later), len(items))
             if found < len(items):

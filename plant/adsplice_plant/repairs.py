@@ -26,6 +26,7 @@ KINDS = {
     "older segments": ("6.2.2", "segments that had left the list came back; they stay away"),
     "queries": ("6.2.1", "a segment's URI changes in its query; it keeps the first one"),
     "keys": ("5.2", "a key without IV has the packager's number as IV, which is stated"),
+    "other renditions": ("6.2.4", "a rendition that was away takes segments or a discontinuity of the others, so that equal instants have equal numbers"),
     "times": ("4.3.2.6", "no segment states EXT-X-PROGRAM-DATE-TIME: it is added by this machine's clock (times = no leaves it out)"),
     "gaps": ("6.2.1", "a segment of EXT-X-GAP isn't there, and is left out with a discontinuity after it"),
 }
