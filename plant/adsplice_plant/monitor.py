@@ -14,6 +14,7 @@ from . import settings as told
 from . import words
 from .as_run import AsRun, Log
 from .kept import Kept
+from .numbers import repairs_kept
 from .watch import WORDS, Watch
 from .web import Client
 from .words import Fault
@@ -134,14 +135,17 @@ class Figures(Collector):
         """The figures of what the feeds kept."""
         answers = CounterMetricFamily("adsplice_feed_requests", "Requests of the feed by status and fault", labels=["channel", "what", "status", "fault"])
         unread = CounterMetricFamily("adsplice_feed_unread", "Times that the feed couldn't read its origin", labels=["channel"])
+        repairs = CounterMetricFamily("adsplice_feed_repairs", "Lists that the feed put right, by the kind of repair", labels=["channel", "kind"])
         for it in self.watches:
             if it.kept is None:
                 continue
+            for kind, lists in sorted(repairs_kept(it.kept.path.with_suffix(".numbers")).items()):
+                repairs.add_metric([it.name, kind], lists)
             with it.lock:
                 for (what, status, fault), count in sorted(it.kept.answers.items()):
                     answers.add_metric([it.name, what, status, fault], count)
                 unread.add_metric([it.name], it.kept.unread)
-        yield from (answers, unread)
+        yield from (answers, unread, repairs)
 
 
 def is_open(watch: Watch, begun: bytes, until: float) -> bool:

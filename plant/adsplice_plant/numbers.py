@@ -190,6 +190,14 @@ def load(path: Path, choices: Choices) -> Standing | None:
         raise ValueError(fault.strerror) from None
 
 
+def repairs_kept(path: Path) -> dict[str, int]:
+    """How many lists had each kind of repair, by the file `path`; none if it isn't there or doesn't read."""
+    try:
+        return {str(name): int(count) for name, count in json.loads(path.read_bytes())["repairs"].items()}
+    except (OSError, ValueError, KeyError, TypeError, AttributeError, RecursionError):
+        return {}
+
+
 def save(path: Path, body: bytes) -> None:
     """Writes `body` to the file `path`, which is there as a whole or as it was."""
     aside = path.with_name(f".{path.name}.new")

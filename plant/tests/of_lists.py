@@ -8,15 +8,11 @@ from dataclasses import dataclass, field
 from pathlib import Path
 
 import recorded
-from tools import OUT, PLANT, free_port, instant
+from tools import PLANT, free_port, instant
 
 sys.path.insert(0, PLANT)
-from adsplice_plant import numbers, packaged, repairs, spelling  # noqa: E402
-from adsplice_plant.lists import Lists  # noqa: E402
+from adsplice_plant import repairs  # noqa: E402
 from adsplice_plant.repair import Choices, Repairer  # noqa: E402
-from adsplice_plant.settings import Settings  # noqa: E402
-from adsplice_plant.signalling import Signalling  # noqa: E402
-from adsplice_rules.channel import Channel, decide, refreshed, written  # noqa: E402
 from adsplice_rules.reading import read  # noqa: E402
 from adsplice_rules.succession import succession_fault  # noqa: E402
 from adsplice_rules.uris import base_of  # noqa: E402
@@ -88,7 +84,7 @@ def test_recorded_lists_are_taken_by_the_program(room):
     from adsplice_plant.web import Client
     port, client = free_port(), Client(5)
     room.adsplice(port)
-    for name in RECORDED:
+    for name in ("ff-irr", "ff-rekey", "ff-restart", "rtmp-event", "vlc"):
         at = f"http://127.0.0.1:{port}/channels/{name}"
         assert client.ask("PUT", at, json.dumps({"base": URL}).encode()).status == 201
 
@@ -341,130 +337,3 @@ def test_right_lists_pass_unchanged(room):
                     found = repairer.take(body, turn, CLOCK)
                     repairer.accept(found)
                     assert found.body() == body and not found.kinds, (window, times, key, turn, found.kinds)
-
-
-# ---- numbers that viewers have, when something is killed at any moment
-
-def quiet(*_):
-    """Tells nothing."""
-
-
-def signalling(settings):
-    """The translator of a channel's signals."""
-    return Signalling("news", settings, None, quiet, quiet)
-
-
-class Plant:
-    """A feed's lists of one channel, and adsplice by the rules, each of which may be killed; and what viewers saw."""
-
-    def __init__(self, folder, pod):
-        self.settings, self.pod, self.seconds = Settings("news", "x", "http://h", URL, keep=folder), pod, 0.0
-        self.numbers, self.at_number, self.begin, self.end, self.newest = {}, {}, 0, 0, None
-        self.feed()
-        self.adsplice()
-
-    def feed(self):
-        """The feed is started (anew), and finds the channel."""
-        self.lists = Lists(self.settings, quiet, quiet, signalling(self.settings), lambda: self.seconds, lambda: CLOCK + int(self.seconds * 10**9))
-        if self.newest is not None:
-            self.lists.came_in(self.newest)
-
-    def adsplice(self):
-        """adsplice is started (anew); the feed makes the channel, and gives it the fallback."""
-        self.channel, self.is_new = decide(Channel(BASE), self.pod), True  # (its first list may begin earlier than the last one)
-        self.lists.begin_anew()
-
-    def view(self):
-        """What a viewer sees agrees with all that was seen."""
-        text = written(self.channel)
-        uris = [line for line in text.split("\n") if line and line[0] != "#"]
-        items = numbers.items_of(text.encode())
-        for it, uri in zip(items, uris, strict=True):
-            if "/s" in uri:
-                assert self.numbers.setdefault(uri, it) == it, (uri, self.numbers[uri], it)
-            assert self.at_number.setdefault(it.number, (uri, it.discontinuity)) == (uri, it.discontinuity), (it, self.at_number[it.number], uri)
-        assert items[-1].number >= self.end and (items[0].number >= self.begin or self.is_new), (items[0], items[-1], self.begin, self.end)
-        self.begin, self.end, self.is_new = items[0].number, items[-1].number, False
-
-    def turn(self, text, kills):
-        """The packager's list is `text`; `kills` says what is killed `before` it is pushed, `between` the push and the look at what was
-        written, or `after`."""
-        self.newest = text
-        self.lists.came_in(text)
-        self.kill(kills.get("before"))
-        for _ in range(6):
-            if (body := self.lists.next()) is None:
-                break
-            self.lists.sending()
-            self.channel = refreshed(self.channel, body)
-            if what := kills.pop("sent", None):
-                self.view()
-                self.kill(what)
-                continue
-            has_to_look = self.lists.taken()
-            self.view()
-            if what := kills.pop("between", None):
-                self.kill(what)
-            elif has_to_look:
-                self.lists.see(written(self.channel).encode())
-        assert body is None, "lists are pushed without an end"
-        self.kill(kills.get("after"))
-
-    def kill(self, what):
-        """Kills `feed`, `adsplice` or `both`."""
-        if what in ("feed", "both"):
-            self.feed()
-        if what in ("adsplice", "both"):
-            self.adsplice()
-
-
-def with_breaks(first, last, breaks):
-    """A list of the segments `first` to `last` of 2 s, with a date range for each of `breaks` (first segment, segments) that is near."""
-    ranges = [f'#EXT-X-DATERANGE:ID="b{begin}",START-DATE="{instant(2 * begin)}",PLANNED-DURATION={2 * count},SCTE35-OUT={OUT}'
-              for begin, count in breaks if first < begin + count and last >= begin - 1]
-    head = ["#EXTM3U", "#EXT-X-VERSION:3", "#EXT-X-TARGETDURATION:2", f"#EXT-X-MEDIA-SEQUENCE:{first}", *ranges, f"#EXT-X-PROGRAM-DATE-TIME:{instant(2 * first)}"]
-    return "\n".join([*head, *(f"#EXTINF:2,\ns{it}.ts" for it in range(first, last + 1)), ""]).encode()
-
-
-def pod_of(count, seconds):
-    """A fallback of `count` segments of so many seconds."""
-    return json.dumps({"fallback": {"ads": [{"segments": [{"uri": f"http://a.example/a{it}.ts", "duration": seconds} for it in range(count)]}]}}).encode()
-
-
-def test_numbers_go_on_whatever_is_killed(room):
-    dice = random.Random(7)
-    for case in range(60):
-        breaks = dice.choice(([(12, 5), (24, 5)], [(12, 5), (17, 5), (28, 6)], [(14, 16)]))
-        window, pod = dice.choice((3, 6, 10)), pod_of(*dice.choice(((5, "2"), (10, "1"), (3, "2"), (2, "1"))))
-        at = {dice.randrange(window, 38): (dice.choice(("before", "sent", "between", "after")), dice.choice(("adsplice", "both", "feed"))) for _ in range(2)}
-        plant = Plant(Path(room.path, str(case)), pod)
-        os.makedirs(plant.settings.keep)
-        for newest in range(window - 1, 40):
-            plant.seconds = 2.0 * newest
-            try:
-                plant.turn(with_breaks(max(0, newest - window + 1), newest, breaks), dict([at[newest]]) if newest in at else {})
-            except (AssertionError, Fault) as fault:
-                raise AssertionError((case, breaks, window, pod[:60], at, newest, fault)) from None
-
-
-def test_broken_file_of_numbers_is_told_and_passed_over(room):
-    told = []
-    settings = Settings("news", "x", "http://h", URL, keep=Path(room.path))
-
-    def lists():
-        return Lists(settings, lambda *it: told.append(it), quiet, signalling(settings))
-    it = lists()
-    it.came_in(with_breaks(3, 8, []))
-    assert it.next() == with_breaks(3, 8, [])
-    it.sending()
-    whole = Path(room.path, "news.numbers").read_bytes()
-    told.clear()
-    assert lists().next() == with_breaks(3, 8, []) and not told
-    for place in range(0, len(whole), 97):
-        for broken in (whole[:place], whole[:place] + b"9" + whole[place + 1:], whole[:place] + b"\xff\x00" + whole[place + 2:]):
-            Path(room.path, "news.numbers").write_bytes(broken)
-            told.clear()
-            found = lists()
-            assert all(it[:3] == ("numbers", 0, "Broken") for it in told), told
-            found.came_in(with_breaks(4, 9, []))
-            found.next()
