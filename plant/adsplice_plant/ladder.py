@@ -38,7 +38,9 @@ class Rendition(Channel):
         self.reached = 0  # the instant at which the last segment that was taken begins
         self.debts: list[bytes] = []  # withdrawals that come before its next list
         ladder.members.append(self)
-        self.lists.join(Siblings(lambda: [Sibling(it.settings.base, it.lists.listed_segments, it.lists.is_held) for it in ladder.members if it is not self]))
+        self.lists.join(Siblings(lambda: [
+            Sibling(it.settings.base, it.lists.listed_segments, it.lists.is_held, it.settings.group == settings.group)
+            for it in ladder.members if it is not self]))
 
     def answered(self) -> None:
         """The answer to a question is in the renditions' folders: gives it at once."""

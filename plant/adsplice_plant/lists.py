@@ -9,6 +9,7 @@ from dataclasses import replace
 from pathlib import Path
 
 from . import numbers, packaged, repairs, spelling
+from .asking import write_aside
 from .numbers import Standing, Viewed
 from .packaged import PackagedList, PackagedSegment
 from .repair import Choices, Repaired, Repairer
@@ -81,7 +82,7 @@ class Lists:
         if self.path is None or not self.stands.repairer.last:
             return
         try:
-            numbers.save(self.path, numbers.pack(self.stands))
+            write_aside(self.path, numbers.pack(self.stands))
             self.tell("numbers", 0, "", "")
         except OSError as fault:
             self.tell("numbers", 0, "Unkept", f"{self.path}: {fault.strerror}; after a new start of the feed numbers may go back")

@@ -14,6 +14,7 @@ from . import settings as told
 from . import words
 from .as_run import AsRun, Log
 from .kept import Kept
+from .masters import written_names
 from .numbers import repairs_kept
 from .watch import WORDS, Watch
 from .web import Client
@@ -67,7 +68,8 @@ def watches_of(said: argparse.Namespace) -> list[Watch]:
     """A watch for each channel that the words `said` name; raises Fault."""
     channels = [(it, said.at, said.kept) for it in said.channel]
     if said.config is not None:
-        known = {it.name: (it.name, said.at or it.at, said.kept or it.keep) for it in told.read_file(said.config)}
+        known = {name: (name, said.at or it.at, said.kept or it.keep) for it in told.read_file(said.config)
+                 for name in (written_names(it) if it.master else [it.name])}
         channels = [known[it] for it in said.channel or known if it in known]
         if missing := set(said.channel) - set(known):
             raise Fault(f"{said.config}: there is no channel {min(missing)}")

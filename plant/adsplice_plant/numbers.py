@@ -7,7 +7,6 @@ to be given now. It reads them off the written playlist after a push, or reckons
 from __future__ import annotations
 
 import json
-import os
 from collections import Counter
 from collections.abc import Iterable
 from dataclasses import dataclass, field
@@ -197,10 +196,3 @@ def repairs_kept(path: Path) -> dict[str, int]:
     except (OSError, ValueError, KeyError, TypeError, AttributeError, RecursionError):
         return {}
 
-
-def save(path: Path, body: bytes) -> None:
-    """Writes `body` to the file `path`, which is there as a whole or as it was."""
-    aside = path.with_name(f".{path.name}.new")
-    with open(aside, "wb") as it:
-        it.write(body)
-    os.replace(aside, path)

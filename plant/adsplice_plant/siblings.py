@@ -13,12 +13,13 @@ MOST_BORROWED = 100  # segments that a rendition takes from another one at a tim
 
 
 class Sibling(NamedTuple):
-    """A rendition of the same kind: the `base` of its references, the segments that it has listed, the oldest first, and whether a
-    list of it that doesn't go on is held back."""
+    """A rendition: the `base` of its references, the segments that it has listed, the oldest first, whether a list of it that doesn't go
+    on is held back, and whether it `lends` segments, being of the same kind: pictures have no use for sound alone."""
 
     base: str
     segments: Callable[[], list[PackagedSegment]]
     is_held: Callable[[], bool]
+    lends: bool = True
 
 
 class Siblings:
@@ -52,7 +53,7 @@ class Siblings:
         too; none if none of them has all."""
         if end - first > MOST_BORROWED:
             return []
-        for one in self.found():
+        for one in (it for it in self.found() if it.lends):
             there = {it.number: it for it in one.segments()}
             if all(it in there for it in range(first, end)):
                 return [moved(there[it], one.base) for it in range(first, end)]
