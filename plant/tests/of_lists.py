@@ -2,6 +2,7 @@
 import json
 import os
 import random
+import subprocess
 import sys
 import time
 from dataclasses import dataclass, field
@@ -337,3 +338,32 @@ def test_right_lists_pass_unchanged(room):
                     found = repairer.take(body, turn, CLOCK)
                     repairer.accept(found)
                     assert found.body() == body and not found.kinds, (window, times, key, turn, found.kinds)
+
+
+def test_what_a_player_decrypts_is_what_the_packager_encrypted(room):
+    def crypt(way, data, number):
+        words = ["openssl", "enc", way, "-aes-128-cbc", "-K", "00112233445566778899aabbccddeeff", "-iv", f"{number:032x}"]
+        return subprocess.run(words, input=data, capture_output=True, check=True).stdout
+    dice, repairer, rules, media = random.Random(1), Repairer(Choices()), Rules(), {}
+    for run, count in (("r", 9), ("t", 8)):  # the packager begins again at 0, with the same key
+        for newest in range(2, count):
+            for it in range(newest + 1):
+                if f"{run}{it}.ts" not in media:
+                    clear = b"\x47" + dice.randbytes(187 * 4)
+                    media[f"{run}{it}.ts"] = clear, crypt("-e", clear, it)
+            first = max(0, newest - 3)
+            lines = [f"#EXTINF:2,\n{run}{it}.ts" for it in range(first, newest + 1)]
+            head = [HEAD + f"#EXT-X-MEDIA-SEQUENCE:{first}", '#EXT-X-KEY:METHOD=AES-128,URI="k"']
+            for look in (0, 2):
+                found = repairer.take("\n".join([*head, *lines, ""]).encode(), 4 * newest + look, CLOCK)
+                if found.found is not None:
+                    break
+            said = rules.push(found.body())
+            repairer.accept(found)
+            for it in said.segments:
+                clear, sealed = media[it.uri.rpartition("/")[2]]
+                assert crypt("-d", sealed, it.keys[0].iv) == clear, (it, newest)
+    assert rules.last.segments[-1].number == 16 and rules.last.segments[-1].keys[0].iv == 7
+
+
+test_what_a_player_decrypts_is_what_the_packager_encrypted.needs = ("openssl",)
