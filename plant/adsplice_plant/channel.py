@@ -47,6 +47,9 @@ class Channel:
         self.signalling = signalling or Signalling(settings.programme or settings.name, settings, client, say, self.answered)
         self.signalling.join(settings.rendition(), self.folder)
         self.lists = Lists(settings, self.tell, self.tell_repair, self.signalling)
+        self.folder.before = self.lists.stands.files
+        self.is_full = False  # whether adsplice has no room for more decisions
+        self.knows = bool(self.lists.stands.repairer.last)  # whether it is known which decisions adsplice was given
 
     # ---- telling
 
@@ -109,8 +112,9 @@ class Channel:
             return False
         self.is_made = True
         if answer.status == 201:
+            self.knows = True
             self.lists.begin_anew()
-        self.folder.start_anew()
+            self.folder.start_anew()
         self.folder.look()
         text = "makes the channel" if answer.status == 201 else "the channel is there already; goes on with it"
         self.states.pop("adsplice", None)
@@ -139,9 +143,12 @@ class Channel:
 
     def decide(self) -> bool:
         """Gives the decision files that wait; whether the feed may go on. A list that enters a break comes after them."""
-        for it in self.folder.waiting():
+        self.is_full = False
+        for it in self.folder.next_up(self.lists.listed or ()):
             if not self.give(it):
                 return False
+            if self.is_full:
+                break
         return True
 
     def answered(self) -> None:
@@ -152,8 +159,11 @@ class Channel:
                 self.decide()
 
     def give(self, decision: Decision) -> bool:
-        """Gives one decision file; whether the feed may go on."""
-        answer = self.put("decisions", decision.body)
+        """Gives one decision file, without the breaks that were late; whether the feed may go on."""
+        if decision.late >= set(decision.ids) and decision.ids:
+            decision.state = "given"
+            return True
+        answer = self.put("decisions", decisions.without(decision, decision.late).body if decision.late else decision.body)
         who, line = f"decisions/{decision.path.name}", answer.line()
         if answer.status != 204 and answer.status not in JUDGED:
             self.gone(answer)
@@ -164,6 +174,7 @@ class Channel:
         elif faults.code_of(line) == "J9":
             self.give_rest(decision, who)
         elif faults.code_of(line) == "J10":
+            self.is_full = True
             self.tell(who, answer.status, faults.name_of(line), f"{faults.meaning(answer.status, line)}; tries it again")
         else:
             decision.state = "refused"
@@ -187,6 +198,8 @@ class Channel:
                     begun.append(name)
         else:
             begun = decision.ids
+        if self.knows:
+            decision.late |= set(begun)  # (else it may be the pod that an earlier feed gave)
         self.folder.given(decision)
         rest = [it for it in decision.ids if it not in begun]
         self.tell(who, 409, "J9 Used", f"{', '.join(begun)} has begun, and keeps its pod" + (f"; decides {', '.join(rest)}" if rest else ""))
@@ -204,6 +217,7 @@ class Channel:
     def push(self) -> bool:
         """PUTs each list that is to be pushed; whether that is over, and not to be tried again with a pause."""
         while (text := self.lists.next()) is not None:
+            self.lists.stands.files = self.folder.kept()
             self.lists.sending()
             answer = self.put("origin", text)
             line = answer.line()

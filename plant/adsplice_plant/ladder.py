@@ -12,7 +12,7 @@ from dataclasses import replace
 
 from . import faults, packaged, playlist
 from .channel import JUDGED, Channel, Say
-from .decisions import Decision
+from .decisions import Decision, without
 from .playlist import SECOND
 from .settings import Settings
 from .siblings import Sibling, Siblings
@@ -69,7 +69,8 @@ class Rendition(Channel):
     def taken(self) -> None:
         """A list was taken."""
         super().taken()
-        self.reached = max((it.begins or 0 for it in self.lists.stands.repairer.last), default=0)
+        last = self.lists.stands.repairer.last
+        self.reached = (last[-1].begins or 0) if last else 0  # (earlier ones may be of a clock that went back since)
 
     def is_answered(self) -> bool:
         """Whether its last list was taken."""
@@ -87,7 +88,7 @@ class Rendition(Channel):
         if is_new:
             self.reached = 0
             self.lists.begin_anew()
-        self.folder.start_anew()
+            self.folder.start_anew()
         self.folder.look()
 
 
@@ -178,7 +179,7 @@ class Ladder:
                 return False
         for it in self.members:
             it.folder.look()
-        names = dict.fromkeys(found.path.name for it in self.members for found in it.folder.waiting())
+        names = dict.fromkeys(found.path.name for it in self.members for found in it.folder.next_up(it.lists.listed or ()))
         return all(self.give_file(it) for it in names)
 
     def give_fallbacks(self) -> bool:
@@ -366,8 +367,3 @@ def shape_of(body: bytes) -> str:
     except (ValueError, TypeError, KeyError, AttributeError, RecursionError):
         return ""
 
-
-def without(decision: Decision, ids: list[str]) -> Decision:
-    """The `decision` without the breaks `ids`."""
-    rest = [] if decision.kind != "breaks" else [it for it in json.loads(decision.body)["breaks"] if it["id"] not in ids]
-    return replace(decision, body=json.dumps({"breaks": rest}).encode(), ids=[it["id"] for it in rest])

@@ -11,6 +11,7 @@ from collections import Counter
 from collections.abc import Iterable
 from dataclasses import dataclass, field
 from pathlib import Path
+from typing import Any
 
 from . import packaged, spelling
 from .packaged import Key, PackagedList, PackagedSegment
@@ -116,12 +117,13 @@ def first_needed(viewed: Viewed, history: list[PackagedSegment], first: int) -> 
 @dataclass
 class Standing:
     """Where a channel stands: the `repairer` with what it accepted, what viewers have (`viewed`), the list `text` that was pushed,
-    and how many lists had each kind of repair (`repairs`)."""
+    how many lists had each kind of repair (`repairs`), and what is known of decision files (`files`, of Folder.kept)."""
 
     repairer: Repairer
     viewed: Viewed
     text: bytes
     repairs: Counter[str]
+    files: dict[str, list[Any]] = field(default_factory=dict)
 
 
 def pack(it: Standing) -> bytes:
@@ -133,7 +135,7 @@ def pack(it: Standing) -> bytes:
     history = history[max(0, min(needed, len(history) - len(last)), len(history) - MOST_KEPT):]
     written = packaged.write(PackagedList(head.version, head.target, segments=history), [])
     return json.dumps({
-        "format": FORMAT, "head": [head.version, head.target, head.kind], "adds": it.repairer.adds, "repairs": it.repairs,
+        "format": FORMAT, "head": [head.version, head.target, head.kind], "adds": it.repairer.adds, "repairs": it.repairs, "files": it.files,
         "text": it.text.decode("utf-8", "replace"), "history": written.decode("utf-8", "replace"), "listed": last[0].number,
         "own": [one.own for one in history], "bare": sorted({key.text for one in history for key in one.keys if key.takes_number()}),
         "begins": [[number, *found] for number, found in it.viewed.begins.items() if number >= history[0].number],
@@ -160,7 +162,8 @@ def unpack(body: bytes, choices: Choices) -> Standing:
         counts = Counter({str(name): int(count) for name, count in said["repairs"].items()})
         if not repairer.last:
             raise ValueError("it has no segment")
-        return Standing(repairer, viewed, said["text"].encode(), counts)
+        files = {str(name): [[int(one) for one in stamp], bool(given), [str(one) for one in late]] for name, (stamp, given, late) in said["files"].items()}
+        return Standing(repairer, viewed, said["text"].encode(), counts, files)
     except (KeyError, TypeError, AttributeError, IndexError, RecursionError, spelling.Unread) as fault:
         raise ValueError(f"{type(fault).__name__}: {fault}") from None
 

@@ -18,6 +18,7 @@ NEWEST_VERSION = 7  # of a playlist that RFC 8216 describes
 TYPES = ("EVENT", "VOD")
 UNTAKEN = {"EXT-X-SKIP", "EXT-X-DEFINE"}  # without what they refer to, a list says something else
 OTHER_LISTS = {"EXT-X-I-FRAMES-ONLY", "EXT-X-STREAM-INF", "EXT-X-MEDIA", "EXT-X-I-FRAME-STREAM-INF", "EXT-X-SESSION-DATA", "EXT-X-SESSION-KEY"}
+NOTED = {"EXT-X-PROGRAM-DATE-TIME": "instants", packaged.MISPLACED: "sequence tags"}  # what the reader noted, and the repair
 MOST_PAST = 1_000  # segments that left the list and are remembered
 
 
@@ -94,37 +95,26 @@ class Repairer:
 
     def follow(self, found: PackagedList, body: bytes, kinds: dict[str, str], now: float, clock: int) -> Repaired:
         """What is to be pushed of the list `found`, whose text `body` had repairs of `kinds`; the rest as in `take`."""
-        if "EXT-X-PROGRAM-DATE-TIME" in found.others:
-            kinds["instants"] = ""
-        if packaged.MISPLACED in found.others:
-            kinds["sequence tags"] = ""
+        kinds |= {kind: "" for name, kind in NOTED.items() if name in found.others}
         counted = (found.discontinuity_sequence, [it.discontinuities for it in found.segments])
         drop_gaps(found, kinds)
         if not found.segments:
             return Repaired(why=repairs.EMPTY)
         is_timed = any(it.stated is not None for it in found.segments)
-        has_instants = is_timed and not self.adds
         is_untimed = not is_timed and self.choices.adds_times and found.kind != "VOD"
         intern(self.last, found.segments)
+        has_instants = is_timed and not self.adds
         place = place_of(self.last, found.segments, has_instants, self.held_since is not None) if self.last else None
-        if self.last and place is None:
-            if lags([*self.past, *self.last], found.segments, has_instants, self.head.target if self.head else 1):
-                return Repaired(why=repairs.LAGS)
-            self.held_since = now if self.held_since is None else self.held_since
-            patience = self.head.target if self.head else 0
-            if now - self.held_since < patience:
-                return Repaired(why=repairs.HELD.format(patience), waits=True)
-            self.set_times(found, True)
-            if is_untimed:
-                self.add_times(found.segments, clock)
-            first = found.segments[0]
-            if self.siblings and now - self.held_since < 2 * patience and self.siblings.is_awaited(first.begins, first.duration):
-                return Repaired(why=repairs.HELD.format(2 * patience), waits=True)
-            kinds["began again"] = self.begin_again(found, kinds)
-        elif place is not None:
-            self.go_on(found, place, kinds)
-        else:
+        lead = self.lead
+        if place is not None:
+            lead = self.go_on(found, place, kinds)
+        elif not self.last:
             self.begin(found)
+        elif (held := self.hold(found, has_instants, now, clock if is_untimed else None)) is not None:
+            return held
+        else:
+            kinds["began again"] = self.begin_again(found, kinds)
+            lead = (self.last[-1].number + 1, len(self.last)) if "other renditions" in kinds else None
         steps = self.add_steps(found, kinds)
         self.set_times(found, False)
         if is_untimed:
@@ -133,8 +123,24 @@ class Repairer:
             self.add_times(found.segments, clock)
         head = self.set_head(found, kinds)
         self.tell_numbers(found, counted, kinds)
-        lead = (self.last[-1].number + 1, len(self.last)) if "other renditions" in kinds and "began again" in kinds else self.lead
         return Repaired(found, head, None if kinds else body, kinds, steps=steps, lead=lead)
+
+    def hold(self, found: PackagedList, has_instants: bool, now: float, clock: int | None) -> Repaired | None:
+        """Why the list `found`, which doesn't go on, isn't taken now; none if it is to be taken as one that began again, and its
+        instants are known then. `clock`: the time of day, if instants are added; the rest as in `take`."""
+        patience = self.head.target if self.head else 0
+        if lags([*self.past, *self.last], found.segments, has_instants, max(1, patience)):
+            return Repaired(why=repairs.LAGS)
+        self.held_since = now if self.held_since is None else self.held_since
+        if now - self.held_since < patience:
+            return Repaired(why=repairs.HELD.format(patience), waits=True)
+        self.set_times(found, True)
+        if clock is not None:
+            self.add_times(found.segments, clock)
+        first = found.segments[0]
+        if self.siblings and now - self.held_since < 2 * patience and self.siblings.is_awaited(first.begins, first.duration):
+            return Repaired(why=repairs.HELD.format(2 * patience), waits=True)
+        return None
 
     def accept(self, repaired: Repaired) -> None:
         """The list `repaired` was pushed and taken: the next one follows it."""
@@ -180,8 +186,9 @@ class Repairer:
         count_on(last, found.segments)
         return text
 
-    def go_on(self, found: PackagedList, place: Place, kinds: dict[str, str]) -> None:
-        """The list `found` goes on at `place`: what was listed stays what it was, and what is new is counted on."""
+    def go_on(self, found: PackagedList, place: Place, kinds: dict[str, str]) -> tuple[int, int] | None:
+        """The list `found` goes on at `place`: what was listed stays what it was, and what is new is counted on. What was taken from
+        another rendition stays listed until the list is as long as it was; answers what of it is to stay (`lead`)."""
         if place.offset < 0:
             kinds["older segments"] = ""
             found.segments = found.segments[-place.offset:]
@@ -192,11 +199,12 @@ class Repairer:
         for it, old in zip(found.segments, kept):
             keep(it, old, kinds)
         count_on(kept[-1] if kept else self.last[-1], found.segments[len(kept):])
-        if self.lead is not None:  # (what was taken from another rendition stays listed until the list is as long as it was)
-            first, count = self.lead
-            before = [it for it in self.last[:offset] if it.number >= first][-max(1, count - len(found.segments)):]
-            found.segments = before + found.segments if count > len(found.segments) else found.segments
-            self.lead = self.lead if count > len(found.segments) - len(before) else None
+        if self.lead is None or len(found.segments) >= self.lead[1]:
+            return None
+        first, count = self.lead
+        before = [it for it in self.last[:offset] if it.number >= first]
+        found.segments = before[len(found.segments) - count:] + found.segments
+        return self.lead
 
     def add_steps(self, found: PackagedList, kinds: dict[str, str]) -> int:
         """Adds the discontinuities that are owed for other renditions to the first new segment of `found`; answers how many."""

@@ -239,6 +239,47 @@ def test_file_of_which_one_break_has_begun_decides_the_rest(room):
     assert json.loads(controller.puts("decisions")[-1])["breaks"][0]["id"] == "b2"
 
 
+def test_decision_that_came_too_late_stays_refused(room):
+    path = f"{room.path}/decisions"
+    os.makedirs(path)
+    origin, controller, feed = started(room, listed(0, 5, [("b1", 4, 4)]), "--decisions", path)
+    controller.refusals[("PUT", "decisions")] = [(409, "J9 Used\n"), (409, "J9 Used\n")]
+    room.write("decisions/two.json", decided(("b1", 2), ("b2", 1)))
+    after = feed.sees("news decisions/two.json 409 J9 Used: b1 has begun, and keeps its pod; decides b2")
+    controller.channels.clear()
+    origin.text = listed(1, 6, [("b1", 4, 4)])
+    feed.sees("news adsplice 204 -: the list is taken", 20, after)
+    assert [it["id"] for it in json.loads(controller.puts("decisions")[-1])["breaks"]] == ["b2"], controller.puts("decisions")[-1]
+
+
+def test_decisions_of_breaks_that_are_not_listed_wait_for_room(room):
+    path = f"{room.path}/decisions"
+    os.makedirs(path)
+    for it in range(210):
+        room.write(f"decisions/b{it:03}.json", decided((f"b{it:03}", 1)))
+    origin, controller, feed = started(room, listed(0, 5), "--decisions", path)
+    until(lambda: len(controller.puts("decisions")) == 200, 10, "200 decisions")
+    time.sleep(1.2)
+    assert len(controller.puts("decisions")) == 200
+    origin.text = listed(1, 6, [("b209", 40, 4)])
+    until(lambda: len(controller.puts("decisions")) == 201, 5, "the decision of the break that is listed")
+    assert b"b209-0" in controller.puts("decisions")[-1]
+
+
+def test_feed_that_was_started_again_gives_no_decision_twice(room):
+    path = f"{room.path}/decisions"
+    os.makedirs(path)
+    words = ("--decisions", path, "--keep", f"{room.path}/kept")
+    origin, controller, feed = started(room, listed(0, 5, [("b1", 14, 4)]), *words)
+    room.write("decisions/one.json", decided(("b1", 2)))
+    feed.sees("news decisions/one.json 204 -: decides b1")
+    origin.text = listed(1, 6, [("b1", 14, 4)])
+    until(lambda: len(controller.puts("origin")) == 2, 5, "the second list")
+    feed.end(signal.SIGKILL)
+    room.feed("--channel", "news", "--origin", origin.url, "--at", controller.url, *words).sees("news adsplice 204 -: the list is taken")
+    assert len(controller.puts("decisions")) == 1 and controller.puts("origin")[-1] == origin.text.encode()
+
+
 def test_signals_end_it_at_once_with_status_0(room):
     for number in (signal.SIGTERM, signal.SIGINT, signal.SIGHUP):
         origin, controller, feed = started(room, listed(0, 5))

@@ -120,6 +120,20 @@ def test_ladder_pods_of_unequal_cuts_are_given_to_none(room):
     assert not controller.puts("decisions")
 
 
+def test_ladder_decision_of_which_one_way_is_cut_is_given_once_all_answer(room):
+    controller = room.server(FakeController())
+    ladder = Ladder(room, controller.url, listed(0, 5, [("b1", 60, 4)]))
+    ladder.taken()
+    controller.refusals[("PUT", "decisions")] = [(204, ""), (502, ""), (204, "")] * 30
+    ladder.decide("one", decided(("b1", 2)))
+    after = ladder.feed.sees("news decisions/one.json - Away: news-2 doesn't answer; no rendition is given it until all answer")
+    controller.refusals.clear()
+    ladder.push(listed(1, 6, [("b1", 60, 4)]))
+    ladder.feed.sees("news decisions/one.json - -: decides b1 in all renditions", 20, after)
+    assert all(asked(controller, it, "decisions")[-1] == decided(("b1", 2)) for it in NAMES)
+    assert '{"withdraw": "b1"}' in asked(controller, "1", "decisions") and '{"withdraw": "b1"}' in asked(controller, "3", "decisions")
+
+
 def test_ladder_fallback_that_one_refuses_is_none_in_all(room):
     controller = room.server(FakeController())
     controller.refusals[("PUT", "decisions")] = [(204, ""), (422, "J3 BadUri ad 0 segment 0\n"), (204, "")]
@@ -217,4 +231,8 @@ def test_ladder_tells_where_numbers_come_apart(room):
     by_hand = urllib.request.Request(f"http://127.0.0.1:{port}/channels/news-1/decisions", decided(("b1", 2)).encode(), method="PUT")
     urllib.request.urlopen(by_hand).close()  # (a decision that somebody gives to one rendition alone)
     ladder.push(listed(0, 7, breaks))
-    ladder.feed.sees("news ladder - Apart: the renditions' numbers come apart: news-1 ends with media number 7 and discontinuity number 2, and the others with 7 and 0")
+    after = ladder.feed.sees("news ladder - Apart: the renditions' numbers come apart: news-1 ends with media number 7 and discontinuity number 2, and the others with 7 and 0")
+    for newest in range(8, 18):
+        ladder.push(listed(newest - 7, newest, breaks if newest < 12 else ()))
+        until(lambda newest=newest: all(f"s{newest}.ts" in get(f"http://127.0.0.1:{port}/channels/news-{name}/live.m3u8")[1] for name in NAMES), 10, "the lists")
+    ladder.feed.sees("news ladder - -: the renditions' numbers are equal", 10, after)
