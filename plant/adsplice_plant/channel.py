@@ -6,7 +6,7 @@ import time
 from collections.abc import Callable
 from pathlib import Path
 
-from . import decisions, faults
+from . import decisions, faults, finding, packaged
 from .decisions import Decision, Folder
 from .journal import Event, Journal
 from .lists import Lists
@@ -20,6 +20,7 @@ from .words import now_text
 OFTEN = 0.25  # seconds between two looks at a file, and the least between two at a URL
 SOON = 1.0  # seconds to the next look if the target duration isn't known
 STAYS = "if that stays, only a new channel takes it, which a person makes by a DELETE of this one"
+UNFIT = 2  # refusals in a row of lists that don't follow the last one, after which the feed finds out what adsplice holds
 JUDGED = {409, 413, 422}  # statuses by which adsplice refuses what it was given; after others the same is tried again with pauses
 
 READ = ("200", "")  # the state of an origin that is read
@@ -48,6 +49,7 @@ class Channel:
         self.signalling.join(settings.rendition(), self.folder)
         self.lists = Lists(settings, self.tell, self.tell_repair, self.signalling)
         self.folder.before = self.lists.stands.files
+        self.unfit = 0  # lists in a row that were refused since they don't follow the last one
         self.is_full = False  # whether adsplice has no room for more decisions
         self.knows = bool(self.lists.stands.repairer.last)  # whether it is known which decisions adsplice was given
 
@@ -227,14 +229,39 @@ class Channel:
                 self.gone(answer)
                 return False
             else:
-                self.lists.refused()
-                what = f"{faults.meaning(answer.status, line)}" + (f" ({line})" if faults.follows_badly(line) else "")
-                does = f"; {STAYS}" if faults.follows_badly(line) else ""
-                self.tell("adsplice", answer.status, line, f"{what}; waits for the next list{does}")
+                self.refused(answer.status, line)
+        return True
+
+    def refused(self, status: int, line: str) -> None:
+        """A list was refused by `status` with the fault's text `line`. If two in a row don't follow the last one, the feed doesn't
+        know what adsplice holds: it finds that out."""
+        self.lists.refused()
+        is_unfit = faults.follows_badly(line)
+        self.unfit = self.unfit + 1 if is_unfit else 0
+        if self.unfit >= UNFIT and self.settings.repair and faults.code_of(line) not in ("N4", "N9"):
+            self.unfit = 0
+            if self.find():
+                return
+        what = faults.meaning(status, line) + (f" ({line})" if is_unfit else "")
+        self.tell("adsplice", status, line, f"{what}; waits for the next list" + (f"; {STAYS}" if is_unfit else ""))
+
+    def find(self) -> bool:
+        """Finds the numbers by which the newest list goes on after what adsplice holds, and pushes it so; whether it was taken."""
+        written, found = self.client.ask("GET", f"{self.url}/live.m3u8"), self.lists.afresh()
+        if written.status != 200 or found is None:
+            return False
+        answer = finding.find(found, written.body, lambda text: self.client.ask("PUT", f"{self.url}/origin", text))
+        if answer is None or answer.status != 204:
+            return False
+        self.note("origin", answer, packaged.write(found))
+        self.tell("numbers", 0, "Found", f"adsplice holds other numbers than the feed knew: goes on at {found.segments[0].number} with one discontinuity")
+        self.lists.adopt(found)
+        self.taken()
         return True
 
     def taken(self) -> None:
         """A list was taken: learns its numbers, and tells of it."""
+        self.unfit = 0
         if self.lists.taken():
             answer = self.client.ask("GET", f"{self.url}/live.m3u8")
             if answer.status == 200:

@@ -12,7 +12,7 @@ from . import numbers, packaged, repairs, spelling
 from .asking import write_aside
 from .numbers import Standing, Viewed
 from .packaged import PackagedList, PackagedSegment
-from .repair import Choices, Repaired, Repairer
+from .repair import Choices, Head, Repaired, Repairer
 from .settings import Settings
 from .siblings import Siblings
 from .signalling import Signalling, as_listed
@@ -181,6 +181,19 @@ class Lists:
             self.stands, self.before = replace(self.before, repairs=self.stands.repairs, files=self.stands.files), None
             self.save()
         self.is_open, self.pending = False, None
+
+    def afresh(self) -> PackagedList | None:
+        """The newest list, put right as if it were the first one; none if there is none."""
+        found = Repairer(self.stands.repairer.choices).take(self.came, self.now(), self.clock()) if self.came is not None else Repaired()
+        return found.found
+
+    def adopt(self, found: PackagedList) -> None:
+        """Goes on from the list `found`, which adsplice took with the numbers that it has."""
+        repairer = Repairer(self.stands.repairer.choices, self.stands.repairer.siblings)
+        pending = Repaired(found, Head(found.version, found.target or 1, found.kind))
+        self.stands = replace(self.stands, repairer=repairer, viewed=Viewed(), text=b"")
+        self.pending, self.before, self.is_open = pending, None, False
+        self.sending()
 
     # ---- a channel that was made anew
 

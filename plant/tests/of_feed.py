@@ -350,3 +350,24 @@ def test_goes_on_after_numbers_began_again(room):
     after = until(lambda: (lambda it: it if "/t5.ts" in it else None)(get(f"http://127.0.0.1:{port}/channels/news/live.m3u8")[1]), 6, "the new list")
     assert "#EXT-X-MEDIA-SEQUENCE:56\n" in after and after.count("#EXT-X-DISCONTINUITY\n") == 1, after
     assert not any(" 409 " in line for line in feed.lines), feed.lines
+
+
+@needs(*PROGRAM)
+def test_goes_on_without_what_it_kept(room):
+    port = free_port()
+    room.adsplice(port)
+    playlist = room.write("index.m3u8", listed(50, 55))
+    words = ("--channel", "news", "--origin", playlist, "--base", "http://origin.example/ch/index.m3u8", "--at", f"http://127.0.0.1:{port}")
+    feed = room.feed(*words)
+    feed.sees("204 -: the list is taken")
+    room.write("index.m3u8", listed(0, 5, name="t"))
+    feed.sees("goes on at 56 with one discontinuity")
+    feed.end(signal.SIGKILL)
+    room.write("index.m3u8", listed(1, 6, name="t"))
+    feed = room.feed(*words)
+    feed.sees("news adsplice 409 N5 Back")
+    room.write("index.m3u8", listed(2, 7, name="t"))
+    feed.sees("news numbers - Found: adsplice holds other numbers than the feed knew: goes on at 62 with one discontinuity")
+    room.write("index.m3u8", listed(3, 8, name="t"))
+    after = until(lambda: (lambda it: it if "/t8.ts" in it else None)(get(f"http://127.0.0.1:{port}/channels/news/live.m3u8")[1]), 6, "the next list")
+    assert "#EXT-X-MEDIA-SEQUENCE:63\n" in after, after
