@@ -121,9 +121,12 @@ class Ladder:
     # ---- making the channels
 
     def is_in_step(self) -> bool:
-        """Whether all renditions' newest lists have the same first and last media number."""
+        """Whether all renditions' newest lists have as many segments, and the same first media number or the same first instant."""
         listed = [it.lists.newest.segments for it in self.members]
-        return all(listed) and len({(it[0].number, len(it)) for it in listed}) == 1
+        if not all(listed) or len({len(it) for it in listed}) > 1:
+            return False
+        begins = [it[0].begins or 0 for it in listed]
+        return len({it[0].number for it in listed}) == 1 or (all(begins) and max(begins) - min(begins) < SECOND // 2)
 
     def give_all(self, one: Rendition) -> bool:
         """Gives what is new to all renditions, and its list to `one`; whether all was answered."""

@@ -39,6 +39,7 @@ class Lists:
         self.text: bytes | None = None  # of it, or of what was pushed last
         self.is_open = False  # whether `text` is to be pushed, or was pushed and not answered
         self.before: Standing | None = None  # where the channel stood before it, if it was pushed
+        self.is_aligned = False  # whether the first list was numbered as those of other renditions
         self.is_anew = False  # whether the channel is new, and begins where viewers' list stood
         self.told: set[str] = set()
         self.target: int | None = None
@@ -102,8 +103,15 @@ class Lists:
     def next(self) -> bytes | None:
         """The list to be pushed now; none if there is none."""
         if not self.is_anew or not self.resume():
+            if self.is_open and not self.is_aligned and self.is_first_of_several():
+                self.is_open, self.is_new, self.is_aligned = False, True, True  # (it is taken in again, by the numbers of the others)
             self.prepare()
         return self.text if self.is_open else None
+
+    def is_first_of_several(self) -> bool:
+        """Whether no list of this rendition was taken, and one of another was: its numbers go by these."""
+        repairer = self.stands.repairer
+        return not repairer.last and repairer.siblings is not None and any(it.segments() for it in repairer.siblings.found())
 
     def take(self, body: bytes) -> None:
         """Takes in the list `body`."""

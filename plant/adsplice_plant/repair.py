@@ -159,13 +159,19 @@ class Repairer:
 
     # ---- numbers (RFC 8216, 4.3.3.2, 4.3.3.3, 6.2.1, 6.2.2)
 
-    @staticmethod
-    def begin(found: PackagedList) -> None:
-        """The first list has the packager's numbers."""
+    def begin(self, found: PackagedList) -> None:
+        """The first list has the packager's numbers; or those that other renditions have at the instant that it states first."""
         discontinuity = found.discontinuity_sequence
         for it in found.segments:
             discontinuity += it.discontinuities
             it.number, it.discontinuity = it.own, discontinuity
+        self.set_times(found, True)
+        first = found.segments[0]
+        theirs = self.siblings.place_at(first.begins) if self.siblings is not None else None
+        if theirs is not None:
+            media, steps = theirs[0] - first.number, theirs[1] - first.discontinuity
+            for it in found.segments:
+                it.number, it.discontinuity = it.number + media, it.discontinuity + steps
 
     def begin_again(self, found: PackagedList, kinds: dict[str, str]) -> str:
         """A list without a segment of the last one goes on after it, with a discontinuity; answers what is told of it. In a programme

@@ -43,6 +43,12 @@ class Siblings:
             return max(number for _, number in ends)
         return min((abs(begins - instant), number) for begins, number in known + ends)[1]
 
+    def place_at(self, instant: int | None) -> tuple[int, int] | None:
+        """The media number and the discontinuity number at `instant`, by the segment that begins nearest to it."""
+        known = [(abs(it.begins - instant), it.number, it.discontinuity) for one in self.found() for it in one.segments()
+                 if it.begins is not None and instant is not None]
+        return min(known)[1:] if known else None
+
     def is_awaited(self, instant: int | None, duration: int) -> bool:
         """Whether a rendition that goes on hasn't come to the segment that begins at `instant`, of `duration` nanoseconds."""
         ends = [(it.begins or 0) + it.duration for one in self.found() if not one.is_held() for it in one.segments()[-1:] if it.begins is not None]

@@ -1,6 +1,7 @@
 """Tests of a ladder in adsplice-feed: decisions for all renditions or for none, channels that are made anew together, numbers."""
 import json
 import os
+import re
 import urllib.request
 
 from tools import FALLBACK, FakeController, FakeOrigin, decided, free_port, get, listed, until
@@ -236,3 +237,17 @@ def test_ladder_tells_where_numbers_come_apart(room):
         ladder.push(listed(newest - 7, newest, breaks if newest < 12 else ()))
         until(lambda newest=newest: all(f"s{newest}.ts" in get(f"http://127.0.0.1:{port}/channels/news-{name}/live.m3u8")[1] for name in NAMES), 10, "the lists")
     ladder.feed.sees("news ladder - -: the renditions' numbers are equal", 10, after)
+
+
+def test_ladder_whose_packagers_count_from_other_numbers_has_equal_ones(room):
+    controller = room.server(FakeController())
+    text = listed(10, 15)
+    room.write("1/index.m3u8", text)
+    for name in NAMES:
+        room.write(f"{name}/index.m3u8", text.replace("SEQUENCE:10", "SEQUENCE:700") if name == "3" else text)
+    feed = room.feed("--channel", "news", "--renditions", " ".join(NAMES), "--origin", f"{room.path}/{{}}/index.m3u8", "--at", controller.url,
+                     "--base", "http://origin.example/{}/index.m3u8")
+    for name in NAMES:
+        feed.sees(f"news-{name} adsplice 204 -: the list is taken")
+    firsts = [re.search(r"MEDIA-SEQUENCE:(\d+)", asked(controller, name, "origin")[0])[1] for name in NAMES]
+    assert len(set(firsts)) == 1, firsts
