@@ -79,8 +79,8 @@ class PackagedSegment:
         return tuple(Key(it.format, f"{it.text},IV=0x{self.own:032X}", True) if it.takes_number() else it for it in self.keys)
 
     def title(self) -> str:
-        """Its EXTINF line; none if it has none."""
-        return next((it for it in self.tags if it.startswith(EXTINF)), "")
+        """Its EXTINF line, the last one, which counts; none if it has none."""
+        return next((it for it in reversed(self.tags) if it.startswith(EXTINF)), "")
 
 
 @dataclass(slots=True)

@@ -105,6 +105,8 @@ class Repairer:
         intern(self.last, found.segments)
         has_instants = is_timed and not self.adds
         place = place_of(self.last, found.segments, has_instants, self.held_since is not None) if self.last else None
+        if self.last and len({it.section is None for it in (self.last[-1], *found.segments)}) > 1:
+            return Repaired(why=repairs.SECTIONS)
         lead = self.lead
         if place is not None:
             lead = self.go_on(found, place, kinds)
@@ -162,9 +164,9 @@ class Repairer:
     def begin(self, found: PackagedList) -> None:
         """The first list has the packager's numbers; or those that other renditions have at the instant that it states first."""
         discontinuity = found.discontinuity_sequence
-        for it in found.segments:
+        for place, it in enumerate(found.segments):
             discontinuity += it.discontinuities
-            it.number, it.discontinuity = it.own, discontinuity
+            it.number, it.discontinuity = found.segments[0].own + place, discontinuity
         self.set_times(found, True)
         first = found.segments[0]
         theirs = self.siblings.place_at(first.begins) if self.siblings is not None else None

@@ -35,6 +35,8 @@ TOLD_EACH = ("long segment", "began again")  # each time that it is another case
 HELD = "the list has no segment of the last one; it is taken if it stays so for {} s"
 BEGAN_AGAIN = "the list has no segment of the last one (media numbers from {} on, after {}): goes on at {} with one discontinuity"
 LAGS = "the list is older than the last one, and is passed over"
+SECTIONS = ("initialisation sections (EXT-X-MAP) came or went, which adsplice takes in a new channel alone: it isn't given this list "
+            "(a person makes a new channel by a DELETE of this one)")
 EMPTY = "the list has no segment yet; waits for one"
 NEEDS = "{} is in the list, which doesn't say all without what came before: it isn't given to adsplice (have the packager leave it out)"
 
