@@ -247,7 +247,7 @@ class Channel:
 
     def find(self) -> bool:
         """Finds the numbers by which the newest list goes on after what adsplice holds, and pushes it so; whether it was taken."""
-        written, found = self.client.ask("GET", f"{self.url}/live.m3u8"), self.lists.afresh()
+        written, found = self.client.ask("GET", f"{self.url}/live.m3u8"), self.lists.afresh().found
         if written.status != 200 or found is None:
             return False
         answer = finding.find(found, written.body, lambda text: self.client.ask("PUT", f"{self.url}/origin", text))

@@ -12,7 +12,7 @@ from . import numbers, packaged, repairs, spelling
 from .asking import write_aside
 from .numbers import Standing, Viewed
 from .packaged import PackagedList, PackagedSegment
-from .repair import Choices, Head, Repaired, Repairer
+from .repair import Choices, Head, Repaired, Repairer, count_on
 from .settings import Settings
 from .siblings import Siblings
 from .signalling import Signalling, as_listed
@@ -124,6 +124,8 @@ class Lists:
         found = self.stands.repairer.take(body, self.now(), self.clock())
         self.is_new = found.waits
         self.tell_why(found)
+        if found.why == repairs.SECTIONS and self.stands.text:
+            self.pending, self.text, self.is_open = None, self.stands.text, True  # (so that it is seen if a person deletes the channel)
         if found.found is None and found.came is None:
             return
         self.count(found)
@@ -190,10 +192,9 @@ class Lists:
             self.save()
         self.is_open, self.pending = False, None
 
-    def afresh(self) -> PackagedList | None:
-        """The newest list, put right as if it were the first one; none if there is none."""
-        found = Repairer(self.stands.repairer.choices).take(self.came, self.now(), self.clock()) if self.came is not None else Repaired()
-        return found.found
+    def afresh(self) -> Repaired:
+        """The newest list, put right as if it were the first one; nothing if there is none."""
+        return Repairer(self.stands.repairer.choices).take(self.came, self.now(), self.clock()) if self.came is not None else Repaired()
 
     def adopt(self, found: PackagedList) -> None:
         """Goes on from the list `found`, which adsplice took with the numbers that it has."""
@@ -209,6 +210,8 @@ class Lists:
         """The channel is new: its first list begins where viewers' list stood."""
         self.signalling.begin_anew()
         self.is_anew, self.stands.text = bool(self.stands.repairer.last), b""
+        if self.stands.repairer.head is not None and self.settings.target is not None:
+            self.stands.repairer.head.target = self.settings.target  # (a new channel may have another one)
         if self.is_anew:
             self.pending, self.before, self.is_open, self.is_new = None, None, False, self.came is not None
 
@@ -218,6 +221,8 @@ class Lists:
         self.is_anew = False
         repairer, viewed = self.stands.repairer, self.stands.viewed
         newest = repairer.take(self.came, self.now(), self.clock()) if self.came is not None else Repaired()
+        if newest.why == repairs.SECTIONS:
+            return self.begin_after()
         if newest.found is not None:
             self.signalling.translate(newest.found, self.settings.rendition())
         listed = newest.found.segments if newest.found is not None else repairer.last
@@ -237,6 +242,24 @@ class Lists:
         found.is_independent = newest.found is not None and newest.found.is_independent
         self.pending = Repaired(found, head, kinds={"times": ""} if repairer.adds or "times" in newest.kinds else {})
         self.text, self.is_open, self.is_new = packaged.write(found, list(dict.fromkeys(lines))), True, self.came is not None
+        return True
+
+
+    def begin_after(self) -> bool:
+        """Makes the newest list the first one of a new channel, since it has other initialisation sections than what viewers have: it
+        goes on right after that, with a discontinuity. Whether there is one."""
+        stands = self.stands
+        first = self.afresh()
+        if first.found is None:
+            return False
+        number, discontinuity = stands.viewed.end or (stands.repairer.last[-1].number, stands.repairer.last[-1].discontinuity)
+        segments = first.found.segments
+        segments[0].discontinuities = max(1, segments[0].discontinuities)
+        count_on(PackagedSegment("", 0, number=number, discontinuity=discontinuity), segments)
+        self.signalling.translate(first.found, self.settings.rendition())
+        self.stands = replace(stands, repairer=Repairer(stands.repairer.choices, stands.repairer.siblings), viewed=Viewed(end=stands.viewed.end))
+        self.pending, self.text, self.is_open, self.is_new = first, packaged.write(first.found), True, False
+        self.learn(first.found)
         return True
 
 

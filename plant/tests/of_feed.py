@@ -3,6 +3,7 @@ import json
 import os
 import signal
 import time
+import urllib.request
 
 from tools import FALLBACK, FakeController, FakeOrigin, decided, free_port, get, listed, until
 
@@ -371,3 +372,19 @@ def test_goes_on_without_what_it_kept(room):
     room.write("index.m3u8", listed(3, 8, name="t"))
     after = until(lambda: (lambda it: it if "/t8.ts" in it else None)(get(f"http://127.0.0.1:{port}/channels/news/live.m3u8")[1]), 6, "the next list")
     assert "#EXT-X-MEDIA-SEQUENCE:63\n" in after, after
+
+
+@needs(*PROGRAM)
+def test_packager_that_turns_to_other_sections_needs_a_new_channel(room):
+    port = free_port()
+    room.adsplice(port)
+    playlist, at = room.write("index.m3u8", listed(50, 55)), f"http://127.0.0.1:{port}/channels/news"
+    feed = room.feed("--channel", "news", "--origin", playlist, "--base", "http://origin.example/ch/index.m3u8", "--at", f"http://127.0.0.1:{port}")
+    feed.sees("204 -: the list is taken")
+    text = listed(0, 5, name="t").replace("#EXTINF", '#EXT-X-MAP:URI="i.mp4"\n#EXTINF', 1)
+    room.write("index.m3u8", text)
+    feed.sees("news list - Untaken: initialisation sections .EXT-X-MAP. came or went, .*a person makes a new channel by a DELETE")
+    urllib.request.urlopen(urllib.request.Request(at, method="DELETE")).close()
+    room.write("index.m3u8", text.replace("SEQUENCE:0", "SEQUENCE:1").replace("#EXTINF:2,\nt0.ts\n", "") + "#EXTINF:2,\nt6.ts\n")
+    after = until(lambda: (lambda it: it if "/t6.ts" in it else None)(get(f"{at}/live.m3u8")[1]), 6, "the new list")
+    assert "#EXT-X-MEDIA-SEQUENCE:56\n" in after and after.count("#EXT-X-DISCONTINUITY\n") == 1, after
