@@ -173,7 +173,7 @@ class Lists:
         """The list was taken. Whether the written playlist has to be looked at to know its numbers."""
         self.is_open, self.before, self.pending = False, None, None
         last = self.stands.repairer.last
-        return bool(last) and (not self.stands.viewed.reckon(last) or self.is_signalled())
+        return bool(last) and (self.is_signalled() or not self.stands.viewed.reckon(last))
 
     def is_signalled(self) -> bool:
         """Whether the list that was pushed last has a break."""

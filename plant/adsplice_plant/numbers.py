@@ -70,6 +70,8 @@ class Viewed:
                 continue
             if not was_replaced and later < len(items):
                 self.begins[it.number] = items[later].number, items[later].discontinuity - 1
+            elif it is not segments[0]:
+                self.begins.pop(it.number, None)
             was_replaced = True
         self.is_replaced = was_replaced
         self.end = (items[-1].number, items[-1].discontinuity) if items else self.end
