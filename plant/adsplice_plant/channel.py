@@ -113,7 +113,7 @@ class Channel:
             self.failed(answer, "makes the channel as soon as it can")
             return False
         self.is_made = True
-        if answer.status == 201:
+        if self.is_new(answer):
             self.knows = True
             self.lists.begin_anew()
             self.folder.start_anew()
@@ -123,6 +123,11 @@ class Channel:
         self.tell("adsplice", answer.status, "", text)
         body = self.fallback()
         return body is None or self.give_fallback(body)
+
+    def is_new(self, answer: Answer) -> bool:
+        """Whether the channel, whose making was answered by `answer`, has no list yet: it was made now, or right before the feed that
+        made it was killed."""
+        return answer.status == 201 or (self.lists.is_resumed() and self.client.ask("GET", f"{self.url}/live.m3u8").status == 404)
 
     def give_fallback(self, body: bytes) -> bool:
         """Gives the fallback file's `body`; whether the feed may go on."""

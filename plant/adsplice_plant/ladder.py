@@ -164,7 +164,7 @@ class Ladder:
                 one.failed(answer, f"makes {it.settings.name} with the other renditions as soon as it can")
                 return False
         for it, answer in answers.items():
-            it.anew(answer.status == 201)
+            it.anew(it.is_new(answer))
             it.states.pop("adsplice", None)
             it.tell("adsplice", answer.status, "", "makes the channel" if answer.status == 201 else "the channel is there already; goes on with it")
         self.held.clear()

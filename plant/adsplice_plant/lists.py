@@ -78,6 +78,10 @@ class Lists:
             self.stands, self.text, self.is_open = found, found.text, True
             self.target = found.repairer.head.target if found.repairer.head else None
 
+    def is_resumed(self) -> bool:
+        """Whether it goes on from where an earlier feed ended, and has pushed nothing yet."""
+        return self.is_open and self.pending is None and bool(self.stands.repairer.last)
+
     def save(self) -> None:
         """Keeps where the channel stands."""
         if self.path is None or not self.stands.repairer.last:

@@ -251,3 +251,26 @@ def test_ladder_whose_packagers_count_from_other_numbers_has_equal_ones(room):
         feed.sees(f"news-{name} adsplice 204 -: the list is taken")
     firsts = [re.search(r"MEDIA-SEQUENCE:(\d+)", asked(controller, name, "origin")[0])[1] for name in NAMES]
     assert len(set(firsts)) == 1, firsts
+
+
+@needs("httpx", "program")
+def test_ladder_has_equal_numbers_after_one_packager_was_away(room):
+    port = free_port()
+    room.adsplice(port)
+    ladder = Ladder(room, f"http://127.0.0.1:{port}", listed(20, 25))
+    ladder.taken()
+
+    def shown(name):
+        """Where each segment stands in the written list of a rendition: its place in time with its media number."""
+        text = get(f"http://127.0.0.1:{port}/channels/news-{name}/live.m3u8")[1]
+        first = int(re.search(r"MEDIA-SEQUENCE:(\d+)", text)[1])
+        return {int(it): first + place for place, it in enumerate(re.findall(r"^http.*/[st](\d+)\.ts$", text, re.M))}
+    for newest in range(26, 29):
+        ladder.push(listed(newest - 5, newest), ("1", "3"))
+        until(lambda newest=newest: newest in shown("1") and newest in shown("3"), 10, "the others' lists")
+    away = listed(28, 28, name="t").replace("SEQUENCE:28", "SEQUENCE:0")
+    ladder.push(away, ("2",))
+    until(lambda: 28 in shown("2"), 15, "the list of the one that was away")
+    assert shown("2") == {26: 26, 27: 27, 28: 28}, shown("2")
+    text = get(f"http://127.0.0.1:{port}/channels/news-2/live.m3u8")[1]
+    assert "http://origin.example/1/s26.ts" in text and text.count("#EXT-X-DISCONTINUITY\n") == 2, text

@@ -36,6 +36,7 @@ class Plant:
     def __init__(self, folder, pod):
         self.settings, self.pod, self.seconds = Settings("news", "x", "http://h", URL, keep=folder), pod, 0.0
         self.numbers, self.at_number, self.begin, self.end, self.newest = {}, {}, 0, 0, None
+        self.channel = None
         self.feed()
         self.adsplice()
 
@@ -44,6 +45,8 @@ class Plant:
         self.lists = Lists(self.settings, quiet, quiet, signalling(self.settings), lambda: self.seconds, lambda: CLOCK + int(self.seconds * 10**9))
         if self.newest is not None:
             self.lists.came_in(self.newest)
+        if self.channel is not None and written(self.channel) is None:
+            self.lists.begin_anew()  # (an earlier feed had made the channel, and pushed nothing)
 
     def adsplice(self):
         """adsplice is started (anew); the feed makes the channel, and gives it the fallback."""
