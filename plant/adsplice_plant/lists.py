@@ -19,6 +19,7 @@ from .signalling import Signalling, as_listed
 
 Tell = Callable[[str, int, str, str], None]  # who, status, fault, text: told unless the state of who is as it was
 SIGNAL = "SCTE35-OUT"
+QUIET = 60.0  # seconds for which the same isn't told again
 MOST_REMEMBERED = 120  # segments that left the list, for other renditions
 
 
@@ -42,6 +43,8 @@ class Lists:
         self.is_aligned = False  # whether the first list was numbered as those of other renditions
         self.is_anew = False  # whether the channel is new, and begins where viewers' list stood
         self.told: set[str] = set()
+        self.why = ""  # the word of why nothing was pushed of the newest list
+        self.told_at: dict[str, float] = {}  # when each of these words was told
         self.target: int | None = None
         self.newest = PackagedList()  # the newest list that may be pushed
         self.listed: set[str] | None = None  # the IDs of its date ranges
@@ -147,9 +150,16 @@ class Lists:
         self.listed = {name for line in found.date_ranges() if (name := packaged.attributes_of(line.partition(":")[2]).get("ID"))}
 
     def tell_why(self, found: Repaired) -> None:
-        """Tells why nothing is pushed of a list, or that lists are pushed again."""
-        word = next((word for word, text in (("Lags", repairs.LAGS), ("Empty", repairs.EMPTY)) if found.why == text), "Held" if found.waits else "Untaken")
-        self.tell("list", 0, word if found.why else "", found.why or "the lists go on")
+        """Tells why nothing is pushed of a list, or that lists are pushed again: each no more than once in QUIET seconds, since two
+        packagers may write by turns."""
+        words = {repairs.LAGS: "Lags", repairs.EMPTY: "Empty", "": ""}
+        word = words.get(found.why, "Held" if found.waits else "Untaken")
+        if word == self.why:
+            return
+        self.why = word
+        if self.now() - self.told_at.get(word, -QUIET) >= QUIET:
+            self.told_at[word] = self.now()
+            self.tell("list", 0, word, found.why or "the lists go on")
 
     def count(self, found: Repaired) -> None:
         """Counts the repairs of a list, and tells each kind once."""

@@ -217,3 +217,21 @@ def test_what_is_taken_from_another_rendition_has_absolute_references(room):
     assert uris == ["b23-23.ts", "b23-24.ts", "b23-25.ts", "b23-26.ts"], uris
     taken = [it.uri for it in them[1].repairer.past[-3:]]
     assert taken == [f"http://origin.example/a/a0-{it}.ts" for it in (20, 21, 22)], taken
+
+
+def test_two_packagers_by_turns_are_told_once(room):
+    told, seconds = [], [0.0]
+    settings = Settings("news", "x", "http://h", URL)
+    lists = Lists(settings, lambda *it: told.append(it), quiet, signalling(settings), lambda: seconds[0], lambda: CLOCK)
+    rules = Rules()
+    for turn in range(40):
+        seconds[0] = float(turn)
+        newest = 10 + turn // 2
+        text = with_breaks(newest - 5, newest, [])
+        lists.came_in(text if turn % 2 == 0 else text.replace(b"\ns", b"\nother-"))
+        while (body := lists.next()) is not None:
+            lists.sending()
+            rules.push(body)
+            lists.taken()
+    assert [it[2] for it in told] == ["Held", ""], told
+    assert rules.last.segments[-1].number == 29 and rules.last.segments[-1].discontinuity == 0
