@@ -14,6 +14,8 @@ from . import settings as told
 from . import words
 from .as_run import AsRun, Log
 from .kept import Kept
+from .masters import written_names
+from .numbers import repairs_kept
 from .watch import WORDS, Watch
 from .web import Client
 from .words import Fault
@@ -66,7 +68,8 @@ def watches_of(said: argparse.Namespace) -> list[Watch]:
     """A watch for each channel that the words `said` name; raises Fault."""
     channels = [(it, said.at, said.kept) for it in said.channel]
     if said.config is not None:
-        known = {it.name: (it.name, said.at or it.at, said.kept or it.keep) for it in told.read_file(said.config)}
+        known = {name: (name, said.at or it.at, said.kept or it.keep) for it in told.read_file(said.config)
+                 for name in (written_names(it) if it.master else [it.name])}
         channels = [known[it] for it in said.channel or known if it in known]
         if missing := set(said.channel) - set(known):
             raise Fault(f"{said.config}: there is no channel {min(missing)}")
@@ -134,14 +137,17 @@ class Figures(Collector):
         """The figures of what the feeds kept."""
         answers = CounterMetricFamily("adsplice_feed_requests", "Requests of the feed by status and fault", labels=["channel", "what", "status", "fault"])
         unread = CounterMetricFamily("adsplice_feed_unread", "Times that the feed couldn't read its origin", labels=["channel"])
+        repairs = CounterMetricFamily("adsplice_feed_repairs", "Lists that the feed put right, by the kind of repair", labels=["channel", "kind"])
         for it in self.watches:
             if it.kept is None:
                 continue
+            for kind, lists in sorted(repairs_kept(it.kept.path.with_suffix(".numbers")).items()):
+                repairs.add_metric([it.name, kind], lists)
             with it.lock:
                 for (what, status, fault), count in sorted(it.kept.answers.items()):
                     answers.add_metric([it.name, what, status, fault], count)
                 unread.add_metric([it.name], it.kept.unread)
-        yield from (answers, unread)
+        yield from (answers, unread, repairs)
 
 
 def is_open(watch: Watch, begun: bytes, until: float) -> bool:
