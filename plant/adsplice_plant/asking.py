@@ -18,10 +18,10 @@ from typing import Any
 from . import judge, playlist, splice
 from .breaks import Break, shown
 from .decisions import DAY, Folder
-from .numbers import save
 from .pauses import Pauses
 from .settings import FOLDER, PLACE
 from .web import Answer, Client
+from .whole_files import write_aside
 
 MOST_OPEN = 16  # questions at a time
 AT_ONCE = 4  # of these that are sent at a time
@@ -159,7 +159,7 @@ class Asker:
                 for it in os.scandir(folder):
                     if time.time() - it.stat().st_mtime > DAY:
                         os.unlink(it.path)
-                save(folder / f"{file_name(question.id)}.json", question.body)
+                write_aside(folder / f"{file_name(question.id)}.json", question.body)
         except OSError as fault:
             self.tell(f"ask/{shown(question.id)}", "-", "Unkept", f"{fault.filename}: {fault.strerror}; isn't asked for")
             return False
@@ -200,7 +200,7 @@ class Asker:
             return
         try:
             for name, path in self.paths():
-                save(path / f"{file_name(question.id)}.json", json.dumps(with_rendition(decision, name) if name else decision).encode())
+                write_aside(path / f"{file_name(question.id)}.json", json.dumps(with_rendition(decision, name) if name else decision).encode())
         except OSError as fault:
             self.tell(who, status, "Unkept", f"{fault.filename}: {fault.strerror}; the answer is lost")
             return

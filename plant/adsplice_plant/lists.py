@@ -9,13 +9,13 @@ from dataclasses import replace
 from pathlib import Path
 
 from . import numbers, packaged, repairs, spelling
-from .asking import write_aside
 from .numbers import Standing, Viewed
 from .packaged import PackagedList, PackagedSegment
 from .repair import Choices, Head, Repaired, Repairer, count_on
 from .settings import Settings
 from .siblings import Siblings
 from .signalling import Signalling, as_listed
+from .whole_files import write_aside
 
 Tell = Callable[[str, int, str, str], None]  # who, status, fault, text: told unless the state of who is as it was
 SIGNAL = "SCTE35-OUT"

@@ -14,12 +14,12 @@ from dataclasses import dataclass, field, replace
 from pathlib import Path
 
 from . import packaged, settings, spelling
-from .asking import write_aside
 from .origin import FileOrigin, Origin, WebOrigin, read_whole
 from .pauses import Pauses
 from .settings import Settings
 from .siblings import absolute
 from .web import Client
+from .whole_files import write_aside
 from .words import Fault, now_text
 
 VARIANT, MEDIA, I_FRAMES = "#EXT-X-STREAM-INF:", "#EXT-X-MEDIA:", "#EXT-X-I-FRAME-STREAM-INF:"

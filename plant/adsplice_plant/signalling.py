@@ -10,11 +10,11 @@ from . import playlist
 from .asking import Asker
 from .breaks import TOLERANCE
 from .decisions import Folder
-from .numbers import save
 from .packaged import DATE_RANGE, PackagedList
 from .settings import Settings
 from .translator import Translator
 from .web import Client
+from .whole_files import write_aside
 from .words import now_text
 
 Say = Callable[[str], None]
@@ -65,7 +65,7 @@ class Signalling:
         if self.path is None or (text := json.dumps(self.translator.kept())) == self.saved:
             return
         try:
-            save(self.path, text.encode())
+            write_aside(self.path, text.encode())
             self.saved, self.is_kept = text, True
         except OSError as fault:
             if self.is_kept:
