@@ -5,10 +5,9 @@ import sys
 from tools import PLANT, FakeController, listed, until
 
 sys.path.insert(0, PLANT)
-from adsplice_plant import masters  # noqa: E402
 from adsplice_plant.words import Fault  # noqa: E402
 
-NEEDS = ()
+NEEDS = ("httpx",)  # which the module `masters` imports, too
 BASE = "http://origin.example/film/master.m3u8"
 MASTER = """#EXTM3U
 #EXT-X-VERSION:6
@@ -44,6 +43,7 @@ WRITTEN = """#EXTM3U
 
 
 def test_a_master_playlist_keeps_all_but_i_frames(room):
+    from adsplice_plant import masters
     found = masters.read(MASTER.encode(), BASE)
     assert found.uris == ["en/index.m3u8", "1080/index.m3u8?t=1", "http://other.example/720/index.m3u8"], found.uris
     assert found.groups == {"en/index.m3u8": "AUDIO"} and found.left_out == {"EXT-X-I-FRAME-STREAM-INF"}
@@ -51,6 +51,7 @@ def test_a_master_playlist_keeps_all_but_i_frames(room):
 
 
 def test_what_is_no_master_playlist_is_told(room):
+    from adsplice_plant import masters
     for body, text in ((listed(0, 5), "it names no rendition"), ("<html>", "it isn't a playlist"), ("", "it isn't a playlist"),
                        ("#EXTM3U\n" + "".join(f"#EXT-X-STREAM-INF:BANDWIDTH=1\n{it}.m3u8\n" for it in range(65)), "65 renditions")):
         try:
@@ -86,6 +87,7 @@ test_renditions_of_a_master_playlist_are_channels.needs = ("httpx",)
 
 
 def test_names_of_a_master_playlist_s_renditions(room):
+    from adsplice_plant import masters
     found = masters.read(MASTER.encode(), BASE)
     assert masters.names_of(found, []) == ["1", "2", "3"] and masters.names_of(found, ["en", "hd", "sd"]) == ["en", "hd", "sd"]
     status, _, err = room.run("adsplice-feed", "--channel", "film", "--origin", BASE, "--at", "http://127.0.0.1:1", "--master", f"{room.path}/no/viewers.m3u8")
