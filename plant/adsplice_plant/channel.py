@@ -223,7 +223,11 @@ class Channel:
 
     def push(self) -> bool:
         """PUTs each list that is to be pushed; whether that is over, and not to be tried again with a pause."""
-        while (text := self.lists.next()) is not None:
+        is_later = False
+        for text in iter(self.lists.next, None):
+            if is_later and not self.decide_asked():
+                return False
+            is_later = True
             self.lists.stands.files = self.folder.kept()
             self.lists.sending()
             answer = self.put("origin", text)
@@ -236,6 +240,13 @@ class Channel:
             else:
                 self.refused(answer.status, line)
         return True
+
+    def decide_asked(self) -> bool:
+        """Waits for the answers that the newest list needs, and gives them; whether the feed may go on. (If an earlier feed's list came
+        first in a turn, the newest one was taken in after this turn's decisions.)"""
+        self.signalling.wait(self.settings.rendition())
+        self.folder.look()
+        return self.decide()
 
     def refused(self, status: int, line: str) -> None:
         """A list was refused by `status` with the fault's text `line`. If two in a row don't follow the last one, the feed doesn't

@@ -12,6 +12,7 @@ from styles import named
 from tools import FALLBACK, PLANT, FakeController, FakeServer, Room, decided, free_port, get, instant, until
 
 sys.path.insert(0, PLANT)
+from adsplice_plant import journal  # noqa: E402
 NEEDS = ("httpx",)
 SECOND = 10**9
 STYLE = named("dr-time-signal-34")
@@ -351,7 +352,7 @@ def test_a_feed_started_again_goes_on_with_the_same_breaks(room):
     for newest in range(9, 23):
         fed.channel = fed.begin()
         fed.turn(newest)
-    seen = [json.loads(line)["body"] for line in open(f"{room.path}/kept/news.events", encoding="utf-8") if '"what": "origin"' in line]
+    seen = [it.text() for it in journal.events(Path(f"{room.path}/kept/news.events")) if it.what == "origin"]
     ids = {name for text in seen for name in re.findall('DATERANGE:ID="([^"]*)"', text)}
     assert ids == {"cue-12"} and len(server.questions) == 1 and sum("Begins" in it for it in fed.lines) == 1, (ids, fed.lines)
     assert get(f"http://127.0.0.1:{port}/channels/news/why")[1] == "cue-12\tFilled\n"
