@@ -158,12 +158,14 @@ class Ladder:
 
     def make(self, one: Rendition) -> bool:
         """Makes the channels that aren't there; whether all are there."""
-        answers = {it: it.put("", it.settings.body()) for it in self.members if not it.is_made}
+        answers = {it: it.put("", it.settings.body()) for it in self.members}
         for it, answer in answers.items():
             if answer.status not in (201, 409):
                 one.failed(answer, f"makes {it.settings.name} with the other renditions as soon as it can")
                 return False
-        for it, answer in answers.items():
+        if all(it.status == 201 for it in answers.values()):
+            self.level()
+        for it, answer in [(it, answer) for it, answer in answers.items() if answer.status == 201 or not it.is_made]:
             it.anew(it.is_new(answer))
             it.states.pop("adsplice", None)
             it.tell("adsplice", answer.status, "", "makes the channel" if answer.status == 201 else "the channel is there already; goes on with it")
@@ -171,6 +173,14 @@ class Ladder:
         self.given_up.clear()
         self.is_resumed = all(it.status == 409 for it in answers.values())
         return True
+
+    def level(self) -> None:
+        """All channels are new: they begin with the greatest numbers that viewers have of one segment, if these are apart."""
+        viewed = [it.lists.stands.viewed for it in self.members]
+        common = set.intersection(*(set(it.begins) for it in viewed))
+        found = [it.begins[max(common)] for it in viewed] if common else []
+        for it, (media, discontinuity) in zip(viewed, found):
+            it.rise(max(one for one, _ in found) - media, max(one for _, one in found) - discontinuity)
 
     # ---- decisions
 

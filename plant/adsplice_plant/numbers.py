@@ -88,6 +88,10 @@ class Viewed:
         self.end = self.begins[segments[-1].number]
         return True
 
+    def rise(self, media: int, discontinuity: int) -> None:
+        """A new channel begins with numbers that are greater by `media` and `discontinuity` than those that viewers have."""
+        self.begins = {number: (it[0] + media, it[1] + discontinuity) for number, it in self.begins.items()}
+
     def note(self, lines: Iterable[str], newest: int) -> None:
         """Remembers the EXT-X-DATERANGE `lines` of the list whose newest segment has the media number `newest`."""
         for line in lines:

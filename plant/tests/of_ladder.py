@@ -274,3 +274,24 @@ def test_ladder_has_equal_numbers_after_one_packager_was_away(room):
     assert shown("2") == {26: 26, 27: 27, 28: 28}, shown("2")
     text = get(f"http://127.0.0.1:{port}/channels/news-2/live.m3u8")[1]
     assert "http://origin.example/1/s26.ts" in text and text.count("#EXT-X-DISCONTINUITY\n") == 2, text
+
+
+@needs("httpx", "program")
+def test_ladder_whose_channels_are_all_new_begins_with_equal_numbers(room):
+    port = free_port()
+    room.adsplice(port)
+    breaks = [("b1", 8, 4)]
+    ladder = Ladder(room, f"http://127.0.0.1:{port}", listed(0, 3, breaks))
+    ladder.taken()
+    by_hand = urllib.request.Request(f"http://127.0.0.1:{port}/channels/news-1/decisions", decided(("b1", 4), seconds="1").encode(), method="PUT")
+    urllib.request.urlopen(by_hand).close()  # (a pod of 4 segments for 2, which somebody gives to one rendition alone)
+    ladder.push(listed(0, 7, breaks))
+    after = ladder.feed.sees("news ladder - Apart: .* news-1 ends with media number 9 and discontinuity number 2, and the others with 7 and 0; media numbers stay so")
+    for newest in range(8, 15):  # (until no break is listed)
+        ladder.push(listed(newest - 7, newest, breaks if newest < 13 else ()))
+        until(lambda newest=newest: all(f"s{newest}.ts" in get(f"http://127.0.0.1:{port}/channels/news-{name}/live.m3u8")[1] for name in NAMES), 10, "the lists")
+    for name in NAMES:
+        urllib.request.urlopen(urllib.request.Request(f"http://127.0.0.1:{port}/channels/news-{name}", method="DELETE")).close()
+    ladder.push(listed(8, 15))
+    ladder.feed.sees("news ladder - -: the renditions' numbers are equal", 20, after)
+    assert {re.search(r"MEDIA-SEQUENCE:(\d+)", it)[1] for it in numbers(port)} == {"10"}, numbers(port)
