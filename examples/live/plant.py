@@ -10,15 +10,17 @@ import media
 from relay import Relay, listen
 from tools import HERE, ROOT, configure_nginx, free_ports, request, wait_for, write_aside
 
-# The page, the media, the master playlists, `why` and what was asked: what a real plant has on its own servers. The page may read
-# from this host alone, whatever its address says.
+# What the page may do (Content Security Policy): run its own script alone, and read from its own host alone, whatever its address says.
+POLICY = "; ".join(("default-src 'none'", "script-src 'self'", "style-src 'self'", "connect-src http://$host:*", "media-src http://$host:* blob:",
+                    "base-uri 'none'", "form-action 'none'", "frame-ancestors 'none'"))
+# The page, the media, the master playlists, `why` and what was asked: what a real plant has on its own servers.
 SITE = """
     types { text/html html; text/css css; text/javascript js; video/mp2t ts; application/vnd.apple.mpegurl m3u8; }
     server {
         listen HOST:PORT;
         root ROOM/site;
         add_header Access-Control-Allow-Origin "*";
-        add_header Content-Security-Policy "default-src 'none'; script-src 'self'; style-src 'self'; connect-src http://$host:*; media-src http://$host:* blob:; base-uri 'none'; form-action 'none'; frame-ancestors 'none'";
+        add_header Content-Security-Policy "POLICY";
         add_header X-Content-Type-Options nosniff;
         location ~ "^/channels/[a-z0-9-]+/why$" { proxy_pass http://adsplice; }
         location = /asked { proxy_pass http://127.0.0.1:ASKED; }
@@ -44,7 +46,8 @@ class Plant:
         media.make_ads(f"{room}/site/media/ads", renditions)
         tell("starts adsplice, nginx, the packager and the feed")
         self.running = {it: processes.adsplice(program, it) for it in self.ports}
-        server = SITE.replace("HOST", host).replace("PORT", str(port)).replace("ROOM", room).replace("ASKED", str(self.decider))
+        server = SITE.replace("HOST", host).replace("PORT", str(port)).replace("ROOM", room)
+        server = server.replace("POLICY", POLICY).replace("ASKED", str(self.decider))
         self.configuration = configure_nginx(room, self.ports, f"{host}:{viewers}", operator, server)
         self.nginx = processes.nginx(self.configuration)
         wait_for(operator)
@@ -69,7 +72,7 @@ class Plant:
         at which it is asked."""
         pods = [media.pod(media.pod_kinds(kinds, plan.length), f"{self.site}/media/ads/{{}}", plan.cut) for kinds in (("ad a", "ad b"), ("ad b", "ad a"))]
         write_aside(f"{self.room}/pods.json", json.dumps([*pods, None]))
-        self.processes.start([f"{HERE}/decision_server", f"{self.room}/pods.json", "--port", str(self.decider)], stderr=None)
+        self.processes.start([f"{HERE}/decision_server", f"{self.room}/pods.json", "--port", str(self.decider)])
         wait_for(self.decider)
         return f"http://127.0.0.1:{self.decider}/decide"
 

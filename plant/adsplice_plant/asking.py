@@ -21,6 +21,7 @@ from .decisions import DAY, Folder
 from .pauses import Pauses
 from .settings import FOLDER, PLACE
 from .web import Answer, Client
+from .whole_files import write_aside
 
 MOST_OPEN = 16  # questions at a time
 AT_ONCE = 4  # of these that are sent at a time
@@ -35,7 +36,7 @@ Tell = Callable[[str, str, str, str], None]  # who, status, word, text
 @dataclass
 class Question:
     """A question about the break `id`, which begins at `start`: its `body`, the moment at which it was `asked`, until when it is asked
-    again (`until`), and whether it is `done` (answered, or given up)."""
+    again (`until`), since its list waits no longer, and whether it is `done` (answered, or given up)."""
 
     id: str
     start: int
@@ -83,13 +84,6 @@ def with_rendition(value: Any, name: str) -> Any:
     return value
 
 
-def write_aside(path: Path, body: bytes) -> None:
-    """Writes the file `path` under another name, and renames it: it is there as a whole or not at all."""
-    aside = path.with_name(f".{path.name}.new")
-    aside.write_bytes(body)
-    os.replace(aside, path)
-
-
 class Asker:
     """Asks for the breaks of the channel or programme `name`: at the URL `ask`, or by the folder alone. A list waits for `hold`
     seconds at most. `tell`: prints a line. `answered`: is called once an answer is in the folder."""
@@ -117,6 +111,8 @@ class Asker:
     def ask(self, known: list[Break], target: int | None, end: int) -> None:
         """Asks for those of the breaks `known` that weren't asked for, and that nobody decided. `target`: the target duration in
         seconds; `end`: the instant at which the list ends."""
+        for folder in self.folders.values():
+            folder.look()
         self.open = [it for it in self.open if not it.done.is_set() and (self.ask_at != FOLDER or time.monotonic() < it.until)]
         for one in known:
             if self.is_decided(one.id) or self.was_asked(one):
@@ -190,7 +186,8 @@ class Asker:
     def take(self, question: Question, answer: Answer) -> None:
         """Takes in the server's `answer` to the `question`."""
         took = time.monotonic() - question.asked
-        who, status, late = f"ask/{shown(question.id)}", str(answer.status or "-"), "Late" if took > self.hold else "-"
+        is_late = time.monotonic() > question.until
+        who, status, late = f"ask/{shown(question.id)}", str(answer.status or "-"), "Late" if is_late else "-"
         if answer.status == 204:
             self.tell(who, status, late, f"no ads, after {took:.2f} s")
             return

@@ -16,6 +16,7 @@ AUTO = frozenset(it for it in splice.SPANS if it not in splice.PROMOS)  # the ty
 TOLERANCE = SECOND // 10  # adsplice's own
 STALE = 1800 * SECOND  # after which a break without a duration that nothing ended is over
 MOST = 256  # breaks known at a time: adsplice decides no more
+MOST_ALIKE = 8  # segments that are compared, to see whether they are cut regularly
 SHOWN = 100  # letters of an ID that are told
 
 
@@ -69,11 +70,11 @@ class Placed:
     others: str = ""
     is_in_step: bool = False
 
-    def key(self) -> tuple[int, int, int, int]:
-        """The order in which signals count: by instants, ends before begins, an outer span before those within it."""
+    def key(self, line: Timeline) -> tuple[int, int, int, int]:
+        """The order in which signals count on `line`: by instants, ends before begins, an outer span before those within it."""
         message = self.signal.message
         rank = splice.SPANS.index(message.type) if message.kind == Kind.BEGIN and message.type in splice.SPANS else -1
-        return self.at, message.kind, rank, self.order
+        return line.aligned(self.at), message.kind, rank, self.order
 
 
 @dataclass(frozen=True)
@@ -118,9 +119,13 @@ class Timeline:
         return self.begins[-1] >= instant or self.nearest(instant) is self.segments[-1]
 
     def will_begin(self, instant: int) -> bool:
-        """Whether a segment begins at the `instant` after the listed ones, if these go on like the newest one."""
-        duration = self.segments[-1].duration
-        rest = (instant - self.end) % duration if duration else 0
+        """Whether a segment begins at the `instant` after the listed ones, if these go on as they are: it isn't known of segments
+        that differ in their durations."""
+        durations = [it.duration for it in self.segments[-MOST_ALIKE:]]
+        duration = durations[-1]
+        if not duration or max(durations) - min(durations) > TOLERANCE // 2:
+            return False
+        rest = (instant - self.end) % duration
         return instant >= self.end - TOLERANCE and min(rest, duration - rest) <= TOLERANCE
 
 
@@ -222,7 +227,7 @@ class Breaks:
         name = message.name() if is_section or not it.signal.is_cue else "a tag without a section"
         number = found.number if found else it.number
         new = Break(it.id or f"{message.event or 'cue'}-{number}", start, number, name, message.type, message.event, message.upid, planned,
-                    is_settled=found is not None or start < line.end, latest=start, others=it.others)
+                    is_settled=found is not None or start < line.begins[0] or not line.aligns, latest=start, others=it.others)
         insort(self.known, new, key=lambda one: one.start)
         length = "without a duration" if planned is None else f"planned for {seconds_text(planned)} s"
         self.tell(f"breaks/{shown(new.id)}", "Begins", f"at {instant_text(start)}, {length} ({name})")

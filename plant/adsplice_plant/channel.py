@@ -7,7 +7,7 @@ import traceback
 from collections.abc import Callable
 from pathlib import Path
 
-from . import decisions, faults
+from . import decisions, faults, finding, packaged
 from .decisions import Decision, Folder
 from .journal import Event, Journal
 from .lists import Lists
@@ -22,6 +22,7 @@ OFTEN = 0.25  # seconds between two looks at a file, and the least between two a
 SOON = 1.0  # seconds to the next look if the target duration isn't known
 MOST = 10.0  # seconds between two looks or trials, whatever the target duration is
 STAYS = "if that stays, only a new channel takes it, which a person makes by a DELETE of this one"
+UNFIT = 2  # refusals in a row of lists that don't follow the last one, after which the feed finds out what adsplice holds
 JUDGED = {409, 413, 422}  # statuses by which adsplice refuses what it was given; after others the same is tried again with pauses
 
 READ = ("200", "")  # the state of an origin that is read
@@ -51,6 +52,10 @@ class Channel:
         self.signalling = signalling or Signalling(settings.programme or settings.name, settings, client, say, self.answered)
         self.signalling.join(settings.rendition(), self.folder)
         self.lists = Lists(settings, self.tell, self.tell_repair, self.signalling)
+        self.folder.before = self.lists.stands.files
+        self.unfit = 0  # lists in a row that were refused since they don't follow the last one
+        self.is_full = False  # whether adsplice has no room for more decisions
+        self.knows = bool(self.lists.stands.repairer.last)  # whether it is known which decisions adsplice was given
 
     # ---- telling
 
@@ -117,9 +122,10 @@ class Channel:
             return False
         self.is_made = True
         self.compare(answer.status)
-        if answer.status == 201:
+        if self.is_new(answer):
+            self.knows = True
             self.lists.begin_anew()
-        self.folder.start_anew()
+            self.folder.start_anew()
         self.folder.look()
         text = "makes the channel" if answer.status == 201 else "the channel is there already; goes on with it"
         self.states.pop("adsplice", None)
@@ -140,6 +146,11 @@ class Channel:
                                                        "it stays as it was made until a person deletes it")
         except OSError as fault:
             self.tell("settings", 0, "Unkept", f"{path}: {fault.strerror}; a change of base or tolerance won't be told")
+
+    def is_new(self, answer: Answer) -> bool:
+        """Whether the channel, whose making was answered by `answer`, has no list yet: it was made now, or right before the feed that
+        made it was killed."""
+        return answer.status == 201 or (self.lists.is_resumed() and self.client.ask("GET", f"{self.url}/live.m3u8").status == 404)
 
     def give_fallback(self, body: bytes) -> bool:
         """Gives the fallback file's `body`; whether the feed may go on."""
@@ -162,9 +173,12 @@ class Channel:
 
     def decide(self) -> bool:
         """Gives the decision files that wait; whether the feed may go on. A list that enters a break comes after them."""
-        for it in self.folder.waiting():
+        self.is_full = False
+        for it in self.folder.next_up(self.lists.listed or ()):
             if not self.give(it):
                 return False
+            if self.is_full:
+                break
         return True
 
     def answered(self) -> None:
@@ -175,8 +189,11 @@ class Channel:
                 self.decide()
 
     def give(self, decision: Decision) -> bool:
-        """Gives one decision file; whether the feed may go on."""
-        answer = self.put("decisions", decision.body)
+        """Gives one decision file, without the breaks that were late; whether the feed may go on."""
+        if decision.late >= set(decision.ids) and decision.ids:
+            decision.state = "given"
+            return True
+        answer = self.put("decisions", decisions.without(decision, decision.late).body if decision.late else decision.body)
         who, line = f"decisions/{decision.path.name}", answer.line()
         if answer.status != 204 and answer.status not in JUDGED:
             self.gone(answer)
@@ -187,6 +204,7 @@ class Channel:
         elif faults.code_of(line) == "J9":
             self.give_rest(decision, who)
         elif faults.code_of(line) == "J10":
+            self.is_full = True
             self.tell(who, answer.status, faults.name_of(line), f"{faults.meaning(answer.status, line)}; tries it again")
         else:
             decision.state = "refused"
@@ -210,6 +228,8 @@ class Channel:
                     begun.append(name)
         else:
             begun = decision.ids
+        if self.knows:
+            decision.late |= set(begun)  # (else it may be the pod that an earlier feed gave)
         self.folder.given(decision)
         rest = [it for it in decision.ids if it not in begun]
         self.tell(who, 409, "J9 Used", f"{', '.join(begun)} has begun, and keeps its pod" + (f"; decides {', '.join(rest)}" if rest else ""))
@@ -226,8 +246,13 @@ class Channel:
 
     def push(self) -> bool:
         """PUTs each list that is to be pushed; whether that is over, and not to be tried again with a pause."""
-        while (text := self.lists.next()) is not None:
-            self.lists.save()
+        is_later = False
+        for text in iter(self.lists.next, None):
+            if is_later and not self.decide_asked():
+                return False
+            is_later = True
+            self.lists.stands.files = self.folder.kept()
+            self.lists.sending()
             answer = self.put("origin", text)
             line = answer.line()
             if answer.status == 204:
@@ -236,14 +261,46 @@ class Channel:
                 self.gone(answer)
                 return False
             else:
-                self.lists.refused()
-                what = f"{faults.meaning(answer.status, line)}" + (f" ({line})" if faults.follows_badly(line) else "")
-                does = f"; {STAYS}" if faults.follows_badly(line) else ""
-                self.tell("adsplice", answer.status, line, f"{what}; waits for the next list{does}")
+                self.refused(answer.status, line)
+        return True
+
+    def decide_asked(self) -> bool:
+        """Waits for the answers that the newest list needs, and gives them; whether the feed may go on. (If an earlier feed's list came
+        first in a turn, the newest one was taken in after this turn's decisions.)"""
+        self.signalling.wait(self.settings.rendition())
+        self.folder.look()
+        return self.decide()
+
+    def refused(self, status: int, line: str) -> None:
+        """A list was refused by `status` with the fault's text `line`. If two in a row don't follow the last one, the feed doesn't
+        know what adsplice holds: it finds that out."""
+        self.lists.refused()
+        is_unfit = faults.follows_badly(line)
+        self.unfit = self.unfit + 1 if is_unfit else 0
+        if self.unfit >= UNFIT and self.settings.repair and faults.code_of(line) not in ("N4", "N9"):
+            self.unfit = 0
+            if self.find():
+                return
+        what = faults.meaning(status, line) + (f" ({line})" if is_unfit else "")
+        self.tell("adsplice", status, line, f"{what}; waits for the next list" + (f"; {STAYS}" if is_unfit else ""))
+
+    def find(self) -> bool:
+        """Finds the numbers by which the newest list goes on after what adsplice holds, and pushes it so; whether it was taken."""
+        written, found = self.client.ask("GET", f"{self.url}/live.m3u8"), self.lists.afresh().found
+        if written.status != 200 or found is None:
+            return False
+        answer = finding.find(found, written.body, lambda text: self.client.ask("PUT", f"{self.url}/origin", text))
+        if answer is None or answer.status != 204:
+            return False
+        self.note("origin", answer, packaged.write(found))
+        self.tell("numbers", 0, "Found", f"adsplice holds other numbers than the feed knew: goes on at {found.segments[0].number} with one discontinuity")
+        self.lists.adopt(found)
+        self.taken()
         return True
 
     def taken(self) -> None:
         """A list was taken: learns its numbers, and tells of it."""
+        self.unfit = 0
         if self.lists.taken():
             answer = self.client.ask("GET", f"{self.url}/live.m3u8")
             if answer.status == 200:

@@ -78,8 +78,13 @@ class RangeReader:
         return Placed(signal, at, number, self.it.order, self.it.id, is_own_end, self.it.others(), is_in_step)
 
     def here(self) -> int:
-        """The instant of the segment before which it stands. One in the head of a list stands nowhere: then of the first new one."""
-        return self.instant(self.fresh if self.it.place == 0 else self.it.place)
+        """The instant of the segment before which it stands. One in the head of a list stands nowhere: then it is the planned end of
+        its break if that is among the new segments, and else the first one of them."""
+        if self.it.place:
+            return self.instant(self.it.place)
+        own, first = self.breaks.named(self.it.id), self.instant(self.fresh)
+        end = own.end() if own is not None else None
+        return end if end is not None and first < end <= self.line.end else first
 
     def signals(self, name: str) -> list[Placed]:
         """The signals of the section in its attribute `name`."""

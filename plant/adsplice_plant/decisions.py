@@ -7,21 +7,23 @@ the folder `done` in it.
 import json
 import os
 import time
-from collections.abc import Iterable
-from dataclasses import dataclass, field
+from collections.abc import Collection, Iterable
+from dataclasses import dataclass, field, replace
 from pathlib import Path
+from typing import Any
 
 DAY = 86400
 DONE = "done"  # the folder in the folder
 MOST_TOLD = 100  # names of what isn't taken
 MAX_BYTES = 4_194_304  # adsplice takes no longer file
+ROOM = 200  # decided breaks that aren't listed yet: adsplice holds 256, and the others are for those that are listed
 
 
 @dataclass
 class Decision:
     """A file of the folder: `kind` is `breaks`, `withdraw` or `fallback`, and empty if it doesn't say; `ids` are those of
-    its breaks; `state` is `new`, `given`, `refused` or `done`; `listed` are the breaks that were seen in a playlist; `since` is
-    when it was found, by a clock that doesn't jump."""
+    its breaks; `state` is `new`, `given`, `refused` or `done`; `listed` are the breaks that were seen in a playlist, and `late` those that
+    had begun with another pod when they were decided, which they keep for good."""
 
     path: Path
     stamp: tuple[int, int, int]
@@ -30,7 +32,7 @@ class Decision:
     ids: list[str]
     state: str = "new"
     listed: set[str] = field(default_factory=set)
-    since: float = field(default_factory=time.monotonic)
+    late: set[str] = field(default_factory=set)
 
 
 def stamp_of(path: Path) -> tuple[int, int, int] | None:
@@ -62,6 +64,12 @@ def each_alone(body: bytes) -> list[bytes]:
     return [json.dumps({"breaks": [it]}).encode() for it in json.loads(body)["breaks"]]
 
 
+def without(decision: Decision, ids: Collection[str]) -> Decision:
+    """The `decision` without the breaks `ids`."""
+    rest = [] if decision.kind != "breaks" else [it for it in json.loads(decision.body)["breaks"] if it["id"] not in ids]
+    return replace(decision, body=json.dumps({"breaks": rest}).encode(), ids=[it["id"] for it in rest])
+
+
 class Folder:
     """The decision files of the folder `path`; none if there is no folder for a channel. Those in `done` are taken away
     after `keep_days` days."""
@@ -70,6 +78,7 @@ class Folder:
         self.path, self.keep_days = path, keep_days
         self.decisions: dict[Path, Decision] = {}
         self.passed_over: dict[str, str] = {}  # what of the folder isn't taken, by its name, and why
+        self.before: dict[str, list[Any]] = {}  # what an earlier feed knew of files, by their names
 
     def look(self) -> None:
         """Finds new and changed files, and forgets those that somebody took away."""
@@ -109,8 +118,14 @@ class Folder:
         except OSError as fault:
             return self.pass_over(path.name, f"can't be read: {fault.strerror}")
         self.decisions.pop(path, None)  # (a changed one comes last)
-        self.decisions[path] = Decision(path, stamp, body, *said_by(body))
+        self.decisions[path] = found = Decision(path, stamp, body, *said_by(body))
+        if (known := self.before.pop(path.name, None)) is not None and known[0] == list(stamp):
+            found.state, found.late = ("given" if known[1] else "new"), set(known[2])
         return None
+
+    def kept(self) -> dict[str, list[Any]]:
+        """What a later feed has to know of the files, by their names: the stamp, whether adsplice holds it, and which breaks were late."""
+        return {it.path.name: [list(it.stamp), it.state == "given", sorted(it.late)] for it in self.decisions.values() if it.state == "given" or it.late}
 
     def pass_over(self, name: str, why: str) -> None:
         """What the folder has under `name` isn't taken; `why` says why."""
@@ -120,6 +135,18 @@ class Folder:
     def waiting(self) -> list[Decision]:
         """Those that were not yet given to the controller."""
         return [it for it in self.decisions.values() if it.state == "new"]
+
+    def next_up(self, listed: Collection[str]) -> list[Decision]:
+        """Those of them that are to be given now: first those of breaks that are `listed`, then others as far as there is ROOM."""
+        held = sum(len(it.ids) for it in self.open() if it.kind == "breaks")
+        found = []
+        for it in sorted(self.waiting(), key=lambda it: it.kind == "breaks" and not set(listed) & set(it.ids)):
+            if it.kind == "breaks" and not set(listed) & set(it.ids):
+                if held + len(it.ids) > ROOM:
+                    continue
+                held += len(it.ids)
+            found.append(it)
+        return found
 
     def named(self, name: str) -> Decision | None:
         """The one in the file `name`; none if there is none."""
@@ -147,15 +174,14 @@ class Folder:
             self.finish(decision)
 
     def retire(self, listed: set[str]) -> list[Decision]:
-        """Moves away the files whose breaks have all been listed and are no more, of which `listed` are the IDs that are; and
-        those that were found a day ago and whose breaks never came."""
+        """Moves away the files whose breaks have all been listed and are no more, of which `listed` are the IDs that are. One whose
+        breaks haven't come stays, however old it is."""
         gone = []
         for it in self.open():
             if it.kind != "breaks":
                 continue
             it.listed |= listed & set(it.ids)
-            is_old = time.monotonic() - it.since > DAY
-            if not listed & set(it.ids) and (it.listed >= set(it.ids) or is_old):
+            if not listed & set(it.ids) and it.listed >= set(it.ids):
                 self.finish(it)
                 gone.append(it)
         return gone

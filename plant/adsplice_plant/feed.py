@@ -9,10 +9,12 @@ from . import settings as told
 from . import words
 from .channel import Channel
 from .ladder import Ladder, Rendition
+from .masters import Programme
 from .settings import Settings
 from .web import Client
 from .words import Fault
 
+print_line = words.Teller().say
 LAST = 0.5  # seconds that turns may take to their end once a signal came
 
 HELP = """Reads a packager's playlist and gives it to adsplice, with the decisions of its breaks.
@@ -39,6 +41,9 @@ Renditions of one programme (--renditions '1080 720 360') are a channel each: {}
 A decision is a file of one name in each rendition's DIR. It is given to all of them before any list that enters its break, or
 to none; they are made anew together, and it is told if their numbers come apart.
 
+A master playlist as the origin (--master FILE): its variants and groups are channels NAME-1, NAME-2 .. of one programme, or have
+the names of --renditions in its order. FILE is the master playlist that viewers load.
+
 Standard output has a line for each change of state: time, channel, who (origin, adsplice, or a file), status, fault, and
 what is done about it. Exit status: 0 after SIGTERM, SIGINT or SIGHUP; 1 if it can't begin or go on; 2 for wrong words."""
 
@@ -59,6 +64,10 @@ EPILOG = """A config file has a section for each channel, and in [DEFAULT] what 
   decisions = /var/lib/adsplice/decisions/sport-{}
   fallback = /etc/adsplice/fallback-{}.json
 
+  [film]
+  origin = http://origin.example/film/master.m3u8
+  master = /var/www/film.m3u8
+
 Its names are the long words above without their hyphens; `unended = yes` is --unended."""
 
 
@@ -74,8 +83,10 @@ def read_words(arguments: list[str]) -> argparse.Namespace:
     it.add_argument("--tolerance", metavar="SECONDS", help="the channel's tolerance (adsplice's own is 0.1)")
     it.add_argument("--decisions", metavar="DIR")
     it.add_argument("--fallback", metavar="FILE", help="a decision file with a fallback, given whenever the channel is made")
-    it.add_argument("--keep", metavar="DIR", help="keeps NAME.events there, for adsplice-monitor and adsplice-explain, and NAME.numbers for itself")
+    it.add_argument("--keep", metavar="DIR", help="keeps NAME.events there, for adsplice-monitor and adsplice-explain, and NAME.numbers and NAME.signals for itself")
     it.add_argument("--renditions", metavar="NAMES", help="a ladder: a channel NAME-R for each rendition R of NAMES, such as '1080 720 360'")
+    it.add_argument("--master", metavar="FILE", help="the origin is a master playlist: its renditions are channels, and FILE is the one that viewers load")
+    it.add_argument("--viewers", metavar="URL", help="with --master: where viewers read channels, such as http://viewers.example (the host of FILE's URL)")
     it.add_argument("--unended", action="store_const", const="yes", help="the packager never ends its last line: take it so")
     yes_or_no = ("yes", "no")
     it.add_argument("--repair", choices=yes_or_no, help="puts the packager's lists right (yes)")
@@ -109,16 +120,32 @@ def channels_of(said: argparse.Namespace) -> list[Settings]:
 def feeds_of(channels: list[Settings], said: argparse.Namespace) -> list[Channel]:
     """The feeds of `channels` by the words `said`; those of one programme share a ladder."""
     ladders: dict[str, Ladder] = {}
-    say = words.Teller().say
     found: list[Channel] = []
     for it in channels:
         client = Client(said.timeout, it.redirects)
         if it.programme:
-            ladder = ladders.setdefault(it.programme, Ladder(it.programme, say))
-            found.append(Rendition(it, client, say, said.longest_pause, said.keep_days, ladder))
+            ladder = ladders.setdefault(it.programme, Ladder(it.programme, print_line))
+            found.append(Rendition(it, client, print_line, said.longest_pause, said.keep_days, ladder))
         else:
-            found.append(Channel(it, client, say, said.longest_pause, said.keep_days))
+            found.append(Channel(it, client, print_line, said.longest_pause, said.keep_days))
     return found
+
+
+def start(channels: list[Settings], said: argparse.Namespace, ending: threading.Event, threads: list[threading.Thread]) -> None:
+    """Begins to feed `channels` by the words `said`, each in a thread of its own, which are added to `threads`."""
+    feeds = feeds_of([it for it in channels if it.master is None], said)
+    spread = min(1.0, 0.05 * (len(feeds) - 1))
+    begun = [threading.Thread(target=run, args=(it, ending, random.uniform(0, max(0, spread))), name=it.settings.name, daemon=True) for it in feeds]
+    for it in channels:
+        if it.master is not None:
+            programme = Programme(it, Client(said.timeout), print_line, lambda found: start(found, said, ending, threads))
+            begun.append(threading.Thread(target=programme.run, args=(ending, said.longest_pause), name=it.name, daemon=True))
+    threads += begun
+    for feed in feeds:
+        for text in feed.settings.idle:
+            feed.tell(f"settings/{text}", 0, "Idle", text)
+    for one in begun:
+        one.start()
 
 
 def run(channel: Channel, ending: threading.Event, delay: float) -> None:
@@ -136,21 +163,16 @@ def run(channel: Channel, ending: threading.Event, delay: float) -> None:
 def main(arguments: list[str]) -> int:
     """Runs the feed until a signal ends it; answers the exit status."""
     said = read_words(arguments)
+    threads: list[threading.Thread] = []
     try:
         channels = channels_of(said)
-        feeds = feeds_of(channels, said)
+        ending = words.ends_by_signals()
+        start(channels, said, ending, threads)
     except (Fault, OSError) as fault:
         words.fail("adsplice-feed", str(fault))
-    ending = words.ends_by_signals()
-    spread = min(1.0, 0.05 * (len(feeds) - 1))
-    threads = [threading.Thread(target=run, args=(it, ending, random.uniform(0, spread)), name=it.settings.name, daemon=True) for it in feeds]
-    for feed, it in zip(feeds, threads):
-        for text in feed.settings.idle:
-            feed.tell(f"settings/{text}", 0, "Idle", text)
-        it.start()
     while not ending.wait(1):
         for it in threads:
-            if not it.is_alive():
+            if not it.is_alive() and not ending.is_set():
                 words.fail("adsplice-feed", f"the thread of {it.name} has ended; what starts the feed may start it again")
     until = time.monotonic() + LAST
     for it in threads:

@@ -6,16 +6,16 @@ on the pods alone, so one decision that a rendition lacks keeps its discontinuit
 from __future__ import annotations
 
 import json
-import re
 import threading
 import time
 from dataclasses import replace
 
 from . import faults, packaged, playlist
 from .channel import JUDGED, MOST, Channel, Say
-from .decisions import Decision
+from .decisions import Decision, without
 from .playlist import SECOND
 from .settings import Settings
+from .siblings import Sibling, Siblings
 from .signalling import Signalling
 from .web import Answer, Client
 from .words import now_text
@@ -24,7 +24,6 @@ STEP = 3.0  # target durations that the renditions' lists have to come into step
 LATE = 2.0  # seconds after which a file that isn't there in all renditions is told
 HELD = 2.0  # target durations that a rendition whose process is away holds up a decision of the others
 TOLERANCE = SECOND // 10  # adsplice's own
-NUMBER = re.compile(r"^#EXT-X-(MEDIA|DISCONTINUITY)-SEQUENCE:(\d+)", re.M)
 
 Group = list[tuple["Rendition", Decision]]
 
@@ -39,6 +38,9 @@ class Rendition(Channel):
         self.reached = 0  # the instant at which the last segment that was taken begins
         self.debts: list[bytes] = []  # withdrawals that come before its next list
         ladder.members.append(self)
+        self.lists.join(Siblings(lambda: [
+            Sibling(it.settings.base, it.lists.listed_segments, it.lists.is_held, it.settings.group == settings.group)
+            for it in ladder.members if it is not self]))
 
     def answered(self) -> None:
         """The answer to a question is in the renditions' folders: gives it at once."""
@@ -67,7 +69,8 @@ class Rendition(Channel):
     def taken(self) -> None:
         """A list was taken."""
         super().taken()
-        self.reached = max((it.begins or 0 for it in self.lists.stands.repairer.last), default=0)
+        last = self.lists.stands.repairer.last
+        self.reached = (last[-1].begins or 0) if last else 0  # (earlier ones may be of a clock that went back since)
 
     def is_answered(self) -> bool:
         """Whether its last list was taken."""
@@ -85,7 +88,7 @@ class Rendition(Channel):
         if is_new:
             self.reached = 0
             self.lists.begin_anew()
-        self.folder.start_anew()
+            self.folder.start_anew()
         self.folder.look()
 
 
@@ -101,6 +104,7 @@ class Ladder:
         self.step_since = 0.0  # since when the channels wait for lists in step; 0 if they don't
         self.held: dict[str, float] = {}  # files that a rendition which is away holds up, and since when
         self.given_up: set[str] = set()  # those of them without which the others have gone on
+        self.equal_after = -1  # the media number up to which discontinuities were not added yet
         self.is_resumed = False  # the channels were there when the feed began: a break that has begun has the pod that it is given again
         self.seen: dict[str, float] = {}  # files that aren't there in all renditions, and since when
 
@@ -117,9 +121,12 @@ class Ladder:
     # ---- making the channels
 
     def is_in_step(self) -> bool:
-        """Whether all renditions' newest lists have the same first and last media number."""
+        """Whether all renditions' newest lists have as many segments, and the same first media number or the same first instant."""
         listed = [it.lists.newest.segments for it in self.members]
-        return all(listed) and len({(it[0].number, len(it)) for it in listed}) == 1
+        if not all(listed) or len({len(it) for it in listed}) > 1:
+            return False
+        begins = [it[0].begins or 0 for it in listed]
+        return len({it[0].number for it in listed}) == 1 or (all(begins) and max(begins) - min(begins) < SECOND // 2)
 
     def give_all(self, one: Rendition) -> bool:
         """Gives what is new to all renditions, and its list to `one`; whether all was answered."""
@@ -151,13 +158,15 @@ class Ladder:
 
     def make(self, one: Rendition) -> bool:
         """Makes the channels that aren't there; whether all are there."""
-        answers = {it: it.put("", it.settings.body()) for it in self.members if not it.is_made}
+        answers = {it: it.put("", it.settings.body()) for it in self.members}
         for it, answer in answers.items():
             if answer.status not in (201, 409):
                 one.failed(answer, f"makes {it.settings.name} with the other renditions as soon as it can")
                 return False
-        for it, answer in answers.items():
-            it.anew(answer.status == 201)
+        if all(it.status == 201 for it in answers.values()):
+            self.level()
+        for it, answer in [(it, answer) for it, answer in answers.items() if answer.status == 201 or not it.is_made]:
+            it.anew(it.is_new(answer))
             it.compare(answer.status)
             it.states.pop("adsplice", None)
             it.tell("adsplice", answer.status, "", "makes the channel" if answer.status == 201 else "the channel is there already; goes on with it")
@@ -165,6 +174,14 @@ class Ladder:
         self.given_up.clear()
         self.is_resumed = all(it.status == 409 for it in answers.values())
         return True
+
+    def level(self) -> None:
+        """All channels are new: they begin with the greatest numbers that viewers have of one segment, if these are apart."""
+        viewed = [it.lists.stands.viewed for it in self.members]
+        common = set.intersection(*(set(it.begins) for it in viewed))
+        found = [it.begins[max(common)] for it in viewed] if common else []
+        for it, (media, discontinuity) in zip(viewed, found):
+            it.rise(max(one for one, _ in found) - media, max(one for _, one in found) - discontinuity)
 
     # ---- decisions
 
@@ -176,7 +193,7 @@ class Ladder:
                 return False
         for it in self.members:
             it.folder.look()
-        names = dict.fromkeys(found.path.name for it in self.members for found in it.folder.waiting())
+        names = dict.fromkeys(found.path.name for it in self.members for found in it.folder.next_up(it.lists.listed or ()))
         return all(self.give_file(it) for it in names)
 
     def give_fallbacks(self) -> bool:
@@ -324,30 +341,33 @@ class Ladder:
     # ---- numbers
 
     def compare(self) -> None:
-        """Compares the written numbers of the renditions once all have taken lists of the same media numbers, and tells where
-        they come apart."""
-        if not self.is_in_step() or not all(it.is_answered() and not it.lists.is_open for it in self.members):
+        """Compares the numbers that viewers have of the newest segment that all renditions have shown. If they come apart, it is told,
+        and the discontinuities that a rendition lacks are added once no break is listed: within one they might be replaced."""
+        common = set.intersection(*({one.number for one in it.lists.stands.repairer.last} for it in self.members))
+        known = [number for number in common if number > self.equal_after and all(number in it.lists.stands.viewed.begins for it in self.members)]
+        if not known or any(it.lists.is_open or it.lists.stands.viewed.is_replaced for it in self.members):
             return
-        answers = {it: it.client.ask("GET", f"{it.url}/live.m3u8") for it in self.members}
-        if any(it.status != 200 for it in answers.values()):
+        found = {it.settings.name: it.lists.stands.viewed.begins[max(known)] for it in self.members}
+        usual = max(found.values(), key=list(found.values()).count)
+        odd = {name: it for name, it in found.items() if it != usual}
+        if not odd:
+            if self.states.pop("ladder", ""):
+                self.say(f"{now_text()} {self.name} ladder - -: the renditions' numbers are equal")
             return
-        ends = {it.settings.name: end_of(answer.body.decode("utf-8", "replace")) for it, answer in answers.items()}
-        usual = max(ends.values(), key=list(ends.values()).count)
-        odd = {name: it for name, it in ends.items() if it != usual}
-        if odd:
-            text = "; ".join(f"{name} ends with media number {it[0]} and discontinuity number {it[1]}" for name, it in odd.items())
-            self.tell("ladder", "Apart", f"the renditions' numbers come apart: {text}, and the others with {usual[0]} and {usual[1]}; "
-                                         f"DELETE {next(iter(odd))} while no break is listed, and all are made anew together")
-        elif self.states.get("ladder"):
-            self.tell("ladder", "", "the renditions' numbers are equal")
-            self.states.pop("ladder")
+        text = "; ".join(f"{name} ends with media number {it[0]} and discontinuity number {it[1]}" for name, it in odd.items())
+        does = "the discontinuities are added once no break is listed" if all(it[0] == usual[0] for it in odd.values()) else \
+            "media numbers stay so: DELETE all of them while no break is listed"
+        self.tell_apart(f"the renditions' numbers come apart: {text}, and the others with {usual[0]} and {usual[1]}; {does}")
+        if not any(it.lists.is_signalled() for it in self.members):
+            most = max(discontinuity for _, discontinuity in found.values())
+            for it in self.members:
+                it.lists.owe(most - found[it.settings.name][1])
+            self.equal_after = max(it.lists.stands.repairer.last[-1].number for it in self.members) + 1
 
-
-def end_of(text: str) -> tuple[int, int]:
-    """The media number and the discontinuity number of the last segment of the written playlist `text` (RFC 8216, 6.2.1, 6.2.2)."""
-    said = {name: int(value) for name, value in NUMBER.findall(text)}
-    lines = text.splitlines()
-    return said.get("MEDIA", 0) + sum(it.startswith("#EXTINF:") for it in lines) - 1, said.get("DISCONTINUITY", 0) + lines.count("#EXT-X-DISCONTINUITY")
+    def tell_apart(self, text: str) -> None:
+        """Tells that numbers come apart, once until they are equal again."""
+        if not self.states.get("ladder"):
+            self.tell("ladder", "Apart", text)
 
 
 def shape_of(body: bytes) -> str:
@@ -361,8 +381,3 @@ def shape_of(body: bytes) -> str:
     except (ValueError, TypeError, KeyError, AttributeError, RecursionError):
         return ""
 
-
-def without(decision: Decision, ids: list[str]) -> Decision:
-    """The `decision` without the breaks `ids`."""
-    rest = [] if decision.kind != "breaks" else [it for it in json.loads(decision.body)["breaks"] if it["id"] not in ids]
-    return replace(decision, body=json.dumps({"breaks": rest}).encode(), ids=[it["id"] for it in rest])

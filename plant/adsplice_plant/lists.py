@@ -4,25 +4,33 @@ from __future__ import annotations
 import time
 from collections import Counter
 from collections.abc import Callable
+from copy import copy
+from dataclasses import replace
 from pathlib import Path
 
 from . import numbers, packaged, repairs, spelling
 from .numbers import Standing, Viewed
-from .packaged import PackagedList
-from .repair import Choices, Repaired, Repairer
+from .packaged import PackagedList, PackagedSegment
+from .repair import Choices, Head, Repaired, Repairer, count_on
 from .settings import Settings
+from .siblings import Siblings
 from .signalling import Signalling, as_listed
+from .whole_files import write_aside
 
 Tell = Callable[[str, int, str, str], None]  # who, status, fault, text: told unless the state of who is as it was
 SIGNAL = "SCTE35-OUT"
+QUIET = 60.0  # seconds for which the same isn't told again
+MOST_REMEMBERED = 120  # segments that left the list, for other renditions
 
 
 class Lists:
     """The lists of the channel that `settings` tell of. `tell` prints a state once, and `say` a line of a repair. `signalling`
-    translates their signals."""
+    translates their signals. `now` are the seconds of a clock that never goes back, and `clock` the time of day in nanoseconds
+    from 1970."""
 
-    def __init__(self, settings: Settings, tell: Tell, say: Callable[[str, str], None], signalling: Signalling) -> None:
-        self.settings, self.tell, self.say, self.signalling = settings, tell, say, signalling
+    def __init__(self, settings: Settings, tell: Tell, say: Callable[[str, str], None], signalling: Signalling, now: Callable[[], float] = time.monotonic,
+                 clock: Callable[[], int] = time.time_ns) -> None:
+        self.settings, self.tell, self.say, self.signalling, self.now, self.clock = settings, tell, say, signalling, now, clock
         self.path: Path | None = settings.keep / f"{settings.name}.numbers" if settings.keep and settings.repair else None
         choices = Choices(settings.target, settings.endless, settings.times)
         self.stands = Standing(Repairer(choices), Viewed(), b"", Counter())
@@ -31,12 +39,32 @@ class Lists:
         self.pending: Repaired | None = None  # what is to be pushed
         self.text: bytes | None = None  # of it, or of what was pushed last
         self.is_open = False  # whether `text` is to be pushed, or was pushed and not answered
+        self.before: Standing | None = None  # where the channel stood before it, if it was pushed
+        self.is_aligned = False  # whether the first list was numbered as those of other renditions
         self.is_anew = False  # whether the channel is new, and begins where viewers' list stood
         self.told: set[str] = set()
+        self.why = ""  # the word of why nothing was pushed of the newest list
+        self.told_at: dict[str, float] = {}  # when each of these words was told
         self.target: int | None = None
         self.newest = PackagedList()  # the newest list that may be pushed
         self.listed: set[str] | None = None  # the IDs of its date ranges
         self.load(choices)
+
+    def join(self, siblings: Siblings) -> None:
+        """The channel is one of a programme's renditions, of which `siblings` are the others."""
+        self.stands.repairer.siblings = siblings
+
+    def listed_segments(self) -> list[PackagedSegment]:
+        """The segments that were listed, the oldest first, as far as they are remembered for other renditions."""
+        return self.stands.repairer.past[-MOST_REMEMBERED:] + self.stands.repairer.last
+
+    def is_held(self) -> bool:
+        """Whether a list that doesn't go on is held back."""
+        return self.stands.repairer.held_since is not None
+
+    def owe(self, steps: int) -> None:
+        """The next new segment has so many discontinuities (`steps`) more."""
+        self.stands.repairer.owed = steps
 
     # ---- on disk
 
@@ -53,12 +81,16 @@ class Lists:
             self.stands, self.text, self.is_open = found, found.text, True
             self.target = found.repairer.head.target if found.repairer.head else None
 
+    def is_resumed(self) -> bool:
+        """Whether it goes on from where an earlier feed ended, and has pushed nothing yet."""
+        return self.is_open and self.pending is None and bool(self.stands.repairer.last)
+
     def save(self) -> None:
         """Keeps where the channel stands."""
         if self.path is None or not self.stands.repairer.last:
             return
         try:
-            numbers.save(self.path, numbers.pack(self.stands))
+            write_aside(self.path, numbers.pack(self.stands))
             self.tell("numbers", 0, "", "")
         except OSError as fault:
             self.tell("numbers", 0, "Unkept", f"{self.path}: {fault.strerror}; after a new start of the feed numbers may go back")
@@ -78,8 +110,15 @@ class Lists:
     def next(self) -> bytes | None:
         """The list to be pushed now; none if there is none."""
         if not self.is_anew or not self.resume():
+            if self.is_open and not self.is_aligned and self.is_first_of_several():
+                self.is_open, self.is_new, self.is_aligned = False, True, True  # (it is taken in again, by the numbers of the others)
             self.prepare()
         return self.text if self.is_open else None
+
+    def is_first_of_several(self) -> bool:
+        """Whether no list of this rendition was taken, and one of another was: its numbers go by these."""
+        repairer = self.stands.repairer
+        return not repairer.last and repairer.siblings is not None and any(it.segments() for it in repairer.siblings.found())
 
     def take(self, body: bytes) -> None:
         """Takes in the list `body`."""
@@ -89,9 +128,11 @@ class Lists:
             self.pending, self.text, self.is_open, self.is_new = None, packaged.write(listed) if is_changed else body, True, False
             self.learn(listed)
             return
-        found = self.stands.repairer.take(body, time.monotonic(), time.time_ns())
+        found = self.stands.repairer.take(body, self.now(), self.clock())
         self.is_new = found.waits
         self.tell_why(found)
+        if found.why == repairs.SECTIONS and self.stands.text:
+            self.pending, self.text, self.is_open = None, self.stands.text, True  # (so that it is seen if a person deletes the channel)
         if found.found is None and found.came is None:
             return
         self.count(found)
@@ -109,9 +150,16 @@ class Lists:
         self.listed = {name for line in found.date_ranges() if (name := packaged.attributes_of(line.partition(":")[2]).get("ID"))}
 
     def tell_why(self, found: Repaired) -> None:
-        """Tells why nothing is pushed of a list, or that lists are pushed again."""
-        word = next((word for word, text in (("Lags", repairs.LAGS), ("Empty", repairs.EMPTY)) if found.why == text), "Held" if found.waits else "Untaken")
-        self.tell("list", 0, word if found.why else "", found.why or "the lists go on")
+        """Tells why nothing is pushed of a list, or that lists are pushed again: each no more than once in QUIET seconds, since two
+        packagers may write by turns."""
+        words = {repairs.LAGS: "Lags", repairs.EMPTY: "Empty", "": ""}
+        word = words.get(found.why, "Held" if found.waits else "Untaken")
+        if word == self.why:
+            return
+        self.why = word
+        if self.now() - self.told_at.get(word, -QUIET) >= QUIET:
+            self.told_at[word] = self.now()
+            self.tell("list", 0, word, found.why or "the lists go on")
 
     def count(self, found: Repaired) -> None:
         """Counts the repairs of a list, and tells each kind once."""
@@ -124,19 +172,27 @@ class Lists:
 
     # ---- to adsplice
 
+    def sending(self) -> None:
+        """The list is about to be pushed: keeps where the channel stands then, so that a feed that is killed now goes on from there."""
+        if self.pending is not None and self.pending.found is not None and self.before is None:
+            repairer, viewed, found = self.stands.repairer, self.stands.viewed, self.pending.found
+            self.before = replace(self.stands, repairer=copy(repairer), viewed=Viewed(viewed.begins, viewed.end, viewed.is_replaced, dict(viewed.ranges)))
+            repairer.accept(self.pending)
+            viewed.note(found.date_ranges(), found.segments[-1].number)
+            viewed.forget((repairer.past or repairer.last)[0].number)
+            self.stands.text = self.text or b""
+        self.save()
+
     def taken(self) -> bool:
-        """The list was pushed and taken. Whether the written playlist has to be looked at to know its numbers."""
-        self.is_open = False
-        if self.pending is None or self.pending.found is None:
-            return False
-        found, stands = self.pending.found, self.stands
-        stands.repairer.accept(self.pending)
-        stands.text = self.text or b""
-        lines = found.date_ranges()
-        stands.viewed.note(lines, found.segments[-1].number)
-        first = stands.repairer.past[0].number if stands.repairer.past else found.segments[0].number
-        stands.viewed.forget(first)
-        return not stands.viewed.reckon(found.segments) or any(SIGNAL in it for it in lines)
+        """The list was taken. Whether the written playlist has to be looked at to know its numbers."""
+        self.is_open, self.before, self.pending = False, None, None
+        last = self.stands.repairer.last
+        return bool(last) and (self.is_signalled() or not self.stands.viewed.reckon(last))
+
+    def is_signalled(self) -> bool:
+        """Whether the list that was pushed last has a break."""
+        newest = self.stands.repairer.last[-1].number
+        return any(SIGNAL in line and number == newest for line, number in self.stands.viewed.ranges.values())
 
     def see(self, written: bytes) -> None:
         """Adsplice wrote `written` after the list that was taken last."""
@@ -145,23 +201,42 @@ class Lists:
 
     def refused(self) -> None:
         """The list was refused: the next one follows the one before it."""
+        if self.before is not None:
+            self.stands, self.before = replace(self.before, repairs=self.stands.repairs, files=self.stands.files), None
+            self.save()
         self.is_open, self.pending = False, None
+
+    def afresh(self) -> Repaired:
+        """The newest list, put right as if it were the first one; nothing if there is none."""
+        return Repairer(self.stands.repairer.choices).take(self.came, self.now(), self.clock()) if self.came is not None else Repaired()
+
+    def adopt(self, found: PackagedList) -> None:
+        """Goes on from the list `found`, which adsplice took with the numbers that it has."""
+        repairer = Repairer(self.stands.repairer.choices, self.stands.repairer.siblings)
+        pending = Repaired(found, Head(found.version, found.target or 1, found.kind))
+        self.stands = replace(self.stands, repairer=repairer, viewed=Viewed(), text=b"")
+        self.pending, self.before, self.is_open = pending, None, False
+        self.sending()
 
     # ---- a channel that was made anew
 
     def begin_anew(self) -> None:
         """The channel is new: its first list begins where viewers' list stood."""
         self.signalling.begin_anew()
-        self.is_anew = bool(self.stands.repairer.last)
+        self.is_anew, self.stands.text = bool(self.stands.repairer.last), b""
+        if self.stands.repairer.head is not None and self.settings.target is not None:
+            self.stands.repairer.head.target = self.settings.target  # (a new channel may have another one)
         if self.is_anew:
-            self.pending, self.is_open, self.is_new = None, False, self.came is not None
+            self.pending, self.before, self.is_open, self.is_new = None, None, False, self.came is not None
 
     def resume(self) -> bool:
         """Makes the first list of a new channel ready, by which it writes what viewers have: the newest list, and before it the
         segments from which on its first one has its numbers. Whether there is one."""
         self.is_anew = False
         repairer, viewed = self.stands.repairer, self.stands.viewed
-        newest = repairer.take(self.came, time.monotonic(), time.time_ns()) if self.came is not None else Repaired()
+        newest = repairer.take(self.came, self.now(), self.clock()) if self.came is not None else Repaired()
+        if newest.why == repairs.SECTIONS:
+            return self.begin_after()
         if newest.found is not None:
             self.signalling.translate(newest.found, self.settings.rendition())
         listed = newest.found.segments if newest.found is not None else repairer.last
@@ -181,6 +256,24 @@ class Lists:
         found.is_independent = newest.found is not None and newest.found.is_independent
         self.pending = Repaired(found, head, kinds={"times": ""} if repairer.adds or "times" in newest.kinds else {})
         self.text, self.is_open, self.is_new = packaged.write(found, list(dict.fromkeys(lines))), True, self.came is not None
+        return True
+
+
+    def begin_after(self) -> bool:
+        """Makes the newest list the first one of a new channel, since it has other initialisation sections than what viewers have: it
+        goes on right after that, with a discontinuity. Whether there is one."""
+        stands = self.stands
+        first = self.afresh()
+        if first.found is None:
+            return False
+        number, discontinuity = stands.viewed.end or (stands.repairer.last[-1].number, stands.repairer.last[-1].discontinuity)
+        segments = first.found.segments
+        segments[0].discontinuities = max(1, segments[0].discontinuities)
+        count_on(PackagedSegment("", 0, number=number, discontinuity=discontinuity), segments)
+        self.signalling.translate(first.found, self.settings.rendition())
+        self.stands = replace(stands, repairer=Repairer(stands.repairer.choices, stands.repairer.siblings), viewed=Viewed(end=stands.viewed.end))
+        self.pending, self.text, self.is_open, self.is_new = first, packaged.write(first.found), True, False
+        self.learn(first.found)
         return True
 
 

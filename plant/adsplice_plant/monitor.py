@@ -13,6 +13,8 @@ from . import settings as told
 from . import words
 from .as_run import BEAT, AsRun, Log
 from .kept import Kept
+from .masters import written_names
+from .numbers import repairs_kept
 from .reconcile import report
 from .watch import WORDS, Watch
 from .web import Client
@@ -74,7 +76,8 @@ def watches_of(said: argparse.Namespace) -> list[Watch]:
     """A watch for each channel that the words `said` name; raises Fault."""
     channels = [(it, said.at, said.kept) for it in said.channel]
     if said.config is not None:
-        known = {it.name: (it.name, said.at or it.at, said.kept or it.keep) for it in told.read_file(said.config)}
+        known = {name: (name, said.at or it.at, said.kept or it.keep) for it in told.read_file(said.config)
+                 for name in (written_names(it) if it.master else [it.name])}
         channels = [known[it] for it in said.channel or known if it in known]
         if missing := set(said.channel) - set(known):
             raise Fault(f"{said.config}: there is no channel {min(missing)}")
@@ -148,16 +151,19 @@ class Figures(Collector):
         unread = CounterMetricFamily("adsplice_feed_unread", "Times that the feed couldn't read its origin", labels=["channel"])
         holes = CounterMetricFamily("adsplice_feed_unkept", "Times that the feed couldn't keep its events", labels=["channel"])
         restarts = CounterMetricFamily("adsplice_feed_restarts", "Times that a channel's feed began anew after a fault that nobody foresaw", labels=["channel"])
+        repairs = CounterMetricFamily("adsplice_feed_repairs", "Lists that the feed put right, by the kind of repair", labels=["channel", "kind"])
         for it in self.watches:
             if it.kept is None:
                 continue
+            for kind, lists in sorted(repairs_kept(it.kept.path.with_suffix(".numbers")).items()):
+                repairs.add_metric([it.name, kind], lists)
             with it.lock:
                 for (what, status, fault), count in sorted(it.kept.answers.items()):
                     answers.add_metric([it.name, what, status, fault], count)
                 unread.add_metric([it.name], it.kept.unread)
                 restarts.add_metric([it.name], it.kept.restarts)
                 holes.add_metric([it.name], it.kept.holes)
-        yield from (answers, unread, restarts, holes)
+        yield from (answers, unread, restarts, holes, repairs)
 
 
 def is_open(watch: Watch, begun: bytes, until: float) -> bool:

@@ -7,11 +7,11 @@ to be given now. It reads them off the written playlist after a push, or reckons
 from __future__ import annotations
 
 import json
-import os
 from collections import Counter
 from collections.abc import Iterable
 from dataclasses import dataclass, field
 from pathlib import Path
+from typing import Any
 
 from . import packaged, spelling
 from .packaged import Key, PackagedList, PackagedSegment
@@ -61,7 +61,7 @@ class Viewed:
         for place, item in enumerate(items):
             if item.instant is not None:
                 places.setdefault(item.instant, []).append(place)
-        later, was_replaced = 0, segments[0].number in self.begins  # (a run that began before, or at the first segment)
+        later, was_replaced = 0, bool(self.begins)  # (a run that begins with the very first list begins at its first segment)
         for it in segments:
             found = later if it.begins is None else next((one for one in places.get(it.begins, []) if one >= later), len(items))
             if found < len(items):
@@ -70,6 +70,8 @@ class Viewed:
                 continue
             if not was_replaced and later < len(items):
                 self.begins[it.number] = items[later].number, items[later].discontinuity - 1
+            elif it is not segments[0]:
+                self.begins.pop(it.number, None)
             was_replaced = True
         self.is_replaced = was_replaced
         self.end = (items[-1].number, items[-1].discontinuity) if items else self.end
@@ -85,6 +87,10 @@ class Viewed:
                 self.begins[it.number] = number + it.number - known.number, discontinuity + it.discontinuity - known.discontinuity
         self.end = self.begins[segments[-1].number]
         return True
+
+    def rise(self, media: int, discontinuity: int) -> None:
+        """A new channel begins with numbers that are greater by `media` and `discontinuity` than those that viewers have."""
+        self.begins = {number: (it[0] + media, it[1] + discontinuity) for number, it in self.begins.items()}
 
     def note(self, lines: Iterable[str], newest: int) -> None:
         """Remembers the EXT-X-DATERANGE `lines` of the list whose newest segment has the media number `newest`."""
@@ -117,12 +123,13 @@ def first_needed(viewed: Viewed, history: list[PackagedSegment], first: int) -> 
 @dataclass
 class Standing:
     """Where a channel stands: the `repairer` with what it accepted, what viewers have (`viewed`), the list `text` that was pushed,
-    and how many lists had each kind of repair (`repairs`)."""
+    how many lists had each kind of repair (`repairs`), and what is known of decision files (`files`, of Folder.kept)."""
 
     repairer: Repairer
     viewed: Viewed
     text: bytes
     repairs: Counter[str]
+    files: dict[str, list[Any]] = field(default_factory=dict)
 
 
 def pack(it: Standing) -> bytes:
@@ -134,7 +141,7 @@ def pack(it: Standing) -> bytes:
     history = history[max(0, min(needed, len(history) - len(last)), len(history) - MOST_KEPT):]
     written = packaged.write(PackagedList(head.version, head.target, segments=history), [])
     return json.dumps({
-        "format": FORMAT, "head": [head.version, head.target, head.kind], "adds": it.repairer.adds, "repairs": it.repairs,
+        "format": FORMAT, "head": [head.version, head.target, head.kind], "adds": it.repairer.adds, "repairs": it.repairs, "files": it.files,
         "text": it.text.decode("utf-8", "replace"), "history": written.decode("utf-8", "replace"), "listed": last[0].number,
         "own": [one.own for one in history], "bare": sorted({key.text for one in history for key in one.keys if key.takes_number()}),
         "begins": [[number, *found] for number, found in it.viewed.begins.items() if number >= history[0].number],
@@ -161,7 +168,8 @@ def unpack(body: bytes, choices: Choices) -> Standing:
         counts = Counter({str(name): int(count) for name, count in said["repairs"].items()})
         if not repairer.last:
             raise ValueError("it has no segment")
-        return Standing(repairer, viewed, said["text"].encode(), counts)
+        files = {str(name): [[int(one) for one in stamp], bool(given), [str(one) for one in late]] for name, (stamp, given, late) in said["files"].items()}
+        return Standing(repairer, viewed, said["text"].encode(), counts, files)
     except (KeyError, TypeError, AttributeError, IndexError, RecursionError, spelling.Unread) as fault:
         raise ValueError(f"{type(fault).__name__}: {fault}") from None
 
@@ -190,9 +198,10 @@ def load(path: Path, choices: Choices) -> Standing | None:
         raise ValueError(fault.strerror) from None
 
 
-def save(path: Path, body: bytes) -> None:
-    """Writes `body` to the file `path`, which is there as a whole or as it was."""
-    aside = path.with_name(f".{path.name}.new")
-    with open(aside, "wb") as it:
-        it.write(body)
-    os.replace(aside, path)
+def repairs_kept(path: Path) -> dict[str, int]:
+    """How many lists had each kind of repair, by the file `path`; none if it isn't there or doesn't read."""
+    try:
+        return {str(name): int(count) for name, count in json.loads(path.read_bytes())["repairs"].items()}
+    except (OSError, ValueError, KeyError, TypeError, AttributeError, RecursionError):
+        return {}
+

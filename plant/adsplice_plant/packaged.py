@@ -49,7 +49,8 @@ class PackagedSegment:
     As the packager has it: its `uri`, its media number `own`, its `duration` in nanoseconds, its `byte_range` (length and offset;
     no offset if nothing says it), the `keys` and the `section` in force, the instant `stated` by its EXT-X-PROGRAM-DATE-TIME (in
     nanoseconds from 1970), how many EXT-X-DISCONTINUITY stand right before it (`discontinuities`), and its other lines (`tags`),
-    of which EXTINF is one; whether it isn't there (`is_gap`), and how many nanoseconds of such segments come before it (`gap`).
+    of which EXTINF is one; whether it isn't there (`is_gap`), and how many such segments come right before it (`gaps`), of how many
+    nanoseconds (`gap`).
 
     As the feed has it: its Media Sequence Number `number`, its Discontinuity Sequence Number `discontinuity`, and the instant
     `begins` at which it begins, if that is known."""
@@ -65,6 +66,7 @@ class PackagedSegment:
     tags: list[str] = field(default_factory=list)
     is_gap: bool = False
     gap: int = 0
+    gaps: int = 0
     number: int = 0
     discontinuity: int = 0
     begins: int | None = None
@@ -77,8 +79,8 @@ class PackagedSegment:
         return tuple(Key(it.format, f"{it.text},IV=0x{self.own:032X}", True) if it.takes_number() else it for it in self.keys)
 
     def title(self) -> str:
-        """Its EXTINF line; none if it has none."""
-        return next((it for it in self.tags if it.startswith(EXTINF)), "")
+        """Its EXTINF line, the last one, which counts; none if it has none."""
+        return next((it for it in reversed(self.tags) if it.startswith(EXTINF)), "")
 
 
 @dataclass(slots=True)
@@ -157,16 +159,26 @@ class Reader:
     def __init__(self) -> None:
         self.found = PackagedList()
         self.next = PackagedSegment("", 0)
+        self.seen: set[str] = set()  # tags of the whole list
         self.keys: Keys = ()
         self.section: InitSection | None = None
 
+    def is_placed(self, name: str) -> bool:
+        """Whether the tag `name` of the whole list is its first of that name; notes if it isn't, or comes too late (RFC 8216, 4.3.3)."""
+        is_late = name.endswith("-SEQUENCE") and bool(self.found.segments or (name == "#EXT-X-DISCONTINUITY-SEQUENCE" and self.next.discontinuities))
+        is_first = name not in self.seen
+        self.seen.add(name)
+        if is_late or not is_first:
+            self.found.others.add(MISPLACED)
+        return is_first
+
     def version(self, line: str, rest: str) -> None:
         """EXT-X-VERSION (RFC 8216, 4.3.1.2)."""
-        self.found.version = decimal_of(rest) if self.found.version is None else self.found.version
+        self.found.version = decimal_of(rest)
 
     def target(self, line: str, rest: str) -> None:
         """EXT-X-TARGETDURATION (4.3.3.1)."""
-        self.found.target = decimal_of(rest) if self.found.target is None else self.found.target
+        self.found.target = decimal_of(rest)
 
     def first(self, line: str, rest: str) -> None:
         """EXT-X-MEDIA-SEQUENCE (4.3.3.2)."""
@@ -252,6 +264,10 @@ class Reader:
         return found
 
 
+WHOLE = {"#EXT-X-VERSION", "#EXT-X-TARGETDURATION", "#EXT-X-MEDIA-SEQUENCE", "#EXT-X-DISCONTINUITY-SEQUENCE", "#EXT-X-PLAYLIST-TYPE", "#EXT-X-ENDLIST"}
+MISPLACED = "misplaced"  # among the `others` of a list: a tag of the whole list that is repeated, or comes too late
+
+
 def nothing(reader: Reader, line: str, rest: str) -> None:
     """A tag that says nothing more."""
 
@@ -277,7 +293,7 @@ def read(lines: Iterable[str]) -> PackagedList:
         name, _, rest = line.partition(":")
         if (tag := TAGS.get(name)) is None:
             reader.next.tags.append(line)
-        else:
+        elif name not in WHOLE or reader.is_placed(name):
             tag(reader, line, rest)
     return reader.end()
 

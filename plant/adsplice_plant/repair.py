@@ -10,6 +10,7 @@ from dataclasses import dataclass, field, replace
 from . import packaged, repairs, spelling
 from .packaged import PackagedList, PackagedSegment
 from .playlist import SECOND
+from .siblings import Siblings
 from .spelling import Kinds, Unread
 from .succession import Place, is_same, lags, place_of
 
@@ -17,6 +18,7 @@ NEWEST_VERSION = 7  # of a playlist that RFC 8216 describes
 TYPES = ("EVENT", "VOD")
 UNTAKEN = {"EXT-X-SKIP", "EXT-X-DEFINE"}  # without what they refer to, a list says something else
 OTHER_LISTS = {"EXT-X-I-FRAMES-ONLY", "EXT-X-STREAM-INF", "EXT-X-MEDIA", "EXT-X-I-FRAME-STREAM-INF", "EXT-X-SESSION-DATA", "EXT-X-SESSION-KEY"}
+NOTED = {"EXT-X-PROGRAM-DATE-TIME": "instants", packaged.MISPLACED: "sequence tags"}  # what the reader noted, and the repair
 MOST_PAST = 1_000  # segments that left the list and are remembered
 
 
@@ -41,7 +43,8 @@ class Head:
 @dataclass
 class Repaired:
     """A list to be pushed: as data (`found`), and as it came, if nothing was wrong (`came`). `kinds` are the repairs with what is told
-    of each. It is none of these if `why` says why nothing is pushed; `waits` if the same list may be taken later."""
+    of each. It is none of these if `why` says why nothing is pushed; `waits` if the same list may be taken later. `steps` are the
+    discontinuities that were added for other renditions; `lead` is the first segment taken from one, and how many are listed."""
 
     found: PackagedList | None = None
     head: Head | None = None
@@ -49,6 +52,8 @@ class Repaired:
     kinds: dict[str, str] = field(default_factory=dict)
     why: str = ""
     waits: bool = False
+    steps: int = 0
+    lead: tuple[int, int] | None = None
 
     def body(self, signals: list[str] | None = None) -> bytes:
         """The text to push. `signals`: the EXT-X-DATERANGE lines that stand in place of its own, if these were translated."""
@@ -59,15 +64,18 @@ class Repaired:
 
 
 class Repairer:
-    """The state of one channel: what was accepted last, and what is waited for. `choices` are a person's."""
+    """The state of one channel: what was accepted last, and what is waited for. `choices` are a person's; `siblings` are the other
+    renditions, if it is one of a programme."""
 
-    def __init__(self, choices: Choices) -> None:
-        self.choices = choices
+    def __init__(self, choices: Choices, siblings: Siblings | None = None) -> None:
+        self.choices, self.siblings = choices, siblings
         self.head: Head | None = None
         self.last: list[PackagedSegment] = []  # of the list that was accepted last
         self.past: list[PackagedSegment] = []  # those that left it, the oldest first
         self.adds = False  # whether the instants of the last list were added
         self.held_since: float | None = None  # when the first list that didn't go on was seen
+        self.owed = 0  # discontinuities that the next new segment has for other renditions
+        self.lead: tuple[int, int] | None = None  # the first segment that was taken from another rendition, and how many are listed with it
 
     # ---- a list
 
@@ -87,37 +95,61 @@ class Repairer:
 
     def follow(self, found: PackagedList, body: bytes, kinds: dict[str, str], now: float, clock: int) -> Repaired:
         """What is to be pushed of the list `found`, whose text `body` had repairs of `kinds`; the rest as in `take`."""
-        if "EXT-X-PROGRAM-DATE-TIME" in found.others:
-            kinds["instants"] = ""
+        kinds |= {kind: "" for name, kind in NOTED.items() if name in found.others}
         counted = (found.discontinuity_sequence, [it.discontinuities for it in found.segments])
         drop_gaps(found, kinds)
         if not found.segments:
             return Repaired(why=repairs.EMPTY)
-        has_instants = not self.adds and any(it.stated is not None for it in found.segments)
+        is_timed = any(it.stated is not None for it in found.segments)
+        is_untimed = not is_timed and self.choices.adds_times and found.kind != "VOD"
         intern(self.last, found.segments)
+        has_instants = is_timed and not self.adds
         place = place_of(self.last, found.segments, has_instants, self.held_since is not None) if self.last else None
-        if self.last and place is None:
-            if lags([*self.past, *self.last], found.segments, has_instants, self.head.target if self.head else 1):
-                return Repaired(why=repairs.LAGS)
-            self.held_since = now if self.held_since is None else self.held_since
-            patience = self.head.target if self.head else 0
-            if now - self.held_since < patience:
-                return Repaired(why=repairs.HELD.format(patience), waits=True)
-            kinds["began again"] = self.begin_again(found)
-        elif place is not None:
-            self.go_on(found, place, kinds)
-        else:
+        if self.last and len({it.section is None for it in (self.last[-1], *found.segments)}) > 1:
+            return Repaired(why=repairs.SECTIONS)
+        lead = self.lead
+        if place is not None:
+            lead = self.go_on(found, place, kinds)
+        elif not self.last:
             self.begin(found)
-        self.set_times(found, kinds, clock, "began again" in kinds)
+        elif (held := self.hold(found, has_instants, now, clock if is_untimed else None)) is not None:
+            return held
+        else:
+            kinds["began again"] = self.begin_again(found, kinds)
+            lead = (self.last[-1].number + 1, len(self.last)) if "other renditions" in kinds else None
+        steps = self.add_steps(found, kinds)
+        self.set_times(found, False)
+        if is_untimed:
+            kinds["times"] = ""
+            self.agree(found.segments)
+            self.add_times(found.segments, clock)
         head = self.set_head(found, kinds)
         self.tell_numbers(found, counted, kinds)
-        return Repaired(found, head, None if kinds else body, kinds)
+        return Repaired(found, head, None if kinds else body, kinds, steps=steps, lead=lead)
+
+    def hold(self, found: PackagedList, has_instants: bool, now: float, clock: int | None) -> Repaired | None:
+        """Why the list `found`, which doesn't go on, isn't taken now; none if it is to be taken as one that began again, and its
+        instants are known then. `clock`: the time of day, if instants are added; the rest as in `take`."""
+        patience = self.head.target if self.head else 0
+        if lags([*self.past, *self.last], found.segments, has_instants, max(1, patience)):
+            return Repaired(why=repairs.LAGS)
+        self.held_since = now if self.held_since is None else self.held_since
+        if now - self.held_since < patience:
+            return Repaired(why=repairs.HELD.format(patience), waits=True)
+        self.set_times(found, True)
+        if clock is not None:
+            self.add_times(found.segments, clock)
+        first = found.segments[0]
+        if self.siblings and now - self.held_since < 2 * patience and self.siblings.is_awaited(first.begins, first.duration):
+            return Repaired(why=repairs.HELD.format(2 * patience), waits=True)
+        return None
 
     def accept(self, repaired: Repaired) -> None:
         """The list `repaired` was pushed and taken: the next one follows it."""
         if (found := repaired.found) is None:
             return
         self.head, self.adds, self.held_since = repaired.head, "times" in repaired.kinds, None
+        self.owed, self.lead = max(0, self.owed - repaired.steps), repaired.lead
         first = found.segments[0].number
         self.past = [it for it in (*self.past, *self.last) if it.number < first][-MOST_PAST:]
         self.last = found.segments
@@ -129,24 +161,42 @@ class Repairer:
 
     # ---- numbers (RFC 8216, 4.3.3.2, 4.3.3.3, 6.2.1, 6.2.2)
 
-    @staticmethod
-    def begin(found: PackagedList) -> None:
-        """The first list has the packager's numbers."""
+    def begin(self, found: PackagedList) -> None:
+        """The first list has the packager's numbers; or those that other renditions have at the instant that it states first."""
         discontinuity = found.discontinuity_sequence
-        for it in found.segments:
+        for place, it in enumerate(found.segments):
             discontinuity += it.discontinuities
-            it.number, it.discontinuity = it.own, discontinuity
+            it.number, it.discontinuity = found.segments[0].own + place, discontinuity
+        self.set_times(found, True)
+        first = found.segments[0]
+        theirs = self.siblings.place_at(first.begins) if self.siblings is not None else None
+        if theirs is not None:
+            media, steps = theirs[0] - first.number, theirs[1] - first.discontinuity
+            for it in found.segments:
+                it.number, it.discontinuity = it.number + media, it.discontinuity + steps
 
-    def begin_again(self, found: PackagedList) -> str:
-        """A list without a segment of the last one goes on after it, with a discontinuity; answers what is told of it."""
+    def begin_again(self, found: PackagedList, kinds: dict[str, str]) -> str:
+        """A list without a segment of the last one goes on after it, with a discontinuity; answers what is told of it. In a programme
+        of several renditions it goes on where these have its instant: what they have shown meanwhile is taken from one of them."""
         last, first = self.last[-1], found.segments[0]
         text = repairs.BEGAN_AGAIN.format(first.own, last.own, last.number + 1)
+        number = self.siblings.number_at(first.begins) if self.siblings else None
+        while self.siblings and number is not None and number <= last.number and len(found.segments) > 1:
+            found.segments = found.segments[1:]
+            first = found.segments[0]
+            number = self.siblings.number_at(first.begins)
         first.discontinuities = max(1, first.discontinuities)
+        if self.siblings and number is not None and number > last.number + 1:
+            if borrowed := self.siblings.borrowed(last.number + 1, number):
+                kinds["other renditions"] = ""
+                borrowed[0].discontinuities = 1
+                found.segments = borrowed + found.segments
         count_on(last, found.segments)
         return text
 
-    def go_on(self, found: PackagedList, place: Place, kinds: dict[str, str]) -> None:
-        """The list `found` goes on at `place`: what was listed stays what it was, and what is new is counted on."""
+    def go_on(self, found: PackagedList, place: Place, kinds: dict[str, str]) -> tuple[int, int] | None:
+        """The list `found` goes on at `place`: what was listed stays what it was, and what is new is counted on. What was taken from
+        another rendition stays listed until the list is as long as it was; answers what of it is to stay (`lead`)."""
         if place.offset < 0:
             kinds["older segments"] = ""
             found.segments = found.segments[-place.offset:]
@@ -157,6 +207,22 @@ class Repairer:
         for it, old in zip(found.segments, kept):
             keep(it, old, kinds)
         count_on(kept[-1] if kept else self.last[-1], found.segments[len(kept):])
+        if self.lead is None or len(found.segments) >= self.lead[1]:
+            return None
+        first, count = self.lead
+        before = [it for it in self.last[:offset] if it.number >= first]
+        found.segments = before[len(found.segments) - count:] + found.segments
+        return self.lead
+
+    def add_steps(self, found: PackagedList, kinds: dict[str, str]) -> int:
+        """Adds the discontinuities that are owed for other renditions to the first new segment of `found`; answers how many."""
+        new = [it for it in found.segments if self.last and it.number > self.last[-1].number]
+        if not self.owed or not new:
+            return 0
+        kinds["other renditions"] = ""
+        new[0].discontinuities += self.owed
+        count_on(next((it for it in (*self.last, *found.segments) if it.number == new[0].number - 1), self.last[-1]), new)
+        return self.owed
 
     def tell_numbers(self, found: PackagedList, counted: tuple[int, list[int]], kinds: dict[str, str]) -> None:
         """Adds to `kinds` in what the numbers of `found` aren't the packager's, whose discontinuities were `counted`."""
@@ -174,9 +240,9 @@ class Repairer:
 
     # ---- instants (4.3.2.6)
 
-    def set_times(self, found: PackagedList, kinds: dict[str, str], clock: int, begins_again: bool) -> None:
+    def set_times(self, found: PackagedList, begins_again: bool) -> None:
         """Gives each new segment of `found` its instant: the stated one, else where the segment before it ends, unless the list
-        `begins_again`; else counted back from the first one that is known; else by this machine's `clock`, at which the last ends."""
+        `begins_again`; else counted back from the first one that is known."""
         segments = found.segments
         ended = None if begins_again else self.end_of(segments[0])
         for it in segments:
@@ -187,11 +253,6 @@ class Repairer:
         for before, it in zip(segments[-2::-1], segments[:0:-1]):
             if before.begins is None and it.begins is not None:
                 before.begins = it.begins - it.gap - before.duration
-        if any(it.stated is not None for it in segments) or not self.choices.adds_times or found.kind == "VOD":
-            return
-        if segments[-1].begins is None:
-            self.add_times(segments, clock)
-        kinds["times"] = ""
 
     def end_of(self, first: PackagedSegment) -> int | None:
         """The instant at which the segment before `first` ended, if that is the last one of the last list and its instant is known."""
@@ -199,8 +260,27 @@ class Repairer:
             return None
         return self.last[-1].begins + self.last[-1].duration
 
+    def agree(self, segments: list[PackagedSegment]) -> None:
+        """Gives the new ones of `segments`, which state no instant, those of the other renditions: a programme has one clock."""
+        newest = self.last[-1].number if self.last else -1
+        ended: int | None = None  # of the segment before, if it has another rendition's instant
+        for it in segments if self.siblings is not None else []:
+            known = self.siblings.begins(it.number) if self.siblings is not None and it.number > newest else None
+            if known is not None:
+                it.begins = known
+            elif ended is not None and not it.discontinuities:
+                it.begins = ended + it.gap
+            is_theirs = known is not None or (ended is not None and not it.discontinuities)
+            ended = it.begins + it.duration if it.begins is not None and is_theirs else None
+        for before, it in zip(segments[-2::-1], segments[:0:-1]):
+            if before.begins is None and it.begins is not None:
+                before.begins = it.begins - it.gap - before.duration
+
     def add_times(self, segments: list[PackagedSegment], clock: int) -> None:
-        """Gives `segments`, of which none has an instant, theirs by the time of day `clock`, and not before the last list's end."""
+        """Gives `segments`, which state no instant, theirs if it isn't known: the last one ends at the time of day `clock`, and the
+        first one doesn't begin before the last list's end."""
+        if segments[-1].begins is not None:
+            return
         begins = clock // 1_000_000 * 1_000_000 - sum(it.duration + it.gap for it in segments)
         if self.last and self.last[-1].begins is not None:
             begins = max(begins, self.last[-1].begins + self.last[-1].duration)
@@ -254,6 +334,7 @@ def keep(it: PackagedSegment, old: PackagedSegment, kinds: dict[str, str]) -> No
     if it.duration != old.duration:
         it.tags = [old.title() if line.startswith(packaged.EXTINF) else line for line in it.tags]
     it.uri, it.byte_range, it.duration, it.keys, it.section = old.uri, old.byte_range, old.duration, old.keys, old.section
+    it.stated = old.stated if it.stated is None else it.stated
     it.own = old.own if any(key.takes_number() for key in old.keys) else it.own
     it.number, it.discontinuity, it.discontinuities, it.begins = old.number, old.discontinuity, old.discontinuities, old.begins
 
@@ -266,16 +347,16 @@ def drop_gaps(found: PackagedList, kinds: dict[str, str]) -> None:
     kinds["gaps"] = ""
     segments: list[PackagedSegment] = []
     tags: list[str] = []
-    length, steps = 0, 0
+    length, steps, count = 0, 0, 0
     for it in found.segments:
         others = [line for line in it.tags if not line.startswith((packaged.EXTINF, "#EXT-X-BITRATE"))]
         if it.is_gap:
-            length, steps, tags = length + it.duration, steps + it.discontinuities, tags + others
+            length, steps, count, tags = length + it.duration, steps + it.discontinuities, count + 1, tags + others
             continue
-        if length:
-            it.gap, it.tags, it.discontinuities = length, tags + it.tags, max(1, steps + it.discontinuities)
+        if count:
+            it.gap, it.gaps, it.tags, it.discontinuities = length, count, tags + it.tags, max(1, steps + it.discontinuities)
         segments.append(it)
-        length, steps, tags = 0, 0, []
+        length, steps, count, tags = 0, 0, 0, []
     found.segments, found.tail_tags = segments, tags + found.tail_tags
 
 

@@ -26,6 +26,7 @@ KINDS = {
     "older segments": ("6.2.2", "segments that had left the list came back; they stay away"),
     "queries": ("6.2.1", "a segment's URI changes in its query; it keeps the first one"),
     "keys": ("5.2", "a key without IV has the packager's number as IV, which is stated"),
+    "other renditions": ("6.2.4", "a rendition that was away takes segments or a discontinuity of the others, so that equal instants have equal numbers"),
     "times": ("4.3.2.6", "no segment states EXT-X-PROGRAM-DATE-TIME: it is added by this machine's clock (times = no leaves it out)"),
     "gaps": ("6.2.1", "a segment of EXT-X-GAP isn't there, and is left out with a discontinuity after it"),
 }
@@ -34,6 +35,8 @@ TOLD_EACH = ("long segment", "began again")  # each time that it is another case
 HELD = "the list has no segment of the last one; it is taken if it stays so for {} s"
 BEGAN_AGAIN = "the list has no segment of the last one (media numbers from {} on, after {}): goes on at {} with one discontinuity"
 LAGS = "the list is older than the last one, and is passed over"
+SECTIONS = ("initialisation sections (EXT-X-MAP) came or went, which adsplice takes in a new channel alone: it isn't given this list "
+            "(a person makes a new channel by a DELETE of this one)")
 EMPTY = "the list has no segment yet; waits for one"
 NEEDS = "{} is in the list, which doesn't say all without what came before: it isn't given to adsplice (have the packager leave it out)"
 

@@ -4,14 +4,14 @@ import configparser
 import json
 from collections import Counter
 from collections.abc import Mapping
-from dataclasses import dataclass, replace
+from dataclasses import dataclass, field, replace
 from pathlib import Path
 
 from . import splice, words
 from .words import Fault
 
 NAMES = ("origin", "at", "base", "tolerance", "decisions", "fallback", "keep", "unended", "renditions", "repair", "target", "endless", "times",
-         "signals", "nearest", "ask", "hold", "redirects", "line")
+         "signals", "nearest", "ask", "hold", "master", "viewers", "redirects", "line")
 PLACE = "{}"  # of a rendition's name in the texts of a ladder's section
 LINE = 16_384  # bytes of a list's line: a key may be a data URI of some thousands
 FOLDER = "folder"  # in place of a URL: who decides watches the folder of decisions
@@ -26,8 +26,11 @@ class Settings:
     (that of the first list, if none), whether the channel is `endless`, and whether `times` are added if none are stated. Of its
     signals: whether they are translated (`signals`), the segmentation `types` that begin a break if some are named, and whether a
     start is put on the `nearest` segment; where to `ask` for a break's decision (a URL, FOLDER, or nowhere), and how many seconds a
-    list may wait for it (`hold`). Of what its origin may do: whether `redirects` to other hosts are followed, and how many bytes a
-    `line` has at most. `idle` has a sentence for each setting that has no effect beside the others."""
+    list may wait for it (`hold`). A rendition of a master playlist has the type of its `group`, if it is of one. A programme whose
+    origin is a master playlist has the file of the one for viewers (`master`), the address at which these read channels (`viewers`;
+    their own host, if none), the `names` of its renditions, if a person gave them, and the `texts` of its section. Of what its
+    origin may do: whether `redirects` to other hosts are followed, and how many bytes a `line` has at most. `idle` has a sentence for each
+    setting that has no effect beside the others."""
 
     name: str
     origin: str
@@ -51,6 +54,11 @@ class Settings:
     redirects: bool = False
     line: int = LINE
     idle: tuple[str, ...] = ()
+    group: str = ""
+    master: Path | None = None
+    viewers: str = ""
+    names: list[str] = field(default_factory=list)
+    texts: Mapping[str, str | None] = field(default_factory=dict)
 
     def rendition(self) -> str:
         """The rendition's name; none for a channel by itself."""
@@ -70,18 +78,42 @@ def ladder_of(name: str, said: Mapping[str, str | None]) -> list[Settings]:
     """The settings of the channel `name` from texts by the names of NAMES; those of a channel for each of the programme's
     renditions if `renditions` names some, in whose texts PLACE stands for the rendition's name. Raises Fault."""
     renditions = (said.get("renditions") or "").split()
+    if said.get("master"):
+        return [programme_of(name, said, renditions)]
     if not renditions:
         return [settings_of(name, said)]
     for it in ("origin", "decisions"):
         if said.get(it) and PLACE not in (said[it] or ""):
             raise Fault(f"channel {name}: {it} needs {PLACE} where a rendition's name is to stand, for each has its own")
-    if len(set(renditions)) < len(renditions) or any("-" in it for it in renditions):
-        raise Fault(f"channel {name}: each rendition has a name of its own without '-': {' '.join(renditions)}")
+    check_renditions(name, renditions)
     found = []
     for rendition in renditions:
         texts = {key: value.replace(PLACE, rendition) if value else value for key, value in said.items()}
         found.append(replace(settings_of(f"{name}-{rendition}", texts), programme=name))
     return found
+
+
+def check_renditions(name: str, renditions: list[str]) -> None:
+    """Raises Fault if the names `renditions` of the programme `name` aren't of their own, or have a hyphen."""
+    if len(set(renditions)) < len(renditions) or any("-" in it for it in renditions):
+        raise Fault(f"channel {name}: each rendition has a name of its own without '-': {' '.join(renditions)}")
+
+
+def programme_of(name: str, said: Mapping[str, str | None], renditions: list[str]) -> Settings:
+    """The settings of the programme `name` whose origin is a master playlist, from texts by the names of NAMES; `renditions` are the
+    names of its channels, if they are given. Raises Fault."""
+    check_renditions(name, renditions)
+    if said.get("decisions") and PLACE not in (said["decisions"] or ""):
+        raise Fault(f"channel {name}: decisions needs {PLACE} where a rendition's name is to stand, for each has its own")
+    master, viewers = Path(said["master"] or ""), said.get("viewers") or ""
+    if not master.parent.is_dir():
+        raise Fault(f"channel {name}: master: there is no folder {master.parent}")
+    try:
+        viewers = words.web_address(viewers) if viewers else ""
+    except argparse.ArgumentTypeError as fault:
+        raise Fault(f"channel {name}: viewers: {fault}") from None
+    plain = {key: None if key in ("decisions", "fallback", "ask") else value for key, value in said.items()}
+    return replace(settings_of(name, plain), master=master, viewers=viewers, names=renditions, texts=dict(said))
 
 
 def settings_of(name: str, said: Mapping[str, str | None]) -> Settings:

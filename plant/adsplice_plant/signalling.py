@@ -7,13 +7,14 @@ from collections.abc import Callable
 from pathlib import Path
 
 from . import playlist
-from .asking import Asker, write_aside
+from .asking import Asker
 from .breaks import TOLERANCE
 from .decisions import Folder
 from .packaged import DATE_RANGE, PackagedList
 from .settings import Settings
 from .translator import Translator
 from .web import Client
+from .whole_files import write_aside
 from .words import now_text
 
 Say = Callable[[str], None]

@@ -10,6 +10,7 @@ from .playlist import SECOND
 from .splice import Kind, Message, Unread
 
 LONGEST = 86_400 * SECOND  # of a break: a longer duration is no duration
+LONGEST_NAME = 60  # letters of a tag's name that is told
 SPLICES = ("SCTE35-CMD", "SCTE35-OUT", "SCTE35-IN")  # attributes of a date range (RFC 8216, 4.3.2.7.1)
 # The tags of a segment by which a packager signals, each with the name of its style.
 CUES = {
@@ -43,13 +44,14 @@ class Read:
 @dataclass
 class Said:
     """What the tags before one segment say together: the messages of their sections, whether a break begins (`is_out`, with the
-    duration `out`) or ends (`is_in`), and how long it has lasted (`elapsed`) if it goes on."""
+    duration `out`) or ends (`is_in`), and how long it has lasted (`elapsed`) if it goes on, with what began it (`within`)."""
 
     messages: list[Message] = field(default_factory=list)
     is_out: bool = False
     is_in: bool = False
     out: int | None = None
     elapsed: int | None = None
+    within: Message | None = None
     event: int = 0
     upid: str = ""
 
@@ -153,6 +155,11 @@ class Cues:
         alone = said.get("", "").split("/")
         self.said.elapsed = duration_of(said.get("ELAPSEDTIME", said.get("ELAPSED", said.get("TIMEFROMSIGNAL", alone[0])))) or 0
         self.said.out = duration_of(said.get("DURATION", alone[1] if len(alone) == 2 else ""))
+        try:
+            messages = splice.read(said.get("SCTE35", said.get("CUE", ""))).messages
+        except Unread:  # (it is told where the break begins)
+            messages = [Message(Kind.BEGIN, None, event_of(said.get("ID", "")))]
+        self.said.within = next((it for it in messages if it.kind == Kind.BEGIN), None)
 
     def scte35(self, tag: str, said: dict[str, str]) -> None:
         """EXT-X-SCTE35: a section, the type of its segmentation, and whether a break begins (CUE-OUT=YES), goes on (CONT) or ends
@@ -192,7 +199,7 @@ class Cues:
             begins = next((one for one in it.messages if one.kind == Kind.BEGIN), Message(Kind.BEGIN, None, it.event))
             found.append(Signal(replace(begins, upid=begins.upid or it.upid), it.out, is_cue=True))
         elif it.elapsed is not None and not it.is_in:
-            found.append(Signal(Message(Kind.BEGIN, None, 0), it.out, is_cue=True, elapsed=it.elapsed))
+            found.append(Signal(it.within or Message(Kind.BEGIN, None, 0), it.out, is_cue=True, elapsed=it.elapsed))
         elif not it.is_in:
             found += [Signal(replace(one, upid=one.upid or it.upid)) for one in it.messages if one.kind == Kind.BEGIN]
         found += [Signal(one) for one in it.messages if one.kind == Kind.OTHER and not (it.is_out or it.is_in)]
@@ -235,7 +242,7 @@ def style_of(line: str) -> str:
     if name == "#EXT-X-DATERANGE":
         said = packaged.attributes_of(line.partition(":")[2])
         return next((f"EXT-X-DATERANGE with {it}" for it in SPLICES if it in said), "")
-    if name.startswith("#EXT-") and set(name[5:].split("-")) & WORDS:
+    if name.startswith("#EXT-") and len(name) <= LONGEST_NAME and name.isascii() and name.isprintable() and set(name[5:].split("-")) & WORDS:
         return name[1:]
     return ""
 

@@ -46,8 +46,10 @@ def path_of(it: PackagedSegment) -> str:
 
 
 def is_in_time(one: PackagedSegment, other: PackagedSegment) -> bool:
-    """Whether the instant that `one` states is within a second of the one at which `other` began; so it is if either is none."""
-    return one.stated is None or other.begins is None or abs(one.stated - other.begins) < SECOND
+    """Whether the instant that `one` states is within a second of that of `other`, which was listed before: of the one that it
+    stated last, or else began at. So it is if either is none."""
+    begins = other.begins if other.stated is None else other.stated
+    return one.stated is None or begins is None or abs(one.stated - begins) < SECOND
 
 
 def overlap(offset: int, last: Segments, new: Segments) -> range:
@@ -68,23 +70,31 @@ def in_time(way: Way, has_instants: bool) -> Way:
 def place_of(last: Segments, new: Segments, has_instants: bool, is_held: bool) -> Place | None:
     """Where the list of segments `new` goes on after that of `last`; none if it doesn't. `has_instants`: the packager states
     instants. `is_held`: the list before wasn't taken, since it didn't go on; then one whose instants are others doesn't either."""
-    offset = new[0].own - last[0].own
-    is_near = -len(new) < offset <= len(last)
+    offset = offset_by_numbers(last, new)
     exact = in_time(is_same, has_instants)
-    if is_near and goes_on(offset, last, new, exact):
+    if offset is not None and goes_on(offset, last, new, exact):
         return Place(offset, "numbers")
     places = [len(last) - 1 - it for it in range(len(new) - 1, -1, -1) if exact(new[it], last[-1])][:MOST_PLACES]
     for it in places:
         if goes_on(it, last, new, exact):
             return Place(it, "segments")
-    if is_near and not is_held and overlap(offset, last, new) and goes_on(offset, last, new, is_same):
+    if offset is not None and not is_held and len(overlap(offset, last, new)) > 1 and goes_on(offset, last, new, is_same):
         return Place(offset, "numbers")  # (a packager that set its clock)
-    return place_by_paths(last, new, has_instants, offset if is_near else None) or place_by_newest(last, new, places)
+    return place_by_paths(last, new, has_instants, offset, is_held) or place_by_newest(last, new, places)
 
 
-def place_by_paths(last: Segments, new: Segments, has_instants: bool, offset: int | None) -> Place | None:
+def offset_by_numbers(last: Segments, new: Segments) -> int | None:
+    """Where `new` goes on after `last` by the packager's numbers; none if these leave a hole, or have nothing in common."""
+    if new[0].own - new[0].gaps <= last[-1].own + 1 <= new[0].own:
+        return len(last)
+    if new[0].own >= last[0].own:
+        return next((place for place, it in enumerate(last) if it.own == new[0].own), None)
+    return next((-place for place, it in enumerate(new) if it.own == last[0].own), None)
+
+
+def place_by_paths(last: Segments, new: Segments, has_instants: bool, offset: int | None, is_held: bool) -> Place | None:
     """Where `new` goes on after `last` if the queries of URIs don't count, or the newest segment of `last` was listed before it was
-    whole. `offset`: where its numbers say, if they say a place."""
+    whole. `offset`: where its numbers say, if they say a place; the rest as in `place_of`."""
     alike = in_time(is_alike, has_instants)
     if offset is not None and goes_on(offset, last[:-1], new, in_time(is_same, has_instants)) and len(new) + offset >= len(last):
         pair = new[len(last) - 1 - offset] if 0 <= len(last) - 1 - offset < len(new) else None
@@ -92,8 +102,9 @@ def place_by_paths(last: Segments, new: Segments, has_instants: bool, offset: in
             return Place(offset, "newest")
     if not any("?" in it.uri for it in new) or len({(path_of(it), it.byte_range) for it in new}) < len(new):
         return None
-    places = [] if offset is None else [offset]
-    places += [len(last) - 1 - it for it in range(len(new) - 1, -1, -1) if alike(new[it], last[-1])][:MOST_PLACES]
+    if offset is not None and overlap(offset, last, new) and goes_on(offset, last, new, alike if is_held else is_alike):
+        return Place(offset, "queries")
+    places = [len(last) - 1 - it for it in range(len(new) - 1, -1, -1) if alike(new[it], last[-1])][:MOST_PLACES]
     return next((Place(it, "queries") for it in places if overlap(it, last, new) and goes_on(it, last, new, alike)), None)
 
 
@@ -111,7 +122,7 @@ def lags(history: Segments, new: Segments, has_instants: bool, target: int) -> b
     """Whether `new` is an older list: each of its segments is in `history`, the segments that were listed, in order, and its last
     one isn't the newest. Without instants it may also be of a packager that began again with the same URIs: then it lags if it ends
     at most LAG seconds, or LAG_TARGETS target durations (`target`, in seconds), earlier."""
-    same = in_time(is_same, has_instants)
+    same = in_time(is_alike if any("?" in it.uri for it in new) else is_same, has_instants)
     places = [it for it in range(len(history) - 2, -1, -1) if same(new[-1], history[it])][:MOST_PLACES]
     for end in places:
         count = min(len(new), end + 1)

@@ -91,7 +91,7 @@ class Translator:
         cancels = [it for it in placed if it.signal.message.kind == Kind.CANCEL]
         for it in cancels:
             self.breaks.cancel(it, list(self.breaks.known))
-        for it in sorted(placed, key=Placed.key):
+        for it in sorted(placed, key=lambda one: one.key(line)):
             if it.signal.message.kind == Kind.OTHER:
                 self.breaks.ignore(it, "is of no break")
             elif it.signal.message.kind == Kind.END:
@@ -180,7 +180,8 @@ class Translator:
             return False
         earliest = line.begins[0] - TOLERANCE
         begun = {name for name, it in said.items() if is_leaving(it) and (packaged.instant_of(it["START-DATE"]) or 0) >= earliest}
-        return begun <= {it.id for it in listed} and all(it.id in said and is_leaving(said[it.id]) and is_same(it, said[it.id], self.tolerance) for it in listed)
+        is_known = begun <= {it.id for it in listed} and all(it.id in said for it in listed)
+        return is_known and all(is_leaving(said[it.id]) and is_same(it, said[it.id], self.tolerance) for it in listed)
 
     def written(self, one: Break) -> str:
         """The EXT-X-DATERANGE of the break `one`."""

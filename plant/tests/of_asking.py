@@ -12,6 +12,7 @@ from styles import named
 from tools import FALLBACK, PLANT, FakeController, FakeServer, Room, decided, free_port, get, instant, until
 
 sys.path.insert(0, PLANT)
+from adsplice_plant import journal  # noqa: E402
 NEEDS = ("httpx",)
 SECOND = 10**9
 STYLE = named("dr-time-signal-34")
@@ -92,7 +93,7 @@ def listed(text):
 
 def test_a_break_is_asked_for_once_and_its_list_waits_for_the_answer(room):
     server = room.server(Decider(pause=0.2))
-    it = Asking(room, server.url)
+    it = Asking(room, server.url, hold=0.9)
     it.give(11)
     assert not server.questions
     assert 0.2 <= it.give(12)
@@ -112,7 +113,6 @@ def test_a_break_that_was_decided_before_is_not_asked_for(room):
     server = room.server(Decider())
     room.write("any.json", decided(("1001", 5)))
     it = Asking(room, server.url)
-    it.signalling.asker.folders[""].look()
     it.give(12)
     assert not server.questions and not it.lines()
 
@@ -137,7 +137,7 @@ def test_an_announced_break_holds_no_list(room):
     style = named("dr-announced")
     assert it.give(9, style=style) < 0.5 and until(lambda: server.questions, 2)
     assert it.give(10, style=style) < 0.5
-    it.sees("ask/1001 200 Late: answered")
+    it.sees("ask/1001 200 -: answered after 1.")
 
 
 def test_what_a_server_may_do_wrong_is_one_line_each(room):
@@ -263,6 +263,7 @@ class Fed:
         from adsplice_plant.channel import Channel
         it = modules()
         self.room, self.style, self.lines, self.path = room, style, [], Path(room.path) / "index.m3u8"
+        self.dropped = ""  # what the tags begin with that the packager doesn't write
         settings = {"decisions": Path(room.path) / "decisions", "keep": Path(room.path) / "kept", **settings}
         for folder in (settings["decisions"], settings["keep"]):
             folder.mkdir(exist_ok=True)
@@ -272,7 +273,8 @@ class Fed:
 
     def turn(self, newest):
         """The packager's list goes up to this segment, and the feed has a turn; answers the seconds that it took."""
-        self.room.write("index.m3u8", self.style.listed(newest))
+        lines = self.style.listed(newest).split("\n")
+        self.room.write("index.m3u8", "\n".join(it for it in lines if not self.dropped or not it.startswith(self.dropped)))
         begun = time.monotonic()
         self.channel.turn()
         return time.monotonic() - begun
@@ -332,6 +334,17 @@ def test_a_decision_answered_in_time_fills_its_own_break(room):
 
 
 @needs("httpx", "program")
+def test_lists_without_times_are_filled_by_the_times_that_the_feed_adds(room):
+    server, port = room.server(Decider()), free_port()
+    room.adsplice(port)
+    fed = Fed(room, f"http://127.0.0.1:{port}", named("cue-elemental"), ask=server.url)
+    fed.dropped = "#EXT-X-PROGRAM-DATE-TIME"
+    for newest in range(9, 20):
+        fed.turn(newest)
+    assert shown_by(f"http://127.0.0.1:{port}/channels/news") == [*(f"cue-12-{n}.ts" for n in range(5)), "s17.ts", "s18.ts", "s19.ts"]
+
+
+@needs("httpx", "program")
 def test_a_feed_started_again_goes_on_with_the_same_breaks(room):
     server, port = room.server(Decider()), free_port()
     room.adsplice(port)
@@ -339,7 +352,7 @@ def test_a_feed_started_again_goes_on_with_the_same_breaks(room):
     for newest in range(9, 23):
         fed.channel = fed.begin()
         fed.turn(newest)
-    seen = [json.loads(line)["body"] for line in open(f"{room.path}/kept/news.events", encoding="utf-8") if '"what": "origin"' in line]
+    seen = [it.text() for it in journal.events(Path(f"{room.path}/kept/news.events")) if it.what == "origin"]
     ids = {name for text in seen for name in re.findall('DATERANGE:ID="([^"]*)"', text)}
     assert ids == {"cue-12"} and len(server.questions) == 1 and sum("Begins" in it for it in fed.lines) == 1, (ids, fed.lines)
     assert get(f"http://127.0.0.1:{port}/channels/news/why")[1] == "cue-12\tFilled\n"
@@ -363,14 +376,14 @@ def test_an_adsplice_started_again_fills_the_break_as_it_was(room):
 
 
 @needs("httpx", "program")
-def test_a_late_answer_is_given_at_once(room):
+def test_an_answer_is_given_as_soon_as_it_comes(room):
     server, port = room.server(Decider(pause=0.9)), free_port()
     room.adsplice(port)
     fed = Fed(room, f"http://127.0.0.1:{port}", named("dr-announced-time-signal"), ask=server.url, hold=0.1)
     for newest in (8, 9):
         fed.turn(newest)
     until(lambda: any("decisions/1001.json 204" in it for it in fed.lines), 3, "the answer")
-    assert any("ask/1001 200 Late: answered after 0.9" in it or "ask/1001 200 Late: answered after 1.0" in it for it in fed.lines), fed.lines
+    assert any("ask/1001 200 -: answered after" in it for it in fed.lines), fed.lines
     for newest in range(10, 19):
         fed.turn(newest)
     assert "1001-4.ts" in shown_by(f"http://127.0.0.1:{port}/channels/news")
@@ -405,3 +418,28 @@ def test_wrong_settings_are_told(room):
             assert owed in str(fault), (more, str(fault))
     found = settings_of("news", said | {"signals": "0x34, 54", "hold": "0", "ask": "folder", "decisions": room.path, "nearest": "no"})
     assert (found.types, found.hold, found.ask, found.nearest, found.signals) == (frozenset({0x34, 0x36}), 0.0, "folder", False, True)
+
+
+@needs("httpx", "program")
+def test_a_ladder_asks_once_and_fills_all_renditions_alike(room):
+    server, port = room.server(Decider(lambda it: (200, decided((it["id"], 5)).replace("ads.example/", "ads.example/{}/")), pause=0.1)), free_port()
+    room.adsplice(port)
+    style = named("cue-enhanced-time-signal")
+
+    def push(newest):
+        for name in "12":
+            room.write(f"{name}.m3u8", style.listed(newest))
+
+    push(9)
+    feed = room.feed("--channel", "news", "--renditions", "1 2", "--origin", f"{room.path}/{{}}.m3u8", "--at", f"http://127.0.0.1:{port}", "--ask", server.url,
+                     "--base", "http://origin.example/{}/index.m3u8", "--decisions", f"{room.path}/d{{}}", "--keep", f"{room.path}/kept")
+    for name in "12":
+        feed.sees(f" news-{name} adsplice 204 -: the list is taken")
+    at = [f"http://127.0.0.1:{port}/channels/news-{name}" for name in "12"]
+    for newest in range(10, 20):
+        push(newest)
+        until(lambda newest=newest: all(shown_by(it)[-1:] == [f"s{newest}.ts"] if newest < 12 or newest > 16 else f"1001-12-{newest - 12}.ts" in shown_by(it) for it in at), 10)
+    assert len(server.questions) == 1 and server.questions[0]["channel"] == "news" and server.questions[0]["renditions"] == ["1", "2"]
+    lists = [get(f"{it}/live.m3u8")[1] for it in at]
+    assert lists[0].replace("/1/", "/2/") == lists[1] and "ads.example/1/1001-12-4.ts" in lists[0]
+    assert sum("breaks/1001-12 - Begins" in it for it in feed.lines) == 1 and not any("Apart" in it for it in feed.lines), feed.lines

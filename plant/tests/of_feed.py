@@ -3,6 +3,7 @@ import json
 import os
 import signal
 import time
+import urllib.request
 
 from tools import FALLBACK, FakeController, FakeOrigin, decided, free_port, get, listed, until
 
@@ -239,6 +240,47 @@ def test_file_of_which_one_break_has_begun_decides_the_rest(room):
     assert json.loads(controller.puts("decisions")[-1])["breaks"][0]["id"] == "b2"
 
 
+def test_decision_that_came_too_late_stays_refused(room):
+    path = f"{room.path}/decisions"
+    os.makedirs(path)
+    origin, controller, feed = started(room, listed(0, 5, [("b1", 4, 4)]), "--decisions", path)
+    controller.refusals[("PUT", "decisions")] = [(409, "J9 Used\n"), (409, "J9 Used\n")]
+    room.write("decisions/two.json", decided(("b1", 2), ("b2", 1)))
+    after = feed.sees("news decisions/two.json 409 J9 Used: b1 has begun, and keeps its pod; decides b2")
+    controller.channels.clear()
+    origin.text = listed(1, 6, [("b1", 4, 4)])
+    feed.sees("news adsplice 204 -: the list is taken", 20, after)
+    assert [it["id"] for it in json.loads(controller.puts("decisions")[-1])["breaks"]] == ["b2"], controller.puts("decisions")[-1]
+
+
+def test_decisions_of_breaks_that_are_not_listed_wait_for_room(room):
+    path = f"{room.path}/decisions"
+    os.makedirs(path)
+    for it in range(210):
+        room.write(f"decisions/b{it:03}.json", decided((f"b{it:03}", 1)))
+    origin, controller, feed = started(room, listed(0, 5), "--decisions", path)
+    until(lambda: len(controller.puts("decisions")) == 200, 10, "200 decisions")
+    time.sleep(1.2)
+    assert len(controller.puts("decisions")) == 200
+    origin.text = listed(1, 6, [("b209", 40, 4)])
+    until(lambda: len(controller.puts("decisions")) == 201, 5, "the decision of the break that is listed")
+    assert b"b209-0" in controller.puts("decisions")[-1]
+
+
+def test_feed_that_was_started_again_gives_no_decision_twice(room):
+    path = f"{room.path}/decisions"
+    os.makedirs(path)
+    words = ("--decisions", path, "--keep", f"{room.path}/kept")
+    origin, controller, feed = started(room, listed(0, 5, [("b1", 14, 4)]), *words)
+    room.write("decisions/one.json", decided(("b1", 2)))
+    feed.sees("news decisions/one.json 204 -: decides b1")
+    origin.text = listed(1, 6, [("b1", 14, 4)])
+    until(lambda: len(controller.puts("origin")) == 2, 5, "the second list")
+    feed.end(signal.SIGKILL)
+    room.feed("--channel", "news", "--origin", origin.url, "--at", controller.url, *words).sees("news adsplice 204 -: the list is taken")
+    assert len(controller.puts("decisions")) == 1 and controller.puts("origin")[-1] == origin.text.encode()
+
+
 def test_signals_end_it_at_once_with_status_0(room):
     for number in (signal.SIGTERM, signal.SIGINT, signal.SIGHUP):
         origin, controller, feed = started(room, listed(0, 5))
@@ -309,3 +351,40 @@ def test_goes_on_after_numbers_began_again(room):
     after = until(lambda: (lambda it: it if "/t5.ts" in it else None)(get(f"http://127.0.0.1:{port}/channels/news/live.m3u8")[1]), 6, "the new list")
     assert "#EXT-X-MEDIA-SEQUENCE:56\n" in after and after.count("#EXT-X-DISCONTINUITY\n") == 1, after
     assert not any(" 409 " in line for line in feed.lines), feed.lines
+
+
+@needs(*PROGRAM)
+def test_goes_on_without_what_it_kept(room):
+    port = free_port()
+    room.adsplice(port)
+    playlist = room.write("index.m3u8", listed(50, 55))
+    words = ("--channel", "news", "--origin", playlist, "--base", "http://origin.example/ch/index.m3u8", "--at", f"http://127.0.0.1:{port}")
+    feed = room.feed(*words)
+    feed.sees("204 -: the list is taken")
+    room.write("index.m3u8", listed(0, 5, name="t"))
+    feed.sees("goes on at 56 with one discontinuity")
+    feed.end(signal.SIGKILL)
+    room.write("index.m3u8", listed(1, 6, name="t"))
+    feed = room.feed(*words)
+    feed.sees("news adsplice 409 N5 Back")
+    room.write("index.m3u8", listed(2, 7, name="t"))
+    feed.sees("news numbers - Found: adsplice holds other numbers than the feed knew: goes on at 62 with one discontinuity")
+    room.write("index.m3u8", listed(3, 8, name="t"))
+    after = until(lambda: (lambda it: it if "/t8.ts" in it else None)(get(f"http://127.0.0.1:{port}/channels/news/live.m3u8")[1]), 6, "the next list")
+    assert "#EXT-X-MEDIA-SEQUENCE:63\n" in after, after
+
+
+@needs(*PROGRAM)
+def test_packager_that_turns_to_other_sections_needs_a_new_channel(room):
+    port = free_port()
+    room.adsplice(port)
+    playlist, at = room.write("index.m3u8", listed(50, 55)), f"http://127.0.0.1:{port}/channels/news"
+    feed = room.feed("--channel", "news", "--origin", playlist, "--base", "http://origin.example/ch/index.m3u8", "--at", f"http://127.0.0.1:{port}")
+    feed.sees("204 -: the list is taken")
+    text = listed(0, 5, name="t").replace("#EXTINF", '#EXT-X-MAP:URI="i.mp4"\n#EXTINF', 1)
+    room.write("index.m3u8", text)
+    feed.sees("news list - Untaken: initialisation sections .EXT-X-MAP. came or went, .*a person makes a new channel by a DELETE")
+    urllib.request.urlopen(urllib.request.Request(at, method="DELETE")).close()
+    room.write("index.m3u8", text.replace("SEQUENCE:0", "SEQUENCE:1").replace("#EXTINF:2,\nt0.ts\n", "") + "#EXTINF:2,\nt6.ts\n")
+    after = until(lambda: (lambda it: it if "/t6.ts" in it else None)(get(f"{at}/live.m3u8")[1]), 6, "the new list")
+    assert "#EXT-X-MEDIA-SEQUENCE:56\n" in after and after.count("#EXT-X-DISCONTINUITY\n") == 1, after

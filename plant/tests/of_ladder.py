@@ -1,6 +1,7 @@
 """Tests of a ladder in adsplice-feed: decisions for all renditions or for none, channels that are made anew together, numbers."""
 import json
 import os
+import re
 import urllib.request
 
 from tools import FALLBACK, FakeController, FakeOrigin, decided, free_port, get, listed, until
@@ -120,6 +121,20 @@ def test_ladder_pods_of_unequal_cuts_are_given_to_none(room):
     assert not controller.puts("decisions")
 
 
+def test_ladder_decision_of_which_one_way_is_cut_is_given_once_all_answer(room):
+    controller = room.server(FakeController())
+    ladder = Ladder(room, controller.url, listed(0, 5, [("b1", 60, 4)]))
+    ladder.taken()
+    controller.refusals[("PUT", "decisions")] = [(204, ""), (502, ""), (204, "")] * 30
+    ladder.decide("one", decided(("b1", 2)))
+    after = ladder.feed.sees("news decisions/one.json - Away: news-2 doesn't answer; no rendition is given it until all answer")
+    controller.refusals.clear()
+    ladder.push(listed(1, 6, [("b1", 60, 4)]))
+    ladder.feed.sees("news decisions/one.json - -: decides b1 in all renditions", 20, after)
+    assert all(asked(controller, it, "decisions")[-1] == decided(("b1", 2)) for it in NAMES)
+    assert '{"withdraw": "b1"}' in asked(controller, "1", "decisions") and '{"withdraw": "b1"}' in asked(controller, "3", "decisions")
+
+
 def test_ladder_fallback_that_one_refuses_is_none_in_all(room):
     controller = room.server(FakeController())
     controller.refusals[("PUT", "decisions")] = [(204, ""), (422, "J3 BadUri ad 0 segment 0\n"), (204, "")]
@@ -217,4 +232,66 @@ def test_ladder_tells_where_numbers_come_apart(room):
     by_hand = urllib.request.Request(f"http://127.0.0.1:{port}/channels/news-1/decisions", decided(("b1", 2)).encode(), method="PUT")
     urllib.request.urlopen(by_hand).close()  # (a decision that somebody gives to one rendition alone)
     ladder.push(listed(0, 7, breaks))
-    ladder.feed.sees("news ladder - Apart: the renditions' numbers come apart: news-1 ends with media number 7 and discontinuity number 2, and the others with 7 and 0")
+    after = ladder.feed.sees("news ladder - Apart: the renditions' numbers come apart: news-1 ends with media number 7 and discontinuity number 2, and the others with 7 and 0")
+    for newest in range(8, 18):
+        ladder.push(listed(newest - 7, newest, breaks if newest < 12 else ()))
+        until(lambda newest=newest: all(f"s{newest}.ts" in get(f"http://127.0.0.1:{port}/channels/news-{name}/live.m3u8")[1] for name in NAMES), 10, "the lists")
+    ladder.feed.sees("news ladder - -: the renditions' numbers are equal", 10, after)
+
+
+def test_ladder_whose_packagers_count_from_other_numbers_has_equal_ones(room):
+    controller = room.server(FakeController())
+    text = listed(10, 15)
+    room.write("1/index.m3u8", text)
+    for name in NAMES:
+        room.write(f"{name}/index.m3u8", text.replace("SEQUENCE:10", "SEQUENCE:700") if name == "3" else text)
+    feed = room.feed("--channel", "news", "--renditions", " ".join(NAMES), "--origin", f"{room.path}/{{}}/index.m3u8", "--at", controller.url,
+                     "--base", "http://origin.example/{}/index.m3u8")
+    for name in NAMES:
+        feed.sees(f"news-{name} adsplice 204 -: the list is taken")
+    firsts = [re.search(r"MEDIA-SEQUENCE:(\d+)", asked(controller, name, "origin")[0])[1] for name in NAMES]
+    assert len(set(firsts)) == 1, firsts
+
+
+@needs("httpx", "program")
+def test_ladder_has_equal_numbers_after_one_packager_was_away(room):
+    port = free_port()
+    room.adsplice(port)
+    ladder = Ladder(room, f"http://127.0.0.1:{port}", listed(20, 25))
+    ladder.taken()
+
+    def shown(name):
+        """Where each segment stands in the written list of a rendition: its place in time with its media number."""
+        text = get(f"http://127.0.0.1:{port}/channels/news-{name}/live.m3u8")[1]
+        first = int(re.search(r"MEDIA-SEQUENCE:(\d+)", text)[1])
+        return {int(it): first + place for place, it in enumerate(re.findall(r"^http.*/[st](\d+)\.ts$", text, re.M))}
+    for newest in range(26, 29):
+        ladder.push(listed(newest - 5, newest), ("1", "3"))
+        until(lambda newest=newest: newest in shown("1") and newest in shown("3"), 10, "the others' lists")
+    away = listed(28, 28, name="t").replace("SEQUENCE:28", "SEQUENCE:0")
+    ladder.push(away, ("2",))
+    until(lambda: 28 in shown("2"), 15, "the list of the one that was away")
+    assert shown("2") == {26: 26, 27: 27, 28: 28}, shown("2")
+    text = get(f"http://127.0.0.1:{port}/channels/news-2/live.m3u8")[1]
+    assert "http://origin.example/1/s26.ts" in text and text.count("#EXT-X-DISCONTINUITY\n") == 2, text
+
+
+@needs("httpx", "program")
+def test_ladder_whose_channels_are_all_new_begins_with_equal_numbers(room):
+    port = free_port()
+    room.adsplice(port)
+    breaks = [("b1", 8, 4)]
+    ladder = Ladder(room, f"http://127.0.0.1:{port}", listed(0, 3, breaks))
+    ladder.taken()
+    by_hand = urllib.request.Request(f"http://127.0.0.1:{port}/channels/news-1/decisions", decided(("b1", 4), seconds="1").encode(), method="PUT")
+    urllib.request.urlopen(by_hand).close()  # (a pod of 4 segments for 2, which somebody gives to one rendition alone)
+    ladder.push(listed(0, 7, breaks))
+    after = ladder.feed.sees("news ladder - Apart: .* news-1 ends with media number 9 and discontinuity number 2, and the others with 7 and 0; media numbers stay so")
+    for newest in range(8, 15):  # (until no break is listed)
+        ladder.push(listed(newest - 7, newest, breaks if newest < 13 else ()))
+        until(lambda newest=newest: all(f"s{newest}.ts" in get(f"http://127.0.0.1:{port}/channels/news-{name}/live.m3u8")[1] for name in NAMES), 10, "the lists")
+    for name in NAMES:
+        urllib.request.urlopen(urllib.request.Request(f"http://127.0.0.1:{port}/channels/news-{name}", method="DELETE")).close()
+    ladder.push(listed(8, 15))
+    ladder.feed.sees("news ladder - -: the renditions' numbers are equal", 20, after)
+    assert {re.search(r"MEDIA-SEQUENCE:(\d+)", it)[1] for it in numbers(port)} == {"10"}, numbers(port)

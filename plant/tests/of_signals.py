@@ -154,14 +154,17 @@ def fallback(seconds):
 
 
 class Run:
-    """A sequence of lists through the translator, and then to adsplice by its rules: what was marked, told, and passed as it was."""
+    """A sequence of lists through the translator, and then to adsplice by its rules: what was marked, told, and passed as it was.
+    The feed `starts_again` before each list, or `loses` its state on disk before the list of a place."""
 
-    def __init__(self, texts, pod=40, starts_again=False, **settings):
+    def __init__(self, texts, pod=40, starts_again=False, loses=None, **settings):
         self.translator, self.told, self.unchanged, self.known, self.written = Translator(**settings), [], [], [], []
         channel = decide(Channel(base_of(BASE)), fallback(pod))
-        for text in texts:
+        for place, text in enumerate(texts):
             if starts_again:
                 self.start_again(settings)
+            if place == loses:
+                self.translator = Translator(**settings)
             found = listed(text)
             said = self.translator.take(found)
             self.told += [f"{it.who} {it.word}: {it.text}" for it in said.told]
@@ -187,36 +190,47 @@ class Run:
         return tuple(dict.fromkeys(name for _, name in self.marks))
 
 
-def wrong_styles(step, offset, starts_again):
+def wrong_styles(step, offset, starts_again, loses):
     """What isn't as it has to be with the styles whose lists come so: `step` segments at a time from `offset` on."""
     wrong = []
     for style in ALL if step == 1 else [it for it in ALL if it.begun == 2]:
-        run = Run(style.lists(step, offset), style.pod, starts_again)
+        run = Run(style.lists(step, offset), style.pod, starts_again, loses or None)
         is_right = run.numbers() == style.filled() and run.ids() == (style.ids or run.ids()) and len(run.ids()) == len(style.breaks)
-        if not is_right or step == 1 and style.is_known != all(run.unchanged):
+        if not is_right or step == 1 and not loses and style.is_known != all(run.unchanged):
             wrong.append((style.name, run.numbers(), run.ids(), run.told, style.is_known, all(run.unchanged)))
     return wrong
 
 
 def check_styles(*ways):
     """Looks at all styles in each of the `ways`: in processes of their own, which leave the other tests their time."""
-    running = [subprocess.Popen([PYTHON, __file__, *(str(int(it)) for it in way)], stdout=subprocess.PIPE, text=True) for way in ways]
+    running = [subprocess.Popen([PYTHON, __file__, *map(str, way)], stdout=subprocess.PIPE, text=True) for way in ways]
     found = [it.communicate()[0] for it in running]
     assert found == ["right\n"] * len(ways), "\n".join(found)
 
 
 def test_each_style_replaces_what_it_means_and_passes_as_it_is_if_adsplice_knows_it(room):
     assert len(STYLES) == 18 and len({it.name for it in ALL}) == len(ALL)
-    check_styles((1, 0, False))
+    check_styles((1, 0, 0, 0))
 
 
 def test_each_style_in_every_split_into_lists(room):
-    check_styles((2, 1, False), (5, 4, False))
-    check_styles((3, 0, False), (5, 1, False))
+    check_styles((2, 1, 0, 0), (5, 4, 0, 0))
+    check_styles((3, 0, 0, 0), (5, 1, 0, 0))
 
 
 def test_each_style_with_a_feed_that_starts_again_before_each_list(room):
-    check_styles((1, 0, True))
+    check_styles((1, 0, 1, 0))
+
+
+def test_each_style_with_a_feed_that_loses_its_state(room):
+    check_styles(*((1, 0, 0, place) for place in (11, 14, 18)))
+
+
+def test_drawn_sequences_replace_what_they_mean(room):
+    seed = random.randrange(10**6)
+    print(f"plant: sequences of seed {seed} (plant/tests/drawn.py {seed} 40)", flush=True)
+    done = subprocess.run([PYTHON, f"{PLANT}/tests/drawn.py", str(seed), "40"], capture_output=True, text=True, check=False)
+    assert done.returncode == 0, done.stdout + done.stderr
 
 
 # ---- what is told

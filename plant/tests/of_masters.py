@@ -1,0 +1,97 @@
+"""Tests of a master playlist as the origin: what is read of it, what viewers get, and a feed of its renditions."""
+import json
+import sys
+
+from tools import PLANT, FakeController, listed, until
+
+sys.path.insert(0, PLANT)
+from adsplice_plant.words import Fault  # noqa: E402
+
+NEEDS = ("httpx",)  # which the module `masters` imports, too
+BASE = "http://origin.example/film/master.m3u8"
+MASTER = """#EXTM3U
+#EXT-X-VERSION:6
+#EXT-X-INDEPENDENT-SEGMENTS
+#EXT-X-SESSION-KEY:METHOD=SAMPLE-AES,URI="key"
+#EXT-X-MEDIA:TYPE=AUDIO,GROUP-ID="a",NAME="English",LANGUAGE="en",DEFAULT=YES,AUTOSELECT=YES,URI="en/index.m3u8"
+#EXT-X-MEDIA:TYPE=AUDIO,GROUP-ID="b",NAME="In the picture's file"
+#EXT-X-MEDIA:TYPE=SUBTITLES,GROUP-ID="s",NAME="English",URI="subtitles/en.m3u8"
+#EXT-X-STREAM-INF:BANDWIDTH=6000000,RESOLUTION=1920x1080,CODECS="avc1.640028,mp4a.40.2",AUDIO="a",SUBTITLES="s",X-OWN="1,2"
+#EXT-X-OWN:anything
+1080/index.m3u8?t=1
+#EXT-X-STREAM-INF:BANDWIDTH=3000000,RESOLUTION=1280x720,CODECS="avc1.64001f,mp4a.40.2",AUDIO="a"
+http://other.example/720/index.m3u8
+#EXT-X-STREAM-INF:BANDWIDTH=5900000,RESOLUTION=1920x1080,CODECS="avc1.640028",AUDIO="b"
+1080/index.m3u8?t=1
+#EXT-X-I-FRAME-STREAM-INF:BANDWIDTH=100000,URI="1080/iframes.m3u8"
+"""
+WRITTEN = """#EXTM3U
+#EXT-X-VERSION:6
+#EXT-X-INDEPENDENT-SEGMENTS
+#EXT-X-SESSION-KEY:METHOD=SAMPLE-AES,URI="http://origin.example/film/key"
+#EXT-X-MEDIA:TYPE=AUDIO,GROUP-ID="a",NAME="English",LANGUAGE="en",DEFAULT=YES,AUTOSELECT=YES,URI="/en"
+#EXT-X-MEDIA:TYPE=AUDIO,GROUP-ID="b",NAME="In the picture's file"
+#EXT-X-MEDIA:TYPE=SUBTITLES,GROUP-ID="s",NAME="English",URI="http://origin.example/film/subtitles/en.m3u8"
+#EXT-X-STREAM-INF:BANDWIDTH=6000000,RESOLUTION=1920x1080,CODECS="avc1.640028,mp4a.40.2",AUDIO="a",SUBTITLES="s",X-OWN="1,2"
+#EXT-X-OWN:anything
+/1080
+#EXT-X-STREAM-INF:BANDWIDTH=3000000,RESOLUTION=1280x720,CODECS="avc1.64001f,mp4a.40.2",AUDIO="a"
+/720
+#EXT-X-STREAM-INF:BANDWIDTH=5900000,RESOLUTION=1920x1080,CODECS="avc1.640028",AUDIO="b"
+/1080
+"""
+
+
+def test_a_master_playlist_keeps_all_but_i_frames(room):
+    from adsplice_plant import masters
+    found = masters.read(MASTER.encode(), BASE)
+    assert found.uris == ["en/index.m3u8", "1080/index.m3u8?t=1", "http://other.example/720/index.m3u8"], found.uris
+    assert found.groups == {"en/index.m3u8": "AUDIO"} and found.left_out == {"EXT-X-I-FRAME-STREAM-INF"}
+    assert masters.write(found, dict(zip(found.uris, ("/en", "/1080", "/720")))).decode() == WRITTEN
+
+
+def test_what_is_no_master_playlist_is_told(room):
+    from adsplice_plant import masters
+    for body, text in ((listed(0, 5), "it names no rendition"), ("<html>", "it isn't a playlist"), ("", "it isn't a playlist"),
+                       ("#EXTM3U\n" + "".join(f"#EXT-X-STREAM-INF:BANDWIDTH=1\n{it}.m3u8\n" for it in range(65)), "65 renditions")):
+        try:
+            masters.read(body.encode(), BASE)
+            raise AssertionError(body[:40])
+        except Fault as fault:
+            assert text in str(fault), fault
+
+
+def test_renditions_of_a_master_playlist_are_channels(room):
+    controller = room.server(FakeController())
+    for name in ("en", "1080", "720"):
+        room.write(f"{name}/index.m3u8", listed(0, 5, name=name))
+    words = ("--channel", "film", "--origin", f"{room.path}/master.m3u8", "--base", BASE, "--at", controller.url, "--master", f"{room.path}/viewers.m3u8",
+             "--viewers", "http://viewers.example", "--decisions", f"{room.path}/{{}}/decisions", "--longest-pause", "1")
+    feed = room.feed(*words)
+    feed.sees("film master - Unread: .*No such file")
+    room.write("master.m3u8", MASTER.replace("http://other.example/", ""))
+    feed.sees("film master - -: 3 renditions are channels, film-1 to film-3; viewers load .*/viewers.m3u8; EXT-X-I-FRAME-STREAM-INF is left out")
+    for it in (1, 2, 3):
+        feed.sees(f"film-{it} adsplice 204 -: the list is taken")
+    with controller.lock:
+        bases = sorted((path, json.loads(body)["base"]) for method, path, body in controller.asked if method == "PUT" and path.count("/") == 2)
+    assert bases == [(f"/channels/film-{it}", f"http://origin.example/film/{uri}") for it, uri in enumerate(("en/index.m3u8", "1080/index.m3u8?t=1", "720/index.m3u8"), 1)]
+    with open(f"{room.path}/viewers.m3u8", encoding="utf-8") as it:
+        text = it.read()
+    assert text.count("http://viewers.example/channels/film-2/live.m3u8\n") == 2 and 'URI="http://viewers.example/channels/film-1/live.m3u8"' in text, text
+    room.write("720/index.m3u8", listed(1, 6, name="720"))
+    until(lambda: any(b"7206.ts" in it for it in controller.puts("origin")), 5, "a list of film-3")
+
+
+test_renditions_of_a_master_playlist_are_channels.needs = ("httpx",)
+
+
+def test_names_of_a_master_playlist_s_renditions(room):
+    from adsplice_plant import masters
+    found = masters.read(MASTER.encode(), BASE)
+    assert masters.names_of(found, []) == ["1", "2", "3"] and masters.names_of(found, ["en", "hd", "sd"]) == ["en", "hd", "sd"]
+    status, _, err = room.run("adsplice-feed", "--channel", "film", "--origin", BASE, "--at", "http://127.0.0.1:1", "--master", f"{room.path}/no/viewers.m3u8")
+    assert status == 1 and "there is no folder" in err and err.count("\n") == 1, err
+
+
+test_names_of_a_master_playlist_s_renditions.needs = ("httpx",)

@@ -1,0 +1,237 @@
+"""Tests of the numbers that viewers have: whatever is killed, and in the renditions of a programme; held against the rules."""
+import json
+import os
+import random
+import sys
+from pathlib import Path
+
+from of_lists import BASE, CLOCK, URL, Rules
+from tools import OUT, PLANT, instant
+
+sys.path.insert(0, PLANT)
+from adsplice_plant import numbers  # noqa: E402
+from adsplice_plant.lists import Lists  # noqa: E402
+from adsplice_plant.repair import Choices, Repairer  # noqa: E402
+from adsplice_plant.settings import Settings  # noqa: E402
+from adsplice_plant.siblings import Sibling, Siblings  # noqa: E402
+from adsplice_plant.signalling import Signalling  # noqa: E402
+from adsplice_rules.channel import Channel, decide, refreshed, written  # noqa: E402
+from adsplice_rules.values import Fault  # noqa: E402
+
+NEEDS = ()
+
+
+def quiet(*_):
+    """Tells nothing."""
+
+
+def signalling(settings):
+    """The translator of a channel's signals."""
+    return Signalling("news", settings, None, quiet, quiet)
+
+
+class Plant:
+    """A feed's lists of one channel, and adsplice by the rules, each of which may be killed; and what viewers saw."""
+
+    def __init__(self, folder, pod):
+        self.settings, self.pod, self.seconds = Settings("news", "x", "http://h", URL, keep=folder), pod, 0.0
+        self.numbers, self.at_number, self.begin, self.end, self.newest = {}, {}, 0, 0, None
+        self.channel = None
+        self.feed()
+        self.adsplice()
+
+    def feed(self):
+        """The feed is started (anew), and finds the channel."""
+        self.lists = Lists(self.settings, quiet, quiet, signalling(self.settings), lambda: self.seconds, lambda: CLOCK + int(self.seconds * 10**9))
+        if self.newest is not None:
+            self.lists.came_in(self.newest)
+        if self.channel is not None and written(self.channel) is None:
+            self.lists.begin_anew()  # (an earlier feed had made the channel, and pushed nothing)
+
+    def adsplice(self):
+        """adsplice is started (anew); the feed makes the channel, and gives it the fallback."""
+        self.channel, self.is_new = decide(Channel(BASE), self.pod), True  # (its first list may begin earlier than the last one)
+        self.lists.begin_anew()
+
+    def view(self):
+        """What a viewer sees agrees with all that was seen."""
+        text = written(self.channel)
+        uris = [line for line in text.split("\n") if line and line[0] != "#"]
+        items = numbers.items_of(text.encode())
+        for it, uri in zip(items, uris, strict=True):
+            if "/s" in uri:
+                assert self.numbers.setdefault(uri, it) == it, (uri, self.numbers[uri], it)
+            assert self.at_number.setdefault(it.number, (uri, it.discontinuity)) == (uri, it.discontinuity), (it, self.at_number[it.number], uri)
+        assert items[-1].number >= self.end and (items[0].number >= self.begin or self.is_new), (items[0], items[-1], self.begin, self.end)
+        self.begin, self.end, self.is_new = items[0].number, items[-1].number, False
+
+    def turn(self, text, kills):
+        """The packager's list is `text`; `kills` says what is killed `before` it is pushed, `between` the push and the look at what was
+        written, or `after`."""
+        self.newest = text
+        self.lists.came_in(text)
+        self.kill(kills.get("before"))
+        for _ in range(6):
+            if (body := self.lists.next()) is None:
+                break
+            self.lists.sending()
+            self.channel = refreshed(self.channel, body)
+            if what := kills.pop("sent", None):
+                self.view()
+                self.kill(what)
+                continue
+            has_to_look = self.lists.taken()
+            self.view()
+            if what := kills.pop("between", None):
+                self.kill(what)
+            elif has_to_look:
+                self.lists.see(written(self.channel).encode())
+        assert body is None, "lists are pushed without an end"
+        self.kill(kills.get("after"))
+
+    def kill(self, what):
+        """Kills `feed`, `adsplice` or `both`."""
+        if what in ("feed", "both"):
+            self.feed()
+        if what in ("adsplice", "both"):
+            self.adsplice()
+
+
+def with_breaks(first, last, breaks):
+    """A list of the segments `first` to `last` of 2 s, with a date range for each of `breaks` (first segment, segments) that is near."""
+    ranges = [f'#EXT-X-DATERANGE:ID="b{begin}",START-DATE="{instant(2 * begin)}",PLANNED-DURATION={2 * count},SCTE35-OUT={OUT}'
+              for begin, count in breaks if first < begin + count and last >= begin - 1]
+    head = ["#EXTM3U", "#EXT-X-VERSION:3", "#EXT-X-TARGETDURATION:2", f"#EXT-X-MEDIA-SEQUENCE:{first}", *ranges, f"#EXT-X-PROGRAM-DATE-TIME:{instant(2 * first)}"]
+    return "\n".join([*head, *(f"#EXTINF:2,\ns{it}.ts" for it in range(first, last + 1)), ""]).encode()
+
+
+def pod_of(count, seconds):
+    """A fallback of `count` segments of so many seconds."""
+    return json.dumps({"fallback": {"ads": [{"segments": [{"uri": f"http://a.example/a{it}.ts", "duration": seconds} for it in range(count)]}]}}).encode()
+
+
+def test_numbers_go_on_whatever_is_killed(room):
+    dice = random.Random(7)
+    for case in range(40):
+        breaks = dice.choice(([(12, 5), (24, 5)], [(12, 5), (17, 5), (28, 6)], [(14, 16)]))
+        window, pod = dice.choice((3, 6, 10)), pod_of(*dice.choice(((5, "2"), (10, "1"), (3, "2"), (2, "1"))))
+        at = {dice.randrange(window, 38): (dice.choice(("before", "sent", "between", "after")), dice.choice(("adsplice", "both", "feed"))) for _ in range(2)}
+        plant = Plant(Path(room.path, str(case)), pod)
+        os.makedirs(plant.settings.keep)
+        for newest in range(window - 1, 40):
+            plant.seconds = 2.0 * newest
+            try:
+                plant.turn(with_breaks(max(0, newest - window + 1), newest, breaks), dict([at[newest]]) if newest in at else {})
+            except (AssertionError, Fault) as fault:
+                raise AssertionError((case, breaks, window, pod[:60], at, newest, fault)) from None
+
+
+def test_broken_file_of_numbers_is_told_and_passed_over(room):
+    told = []
+    settings = Settings("news", "x", "http://h", URL, keep=Path(room.path))
+
+    def lists():
+        return Lists(settings, lambda *it: told.append(it), quiet, signalling(settings))
+    it = lists()
+    it.came_in(with_breaks(3, 8, []))
+    assert it.next() == with_breaks(3, 8, [])
+    it.sending()
+    whole = Path(room.path, "news.numbers").read_bytes()
+    assert numbers.repairs_kept(Path(room.path, "news.numbers")) == {} == numbers.repairs_kept(Path(room.path, "no.numbers"))
+    told.clear()
+    assert lists().next() == with_breaks(3, 8, []) and not told
+    for place in range(0, len(whole), 97):
+        for broken in (whole[:place], whole[:place] + b"9" + whole[place + 1:], whole[:place] + b"\xff\x00" + whole[place + 2:]):
+            Path(room.path, "news.numbers").write_bytes(broken)
+            told.clear()
+            found = lists()
+            assert all(it[:3] == ("numbers", 0, "Broken") for it in told), told
+            found.came_in(with_breaks(4, 9, []))
+            found.next()
+
+
+# ---- renditions of a programme
+
+class Rendition:
+    """A packager of segments of 2 s that may be away and begin again, with the repairer of its lists, as one of `all_of_them`."""
+
+    def __init__(self, name, all_of_them, is_timed):
+        self.name, self.is_timed, self.begun = name, is_timed, 0
+        self.repairer, self.rules = Repairer(Choices()), Rules()
+        self.repairer.siblings = Siblings(lambda: [Sibling(
+            f"http://origin.example/{it.name}/i.m3u8", lambda it=it: it.repairer.past + it.repairer.last, lambda it=it: it.repairer.held_since is not None)
+            for it in all_of_them if it is not self])
+
+    def listed(self, first, last):
+        """Its list of the segments `first` to `last`, numbered from where it began."""
+        lines = ["#EXTM3U", "#EXT-X-VERSION:3", "#EXT-X-TARGETDURATION:2", f"#EXT-X-MEDIA-SEQUENCE:{first - self.begun}"]
+        for it in range(first, last + 1):
+            lines += [f"#EXT-X-PROGRAM-DATE-TIME:{instant(2 * it)}"] if self.is_timed else []
+            lines += ["#EXTINF:2,", f"{self.name}{self.begun}-{it}.ts"]
+        return ("\n".join(lines) + "\n").encode()
+
+    def turn(self, newest, window):
+        """Looks at its list when the segment `newest` is there; answers what is pushed, if anything is."""
+        for look in (0, 0.7, 1.4):
+            text = self.listed(max(self.begun, newest - window + 1), newest)
+            found = self.repairer.take(text, 2 * newest + look, CLOCK + int((2 * newest + look) * 10**9))
+            if found.found is not None:
+                said = self.rules.push(found.body())
+                self.repairer.accept(found)
+                return said
+        return None
+
+
+AWAY = ({"b": (20, 23)}, {"b": (20, 21)}, {"a": (20, 23), "b": (20, 23), "c": (20, 23)}, {"a": (20, 24), "b": (21, 24), "c": (20, 24)}, {"b": (20, 23), "a": (40, 42)})
+
+
+def test_renditions_have_equal_numbers_at_equal_instants(room):
+    for is_timed in (True, False):
+        for window in (3, 6):
+            for away in AWAY:
+                them = []
+                them += [Rendition(name, them, is_timed) for name in "abc"]
+                numbers_of = {}
+                for newest in range(5, 60):
+                    for it in them:
+                        gone, back = away.get(it.name, (99, 99))
+                        if gone <= newest < back:
+                            it.begun = back
+                        elif (said := it.turn(newest, window)) is not None:
+                            for one in said.segments:
+                                place = int(one.uri.rpartition("-")[2].partition(".")[0])
+                                assert numbers_of.setdefault(place, one.number) == one.number, (is_timed, window, away, newest, it.name, place)
+                assert len({it.rules.last.segments[-1].number for it in them}) == 1
+
+
+def test_what_is_taken_from_another_rendition_has_absolute_references(room):
+    them = []
+    them += [Rendition(name, them, True) for name in "ab"]
+    for newest in range(5, 27):
+        them[0].turn(newest, 4)
+        if 20 <= newest < 23:
+            them[1].begun = 23
+        else:
+            said = them[1].turn(newest, 4)
+    uris = [it.uri.removeprefix("http://origin.example/ch/") for it in said.segments]
+    assert uris == ["b23-23.ts", "b23-24.ts", "b23-25.ts", "b23-26.ts"], uris
+    taken = [it.uri for it in them[1].repairer.past[-3:]]
+    assert taken == [f"http://origin.example/a/a0-{it}.ts" for it in (20, 21, 22)], taken
+
+
+def test_two_packagers_by_turns_are_told_once(room):
+    told, seconds = [], [0.0]
+    settings = Settings("news", "x", "http://h", URL)
+    lists = Lists(settings, lambda *it: told.append(it), quiet, signalling(settings), lambda: seconds[0], lambda: CLOCK)
+    rules = Rules()
+    for turn in range(40):
+        seconds[0] = float(turn)
+        newest = 10 + turn // 2
+        text = with_breaks(newest - 5, newest, [])
+        lists.came_in(text if turn % 2 == 0 else text.replace(b"\ns", b"\nother-"))
+        while (body := lists.next()) is not None:
+            lists.sending()
+            rules.push(body)
+            lists.taken()
+    assert [it[2] for it in told] == ["Held", ""], told
+    assert rules.last.segments[-1].number == 29 and rules.last.segments[-1].discontinuity == 0
