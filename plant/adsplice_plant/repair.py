@@ -131,7 +131,7 @@ class Repairer:
         """Why the list `found`, which doesn't go on, isn't taken now; none if it is to be taken as one that began again, and its
         instants are known then. `clock`: the time of day, if instants are added; the rest as in `take`."""
         patience = self.head.target if self.head else 0
-        if lags([*self.past, *self.last], found.segments, has_instants, max(1, patience)):
+        if lags(self.past, self.last, found.segments, has_instants, max(1, patience)):
             return Repaired(why=repairs.LAGS)
         self.held_since = now if self.held_since is None else self.held_since
         if now - self.held_since < patience:

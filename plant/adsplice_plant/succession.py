@@ -102,7 +102,8 @@ def place_by_paths(last: Segments, new: Segments, has_instants: bool, offset: in
             return Place(offset, "newest")
     if not any("?" in it.uri for it in new) or len({(path_of(it), it.byte_range) for it in new}) < len(new):
         return None
-    if offset is not None and overlap(offset, last, new) and goes_on(offset, last, new, alike if is_held else is_alike):
+    way = is_alike if not is_held and offset is not None and len(overlap(offset, last, new)) > 1 else alike
+    if offset is not None and overlap(offset, last, new) and goes_on(offset, last, new, way):
         return Place(offset, "queries")
     places = [len(last) - 1 - it for it in range(len(new) - 1, -1, -1) if alike(new[it], last[-1])][:MOST_PLACES]
     return next((Place(it, "queries") for it in places if overlap(it, last, new) and goes_on(it, last, new, alike)), None)
@@ -118,14 +119,16 @@ def place_by_newest(last: Segments, new: Segments, places: list[int]) -> Place |
     return None if any((it.uri, it.byte_range) in known for it in later) else Place(places[0], "newest")
 
 
-def lags(history: Segments, new: Segments, has_instants: bool, target: int) -> bool:
-    """Whether `new` is an older list: each of its segments is in `history`, the segments that were listed, in order, and its last
-    one isn't the newest. Without instants it may also be of a packager that began again with the same URIs: then it lags if it ends
-    at most LAG seconds, or LAG_TARGETS target durations (`target`, in seconds), earlier."""
+def lags(past: Segments, last: Segments, new: Segments, has_instants: bool, target: int) -> bool:
+    """Whether `new` is an older list: its segments were listed in order, in `last` or in the `past` before it, and its last one isn't the
+    newest. If it reaches into `last`, what it has from before needn't have been listed: lists may have been lost. Without instants it may
+    also be of a packager that began again with the same URIs: then it lags if it ends at most LAG seconds, or LAG_TARGETS target
+    durations (`target`, in seconds), earlier."""
     same = in_time(is_alike if any("?" in it.uri for it in new) else is_same, has_instants)
+    history = [*past, *last]
     places = [it for it in range(len(history) - 2, -1, -1) if same(new[-1], history[it])][:MOST_PLACES]
     for end in places:
-        count = min(len(new), end + 1)
+        count = min(len(new), end + 1 - (len(past) if end >= len(past) else 0))
         if all(same(new[len(new) - 1 - it], history[end - it]) for it in range(count)):
             behind = sum(it.duration for it in history[end + 1:])
             is_stated = has_instants and any(it.stated is not None for it in new)

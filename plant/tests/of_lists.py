@@ -9,7 +9,7 @@ from dataclasses import dataclass, field
 from pathlib import Path
 
 import recorded
-from tools import PLANT, free_port, instant
+from tools import PLANT, apart, free_port, instant
 
 sys.path.insert(0, PLANT)
 from adsplice_plant import repairs  # noqa: E402
@@ -65,14 +65,16 @@ def replay(states, push, choices=Choices()):
 
 # What is put right in each recording.
 RECORDED = {
-    "ff-append": {"discontinuity sequence", "end"}, "ff-dash": {"end"}, "ff-dash-a": {"end"}, "ff-fmp4": {"end"}, "ff-irr": {"target", "long segment", "end"},
-    "ff-plain": {"times", "end"}, "ff-rekey": {"end"}, "ff-restart": {"began again", "own numbers"}, "ff-segment": {"times", "target", "long segment", "end"},
-    "ff-single": {"numbers", "own numbers", "end"}, "ff-variants-v0": {"end"}, "ff-variants-v1": {"end"}, "ff-variants-v2": {"end"},
+    "ff-append": {"discontinuity sequence", "end"}, "ff-dash": {"end"}, "ff-dash-a": {"end"}, "ff-fmp4": {"end"},
+    "ff-irr": {"target", "long segment", "end"}, "ff-plain": {"times", "end"}, "ff-rekey": {"end"}, "ff-restart": {"began again", "own numbers"},
+    "ff-segment": {"times", "target", "long segment", "end"}, "ff-single": {"numbers", "own numbers", "end"},
+    "ff-variants-v0": {"end"}, "ff-variants-v1": {"end"}, "ff-variants-v2": {"end"},
     "gst-sink": {"times"}, "gst-sink2irr": {"times", "target", "long segment"}, "liq-ts": {"times"},
     "rtmp-event": {"spaces", "times", "discontinuity sequence"}, "rtmp-plain": {"times", "discontinuity sequence"},
     "vlc": {"times", "target", "end", "began again", "own numbers"}}
 
 
+@apart
 def test_recorded_lists_are_taken_throughout(room):
     assert set(RECORDED) == set(recorded.names())
     for name, owed in RECORDED.items():
@@ -100,8 +102,9 @@ test_recorded_lists_are_taken_by_the_program.needs = ("program", "httpx")
 
 # What is put right in each known list, and how adsplice answers (an empty word: it takes it; none: nothing is pushed).
 TAKEN = {
-    "akamai-msl-gap": {"gaps", "times", "version", "own numbers"}, "apple-bitrate": {"control characters"}, "apple-bitrate-notab": set(), "ateme-broadpeak": set(),
-    "bitmovin": set(), "exponent-gst": {"durations", "times"}, "flussonic": set(), "flussonic-ll": {"times"}, "gap-in-version-6": {"gaps", "times", "own numbers"},
+    "akamai-msl-gap": {"gaps", "times", "version", "own numbers"}, "apple-bitrate": {"control characters"}, "apple-bitrate-notab": set(),
+    "ateme-broadpeak": set(), "bitmovin": set(), "exponent-gst": {"durations", "times"}, "flussonic": set(), "flussonic-ll": {"times"},
+    "gap-in-version-6": {"gaps", "times", "own numbers"},
     "harmonic-vos": set(), "medialive-hls": set(), "mediapackage-v1-cmaf": {"times"}, "mediapackage-v1-ts": set(), "mediapackage-v2-ll": {"version"},
     "nimble": set(), "shaka": {"times"}, "shaka-ts-event": {"times"}, "space-in-attributes": {"attribute lists", "times"},
     "target-decimal": {"target duration", "times"}, "title-tab": {"control characters", "times"}, "trailing-space": {"spaces", "times"},
@@ -185,11 +188,13 @@ def test_what_a_person_chose_holds(room):
         assert (found.found, found.came) == (None, None) and tag[1:].partition(":")[0] in found.why, found
 
 
+@apart
 def test_hostile_lists_take_well_under_a_second(room):
     long = "k" * 4_000_000
     texts = {
-        "empty lines": HEAD + "\n" * 4_100_000, "comments": HEAD + "#\n" * 2_000_000, "unknown tags": HEAD + "#EXT\n" * 800_000, "URIs": HEAD + "a\n" * 2_000_000,
-        "lines of spaces": HEAD + " \n" * 2_000_000, "one line of spaces": HEAD + " " * 4_100_000, "attributes": HEAD + "#EXT-X-KEY:" + 'A="=,",' * 590_000 + "\n" + ONE,
+        "empty lines": HEAD + "\n" * 4_100_000, "comments": HEAD + "#\n" * 2_000_000, "unknown tags": HEAD + "#EXT\n" * 800_000,
+        "URIs": HEAD + "a\n" * 2_000_000, "lines of spaces": HEAD + " \n" * 2_000_000, "one line of spaces": HEAD + " " * 4_100_000,
+        "attributes": HEAD + "#EXT-X-KEY:" + 'A="=,",' * 590_000 + "\n" + ONE,
         "names": HEAD + "#EXT-X-DATERANGE:" + "A" * 4_000_000 + "\n" + ONE, "digits": HEAD + f"#EXTINF:{'1' * 4_000_000},\na\n",
         "a key over all": f'{HEAD}#EXT-X-KEY:METHOD=AES-128,URI="{long}"\n' + "#EXTINF:2,\na\n" * 9_900, "equal segments": HEAD + "#EXTINF:2,\na\n" * 9_999}
     for name, text in texts.items():
@@ -202,9 +207,10 @@ def test_hostile_lists_take_well_under_a_second(room):
 
 # What is put into a list that is spoiled: tags with values that are wrong, far off or out of place, and lines of other kinds.
 SPOILING = (
-    "#EXT-X-DISCONTINUITY", "#EXT-X-GAP", "#EXT-X-MEDIA-SEQUENCE:7", "#EXT-X-MEDIA-SEQUENCE:99999999999999999999", "#EXT-X-MEDIA-SEQUENCE:-3", "#EXTINF:", "#EXTINF:nan,",
-    "#EXTINF:1e400,", "#EXTINF:3.5,x", "#EXT-X-BYTERANGE:10", "#EXT-X-BYTERANGE:@", "#EXT-X-KEY:METHOD=NONE", '#EXT-X-KEY:METHOD=AES-128,URI="k"', "#EXT-X-KEY:", "#EXT-X-MAP:",
-    "#EXT-X-PROGRAM-DATE-TIME:x", "#EXT-X-PROGRAM-DATE-TIME:2199-12-31T23:59:59Z", "#EXT-X-ENDLIST", "#EXT-X-PLAYLIST-TYPE:VOD", "#EXT-X-TARGETDURATION:x", "#EXT-X-VERSION:9",
+    "#EXT-X-DISCONTINUITY", "#EXT-X-GAP", "#EXT-X-MEDIA-SEQUENCE:7", "#EXT-X-MEDIA-SEQUENCE:99999999999999999999", "#EXT-X-MEDIA-SEQUENCE:-3",
+    "#EXTINF:", "#EXTINF:nan,", "#EXTINF:1e400,", "#EXTINF:3.5,x", "#EXT-X-BYTERANGE:10", "#EXT-X-BYTERANGE:@", "#EXT-X-KEY:METHOD=NONE",
+    '#EXT-X-KEY:METHOD=AES-128,URI="k"', "#EXT-X-KEY:", "#EXT-X-MAP:", "#EXT-X-PROGRAM-DATE-TIME:x", "#EXT-X-PROGRAM-DATE-TIME:2199-12-31T23:59:59Z",
+    "#EXT-X-ENDLIST", "#EXT-X-PLAYLIST-TYPE:VOD", "#EXT-X-TARGETDURATION:x", "#EXT-X-VERSION:9",
     '#EXT-X-DATERANGE:ID="a"', "s1.ts", "\ufeff", " ", "\t", "#", "#EXTM3U", "a b.ts", "\x00")
 
 
@@ -226,6 +232,7 @@ def spoiled(dice, body):
     return "\n".join(lines).encode()
 
 
+@apart
 def test_no_spoiled_list_does_harm(room):
     dice, names = random.Random(5), recorded.names()
     for case in range(120):
@@ -291,7 +298,8 @@ class Packager:
         segments = [it for it in self.made[max(0, until - self.window):until] if it["run"] == run]
         before = [it for it in self.made[:until] if it["run"] == run][:-len(segments)]
         target = max(it["seconds"] for it in (segments if not self.steady else self.made))
-        lines = [("" if self.clean else "\ufeff") + "#EXTM3U", f"#EXT-X-VERSION:{6 if self.clean else 6 + turn % 2}", f"#EXT-X-TARGETDURATION:{' ' * (not self.clean)}{target}",
+        lines = [("" if self.clean else "\ufeff") + "#EXTM3U", f"#EXT-X-VERSION:{6 if self.clean else 6 + turn % 2}",
+                 f"#EXT-X-TARGETDURATION:{' ' * (not self.clean)}{target}",
                  f"#EXT-X-MEDIA-SEQUENCE:{segments[0]['own'] if self.numbers == 'true' else 0}"]
         lines += [f"#EXT-X-DISCONTINUITY-SEQUENCE:{sum(it['is_marked'] for it in before)}"] if self.counts else []
         key = None
@@ -354,15 +362,18 @@ def packagers():
     from hypothesis import strategies as some
     kinds = some.builds(
         Packager, window=some.integers(3, 6), numbers=some.sampled_from(["true", "stands"]), times=some.sampled_from(["each", "first", "none"]),
-        names=some.sampled_from(["new", "again"]), token=some.booleans(), section=some.booleans(), key=some.sampled_from(["", "number", "stated", "rotated"]), ranges=some.booleans(), counts=some.booleans(), clean=some.booleans(), steady=some.booleans())
+        names=some.sampled_from(["new", "again"]), token=some.booleans(), section=some.booleans(),
+        key=some.sampled_from(["", "number", "stated", "rotated"]), ranges=some.booleans(), counts=some.booleans(), clean=some.booleans(),
+        steady=some.booleans())
     return kinds, some.lists(some.sampled_from(["", "", "", "marked", "again", "gap", "burst", "lag"]), min_size=1, max_size=25)
 
 
+@apart
 def test_random_packagers(room):
     from hypothesis import HealthCheck, assume, given, settings
     kinds, events = packagers()
 
-    @settings(max_examples=400, deadline=None, database=None, derandomize=True, suppress_health_check=list(HealthCheck))
+    @settings(max_examples=500, deadline=None, database=None, derandomize=True, suppress_health_check=list(HealthCheck))
     @given(kinds, events)
     def run(packager, happens):
         assume(packager.numbers == "true" or packager.key in ("", "stated"))  # (an IV that is the number says nothing then)

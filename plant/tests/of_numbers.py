@@ -6,7 +6,7 @@ import sys
 from pathlib import Path
 
 from of_lists import BASE, CLOCK, URL, Rules
-from tools import OUT, PLANT, instant
+from tools import OUT, PLANT, apart, instant
 
 sys.path.insert(0, PLANT)
 from adsplice_plant import numbers  # noqa: E402
@@ -110,6 +110,7 @@ def pod_of(count, seconds):
     return json.dumps({"fallback": {"ads": [{"segments": [{"uri": f"http://a.example/a{it}.ts", "duration": seconds} for it in range(count)]}]}}).encode()
 
 
+@apart
 def test_numbers_go_on_whatever_is_killed(room):
     dice = random.Random(7)
     for case in range(40):
@@ -185,6 +186,7 @@ class Rendition:
 AWAY = ({"b": (20, 23)}, {"b": (20, 21)}, {"a": (20, 23), "b": (20, 23), "c": (20, 23)}, {"a": (20, 24), "b": (21, 24), "c": (20, 24)}, {"b": (20, 23), "a": (40, 42)})
 
 
+@apart
 def test_renditions_have_equal_numbers_at_equal_instants(room):
     for is_timed in (True, False):
         for window in (3, 6):

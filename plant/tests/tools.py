@@ -45,6 +45,24 @@ def decided(*pods, seconds="2"):
 FALLBACK = '{"fallback":{"ads":[{"segments":[{"uri":"http://ads.example/f-0.ts","duration":"2"}]}]}}'
 
 
+ALONE = """import importlib, sys
+sys.path.insert(0, sys.argv[1])
+from tools import Room
+with Room(None) as room:
+    getattr(importlib.import_module(sys.argv[2]), sys.argv[3]).alone(room)
+"""
+
+
+def apart(test):
+    """A test that reckons for long, in a process of its own: the others beside it wait for clocks."""
+    def run(room):
+        words = ["nice", PYTHON, "-B", "-c", ALONE, os.path.join(PLANT, "tests"), test.__module__, test.__name__]
+        done = subprocess.run(words, capture_output=True, text=True, check=False, stdin=subprocess.DEVNULL)
+        assert done.returncode == 0, done.stderr[-3000:]
+    run.alone = test
+    return run
+
+
 class FakeServer:
     """A server on loopback that answers by `answer(method, path, body, fields)`: (status, fields, body), or None for no answer."""
 
