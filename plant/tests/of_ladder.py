@@ -294,4 +294,4 @@ def test_ladder_whose_channels_are_all_new_begins_with_equal_numbers(room):
         urllib.request.urlopen(urllib.request.Request(f"http://127.0.0.1:{port}/channels/news-{name}", method="DELETE")).close()
     ladder.push(listed(8, 15))
     ladder.feed.sees("news ladder - -: the renditions' numbers are equal", 20, after)
-    assert {re.search(r"MEDIA-SEQUENCE:(\d+)", it)[1] for it in numbers(port)} == {"10"}, numbers(port)
+    until(lambda: {re.search(r"MEDIA-SEQUENCE:(\d+)", it)[1] for it in numbers(port)} == {"10"}, 20, "equal numbers of the newest list")
