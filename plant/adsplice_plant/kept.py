@@ -30,6 +30,7 @@ class Kept:
 
     path: Path
     answers: Counter[tuple[str, str, str]] = field(default_factory=Counter)  # by request, status and fault's name
+    origin: int = 0  # which of two is read, 1 or 2; 0 if there is one alone
     unread: int = 0  # times that the origin couldn't be read
     pods: dict[str, Pod] = field(default_factory=dict)
     fallback: Pod | None = None
@@ -71,6 +72,8 @@ class Kept:
         """Takes in one event."""
         if event.what == "read":
             self.unread += 1
+        if event.what == "place":
+            self.origin = event.status
         if event.what in REQUESTS and not event.again:
             self.answers[event.what, str(event.status), faults.name_of(event.fault)] += 1
         if event.status not in (201, 204):

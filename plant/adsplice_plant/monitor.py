@@ -16,6 +16,7 @@ from .as_run import AsRun, Log
 from .kept import Kept
 from .masters import written_names
 from .numbers import repairs_kept
+from .origins import NAMES
 from .watch import WORDS, Watch
 from .web import Client
 from .words import Fault
@@ -138,6 +139,7 @@ class Figures(Collector):
         answers = CounterMetricFamily("adsplice_feed_requests", "Requests of the feed by status and fault", labels=["channel", "what", "status", "fault"])
         unread = CounterMetricFamily("adsplice_feed_unread", "Times that the feed couldn't read its origin", labels=["channel"])
         repairs = CounterMetricFamily("adsplice_feed_repairs", "Lists that the feed put right, by the kind of repair", labels=["channel", "kind"])
+        origins = GaugeMetricFamily("adsplice_feed_origin", "Whether a channel's list is read from this one of its two origins", labels=["channel", "place"])
         for it in self.watches:
             if it.kept is None:
                 continue
@@ -147,7 +149,9 @@ class Figures(Collector):
                 for (what, status, fault), count in sorted(it.kept.answers.items()):
                     answers.add_metric([it.name, what, status, fault], count)
                 unread.add_metric([it.name], it.kept.unread)
-        yield from (answers, unread, repairs)
+                for place, name in enumerate(NAMES if it.kept.origin else (), 1):
+                    origins.add_metric([it.name, name], float(it.kept.origin == place))
+        yield from (answers, unread, repairs, origins)
 
 
 def is_open(watch: Watch, begun: bytes, until: float) -> bool:
@@ -182,7 +186,8 @@ def follow(watch: Watch, ending: threading.Event, interval: float) -> None:
         try:
             watch.look()
         except Exception as fault:  # noqa: BLE001  (one channel's fault isn't to end the figures of the others)
-            print(f"{words.now_text()} {watch.name}: {type(fault).__name__}: {fault}", file=sys.stderr, flush=True)
+            line = f"{words.now_text()} {watch.name}: {type(fault).__name__}: {fault}"
+            print(words.for_journal(line, words.Level.ERROR, words.ERR), file=sys.stderr, flush=True)
 
 
 def serve(watches: list[Watch], processes: Processes, registry: CollectorRegistry, said: argparse.Namespace) -> int:
