@@ -11,7 +11,8 @@ from . import decisions, faults, finding, packaged
 from .decisions import Decision, Folder
 from .journal import Event, Journal
 from .lists import Lists
-from .origin import CUT_OFF, FileOrigin, Origin, Read, WebOrigin, read_whole
+from .origin import CUT_OFF, Origin, Read, origin_of, read_whole
+from .origins import NAMES, Place, TwoOrigins
 from .pauses import Pauses
 from .settings import Settings
 from .signalling import Signalling
@@ -41,7 +42,7 @@ class Channel:
         """`signalling`: that of the programme, if another rendition has one already."""
         self.settings, self.client, self.say = settings, client, say
         self.url = f"{settings.at}/channels/{settings.name}"
-        self.origin: Origin = WebOrigin(settings.origin, client) if settings.is_web() else FileOrigin(Path(settings.origin))
+        self.origin: Origin = origin_of(settings.origin, client)
         self.folder = Folder(settings.decisions, keep_days)
         self.together = threading.RLock()  # held while adsplice is given something; the renditions of a ladder have one
         self.journal = Journal(settings.keep / f"{settings.name}.events", self.opening) if settings.keep else None
@@ -56,6 +57,10 @@ class Channel:
         self.unfit = 0  # lists in a row that were refused since they don't follow the last one
         self.is_full = False  # whether adsplice has no room for more decisions
         self.knows = bool(self.lists.stands.repairer.last)  # whether it is known which decisions adsplice was given
+        if settings.second:
+            second = origin_of(settings.second, Client(client.limit, settings.redirects))
+            self.origin = TwoOrigins((Place(self.origin, "", settings), Place(second, settings.second_base, settings)), self.other_origin)
+            self.note("place", Answer(1))
 
     # ---- telling
 
@@ -74,6 +79,12 @@ class Channel:
         """Prints the line of a repair of the packager's lists."""
         self.say(f"{now_text()} {self.settings.name} list - Repaired: {text}")
 
+    def other_origin(self, place: int, text: str) -> None:
+        """The origin at `place` is read from now on: tells why (`text`), and takes its list at once, though it may not go on."""
+        self.lists.expect_other()
+        self.note("place", Answer(place + 1, why=text))
+        self.tell("origins", 0, NAMES[place].capitalize(), text)
+
     def note(self, what: str, answer: Answer, body: bytes = b"") -> None:
         """Keeps an event for the monitor and the explainer."""
         if self.journal:
@@ -85,6 +96,8 @@ class Channel:
     def opening(self) -> list[Event]:
         """What a new file of kept events begins with: the channel, and the decisions that it holds."""
         found = [Event(now_text(), "channel", 201, "", self.settings.body().decode())]
+        if isinstance(self.origin, TwoOrigins):
+            found.append(Event(now_text(), "place", self.origin.place + 1, ""))
         bodies = [self.fallback()] + [it.body for it in self.folder.open()]
         return found + [Event(now_text(), "decisions", 204, "", it.decode("utf-8", "replace")) for it in bodies if it]
 

@@ -5,9 +5,10 @@ import threading
 import time
 from pathlib import Path
 
+from . import check, words
 from . import settings as told
-from . import words
 from .channel import Channel
+from .door import Door, address_of
 from .ladder import Ladder, Rendition
 from .masters import Programme
 from .settings import Settings
@@ -37,6 +38,12 @@ each break's decision is asked for once, of an ad server or in the folder of dec
 Decision files (*.json) that are renamed into DIR are given to adsplice, stay there while their breaks are listed, are given
 again after a new start, and are then moved to DIR/done. One that is refused stays, and is taken once it is written anew.
 
+--door 127.0.0.1:9084, or the path of a Unix socket, takes PUT /decisions/CHANNEL/NAME.json: the file is judged, and is in the channel's
+folder and on disk before it is answered (201; 200 if it took another's place). DELETE takes one away that waits.
+
+--origin 'A B' names two: B is read while A fails for a target duration, or its list doesn't change for three; A is read again once it
+has been well for a minute. The numbers go on, and what was shown isn't shown again. It is told at each change.
+
 Renditions of one programme (--renditions '1080 720 360') are a channel each: {} in the words stands for the rendition's name.
 A decision is a file of one name in each rendition's DIR. It is given to all of them before any list that enters its break, or
 to none; they are made anew together, and it is told if their numbers come apart.
@@ -44,8 +51,12 @@ to none; they are made anew together, and it is told if their numbers come apart
 A master playlist as the origin (--master FILE): its variants and groups are channels NAME-1, NAME-2 .. of one programme, or have
 the names of --renditions in its order. FILE is the master playlist that viewers load.
 
+--check says in a line each whether adsplice, the origins, the ad server, the folders and the fallbacks are there and right, and
+ends: 0 if all are, 1 if not. It makes, pushes and asks nothing. Run it as the feed's user.
+
 Standard output has a line for each change of state: time, channel, who (origin, adsplice, or a file), status, fault, and
-what is done about it. Exit status: 0 after SIGTERM, SIGINT or SIGHUP; 1 if it can't begin or go on; 2 for wrong words."""
+what is done about it. If it is journald's, each has a level for it (journalctl -p warning).
+Exit status: 0 after SIGTERM, SIGINT or SIGHUP; 1 if it can't begin or go on; 2 for wrong words."""
 
 EPILOG = """A config file has a section for each channel, and in [DEFAULT] what all have:
 
@@ -77,7 +88,7 @@ def read_words(arguments: list[str]) -> argparse.Namespace:
     it.epilog = EPILOG
     it.add_argument("--config", type=Path, metavar="FILE", help="the channels, in place of the words of one channel")
     it.add_argument("--channel", type=words.channel_name, metavar="NAME")
-    it.add_argument("--origin", metavar="URL_OR_FILE", help="the packager's media playlist")
+    it.add_argument("--origin", metavar="URL_OR_FILE", help="the packager's media playlist; or two, of which the second stands in for the first")
     it.add_argument("--at", type=words.web_address, metavar="URL", help="adsplice's address for PUT, such as http://127.0.0.1:8090")
     it.add_argument("--base", type=str, metavar="URL", help="the playlist's own URL, if it isn't the origin's or the origin is a file")
     it.add_argument("--tolerance", metavar="SECONDS", help="the channel's tolerance (adsplice's own is 0.1)")
@@ -99,6 +110,8 @@ def read_words(arguments: list[str]) -> argparse.Namespace:
     it.add_argument("--hold", metavar="SECONDS", help="that a list may wait for an answer (1, and below half a target duration)")
     it.add_argument("--redirects", choices=yes_or_no, help="follows the origin's redirects to other hosts, too (no)")
     it.add_argument("--line", metavar="BYTES", help="that a list's line may have (16384); a list with a longer one isn't pushed")
+    it.add_argument("--check", action="store_true", help="says whether all that the channels need is there, and ends")
+    it.add_argument("--door", type=address_of, metavar="ADDRESS", help="takes decisions over HTTP at 127.0.0.1:PORT or on the Unix socket of a path")
     it.add_argument("--timeout", type=words.seconds, default=5.0, metavar="SECONDS", help="for a request with its answer (5)")
     it.add_argument("--longest-pause", type=words.seconds, default=5.0, metavar="SECONDS", help="between two trials (5, and no more than a target duration)")
     it.add_argument("--keep-days", type=float, default=7.0, metavar="DAYS", help="that files are kept in DIR/done (7)")
@@ -110,10 +123,10 @@ def read_words(arguments: list[str]) -> argparse.Namespace:
     return said
 
 
-def channels_of(said: argparse.Namespace) -> list[Settings]:
-    """The channels that the words `said` tell of; raises Fault."""
+def channels_of(said: argparse.Namespace, faults: list[tuple[str, str]] | None = None) -> list[Settings]:
+    """The channels that the words `said` tell of; raises Fault, unless it is of a section and there are `faults` to add it to."""
     if said.config is not None:
-        return told.read_file(said.config)
+        return told.read_file(said.config, faults)
     return told.ladder_of(said.channel, {it: getattr(said, it) for it in told.NAMES})
 
 
@@ -122,6 +135,7 @@ def feeds_of(channels: list[Settings], said: argparse.Namespace) -> list[Channel
     ladders: dict[str, Ladder] = {}
     found: list[Channel] = []
     for it in channels:
+        told.make_folder(it)
         client = Client(said.timeout, it.redirects)
         if it.programme:
             ladder = ladders.setdefault(it.programme, Ladder(it.programme, print_line))
@@ -131,14 +145,16 @@ def feeds_of(channels: list[Settings], said: argparse.Namespace) -> list[Channel
     return found
 
 
-def start(channels: list[Settings], said: argparse.Namespace, ending: threading.Event, threads: list[threading.Thread]) -> None:
-    """Begins to feed `channels` by the words `said`, each in a thread of its own, which are added to `threads`."""
+def start(channels: list[Settings], said: argparse.Namespace, ending: threading.Event, threads: list[threading.Thread], known: dict[str, Channel]) -> None:
+    """Begins to feed `channels` by the words `said`, each in a thread of its own, which are added to `threads`, and the feeds to
+    those that are `known` by their names."""
     feeds = feeds_of([it for it in channels if it.master is None], said)
+    known.update({it.settings.name: it for it in feeds})
     spread = min(1.0, 0.05 * (len(feeds) - 1))
     begun = [threading.Thread(target=run, args=(it, ending, random.uniform(0, max(0, spread))), name=it.settings.name, daemon=True) for it in feeds]
     for it in channels:
         if it.master is not None:
-            programme = Programme(it, Client(said.timeout), print_line, lambda found: start(found, said, ending, threads))
+            programme = Programme(it, Client(said.timeout), print_line, lambda found: start(found, said, ending, threads, known))
             begun.append(threading.Thread(target=programme.run, args=(ending, said.longest_pause), name=it.name, daemon=True))
     threads += begun
     for feed in feeds:
@@ -165,15 +181,23 @@ def main(arguments: list[str]) -> int:
     said = read_words(arguments)
     threads: list[threading.Thread] = []
     try:
+        if said.check:
+            words.ends_cleanly()
+            faults: list[tuple[str, str]] = []
+            return check.run(channels_of(said, faults), faults, lambda redirects: Client(said.timeout, redirects))
         channels = channels_of(said)
         ending = words.ends_by_signals()
-        start(channels, said, ending, threads)
+        feeds: dict[str, Channel] = {}
+        door = Door(said.door, feeds) if said.door else None
+        start(channels, said, ending, threads, feeds)
     except (Fault, OSError) as fault:
         words.fail("adsplice-feed", str(fault))
     while not ending.wait(1):
         for it in threads:
             if not it.is_alive() and not ending.is_set():
                 words.fail("adsplice-feed", f"the thread of {it.name} has ended; what starts the feed may start it again")
+    if door:
+        door.close()
     until = time.monotonic() + LAST
     for it in threads:
         it.join(max(0.0, until - time.monotonic()))

@@ -30,6 +30,7 @@ class Kept:
 
     path: Path
     answers: Counter[tuple[str, str, str]] = field(default_factory=Counter)  # by request, status and fault's name
+    origin: int = 0  # which of two is read, 1 or 2; 0 if there is one alone
     unread: int = 0  # times that the origin couldn't be read
     holes: int = 0  # times that events couldn't be kept
     restarts: int = 0  # times that the channel's feed began anew after a fault that nobody foresaw
@@ -75,6 +76,8 @@ class Kept:
             self.unread += 1
         self.restarts += event.what == "restart"
         self.holes += event.what == "hole"
+        if event.what == "place":
+            self.origin = event.status
         if event.what in REQUESTS and not event.again:
             self.answers[event.what, str(event.status), faults.name_of(event.fault)] += 1
         if event.status not in (201, 204):

@@ -13,6 +13,7 @@ from dataclasses import replace
 from . import faults, packaged, playlist
 from .channel import JUDGED, MOST, Channel, Say
 from .decisions import Decision, without
+from .origins import Choice, TwoOrigins
 from .playlist import SECOND
 from .settings import Settings
 from .siblings import Sibling, Siblings
@@ -41,6 +42,8 @@ class Rendition(Channel):
         self.lists.join(Siblings(lambda: [
             Sibling(it.settings.base, it.lists.listed_segments, it.lists.is_held, it.settings.group == settings.group)
             for it in ladder.members if it is not self]))
+        if isinstance(self.origin, TwoOrigins):
+            self.origin.join(ladder.choice)
 
     def answered(self) -> None:
         """The answer to a question is in the renditions' folders: gives it at once."""
@@ -99,6 +102,7 @@ class Ladder:
         self.name, self.say = name, say
         self.lock = threading.RLock()
         self.members: list[Rendition] = []
+        self.choice = Choice()  # of two origins
         self.signalling: Signalling | None = None
         self.states: dict[str, str] = {}
         self.step_since = 0.0  # since when the channels wait for lists in step; 0 if they don't

@@ -102,6 +102,10 @@ class Lists:
         if body != self.came:
             self.came, self.is_new = body, True
 
+    def expect_other(self) -> None:
+        """Another packager's list comes: it is taken at once, though it has no segment of the last one."""
+        self.stands.repairer.held_since = float("-inf")
+
     def prepare(self) -> None:
         """Takes in the newest list, unless one is to be pushed first that was pushed and not answered."""
         if not self.is_open and self.is_new and self.came is not None:

@@ -14,7 +14,7 @@ from dataclasses import dataclass, field, replace
 from pathlib import Path
 
 from . import packaged, settings, spelling
-from .origin import FileOrigin, Origin, WebOrigin, read_whole
+from .origin import Origin, origin_of, read_whole
 from .pauses import Pauses
 from .settings import Settings
 from .siblings import absolute
@@ -125,7 +125,7 @@ class Programme:
 
     def __init__(self, programme: Settings, client: Client, say: Callable[[str], None], begin: Callable[[list[Settings]], None]) -> None:
         self.settings, self.say, self.begin = programme, say, begin
-        self.origin: Origin = WebOrigin(programme.origin, client) if programme.is_web() else FileOrigin(Path(programme.origin))
+        self.origin: Origin = origin_of(programme.origin, client)
         self.uris: list[str] = []
         self.state = ""
 

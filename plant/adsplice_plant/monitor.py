@@ -15,6 +15,7 @@ from .as_run import BEAT, AsRun, Log
 from .kept import Kept
 from .masters import written_names
 from .numbers import repairs_kept
+from .origins import NAMES
 from .reconcile import report
 from .watch import WORDS, Watch
 from .web import Client
@@ -152,6 +153,7 @@ class Figures(Collector):
         holes = CounterMetricFamily("adsplice_feed_unkept", "Times that the feed couldn't keep its events", labels=["channel"])
         restarts = CounterMetricFamily("adsplice_feed_restarts", "Times that a channel's feed began anew after a fault that nobody foresaw", labels=["channel"])
         repairs = CounterMetricFamily("adsplice_feed_repairs", "Lists that the feed put right, by the kind of repair", labels=["channel", "kind"])
+        origins = GaugeMetricFamily("adsplice_feed_origin", "Whether a channel's list is read from this one of its two origins", labels=["channel", "place"])
         for it in self.watches:
             if it.kept is None:
                 continue
@@ -163,7 +165,9 @@ class Figures(Collector):
                 unread.add_metric([it.name], it.kept.unread)
                 restarts.add_metric([it.name], it.kept.restarts)
                 holes.add_metric([it.name], it.kept.holes)
-        yield from (answers, unread, restarts, holes, repairs)
+                for place, name in enumerate(NAMES if it.kept.origin else (), 1):
+                    origins.add_metric([it.name, name], float(it.kept.origin == place))
+        yield from (answers, unread, restarts, holes, repairs, origins)
 
 
 def is_open(watch: Watch, begun: bytes, until: float) -> bool:
@@ -194,7 +198,7 @@ def once(watches: list[Watch], processes: Processes, registry: CollectorRegistry
 
 def follow(watch: Watch, ending: threading.Event, interval: float) -> None:
     """Looks at `watch` every `interval` seconds until `ending` is set."""
-    say = words.Teller(words.ERROR).say
+    say = words.Teller(words.ERROR, lambda line: words.Level.ERROR).say
     while not ending.wait(interval):
         try:
             watch.look()
@@ -222,7 +226,7 @@ def serve(watches: list[Watch], processes: Processes, registry: CollectorRegistr
 
 def beat_on(log: Log, ending: threading.Event) -> None:
     """Keeps that a monitor runs beside its as-run log `log`, until `ending` is set."""
-    say, beat = words.Teller(words.ERROR).say, log.begin
+    say, beat = words.Teller(words.ERROR, lambda line: words.Level.ERROR).say, log.begin
     while not ending.is_set():
         try:
             beat()

@@ -4,6 +4,7 @@ import time
 from collections.abc import Callable
 from dataclasses import dataclass
 from pathlib import Path
+from typing import Protocol
 
 from . import playlist
 from .settings import LINE
@@ -80,7 +81,21 @@ class WebOrigin:
         self.fields = {}
 
 
-Origin = FileOrigin | WebOrigin
+class Origin(Protocol):
+    """Where a list is read."""
+
+    def read(self) -> Read:
+        """Its list, if that changed."""
+
+    def forget(self) -> None:
+        """The list is read again, though it hasn't changed."""
+
+
+def origin_of(place: str, client: Client) -> Origin:
+    """The origin at `place`, a URL that `client` asks for or a file."""
+    if place.startswith(("http://", "https://")):
+        return WebOrigin(place, client)
+    return FileOrigin(Path(place))
 
 
 def over_bound(body: bytes, line: int) -> str:

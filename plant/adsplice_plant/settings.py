@@ -30,7 +30,8 @@ class Settings:
     origin is a master playlist has the file of the one for viewers (`master`), the address at which these read channels (`viewers`;
     their own host, if none), the `names` of its renditions, if a person gave them, and the `texts` of its section. Of what its
     origin may do: whether `redirects` to other hosts are followed, and how many bytes a `line` has at most. `idle` has a sentence for each
-    setting that has no effect beside the others."""
+    setting that has no effect beside the others. The `second` origin is read while the first one fails or stands still; none if it is
+    empty. Its references are relative to the base if that is named, and else (`second_base`) to its own URL."""
 
     name: str
     origin: str
@@ -59,6 +60,8 @@ class Settings:
     viewers: str = ""
     names: list[str] = field(default_factory=list)
     texts: Mapping[str, str | None] = field(default_factory=dict)
+    second: str = ""
+    second_base: str = ""
 
     def rendition(self) -> str:
         """The rendition's name; none for a channel by itself."""
@@ -83,7 +86,7 @@ def ladder_of(name: str, said: Mapping[str, str | None]) -> list[Settings]:
     if not renditions:
         return [settings_of(name, said)]
     for it in ("origin", "decisions"):
-        if said.get(it) and PLACE not in (said[it] or ""):
+        if not all(PLACE in one for one in (said.get(it) or "").split()):
             raise Fault(f"channel {name}: {it} needs {PLACE} where a rendition's name is to stand, for each has its own")
     check_renditions(name, renditions)
     found = []
@@ -105,6 +108,8 @@ def programme_of(name: str, said: Mapping[str, str | None], renditions: list[str
     check_renditions(name, renditions)
     if said.get("decisions") and PLACE not in (said["decisions"] or ""):
         raise Fault(f"channel {name}: decisions needs {PLACE} where a rendition's name is to stand, for each has its own")
+    if len((said.get("origin") or "").split()) > 1:
+        raise Fault(f"channel {name}: a master playlist has one origin; name the renditions, and give each two")
     master, viewers = Path(said["master"] or ""), said.get("viewers") or ""
     if not master.parent.is_dir():
         raise Fault(f"channel {name}: master: there is no folder {master.parent}")
@@ -120,9 +125,8 @@ def settings_of(name: str, said: Mapping[str, str | None]) -> Settings:
     """The settings of the channel `name` from texts by the names of NAMES; raises Fault if they don't go together."""
     try:
         words.channel_name(name)
-        origin, at = said.get("origin"), words.web_address(said.get("at") or "")
-        if not origin:
-            raise Fault("names no origin")
+        origin, second = origins_of(said.get("origin") or "")
+        at = words.web_address(said.get("at") or "")
         is_web = origin.startswith(("http://", "https://"))
         base = said.get("base") or (origin if is_web else "")
         if not base:
@@ -132,11 +136,6 @@ def settings_of(name: str, said: Mapping[str, str | None]) -> Settings:
     except (argparse.ArgumentTypeError, Fault) as fault:
         raise Fault(f"channel {name}: {fault}") from None
     paths = {it: Path(text) if (text := said.get(it)) else None for it in ("decisions", "fallback", "keep")}
-    if path := paths["decisions"]:
-        try:
-            path.mkdir(parents=True, exist_ok=True)
-        except OSError as fault:
-            raise Fault(f"channel {name}: decisions: {path}: {fault.strerror}") from None
     if (path := paths["fallback"]) and not path.is_file():
         raise Fault(f"channel {name}: fallback: there is no file {path}")
     target = said.get("target") or ""
@@ -145,7 +144,10 @@ def settings_of(name: str, said: Mapping[str, str | None]) -> Settings:
     found = Settings(name, origin, at, base, said.get("tolerance") or "", paths["decisions"], paths["fallback"], paths["keep"],
                      is_yes(name, "unended", said, "no"), "", is_yes(name, "repair", said, "yes"), int(target) if target else None,
                      is_yes(name, "endless", said, "yes"), is_yes(name, "times", said, "yes"))
-    return with_bounds(with_signals(found, said), said)
+    if second and not found.repair:
+        raise Fault(f"channel {name}: a second origin needs repair, so that the numbers go on")
+    own = without_user(second) if second.startswith(("http://", "https://")) and not said.get("base") else ""
+    return with_bounds(with_signals(replace(found, second=second, second_base=own), said), said)
 
 
 def with_bounds(found: Settings, said: Mapping[str, str | None]) -> Settings:
@@ -154,9 +156,20 @@ def with_bounds(found: Settings, said: Mapping[str, str | None]) -> Settings:
     if not (line.isascii() and line.isdigit() and len(line) <= 7 and 256 <= int(line)):
         raise Fault(f"channel {found.name}: line is a number of bytes of at least 256, and not {line}")
     idle = [f"`{name}` has no effect {why}" for is_so, why, names in (
-        (not found.is_web(), "on an origin that is a file", ("redirects",)), (not found.repair, "without repair", ("target", "endless", "times")),
+        (not (found.is_web() or found.second.startswith(("http://", "https://"))), "on an origin that is a file", ("redirects",)), (not found.repair, "without repair", ("target", "endless", "times")),
         (not found.signals, "without signals", ("nearest",)), (not found.ask, "without ask", ("hold",))) if is_so for name in names if said.get(name)]
     return replace(found, redirects=is_yes(found.name, "redirects", said, "no"), line=int(line), idle=tuple(idle))
+
+
+def origins_of(text: str) -> tuple[str, str]:
+    """The first and the second origin in `text`; the second is empty if there is one alone. Raises Fault."""
+    found = text.split()
+    if not 1 <= len(found) <= 2:
+        raise Fault(f"origin is a URL or a file, or two of them, and not {text}" if found else "names no origin")
+    for it in found:
+        if it.startswith(("http://", "https://")):
+            words.web_address(it)
+    return found[0], found[1] if len(found) == 2 else ""
 
 
 def with_signals(found: Settings, said: Mapping[str, str | None]) -> Settings:
@@ -195,8 +208,18 @@ def is_yes(channel: str, name: str, said: Mapping[str, str | None], usual: str) 
     return found == "yes"
 
 
-def read_file(path: Path) -> list[Settings]:
-    """The channels of the file `path`: a section each, with what all have in [DEFAULT]; raises Fault."""
+def make_folder(settings: Settings) -> None:
+    """Makes the folder of decisions that `settings` name, if it isn't there; raises Fault."""
+    if settings.decisions is not None:
+        try:
+            settings.decisions.mkdir(parents=True, exist_ok=True)
+        except OSError as fault:
+            raise Fault(f"channel {settings.name}: decisions: {settings.decisions}: {fault.strerror}") from None
+
+
+def read_file(path: Path, faults: list[tuple[str, str]] | None = None) -> list[Settings]:
+    """The channels of the file `path`: a section each, with what all have in [DEFAULT]; raises Fault. If there are `faults`, those of
+    a section are added to them, each as its name and a text, and the other sections are read."""
     found = configparser.ConfigParser(interpolation=None)
     try:
         with open(path, encoding="utf-8") as it:
@@ -206,11 +229,16 @@ def read_file(path: Path) -> list[Settings]:
         raise Fault(f"{path}: {text}") from None
     channels = []
     for name in found.sections():
-        unknown = set(found[name]) - set(NAMES)
-        if unknown:
-            raise Fault(f"{path}: channel {name}: there is no setting {min(unknown)}; there are {', '.join(NAMES)}")
-        channels += ladder_of(name, dict(found[name]))
-    if not channels:
+        try:
+            unknown = set(found[name]) - set(NAMES)
+            if unknown:
+                raise Fault(f"{path}: channel {name}: there is no setting {min(unknown)}; there are {', '.join(NAMES)}")
+            channels += ladder_of(name, dict(found[name]))
+        except Fault as fault:
+            if faults is None:
+                raise
+            faults.append((name, str(fault)))
+    if not channels and not faults:
         raise Fault(f"{path}: it has no channel: a section such as [news]")
     each_once(path, "name", [it.name for it in channels])
     each_once(path, "folder of decisions", [str(it.decisions.resolve()) for it in channels if it.decisions])

@@ -6,12 +6,17 @@ import signal
 import sys
 import threading
 import urllib.parse
+from collections.abc import Callable
 from datetime import datetime, timezone
+from enum import IntEnum
 from types import FrameType
 from typing import NoReturn
 
 FAULT, WRONG_WORDS = 1, 2  # exit statuses
 OUT, ERROR = 1, 2  # descriptors of standard output and standard error
+NEEDED = {"origin", "adsplice", "journal", "fallback"}  # who of a feed's lines has no status only if it isn't there
+USUAL = {"Asked", "First", "Begins", "Ends"}  # words in place of a fault that tell of nothing wrong
+NOTED = {"Repaired", "Held", "Lags", "Ignored", "Cancelled"}  # and of what the feed mends by itself
 NAME = re.compile(r"[a-z0-9-]{1,32}")  # of a channel
 
 
@@ -62,8 +67,44 @@ def seconds(text: str) -> float:
 
 def fail(name: str, text: str, status: int = FAULT) -> NoReturn:
     """Ends the program `name` with the line `text` on standard error, and with exit status `status`."""
-    print(f"{name}: {plain(text)}", file=sys.stderr, flush=True)
+    print(for_journal(f"{name}: {plain(text)}", Level.ERROR, ERROR), file=sys.stderr, flush=True)
     sys.exit(status)
+
+
+class Level(IntEnum):
+    """How grave a line is, as journald counts (sd-daemon(3))."""
+
+    ERROR = 3
+    WARNING = 4
+    NOTICE = 5
+    INFO = 6
+
+
+def for_journal(line: str, level: Level, number: int = OUT) -> str:
+    """The `line` with its `level` as journald reads it, if the file of the descriptor `number` is journald's (JOURNAL_STREAM); else
+    as it is."""
+    try:
+        found = os.fstat(number)
+    except OSError:
+        return line
+    return f"<{level.value}>{line}" if os.environ.get("JOURNAL_STREAM") == f"{found.st_dev}:{found.st_ino}" else line
+
+
+def level_of(line: str) -> Level:
+    """How grave a `line` of a feed is: its time, channel, who, status and fault, and a text after a colon."""
+    parts = line.split(" ")
+    place = next((n for n, it in enumerate(parts) if n > 2 and (it == "-" or (len(it) == 3 and it.isascii() and it.isdigit()))), 0)
+    if not 0 < place < len(parts) - 1:
+        return Level.INFO
+    who, status, fault = parts[2], parts[place], parts[place + 1].rstrip(":")
+    if who == "feed":
+        return Level.ERROR
+    if fault in NOTED:
+        return Level.NOTICE
+    if fault == "-":
+        is_wrong = who in NEEDED if status == "-" else int(status) >= 400 and status != "409"
+        return Level.WARNING if is_wrong else Level.INFO
+    return Level.INFO if fault in USUAL else Level.WARNING
 
 
 def write_out(text: str, number: int = OUT) -> None:
@@ -81,18 +122,18 @@ def write_out(text: str, number: int = OUT) -> None:
 
 class Teller:
     """Tells lines on standard output, or the file of the descriptor `number`, for a program that goes on if it can't: a full disk
-    costs lines and nothing else."""
+    costs lines and nothing else. For journald each line has its `level`."""
 
-    def __init__(self, number: int = OUT) -> None:
+    def __init__(self, number: int = OUT, level: Callable[[str], Level] = level_of) -> None:
         """No line was lost yet."""
-        self.number, self.lost, self.lock = number, 0, threading.Lock()
+        self.number, self.level, self.lost, self.lock = number, level, 0, threading.Lock()
 
     def say(self, line: str) -> None:
         """Prints `line`, or counts it as lost; how many were lost is told by the next one that can be printed."""
         with self.lock:
             lost = f"\n{now_text()} {self.lost} lines couldn't be written\n" if self.lost else ""
             try:
-                write_out(f"{lost}{plain(line)}\n", self.number)
+                write_out(f"{lost}{for_journal(plain(line), self.level(line), self.number)}\n", self.number)
                 self.lost = 0
             except Fault:
                 self.lost += 1

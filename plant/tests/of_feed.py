@@ -3,10 +3,11 @@ import json
 import os
 import re
 import signal
+import subprocess
 import time
 import urllib.request
 
-from tools import FALLBACK, FakeController, FakeOrigin, decided, free_port, get, listed, until
+from tools import FALLBACK, PLANT, PYTHON, FakeController, FakeOrigin, decided, free_port, get, listed, until
 
 NEEDS = ("httpx",)
 PROGRAM = ("httpx", "program")
@@ -303,6 +304,19 @@ def test_several_channels_by_a_file(room):
     origins[0].mode = "silent"
     origins[1].text = listed(1, 6, name="b")
     until(lambda: listed(1, 6, name="b").encode() in controller.puts("origin"), 3, "b's list, though a's origin is silent")
+
+
+def test_lines_have_levels_if_journald_reads_them(room):
+    origin, controller = room.server(FakeOrigin(listed(0, 5))), room.server(FakeController())
+    path = room.write("journal", "")
+    with open(path, "w", encoding="utf-8") as it:
+        found = os.fstat(it.fileno())
+        feed = subprocess.Popen([PYTHON, f"{PLANT}/adsplice-feed", "--channel", "news", "--origin", origin.url, "--at", controller.url, "--longest-pause", "1"], stdin=subprocess.DEVNULL,
+                                stdout=it, stderr=subprocess.DEVNULL, env={**os.environ, "JOURNAL_STREAM": f"{found.st_dev}:{found.st_ino}"})
+    room.running.append(feed)
+    for pattern in (r"^<6>\S+ news adsplice 201 -: ", r"^<6>\S+ news adsplice 204 -: ", r"^<4>\S+ news origin 503 -: "):
+        until(lambda pattern=pattern: re.search(pattern, open(path, encoding="utf-8").read(), re.M), 20, pattern)
+        origin.status = 503 if controller.puts("origin") else 200
 
 
 def test_wrong_words_are_one_line_and_a_status(room):

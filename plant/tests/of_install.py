@@ -43,6 +43,8 @@ def test_package(room):
     subprocess.run(["dpkg-deb", "-x", path.rstrip(), f"{room.path}/out"], check=True)
     with open(f"{room.path}/out/lib/systemd/system/adsplice@.service", encoding="utf-8") as it:
         assert "ExecStart=/usr/lib/adsplice/adsplice live %i" in it.read()
+    with open(f"{room.path}/out/lib/systemd/system/adsplice-monitor.service", encoding="utf-8") as it:
+        assert "ExecStart=/usr/lib/adsplice/adsplice-monitor --config /etc/adsplice/feed.ini --viewers http://127.0.0.1:8080 " in it.read()
 
 
 def test_package_has_no_fault_by_lintian(room):

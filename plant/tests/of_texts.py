@@ -1,4 +1,5 @@
 """Tests of what the programs read: instants, durations, lists, pauses, and that a type checker passes."""
+import os
 import re
 import subprocess
 import sys
@@ -6,7 +7,7 @@ import sys
 from tools import PLANT, listed
 
 sys.path.insert(0, PLANT)
-from adsplice_plant import faults, judge, playlist, splice  # noqa: E402
+from adsplice_plant import faults, judge, playlist, splice, words  # noqa: E402
 from adsplice_plant.pauses import Pauses  # noqa: E402
 
 NEEDS = ()
@@ -77,6 +78,27 @@ def test_sections_field_by_field(room):
     assert splice.told("0xFC301600000000000000FFF00506" + "FE00000000" + "0000" + "00000000") == "a section with a time_signal; adsplice takes splice_insert alone"
     assert splice.told("FC30") == "no hexadecimal text: it has to begin with 0x"
     assert splice.told("0xFC3") == "no hexadecimal text: its 3 digits are an odd number"
+
+
+def test_levels_of_lines(room):
+    for line, owed in (("adsplice 201 -: makes the channel", 6), ("adsplice 409 -: the channel is there already; goes on with it", 6), ("adsplice 404 -: the channel isn't there; makes it", 4),
+                       ("adsplice - -: Connection refused; tries again with growing pauses", 4), ("origin 200 -: the list is read again", 6), ("origin 503 -: the origin answers 503", 4),
+                       ("origin - -: no answer within 5 s", 4), ("origin 200 CutOff: the list is cut off", 4), ("list - Repaired: EXT-X-VERSION", 5), ("list - -: the lists go on", 6),
+                       ("decisions/a b.json 422 J2 Shape break 0: a member is missing", 4), ("decisions/one.json - -: b1 is no longer listed; moves the file to done", 6), ("ask/b1 - Asked: x", 6),
+                       ("decisions/one.json 204 -: decides b1", 6), ("decisions/one.json 409 J9 Used: b1 has begun", 4), ("origins - Second: the first origin fails", 4), ("origins - First: x", 6),
+                       ("feed - KeyError: 1; goes on with the next turn", 3), ("journal - -: /kept/news.events: No space left on device; goes on without it", 4), ("ladder - Apart: x", 4), ("", 6), ("x", 6)):
+        assert words.level_of(f"2026-11-27T04:10:00.512Z news {line}") == owed, line
+
+
+def test_levels_for_journald_alone(room):
+    path = room.write("journal", "")
+    named = [sys.executable, f"{PLANT}/adsplice-pod", "--check", f"{room.path}/none.json"]
+    for stream, owed in ((lambda it: f"{it.st_dev}:{it.st_ino}", "<3>adsplice-pod: "), (lambda it: f"{it.st_dev}:{it.st_ino + 1}", "adsplice-pod: "), (lambda it: "", "adsplice-pod: ")):
+        with open(path, "w", encoding="utf-8") as it:
+            subprocess.run(named, stderr=it, check=False, env={**os.environ, "JOURNAL_STREAM": stream(os.fstat(it.fileno()))})
+        with open(path, encoding="utf-8") as it:
+            text = it.read()
+        assert text.startswith(owed) and text.count("\n") == 1, (owed, text)
 
 
 def test_types(room):

@@ -1,0 +1,131 @@
+"""Decisions that come by the door: each is judged by the rules and becomes a file of the channel's folder of decisions.
+
+It is on disk before it is answered, so it outlives adsplice, the feed and the machine's power. From there on it goes the way of all
+decision files.
+"""
+from __future__ import annotations
+
+import os
+import string
+import threading
+from collections.abc import Mapping
+from pathlib import Path
+
+from . import judge, words
+from .channel import Channel
+
+MOST_COMMAS = 250_000  # of a decision file: one of 4 MiB has 175,000 if each has its URI and its duration, and each costs the judge time
+MOST_FILES = 4096  # decision files of a channel
+LONGEST_NAME = 100  # letters of a file's name without its ending
+WAIT = 2.0  # seconds for a channel that is busy
+LETTERS = frozenset(string.ascii_letters + string.digits + "._-")
+USAGE = f"a path is /decisions/CHANNEL/NAME.json, and a name has letters, digits, '.', '_' and '-', begins with none of '.' and '-', and has at most {LONGEST_NAME}"
+
+
+class Refused(Exception):
+    """A request that is answered by `status` and one line."""
+
+    def __init__(self, status: int, text: str) -> None:
+        super().__init__(text)
+        self.status, self.text = status, text
+
+
+# ---- on disk
+
+def keep(folder: Path, name: str, body: bytes) -> bool:
+    """Keeps `body` in the file `name` of `folder`, on disk before this returns; whether it took the place of another one. Raises OSError,
+    and then leaves what was there."""
+    path, aside = folder / name, folder / f".{name}.new"
+    try:
+        with open(os.open(aside, os.O_WRONLY | os.O_CREAT | os.O_TRUNC | os.O_NOFOLLOW, 0o664), "wb") as it:
+            it.write(body)
+            it.flush()
+            os.fsync(it.fileno())
+        is_there = os.path.lexists(path)
+        os.replace(aside, path)
+    except OSError:
+        aside.unlink(missing_ok=True)
+        raise
+    sync(folder)
+    return is_there
+
+
+def sync(folder: Path) -> None:
+    """Has the disk keep what was renamed in `folder` or taken away from it."""
+    handle = os.open(folder, os.O_RDONLY | os.O_DIRECTORY)
+    try:
+        os.fsync(handle)
+    finally:
+        os.close(handle)
+
+
+def count_of(folder: Path) -> int:
+    """How many decision files are in `folder`."""
+    with os.scandir(folder) as found:
+        return sum(it.name.endswith(".json") for it in found)
+
+
+# ---- requests
+
+class Admission:
+    """What the door does with the decisions of `feeds`, the channels by their names."""
+
+    def __init__(self, feeds: Mapping[str, Channel]) -> None:
+        self.feeds = feeds
+        self.judging, self.writing = threading.Lock(), threading.Lock()  # (one after the other: a channel's turn is not to wait for many)
+
+    def place(self, path: str) -> tuple[Channel, Path, str]:
+        """The channel, its folder and the file's name that the `path` of a request means; raises Refused. Nothing is decoded in it."""
+        parts = path.split("/")
+        if len(parts) != 4 or parts[:2] != ["", "decisions"] or not is_name(parts[3]):
+            raise Refused(404 if len(parts) != 4 or parts[:2] != ["", "decisions"] else 400, USAGE)
+        channel = self.feeds.get(parts[2])
+        if channel is None or channel.settings.decisions is None:
+            raise Refused(404, f"the feed has no channel {words.plain(parts[2][:40])} with a folder of decisions")
+        return channel, channel.settings.decisions, parts[3]
+
+    def put(self, path: str, body: bytes) -> tuple[int, str]:
+        """Keeps the decision `body` under `path`; the status and the line to answer. Raises Refused."""
+        channel, folder, name = self.place(path)
+        if body.count(b",") > MOST_COMMAS:
+            raise Refused(413, f"a decision file has at most {MOST_COMMAS:,} commas")
+        with self.judging:
+            wrong = judge.judge(body)
+        if wrong is not None:
+            channel.tell("door", 422, wrong.fault, f"{name} isn't taken: {words.plain(wrong.line())}")
+            raise Refused(422, f"{words.plain(wrong.line())} ({wrong.fault})")
+        try:
+            with self.writing:
+                if count_of(folder) >= MOST_FILES and not os.path.lexists(folder / name):
+                    raise Refused(503, f"the channel has {MOST_FILES} decision files")
+                is_there = keep(folder, name, body)
+        except OSError as fault:
+            channel.tell("door", 503, "Unkept", f"{folder / name}: {fault.strerror}; isn't taken")
+            raise Refused(503, f"it can't be kept: {fault.strerror}") from None
+        channel.tell("door", 201, "", f"decisions come by the door; {name} is kept")
+        return (200, "kept in place of the one before") if is_there else (201, "kept")
+
+    def delete(self, path: str) -> tuple[int, str]:
+        """Takes the decision away that waits under `path`; the status and the line to answer. Raises Refused."""
+        channel, folder, name = self.place(path)
+        if not channel.together.acquire(timeout=WAIT):
+            raise Refused(503, "the channel waits for adsplice; ask again")
+        try:
+            decision = channel.folder.named(name)
+            if decision is not None and decision.state == "given":
+                raise Refused(409, 'adsplice has it already; PUT {"withdraw":"ID"} takes the pod of a break away that has not begun')
+            os.unlink(folder / name)
+            sync(folder)
+        except FileNotFoundError:
+            raise Refused(404, "there is no such decision file") from None
+        except OSError as fault:
+            raise Refused(503, f"it can't be taken away: {fault.strerror}") from None
+        finally:
+            channel.together.release()
+        return 204, ""
+
+
+def is_name(name: str) -> bool:
+    """Whether a decision file may have the `name`."""
+    stem = name.removesuffix(".json")
+    return stem != name and 0 < len(stem) <= LONGEST_NAME and LETTERS.issuperset(stem) and stem[0] not in ".-"

@@ -1,0 +1,192 @@
+"""Tests of the door for decisions: what is kept, what is refused, and what hostile clients can't do."""
+import http.client
+import json
+import os
+import signal
+import socket
+import stat
+import time
+
+from tools import FakeController, FakeOrigin, decided, free_port, listed, until
+
+NEEDS = ("httpx",)
+ONE = decided(("b1", 2)).encode()
+
+
+class Opened:
+    """A feed with a door, between a fake origin and a fake controller."""
+
+    def __init__(self, room, door=None):
+        self.origin, self.controller = room.server(FakeOrigin(listed(0, 5))), room.server(FakeController())
+        self.folder, self.port = f"{room.path}/decisions", free_port()
+        self.feed = room.feed("--channel", "news", "--origin", self.origin.url, "--at", self.controller.url, "--decisions", self.folder, "--door", door or f"127.0.0.1:{self.port}")
+        self.feed.sees("news adsplice 204 -: the list is taken", 60)
+
+    def ask(self, method, path, body=None, fields=()):
+        """The status, the text and the fields of a request."""
+        it = http.client.HTTPConnection("127.0.0.1", self.port, timeout=15)
+        it.request(method, path, body, dict(fields))
+        reply = it.getresponse()
+        return reply.status, reply.read().decode(), reply
+
+    def raw(self, data, seconds=15):
+        """What is answered to the bytes `data`."""
+        with socket.create_connection(("127.0.0.1", self.port), seconds) as it:
+            it.sendall(data)
+            found = b""
+            while piece := it.recv(65536):
+                found += piece
+            return found
+
+    def files(self):
+        return sorted(it for it in os.listdir(self.folder) if it != "done")
+
+
+def test_decision_is_kept_and_given(room):
+    it = Opened(room)
+    status, text, reply = it.ask("PUT", "/decisions/news/one.json", ONE)
+    assert (status, text, reply.getheader("Connection")) == (201, "kept\n", "close")
+    with open(f"{it.folder}/one.json", "rb") as file:
+        assert file.read() == ONE
+    it.feed.sees("news decisions/one.json 204 -: decides b1")
+    assert it.controller.puts("decisions") == [ONE]
+    other = decided(("b1", 1)).encode()
+    assert it.ask("PUT", "/decisions/news/one.json", other)[:2] == (200, "kept in place of the one before\n")
+    until(lambda: it.controller.puts("decisions") == [ONE, other], 5, "the other decision")
+    assert it.files() == ["one.json"] and sum(" door " in line for line in it.feed.lines) == 1
+
+
+def test_what_waits_is_taken_away(room):
+    it = Opened(room)
+    it.controller.refusals[("PUT", "decisions")] = [(422, "J2 Shape\n")]
+    assert it.ask("PUT", "/decisions/news/one.json", ONE)[0] == 201
+    it.feed.sees("news decisions/one.json 422")
+    assert it.ask("DELETE", "/decisions/news/one.json")[:2] == (204, "") and it.files() == []
+    assert it.ask("DELETE", "/decisions/news/one.json")[:2] == (404, "there is no such decision file\n")
+    assert it.ask("PUT", "/decisions/news/two.json", ONE)[0] == 201
+    it.feed.sees("news decisions/two.json 204")
+    status, text, _ = it.ask("DELETE", "/decisions/news/two.json")
+    assert status == 409 and '{"withdraw":"ID"}' in text and it.files() == ["two.json"]
+
+
+def test_what_is_refused_is_one_line_and_leaves_nothing(room):
+    it = Opened(room)
+    wrong = ONE.replace(b'"2"', b"2")
+    for method, path, body, fields, status, text in (
+            ("PUT", "/decisions/news/a.json", wrong, {}, 422, "break 0, ad 0, segment 0: `duration` has to be a string, as \"2\" (J2 Shape break 0 ad 0 segment 0)"),
+            ("PUT", "/decisions/news/a.json", b"", {}, 422, "the file isn't JSON"), ("PUT", "/decisions/news/a.json", b"[" * 100_000, {}, 422, "J1"),
+            ("PUT", "/decisions/news/a.json", b"[0" + b",0" * 300_000 + b"]", {}, 413, "250,000 commas"),
+            ("PUT", "/decisions/other/a.json", ONE, {}, 404, "no channel other"), ("PUT", "/", ONE, {}, 404, "a path is"), ("PUT", "/decisions/news", ONE, {}, 404, "a path is"),
+            ("PUT", "/decisions/news/../a.json", ONE, {}, 404, "a path is"), ("PUT", "/decisions/../a.json", ONE, {}, 404, "no channel .."),
+            ("PUT", "/decisions/news/..%2fa.json", ONE, {}, 400, "a path is"), ("PUT", "/decisions/news/%2e%2e.json", ONE, {}, 400, "a path is"),
+            ("PUT", "/decisions/news%2f..%2f/a.json", ONE, {}, 404, "no channel"), ("PUT", "/decisions/news/.a.json", ONE, {}, 400, "a path is"), ("PUT", "/decisions/news/.json", ONE, {}, 400, "a path is"),
+            ("PUT", "/decisions/news/a.txt", ONE, {}, 400, "a path is"), ("PUT", "/decisions/news/a.json?x=.json", ONE, {}, 400, "a path is"), ("PUT", f"/decisions/news/{'a' * 101}.json", ONE, {}, 400, "a path is"),
+            ("PUT", "/decisions/news/-a.json", ONE, {}, 400, "a path is"),
+            ("PUT", "/decisions/news/a.json", ONE, {"Origin": "http://evil.example"}, 403, "pages in a browser"), ("PUT", "/decisions/news/a.json", ONE, {"Content-Length": "x"}, 400, "isn't one number"),
+            ("PUT", "/decisions/news/a.json", ONE, {"Content-Length": "4194305"}, 413, "at most 4194304 bytes"), ("PUT", "/decisions/news/a.json", ONE, {"Content-Length": "9" * 30}, 413, "at most"),
+            ("PUT", "/decisions/news/a.json", iter([ONE]), {}, 411, "a body needs a Content-Length"), ("PUT", "/decisions/news/a.json", ONE, {"X": "y" * 17_000}, 431, "a head has at most"),
+            ("DELETE", "/decisions/news/..%2f..%2fx.json", None, {}, 400, "a path is"), ("GET", "/decisions/news/a.json", None, {}, 405, "GET"), ("POST", "/decisions/news/a.json", ONE, {}, 405, "POST")):
+        found, said, reply = it.ask(method, path, body, fields)
+        assert found == status and text in said and said.count("\n") == 1 and len(said) < 500, (method, path, fields, found, said)
+        assert status != 405 or reply.getheader("Allow") == "PUT, DELETE"
+    assert it.files() == [] and sorted(os.listdir(room.path)) == ["decisions"]
+    assert not it.controller.puts("decisions")
+
+
+def test_longest_body(room):
+    it = Opened(room)
+    body = ONE + b" " * (4_194_304 - len(ONE))
+    assert it.ask("PUT", "/decisions/news/a.json", body)[0] == 201 and os.stat(f"{it.folder}/a.json").st_size == 4_194_304
+    assert it.ask("PUT", "/decisions/news/b.json", body + b" ")[0] == 413 and it.files() == ["a.json"]
+
+
+def test_bytes_that_are_no_request(room):
+    it = Opened(room)
+    for data in (b"\x16\x03\x01\x02\x00\x01\x00\r\n\r\n", b"PUT\r\n\r\n", b"PUT /decisions/news/a.json HTTP/9.9\r\n\r\n", b"PUT /" + b"a" * 70_000 + b" HTTP/1.1\r\n\r\n",
+                 b"PUT / HTTP/1.1\r\n" + b"A: b\r\n" * 200 + b"\r\n", b"PUT /decisions/news/a.json HTTP/1.1\r\nContent-Length: 1\r\nContent-Length: 2\r\n\r\n{}",
+                 b"PUT /decisions/news/a.json HTTP/1.1\r\nContent-Length: 2\r\nTransfer-Encoding: chunked\r\n\r\n{}"):
+        found = it.raw(data)
+        assert b" 4" in found[:13] or b" 505 " in found[:14], (data[:40], found[:200])
+    for data in (b"", b"PUT /decisions/news/a.json HTTP/1.1\r\nContent-Le", b"PUT /decisions/news/a.json HTTP/1.1\r\nContent-Length: 99\r\n\r\n{"):
+        with socket.create_connection(("127.0.0.1", it.port)) as one:
+            one.sendall(data)
+    assert it.ask("PUT", "/decisions/news/a.json", ONE)[0] == 201 and it.files() == ["a.json"]
+
+
+def test_slow_clients_cost_neither_door_nor_channel_more_than_their_time(room):
+    it = Opened(room)
+    head = b"PUT /decisions/news/a.json HTTP/1.1\r\nContent-Length: 4194304\r\n\r\n"
+    slow = [socket.create_connection(("127.0.0.1", it.port)) for _ in range(40)]
+    for n, one in enumerate(slow):
+        try:
+            one.sendall(head[: 20 + n])
+        except OSError:
+            pass  # (one of those that are too many)
+    begun = time.monotonic()
+    until(lambda: b" 503 " in it.raw(b"PUT / HTTP/1.1\r\n\r\n"), 2, "the bound of connections")
+    for number in (1, 2, 3):
+        it.origin.text = listed(number, number + 5)
+        until(lambda text=it.origin.text: it.controller.puts("origin")[-1] == text.encode(), 3, "the next list")
+    while time.monotonic() < begun + 9:
+        for one in slow:
+            try:
+                one.sendall(b"x")
+            except OSError:
+                pass
+        time.sleep(0.5)
+    until(lambda: b" 201 " in it.raw(b"PUT /decisions/news/b.json HTTP/1.1\r\nContent-Length: %d\r\n\r\n" % len(ONE) + ONE), 6, "a place at the door")
+    for one in slow:
+        one.close()
+    assert it.files() == ["b.json"]
+
+
+def test_disk_that_refuses(room):
+    it = Opened(room)
+    os.makedirs(f"{it.folder}/.a.json.new")  # (a folder in the way of the file)
+    status, text, _ = it.ask("PUT", "/decisions/news/a.json", ONE)
+    assert (status, text) == (503, "it can't be kept: Is a directory\n")
+    it.feed.sees("news door 503 Unkept: .*/a.json: Is a directory; isn't taken")
+    os.rmdir(f"{it.folder}/.a.json.new")
+    os.symlink("/dev/full", f"{it.folder}/.a.json.new")
+    assert it.ask("PUT", "/decisions/news/a.json", ONE)[0] == 503, "a link isn't followed"
+    assert it.ask("PUT", "/decisions/news/b.json", ONE)[0] == 201 and [one for one in it.files() if one[0] != "."] == ["b.json"]
+
+
+def test_unix_socket(room):
+    path = f"{room.path}/door"
+    with socket.socket(socket.AF_UNIX) as left:
+        left.bind(path)  # (as a feed that was killed leaves it)
+    it = Opened(room, path)
+    assert stat.S_IMODE(os.stat(path).st_mode) == 0o660
+    with socket.socket(socket.AF_UNIX) as one:
+        one.connect(path)
+        one.sendall(b"PUT /decisions/news/a.json HTTP/1.1\r\nHost: feed\r\nContent-Length: %d\r\n\r\n" % len(ONE) + ONE)
+        assert one.recv(100).startswith(b"HTTP/1.1 201 Created\r\n")
+    status, _, err = room.run("adsplice-feed", "--channel", "n", "--origin", "http://h/", "--at", "http://h", "--door", path)
+    assert status == 1 and err == f"adsplice-feed: --door {path}: another process listens there\n", err
+    assert it.feed.end(signal.SIGTERM) == 0 and not os.path.exists(path)
+
+
+def test_words_of_the_door(room):
+    file, port = room.write("file", ""), free_port()
+    taken = socket.create_server(("127.0.0.1", port))
+    for door, status, text in (("0.0.0.0:9084", 2, "isn't an address of loopback"), ("[::]:1", 2, "isn't an address of loopback"), ("ads.example:1", 2, "isn't an address of loopback"),
+                               ("9084", 2, "isn't an address of loopback"), ("127.0.0.1:99999", 2, "isn't an address of loopback"), ("/" + "a" * 101, 2, "at most 100 bytes"),
+                               (file, 1, "something else is there"), (f"127.0.0.1:{port}", 1, "Address already in use"), (f"{room.path}/none/door", 1, "No such file")):
+        found, out, err = room.run("adsplice-feed", "--channel", "n", "--origin", "http://h/", "--at", "http://h", "--door", door)
+        assert (found, out) == (status, "") and text in err and "Traceback" not in err, (door, found, err)
+    taken.close()
+
+
+def test_kept_file_is_on_disk_before_it_is_answered(room):
+    from adsplice_plant import admission  # (of the plant's own Python)
+
+    os.makedirs(f"{room.path}/d")
+    done, real = [], (os.fsync, os.replace)
+    try:
+        os.fsync = lambda handle: done.append("folder" if stat.S_ISDIR(os.fstat(handle).st_mode) else "file")
+        os.replace = lambda *it: (done.append("rename"), real[1](*it))[1]
+        assert admission.keep(admission.Path(f"{room.path}/d"), "a.json", b"{}") is False
+    finally:
+        os.fsync, os.replace = real
+    assert done == ["file", "rename", "folder"] and json.load(open(f"{room.path}/d/a.json", encoding="utf-8")) == {}
