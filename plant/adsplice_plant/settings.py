@@ -146,7 +146,7 @@ def settings_of(name: str, said: Mapping[str, str | None]) -> Settings:
                      is_yes(name, "endless", said, "yes"), is_yes(name, "times", said, "yes"))
     if second and not found.repair:
         raise Fault(f"channel {name}: a second origin needs repair, so that the numbers go on")
-    own = without_user(second) if second.startswith(("http://", "https://")) and not said.get("base") else ""
+    own = words.without_user(second) if second.startswith(("http://", "https://")) and not said.get("base") else ""
     return with_bounds(with_signals(replace(found, second=second, second_base=own), said), said)
 
 
@@ -156,7 +156,8 @@ def with_bounds(found: Settings, said: Mapping[str, str | None]) -> Settings:
     if not (line.isascii() and line.isdigit() and len(line) <= 7 and 256 <= int(line)):
         raise Fault(f"channel {found.name}: line is a number of bytes of at least 256, and not {line}")
     idle = [f"`{name}` has no effect {why}" for is_so, why, names in (
-        (not (found.is_web() or found.second.startswith(("http://", "https://"))), "on an origin that is a file", ("redirects",)), (not found.repair, "without repair", ("target", "endless", "times")),
+        (not any(it.startswith(("http://", "https://")) for it in (found.origin, found.second)), "on an origin that is a file", ("redirects",)),
+        (not found.repair, "without repair", ("target", "endless", "times")),
         (not found.signals, "without signals", ("nearest",)), (not found.ask, "without ask", ("hold",))) if is_so for name in names if said.get(name)]
     return replace(found, redirects=is_yes(found.name, "redirects", said, "no"), line=int(line), idle=tuple(idle))
 
