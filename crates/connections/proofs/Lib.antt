@@ -3,3 +3,4 @@ pub mod Served
 pub mod Leading
 pub mod Seated
 pub mod Turning
+mod Isolated

@@ -1,5 +1,5 @@
 -- One call more in a client's turn.
-use Rattle.std.proofs.Common.{◌≡◌, ℕ, ◌+◌, true, List, [], ◌∷◌, take, drop, zero, suc, refl, sym, ap, subst, ◌∙◌}
+use Rattle.std.proofs.Common.{◌≡◌, ℕ, ◌+◌, ◌<◌, true, arith, List, [], ◌∷◌, take, drop, zero, suc, refl, sym, ap, subst, ◌∙◌}
 use Rattle.std.specs.Prelude.{Option, Some, None}
 use Rattle.std.specs.Io.KnownBytes.{Appends}
 use Rattle.std.proofs.KnownBytes.{Consumes-trans, Appends-trans}
@@ -8,10 +8,21 @@ use Rattle.std.proofs.lemmas.List.{drop-drop}
 use Rattle.connections.specs.declared.conversation.Conversation.{Conversation}
 use Rattle.connections.specs.declared.conversation.Conversation.TheVariants.{Asking, Answering}
 use Rattle.connections.specs.Arrivals.{is_asking}
-use Rattle.connections.specs.Devices.{DeviceStand}
+use Rattle.connections.specs.declared.devices.Passage.TheVariants.{Bytes}
+use Rattle.connections.specs.Devices.{DeviceStand, Calls, one_call}
 use Rattle.connections.specs.Table.{State, at, left_of, taken_of}
 use Rattle.connections.specs.Wires.{HasHeard, HasSaid}
-use Rattle.connections.specs.Turns.{joined, HasListened, HasSpoken}
+use Rattle.connections.specs.Turns.{joined, MovedEach, HasListened, HasSpoken}
+
+pub moved_none : (calls : Calls) → MovedEach zero calls calls
+unfolding MovedEach
+moved_none calls = refl
+
+pub moved_more : (n count : ℕ) (old middle new : Calls) → MovedEach n old middle → 0 < count → new ≡ one_call (Bytes count) middle → MovedEach (n + 1) old new
+unfolding MovedEach
+moved_more n count old middle new each some one =
+    let next : suc n ≡ n + 1 = omega arith in
+    subst (λ k. MovedEach k old new) next (middle, each, count, some, one)
 
 pub heard_more : (first before after : DeviceStand) (place : ℕ) (old middle new : State) → HasListened first before place old middle
     → is_asking (at middle place) ≡ true → HasHeard before after place middle new → HasListened first after place old new

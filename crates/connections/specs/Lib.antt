@@ -7,4 +7,5 @@ pub mod Runs
 pub mod Wires
 pub mod Turns
 pub mod Arrivals
+pub mod Isolation
 pub mod Inner

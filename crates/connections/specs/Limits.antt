@@ -16,3 +16,14 @@ serving_nanos = 10000000000
 -- how long a client may take to end, once its reply is gone: a quarter of a second, in nanoseconds
 abbrev pub ending_nanos : ℕ
 ending_nanos = 250000000
+
+-- how often a client is read, and written to, in its turn at the most
+abbrev pub reads_in_turn : ℕ
+reads_in_turn = 4
+
+abbrev pub writes_in_turn : ℕ
+writes_in_turn = 4
+
+-- how often what it still sends is passed over
+abbrev pub drains_in_turn : ℕ
+drains_in_turn = 32

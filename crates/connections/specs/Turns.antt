@@ -1,16 +1,21 @@
 -- What went through a client's device in its turn.
-use Rattle.std.specs.Prelude.{◌≡◌, ℕ, ◌==◌, Bool, true, false, ◌++◌, List, [], ◌∷◌, map, take, drop, Option, Some, None, ◌⊎◌}
+use Rattle.std.specs.Prelude.{◌≡◌, ℕ, zero, suc, ◌<◌, ◌==◌, Bool, true, false, ◌++◌, List, [], ◌∷◌, map, take, drop, Option, Some, None, ◌⊎◌}
 use Rattle.std.specs.Io.KnownBytes.{Consumes, Appends}
 use Rattle.http_edge.specs.declared.serving.EdgeFault.{EdgeFault}
 use Rattle.connections.specs.declared.devices.Passage.{Passage}
 use Rattle.connections.specs.declared.devices.Passage.TheVariants.{Bytes, WouldWait, HasFailed}
 use Rattle.connections.specs.declared.turns.Turn.{Turn}
 use Rattle.connections.specs.declared.turns.Turn.TheVariants.{Waits, Goes, Full, Done, Failed}
-use Rattle.connections.specs.Devices.{DeviceStand}
+use Rattle.connections.specs.Devices.{DeviceStand, Calls, one_call}
 use Rattle.connections.specs.Table.{State, at, left_of, request_bytes, reply_bytes, departure, Happens}
 use Rattle.connections.specs.Runs.{IsRun}
 use Rattle.connections.specs.Arrivals.{is_asking}
 use Rattle.connections.specs.Wires.{GoesHeard, GoesTold}
+
+-- there were so many calls, one after the other, and each moved a byte or more
+unfoldable pub MovedEach : ℕ → Calls → Calls → Type 0
+MovedEach zero old new = new ≡ old
+MovedEach (suc n) old new = (middle : Calls) × MovedEach n old middle × (count : ℕ) × (0 < count) × (new ≡ one_call (Bytes count) middle)
 
 -- if the client stays, this is so
 abbrev pub Stays : Turn → Type 0 → Type 0

@@ -96,6 +96,18 @@ impl<T> NonBlocking<T> {
         }
     }
 
+    // Counts a call that was answered so, and says what it came to. Nothing else counts one.
+    fn note(&mut self, answer: io::Result<usize>) -> Passage
+        ensures passage { result ≡ passage_of answer }
+        ensures calls { self.new.1 ≡ one_call (passage_of answer) self.old.1 }
+        ensures inner { self.new.0 ≡ self.old.0 }
+    {
+        let passage = passage_of(answer);
+        self.count = self.count.saturating_add(1);
+        self.last = Some(passage);
+        passage
+    }
+
     /// The reader or writer itself: what is done to it this way is not counted.
     pub fn inner(&mut self) -> &mut T {
         &mut self.inner
@@ -106,10 +118,8 @@ impl<R: Read> Incoming for NonBlocking<R> {
     ghost stand = { λ d. record { bytes = R.remaining d.0; calls = d.1 } };
 
     fn read(&mut self, buf: &mut [u8]) -> Passage {
-        let passage = passage_of(self.inner.read(buf));
-        self.count = self.count.saturating_add(1);
-        self.last = Some(passage);
-        passage
+        let answer = self.inner.read(buf);
+        self.note(answer)
     }
 }
 
@@ -117,9 +127,7 @@ impl<W: Write> Outgoing for NonBlocking<W> {
     ghost stand = { λ d. record { bytes = W.contents d.0; calls = d.1 } };
 
     fn write(&mut self, buf: &[u8]) -> Passage {
-        let passage = passage_of(self.inner.write(buf));
-        self.count = self.count.saturating_add(1);
-        self.last = Some(passage);
-        passage
+        let answer = self.inner.write(buf);
+        self.note(answer)
     }
 }

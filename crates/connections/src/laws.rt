@@ -1,8 +1,16 @@
-//! A law on runs of many connections.
+//! Laws on runs of many connections.
 ghost use Rattle.connections.specs.Runs.{ConnectionsAreServed};
+ghost use Rattle.connections.specs.Isolation.{ClientsAreIsolated};
 
 /// Whatever clients come, say, take and leave, in any order: each is answered as `serve` answers what it said itself, in
 /// the order in which the requests became whole, and is sent that reply from its begin on and nothing else.
 pub fn connections_are_served()
     ensures { ConnectionsAreServed }
+{}
+
+/// Whatever clients come, say, take and leave, in any order, from a new edge on: a client's reply is that to what it said
+/// itself, and depends on nothing else but the requests to its channel that became whole before it. What was answered 503
+/// counts for nothing.
+pub fn clients_are_isolated()
+    ensures { ClientsAreIsolated }
 {}

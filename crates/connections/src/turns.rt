@@ -2,10 +2,10 @@
 ghost use Rattle.std.specs.Prelude.{◌≡◌, ◌<◌, ◌+◌, [], Some, length, true, false};
 ghost use Rattle.connections.specs.declared.devices.Passage.TheVariants.{WouldWait};
 ghost use Rattle.connections.specs.Table.{at, left_of, held_in};
-ghost use Rattle.connections.specs.Limits.{most_held};
+ghost use Rattle.connections.specs.Limits.{most_held, reads_in_turn, writes_in_turn, drains_in_turn};
 ghost use Rattle.connections.specs.Arrivals.{is_asking};
 ghost use Rattle.connections.specs.Runs.{HasRun};
-ghost use Rattle.connections.specs.Turns.{HasListened, HasListenedUntil, HasSpoken, HasSpokenUntil, IfGone, Stays, HasNoMore, is_read_out};
+ghost use Rattle.connections.specs.Turns.{HasListened, HasListenedUntil, HasSpoken, HasSpokenUntil, IfGone, Stays, HasNoMore, MovedEach, is_read_out};
 
 use crate::devices::{Incoming, Outgoing, Passage};
 use crate::seats::Seat;
@@ -38,7 +38,7 @@ pub enum Turn {
 
 /// Reads from the client at `seat`, whose device is `device`, into `block`, until its request is whole (`Done`). All
 /// that the device gave is what the client said to `connections`, in order, and nothing is read past the request.
-/// `Waits` if it would wait, `Goes` after 4 reads, `Full` if `block` is longer than the room that `connections` have
+/// `Waits` if it would wait, `Goes` after 4 reads that gave bytes, `Full` if `block` is longer than the room that `connections` have
 /// left, `Failed` if the client is gone.
 ///
 /// ```text
@@ -62,12 +62,14 @@ pub fn listen<T: Incoming>(
         seat.now connections.old connections.new) }
     ensures done { result ≡ Turn.Done → is_asking (at connections.new seat.now) ≡ false }
     ensures goes { result ≡ Turn.Goes → is_asking (at connections.new seat.now) ≡ true }
+    ensures read { result ≡ Turn.Goes →
+        MovedEach reads_in_turn (T.stand device.old).calls (T.stand device.new).calls }
     ensures full { result ≡ Turn.Full →
         most_held < held_in connections.new.places + length block.old }
     ensures waits { result ≡ Turn.Waits → (T.stand device.new).calls.last ≡ Some WouldWait }
     ensures run { HasRun connections.old connections.new }
 {
-    for _ in 0..READS {
+    for index in 0..READS {
         match hear(device, connections, seat, block) {
             Moved::Some => {}
             Moved::Waits => return Turn::Waits,
@@ -84,7 +86,7 @@ pub fn listen<T: Incoming>(
 
 /// Writes to the client at `seat`, whose device is `device`, what `connections` have left of its reply, until nothing
 /// is left (`Done`). All that the device took is what was left, in order. `Waits` if it would wait, `Goes` after 4
-/// writes, `Failed` if the client is gone.
+/// writes that took bytes, `Failed` if the client is gone.
 pub fn speak<T: Outgoing>(device: &mut T, connections: &mut Connections, seat: &Seat<T>) -> Turn
     ensures stays { Stays result (HasSpoken (T.stand device.old) (T.stand device.new)
         seat.now connections.old connections.new) }
@@ -92,11 +94,13 @@ pub fn speak<T: Outgoing>(device: &mut T, connections: &mut Connections, seat: &
         (T.stand device.new)
         seat.now connections.old connections.new) }
     ensures done { result ≡ Turn.Done → left_of (at connections.new seat.now) ≡ [] }
+    ensures written { result ≡ Turn.Goes →
+        MovedEach writes_in_turn (T.stand device.old).calls (T.stand device.new).calls }
     ensures waits { result ≡ Turn.Waits → (T.stand device.new).calls.last ≡ Some WouldWait }
     ensures room { result ≡ Turn.Full → ⊥ }
     ensures run { HasRun connections.old connections.new }
 {
-    for _ in 0..WRITES {
+    for index in 0..WRITES {
         match say(device, connections, seat) {
             Moved::Some => {}
             Moved::Waits => return Turn::Waits,
@@ -110,15 +114,17 @@ pub fn speak<T: Outgoing>(device: &mut T, connections: &mut Connections, seat: &
 
 /// Reads what a client still sends by `device` after its reply, and passes it over, until it ends or fails (`Done`):
 /// closing before that would reset the connection, and the reply with it. `Waits` if it would wait, `Goes` after 32
-/// reads of at most 8,192 bytes.
+/// reads that gave bytes, at most 8,192 each.
 pub fn drain<T: Incoming>(device: &mut T) -> Turn
     ensures waits { result ≡ Turn.Waits → (T.stand device.new).calls.last ≡ Some WouldWait }
     ensures done { result ≡ Turn.Done → HasNoMore (T.stand device.new).calls.last }
+    ensures read { result ≡ Turn.Goes →
+        MovedEach drains_in_turn (T.stand device.old).calls (T.stand device.new).calls }
     ensures room { result ≡ Turn.Full → ⊥ }
     ensures stays { IfGone result (λ fault. ⊥) }
 {
     let mut block = [0u8; 8192];
-    for _ in 0..DRAINS {
+    for index in 0..DRAINS {
         match device.read(&mut block) {
             Passage::Bytes(0) => return Turn::Done,
             Passage::Bytes(_) => {}

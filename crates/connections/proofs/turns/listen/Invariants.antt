@@ -2,11 +2,12 @@ use Rattle.std.proofs.Common.{◌≡◌, true}
 use Rattle.connections.specs.Table.{at}
 use Rattle.connections.specs.Arrivals.{is_asking}
 use Rattle.connections.specs.Runs.{HasRun}
-use Rattle.connections.specs.Turns.{HasListened}
+use Rattle.connections.specs.Turns.{MovedEach, HasListened}
 use Rattle.connections.proofs.turns.listen.Given as goal
 
-abbrev pub invariant-loop : goal.invariant-loop
-invariant-loop g l = record {
+abbrev pub invariant-loop-index : goal.invariant-loop-index
+invariant-loop-index g l = record {
+  moved : MovedEach l.index (g.T.Incoming.stand l.fn.device).calls (g.T.Incoming.stand l.device).calls;
   listened : HasListened (g.T.Incoming.stand l.fn.device) (g.T.Incoming.stand l.device) l.fn.seat l.fn.connections l.connections;
   asking : is_asking (at l.connections l.fn.seat) ≡ true;
   run : HasRun l.fn.connections l.connections;
