@@ -2,4 +2,3 @@ pub mod Known
 pub mod Entering
 pub mod Entrances
 pub mod Kept
-pub mod WorkedExamples

@@ -8,3 +8,4 @@ pub mod Kept
 pub mod Ends
 pub mod Inner
 pub mod Stays
+pub mod Candidates

@@ -1,15 +1,16 @@
 //! What a refresh adds to what is known.
-ghost use Rattle.std.specs.Prelude.{◌≡◌, ◌||◌, ℕ, List, map, filter, fold, IfOk, OnOk, string_bytes, string_eq};
+ghost use Rattle.std.specs.Prelude.{◌≡◌, ◌||◌, true, ℕ, List, map, filter, fold, IfOk, OnOk, string_bytes, string_eq};
 ghost use Rattle.std.specs.List.{list_any};
 ghost use Rattle.std.specs.Option.{option_copied};
 ghost use Rattle.indexmap.specs.IndexMap.{IsUnique};
 ghost use Rattle.pod_store.specs.Store.{is_one_of};
+ghost use Rattle.break_finder.specs.Breaks.{and_tag};
 ghost use Rattle.break_finder.specs.Kept.{break_at};
 ghost use Rattle.break_finder.specs.Inner.Kept.{kept_for, said_or_nothing, stands_with, is_kept_with};
 ghost use Rattle.break_finder.specs.Known.{is_tag_of, is_this};
-ghost use Rattle.break_finder.specs.Inner.Known.{break_stands, with_tag};
+ghost use Rattle.break_finder.specs.Inner.Known.{break_stands, with_tag, AreSaid};
 
-use crate::described::{Described, and_tag, nothing_said};
+use crate::described::{Described, and_tag, nothing_said, says_nothing_new};
 use crate::kept::{Breaks, kept_for};
 use indexmap::IndexMap;
 use playlist_model::DateRange;
@@ -112,6 +113,39 @@ pub fn add_tags(
         rest = later;
     }
     Ok(())
+}
+
+// Whether this is a tag of this break, of which nothing is said that isn't said already.
+fn is_said(id: &str, said: &Described, tag: &DateRange) -> bool
+    ensures id { result ≡ true → id.now ≡ tag.now.id }
+    ensures said { result ≡ true → and_tag said.now tag.now ≡ said.now }
+{
+    if id != tag.id.as_str() {
+        return false;
+    }
+    says_nothing_new(said, tag)
+}
+
+/// Whether each of `date_ranges` is a tag of the break at its place among `breaks`, and says nothing that isn't said of it
+/// already. So it mostly is from refresh to refresh. Takes no memory.
+pub fn are_said(breaks: &Breaks, date_ranges: &[DateRange]) -> bool
+    ensures said { result ≡ true → AreSaid (map break_at breaks.now.entries) date_ranges.now }
+    ensures unique { IsUnique string_eq breaks.now }
+{
+    if breaks.len() != date_ranges.len() {
+        return false;
+    }
+    let mut rest = date_ranges;
+    for (id, said) in breaks {
+        let Some((tag, later)) = rest.split_first() else {
+            return false;
+        };
+        if !is_said(id.as_str(), said, tag) {
+            return false;
+        }
+        rest = later;
+    }
+    rest.is_empty()
 }
 
 /// Copies of those `breaks` that have a tag among `date_ranges`, or whose ID is `carried`. Fails only if an

@@ -1,5 +1,5 @@
 //! What is said of a break.
-ghost use Rattle.std.specs.Prelude.{◌≡◌, IfOk, option_map};
+ghost use Rattle.std.specs.Prelude.{◌≡◌, true, IfOk, option_map};
 ghost use Rattle.playlist_model.specs.LookBack.{or_earlier};
 ghost use Rattle.break_finder.specs.Breaks.{and_tag, nothing_said};
 ghost use Rattle.break_finder.specs.Signals.{signal_of, is_leaving, is_returning};
@@ -70,6 +70,57 @@ pub fn and_tag(alloc: Global, said: Described, tag: &DateRange) -> Result<Descri
         scte35_out: or_signal(alloc, said.scte35_out, &tag.scte35_out)?,
         scte35_in: or_signal(alloc, said.scte35_in, &tag.scte35_in)?,
     })
+}
+
+// Whether no instant comes to this one, if there is one more.
+fn stays_instant(stands: Option<Instant>, more: Option<Instant>) -> bool
+    ensures { result ≡ true → or_earlier stands more ≡ stands }
+{
+    match stands {
+        Some(_) => true,
+        None => more.is_none(),
+    }
+}
+
+fn stays_duration(stands: Option<Nanos>, more: Option<Nanos>) -> bool
+    ensures { result ≡ true → or_earlier stands more ≡ stands }
+{
+    match stands {
+        Some(_) => true,
+        None => more.is_none(),
+    }
+}
+
+fn stays_signal(stands: Option<Signal>, text: &Option<Text>) -> bool
+    ensures { result ≡ true → or_earlier stands (option_map signal_of text.now) ≡ stands }
+{
+    match stands {
+        Some(_) => true,
+        None => text.is_none(),
+    }
+}
+
+#[tactic(auto, using(crate::proofs::NothingNew::nothing_new))]
+/// Whether `tag` says nothing that isn't `said` already. Takes no memory.
+pub fn says_nothing_new(said: &Described, tag: &DateRange) -> bool
+    ensures { result ≡ true → and_tag said.now tag.now ≡ said.now }
+{
+    if !stays_instant(said.start, tag.start) {
+        return false;
+    }
+    if !stays_instant(said.end, tag.end) {
+        return false;
+    }
+    if !stays_duration(said.duration, tag.duration) {
+        return false;
+    }
+    if !stays_duration(said.planned_duration, tag.planned_duration) {
+        return false;
+    }
+    if !stays_signal(said.scte35_out, &tag.scte35_out) {
+        return false;
+    }
+    stays_signal(said.scte35_in, &tag.scte35_in)
 }
 
 /// Whether `signal` leaves the network (SCTE 35, section 9.7.3).

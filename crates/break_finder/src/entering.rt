@@ -8,7 +8,7 @@ ghost use Rattle.break_finder.specs.Kept.{break_at};
 ghost use Rattle.break_finder.specs.Entering.{EntryLimits, entered};
 ghost use Rattle.break_finder.specs.Entrances.{entrances_in, taken, Tells};
 
-use crate::entrance::{Entrance, entrance_of, first_entered};
+use crate::entrance::{Candidates, Entrance, entrance_of, first_candidate, first_entered};
 use crate::kept::Breaks;
 use crate::spans::{TimeSpan, place_of, span_at, spans_of};
 use fixed_duration::Nanos;
@@ -16,6 +16,9 @@ use playlist_model::Instant;
 use pod_store::PodStore;
 use std::alloc::{AllocError, Global};
 use std::marker::Model;
+
+// For no more segments than this no break is listed: each segment looks at the starts of all.
+const FEW_TO_LIST: usize = 8;
 
 // For fewer segments than this the breaks are looked through for each.
 const FEW_SEGMENTS: usize = 64;
@@ -27,6 +30,8 @@ const FEW_SEGMENTS: usize = 64;
 pub struct Entrances<'a> {
     tolerance: Nanos,
     list: Vec<Entrance<'a>>,
+    // In place of the list, if it isn't made.
+    candidates: Option<Candidates<'a>>,
     spans: Vec<TimeSpan<'a>>,
     // That of the span found last.
     place: usize,
@@ -35,12 +40,13 @@ pub struct Entrances<'a> {
 impl<'a> Model for Entrances<'a> {
     ghost use Rattle.std.specs.List.{All};
     ghost use Rattle.break_finder.specs.Entrances.{Entrances, Tells};
+    ghost use Rattle.break_finder.specs.Candidates.{found_in};
 
     ghost Value = { Entrances };
 
-    ghost view = { λ a. record { tolerance = a.tolerance; found = a.list.items } };
+    ghost view = { λ a. record { tolerance = a.tolerance; found = found_in a.candidates a.list.items } };
 
-    ghost invariant = { λ a. All (Tells a.tolerance a.list.items) a.spans.items };
+    ghost invariant = { λ a. All (Tells a.tolerance (found_in a.candidates a.list.items)) a.spans.items };
 }
 
 // The spans of these breaks, if it pays to make them for so many segments.
@@ -78,6 +84,19 @@ fn listed<'a>(
     Ok(list)
 }
 
+// Nothing is listed: each segment looks among all.
+fn unlisted<'a>(alloc: Global, tolerance: Nanos, candidates: Candidates<'a>) -> Entrances<'a>
+    ensures { result ≡ record { tolerance = tolerance; found = entrances_in candidates.entry.target candidates.entry.with_init_sections candidates.entry.store.now (map break_at candidates.entry.breaks.now.entries) } }
+{
+    Entrances {
+        tolerance,
+        list: Vec::new(alloc),
+        candidates: Some(candidates),
+        spans: Vec::new(alloc),
+        place: 0,
+    }
+}
+
 /// The entrances of those `breaks` that can be entered by `tolerance`: each is signalled, has a pod in `store`, and
 /// the pod fits the target duration `target`, in seconds, and segments that are `with_init_sections` (have initialisation
 /// sections) or aren't. They are made for about `segments` segments, which changes what they take and nothing else.
@@ -87,7 +106,7 @@ pub fn entrances_of<'a>(
     tolerance: Nanos,
     target: u64,
     with_init_sections: bool,
-    store: &PodStore,
+    store: &'a PodStore,
     breaks: &'a Breaks,
     segments: usize,
 ) -> Result<Entrances<'a>, AllocError>
@@ -95,17 +114,38 @@ pub fn entrances_of<'a>(
         (λ found. found
         ≡ record { tolerance = tolerance; found = entrances_in target with_init_sections store.now (map break_at breaks.now.entries) }) }
 {
+    if segments <= FEW_TO_LIST {
+        let candidates = Candidates {
+            target,
+            with_init_sections,
+            store,
+            breaks,
+        };
+        return Ok(unlisted(alloc, tolerance, candidates));
+    }
     let list = listed(alloc, target, with_init_sections, store, breaks)?;
     let spans = spans_for(alloc, tolerance, list.as_slice(), segments)?;
     Ok(Entrances {
         tolerance,
         list,
+        candidates: None,
         spans,
         place: 0,
     })
 }
 
 impl<'a> Entrances<'a> {
+    // The same, without the spans.
+    fn first_found(&self, instant: Instant, last: Option<&str>) -> Option<&'a str>
+        ensures { option_map (λ id. id.now) result
+            ≡ taken self.now.tolerance (option_copied last.entry) instant self.now.found }
+    {
+        match &self.candidates {
+            Some(candidates) => first_candidate(candidates, self.tolerance, last, instant),
+            None => first_entered(self.list.as_slice(), self.tolerance, last, instant),
+        }
+    }
+
     // The ID of the first of them that is entered.
     #[inline(always)]
     fn first(&mut self, instant: Instant, last: Option<&str>) -> Option<&'a str>
@@ -116,7 +156,7 @@ impl<'a> Entrances<'a> {
         self.place = place_of(self.spans.as_slice(), self.place, instant);
         match span_at(self.spans.as_slice(), self.place, instant) {
             Some(span) => span.entered(last),
-            None => first_entered(self.list.as_slice(), self.tolerance, last, instant),
+            None => self.first_found(instant, last),
         }
     }
 

@@ -1,12 +1,15 @@
 //! A break that can be entered, and whether a segment enters it.
-ghost use Rattle.std.specs.Prelude.{◌≡◌, Bool, ℕ, List, option_map};
+ghost use Rattle.std.specs.Prelude.{◌≡◌, Bool, ℕ, List, map, option_map};
 ghost use Rattle.std.specs.Option.{option_copied};
 ghost use Rattle.pod_store.specs.Store.{pod_for};
 ghost use Rattle.break_finder.specs.Known.{is_this};
-ghost use Rattle.break_finder.specs.Entrances.{entrance_of, is_entered, taken};
+ghost use Rattle.break_finder.specs.Entrances.{entrance_of, entrances_in, is_entered, taken};
+ghost use Rattle.break_finder.specs.Inner.Entrances.{is_entered_if};
+ghost use Rattle.break_finder.specs.Kept.{break_at};
 
 use crate::described::{Described, is_leaving};
 use crate::end::{End, end_of, is_near, is_not_past};
+use crate::kept::Breaks;
 use fixed_duration::Nanos;
 use playlist_model::Instant;
 use pod_store::PodStore;
@@ -95,6 +98,72 @@ pub fn first_entered<'a>(
     for entrance in list {
         if is_entered(tolerance, last, instant, entrance) {
             return Some(entrance.id);
+        }
+    }
+    None
+}
+
+/// Known breaks, and what decides which of them can be entered: the target duration, in seconds, whether segments have
+/// initialisation sections, and the store of pods.
+#[derive(Clone, Copy)]
+pub struct Candidates<'a> {
+    /// The target duration.
+    pub target: u64,
+    /// Whether segments have initialisation sections.
+    pub with_init_sections: bool,
+    /// The pods.
+    pub store: &'a PodStore,
+    /// The known breaks.
+    pub breaks: &'a Breaks,
+}
+
+#[tactic(auto, using(crate::proofs::Candidates::far_off))]
+// Whether a segment that begins at an instant enters the break `id`, of which this is said. To look at its start costs less
+// than to look for its pod, and few breaks start near.
+fn is_candidate_entered(
+    candidates: &Candidates<'_>,
+    tolerance: Nanos,
+    last: Option<&str>,
+    instant: Instant,
+    id: &str,
+    said: &Described,
+) -> bool
+    ensures { result ≡ is_entered_if tolerance (option_copied last.entry) instant
+        (entrance_of candidates.now.target candidates.now.with_init_sections (record { id = id.now; said = said.now })
+        (pod_for candidates.now.store.now id.now)) }
+{
+    if !is_near(instant, tolerance, said.start) {
+        return false;
+    }
+    match entrance_of(
+        candidates.target,
+        candidates.with_init_sections,
+        candidates.store,
+        id,
+        said,
+    ) {
+        Some(entrance) => is_entered(tolerance, last, instant, &entrance),
+        None => false,
+    }
+}
+
+/// The ID of the first of the `candidates` that a segment which begins at `instant` enters, by `tolerance`, if the break
+/// `last` was entered last.
+pub fn first_candidate<'a>(
+    candidates: &Candidates<'a>,
+    tolerance: Nanos,
+    last: Option<&str>,
+    instant: Instant,
+) -> Option<&'a str>
+    ensures { option_map (λ id. id.now) result
+        ≡ taken tolerance (option_copied last.entry) instant
+        (entrances_in candidates.now.target candidates.now.with_init_sections candidates.now.store.now
+        (map break_at candidates.now.breaks.now.entries)) }
+{
+    let breaks = candidates.breaks;
+    for (id, said) in breaks {
+        if is_candidate_entered(candidates, tolerance, last, instant, id.as_str(), said) {
+            return Some(id.as_str());
         }
     }
     None

@@ -10,7 +10,7 @@ ghost use Rattle.break_finder.specs.Entering.{is_inside, is_inside_said, id_of, 
 ghost use Rattle.break_finder.specs.Stays.{stays_at};
 ghost use Rattle.break_finder.specs.Signals.{is_leaving};
 
-use crate::carry::{add_tags, standing};
+use crate::carry::{add_tags, are_said, standing};
 use crate::described::{Described, is_leaving};
 use crate::end::{End, end_of, is_before_end};
 use crate::entering::{Entrances, entrances_of};
@@ -163,15 +163,15 @@ impl Knowledge {
     /// `store`, which fits the target duration `target`, in seconds, and segments that are `with_init_sections` (have
     /// initialisation sections) or aren't. They are made for about `segments` segments, which changes what they take
     /// and nothing else. Fails only if an allocation fails.
-    pub fn entrances(
-        &self,
+    pub fn entrances<'a>(
+        &'a self,
         alloc: Global,
         tolerance: Nanos,
         target: u64,
         with_init_sections: bool,
-        store: &PodStore,
+        store: &'a PodStore,
         segments: usize,
-    ) -> Result<Entrances<'_>, AllocError>
+    ) -> Result<Entrances<'a>, AllocError>
         ensures { IfOk result
             (λ entrances. entrances
             ≡ record { tolerance = tolerance; found = entrances_in target with_init_sections store.now self.now }) }
@@ -215,6 +215,10 @@ impl Knowledge {
             ∷ before)) }
     {
         let date_ranges = playlist.date_ranges.as_slice();
+        if are_said(&self.breaks, date_ranges) {
+            let copies = self.breaks.clone()?;
+            return Ok(Knowledge { breaks: copies });
+        }
         let mut breaks = standing(alloc, &self.breaks, date_ranges, newest)?;
         add_tags(alloc, &mut breaks, date_ranges)?;
         Ok(Knowledge { breaks })

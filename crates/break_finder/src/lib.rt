@@ -13,7 +13,6 @@ pub mod laws;
 mod signal;
 mod spans;
 mod why;
-mod worked_examples;
 
 pub use entering::Entrances;
 pub use knowledge::{Knowledge, Stay};

@@ -7,6 +7,7 @@ use Rattle.std.specs.Prelude.{Option, Some, None, is_none, option_map, nat_le, n
 use Rattle.std.specs.List.{list_all, list_any}
 use Rattle.playlist_model.specs.declared.DateRange.{DateRange}
 use Rattle.playlist_model.specs.declared.Playlist.{Playlist}
+use Rattle.channel_spec.specs.declared.heading.Heading.{Heading}
 use Rattle.playlist_model.specs.LookBack.{or_earlier}
 use Rattle.pod_store.specs.Marks.{Marked, Mark, newest_mark}
 use Rattle.stitcher.specs.Stitched.{Piece, Numbers, Item, numbers_at, fits, stitched, numbered, first_numbers, newest_place, from_place}
@@ -15,16 +16,20 @@ use Rattle.channel_spec.specs.declared.fault.RefreshFault.TheVariants.{NumberRan
 use Rattle.break_finder.specs.Known.{Accepted, known, carry}
 use Rattle.break_finder.specs.Breaks.{Break}
 use Rattle.channel_spec.specs.Marking.{mark_id, last_entered, is_new, history_after}
-use Rattle.channel_spec.specs.Successor.{first_number, end_number, has_init_sections, fault_if}
+use Rattle.channel_spec.specs.Successor.{heading_of, first_number, end_number, has_init_sections, fault_if}
 use Rattle.channel_spec.specs.Live.{Told, told, refusal, succession_fault, acceptance, moment, after_refresh, breaks_in_use, item_segment, states_instant, owed_for, window_after, last_playlist, written_date_ranges, place_of, gone_before, rest_over, rest_id, ids_in, marks_from, in_use_with, date_ranges_left, start_after}
 use Rattle.break_finder.specs.Laws.{CarriesKnown}
 use Rattle.channel_spec.specs.LiveLaws.{Linked, GoesOn}
-use Rattle.channel_spec.specs.Kept.{Kept, shown_from, head_numbers, kept_of, kept_acceptance, kept_moment, show_on, kept_list, kept_window, kept_breaks, kept_refusal, kept_after, kept_owed, date_ranges_after, length_on, kept_length, stitched_on, kept_items, kept_rest, window_by}
+use Rattle.channel_spec.specs.Kept.{Kept, shown_from, head_numbers, kept_of, kept_acceptance, kept_moment, show_on, kept_list, kept_window, kept_breaks, kept_refusal, kept_after, kept_owed, kept_succession, listed, date_ranges_after, length_on, kept_length, stitched_on, kept_items, kept_rest, window_by}
 use Rattle.channel_spec.specs.Inner.Kept.{kept_start}
 use Rattle.channel_spec.specs.LastWindow.{last_items, ItemsGoOn}
 use Rattle.channel_spec.proofs.Growth.{numbered_grows}
 use Rattle.channel_spec.specs.KeptLaws.{KeptFollows}
 use Rattle.channel_spec.proofs.Risen.{FallFrom}
+use Rattle.channel_spec.proofs.Listed.{Agrees, ListedOf, listed_parts, lists}
+use Rattle.channel_spec.proofs.SameFault.{same_fault, same_first}
+use Rattle.playlist_model.specs.Same.{kept_parts}
+use Rattle.std.specs.List.{AllByRecursion}
 use Rattle.channel_spec.proofs.Fills.{IsStore}
 use Rattle.channel_spec.proofs.EachWindow.{due_on, first_stays, same_start, plain_standing, start_inside, WindowStanding, WindowOf, holds}
 use Rattle.channel_spec.proofs.LastNumbers.{newest_fits}
@@ -183,6 +188,7 @@ rest_next number last end start from begun more s gone list history there b is l
 -- ---- one refresh
 
 pub record FollowsFrom (k : Kept) (tolerance : ℕ) (p : Playlist) (t : Told) : Type 0 where
+  pub succeeds_is : kept_succession k p ≡ succession_fault (last_playlist t.accepted) p
   pub refused : kept_refusal tolerance k p ≡ refusal tolerance t p
   pub fresh_is : filter (is_new k.shown) p.segments ≡ filter (is_new t.history) p.segments
   pub kept_is : refusal tolerance t p ≡ None → kept_after tolerance k p ≡ kept_of (after_refresh tolerance t p)
@@ -192,7 +198,7 @@ pub record FollowsFrom (k : Kept) (tolerance : ℕ) (p : Playlist) (t : Told) : 
   pub last_is : reverse (last_items k) ≡ window_by (last_playlist t.accepted) t.start t.history
   pub items_on : succession_fault (last_playlist t.accepted) p ≡ None → GoesOn (last_items k) (kept_items tolerance k p)
 
-pub kept_ext : (store store' : Store) (breaks breaks' : List Break) (last : Option Playlist) (shown shown' : List Marked) (entered entered' : Option (List ℕ)) (numbers numbers' : Numbers) (n n' : ℕ) (rest rest' : Option Rest)
+pub kept_ext : (store store' : Store) (breaks breaks' : List Break) (last : Option Heading) (shown shown' : List Marked) (entered entered' : Option (List ℕ)) (numbers numbers' : Numbers) (n n' : ℕ) (rest rest' : Option Rest)
     → store ≡ store' → breaks ≡ breaks' → shown ≡ shown' → entered ≡ entered' → numbers ≡ numbers' → n ≡ n' → rest ≡ rest'
     → ◌≡◌ {A = Kept} (record { store = store; breaks = breaks; last = last; shown = shown; entered = entered; numbers = numbers; so_far = n; rest = rest })
     (record { store = store'; breaks = breaks'; last = last; shown = shown'; entered = entered'; numbers = numbers'; so_far = n'; rest = rest' })
@@ -237,9 +243,10 @@ follow_first tolerance p store start =
     let none : rest_over 0 (place_of number history) number history ≡ None = none_before (place_of number history) (place_of number history) (gone_before number history) refl in
     let ids : kept_breaks tolerance kept p ≡ breaks_in_use (place_of number history) number history = ids_same number 0 list [] history None parts (omega arith) _ _ (sym none) in
     record {
+      succeeds_is = refl;
       refused = ap (λ xs. fault_if (not (list_all fits xs)) NumberRange) items;
       fresh_is = refl;
-      kept_is = λ e. kept_ext _ _ _ _ (Some p) _ _ _ _ _ _ _ _ _ _ (ap (λ is. kept_in_use is store) ids) breaks (shown_same number 0 list [] history None parts (omega arith)) parts.last (ap head_numbers windows) (sym lengths) (sym none);
+      kept_is = λ e. kept_ext _ _ _ _ (Some (heading_of p)) _ _ _ _ _ _ _ _ _ _ (ap (λ is. kept_in_use is store) ids) breaks (shown_same number 0 list [] history None parts (omega arith)) parts.last (ap head_numbers windows) (sym lengths) (sym none);
       window_is = λ e. windows;
       date_ranges_is = λ e. date_ranges_by p (kept_window tolerance kept p) (window_after (after_refresh tolerance t p) p) (kept_breaks tolerance kept p) (breaks_in_use (place_of number history) number history) windows ids;
       owed_is = λ e. owed_same p (kept_window tolerance kept p) (window_after (after_refresh tolerance t p) p) (kept_breaks tolerance kept p) (breaks_in_use (place_of number history) number history) windows ids;
@@ -271,7 +278,7 @@ module _ (tolerance : ℕ) (p : Playlist) (a : Accepted) (earlier : List Accepte
   kept n = record {
     store = store;
     breaks = known (a ∷ earlier);
-    last = Some a.playlist;
+    last = Some (heading_of a.playlist);
     shown = newer ++ (s ∷ []);
     entered = last_entered (newer ++ (s ∷ gone));
     numbers = n;
@@ -323,11 +330,11 @@ module _ (tolerance : ℕ) (p : Playlist) (a : Accepted) (earlier : List Accepte
         ∙ head_of_all n stood some)) in
         let rest : rest_over 0 start (first_number a.playlist.segments) (newer ++ (s ∷ gone)) ≡ there =
         ap (λ k. rest_over 0 start k (newer ++ (s ∷ gone))) (sym at) ∙ rest_is end start newer s gone falls in
-        kept_ext _ _ _ _ (Some a.playlist) _ _ _ _ _ _ _ _ _ _ refl refl shown refl numbers refl rest
+        kept_ext _ _ _ _ (Some (heading_of a.playlist)) _ _ _ _ _ _ _ _ _ _ refl refl shown refl numbers refl rest
 
-    follow_later : s.segment.media_sequence ≡ first_number a.playlist.segments → FallFrom (first_number a.playlist.segments) gone → Standing a.playlist (newer ++ (s ∷ gone)) → IsSoundPlaylist p → CarriesKnown (a ∷ earlier)
+    follow_later : s.segment.media_sequence ≡ first_number a.playlist.segments → map kept_parts (listed (newer ++ (s ∷ []))) ≡ map kept_parts a.playlist.segments → FallFrom (first_number a.playlist.segments) gone → Standing a.playlist (newer ++ (s ∷ gone)) → IsSoundPlaylist p → CarriesKnown (a ∷ earlier)
         → (succession_fault (Some a.playlist) p ≡ None → Standing p (history_after (moment tolerance t p) (newer ++ (s ∷ gone)) p)) → FollowsFrom (kept n) tolerance p t
-    follow_later at below standing read carries following =
+    follow_later at same_parts below standing read carries following =
         let m = moment tolerance t p in
         let k = kept n in
         let number = first_number p.segments in
@@ -367,6 +374,9 @@ module _ (tolerance : ℕ) (p : Playlist) (a : Accepted) (earlier : List Accepte
         let parts : Parts (first_number a.playlist.segments) list gone history entered = record { is = same; below = below; last = last } in
         let firsts : first_numbers history ≡ first = first_stays m a.playlist p whole standing in
         let fault = succession_fault (Some a.playlist) p in
+        let oldest = first_number (listed shown) in
+        let oldest_is : oldest ≡ first_number a.playlist.segments = same_first (listed shown) a.playlist.segments same_parts in
+        let faults : kept_succession k p ≡ fault = same_fault (heading_of a.playlist) (listed shown) a.playlist.segments p same_parts in
         let grow : fault ≡ None → GoesOn old new = λ e. due_on m a.playlist p whole standing (passed a.playlist p e) read in
         let goes : (e : fault ≡ None) → stands ≡ (grow e).0 ++ stood = λ e.
         append_cancel_right stands ((grow e).0 ++ stood) b.below (sym new_is ∙ ((grow e).1 ∙ (ap (λ xs. (grow e).0 ++ xs) old_is ∙ sym (append_assoc (grow e).0 stood b.below)))) in
@@ -383,22 +393,24 @@ module _ (tolerance : ℕ) (p : Playlist) (a : Accepted) (earlier : List Accepte
         let behind = window_beyond more s gone number links (omega (arith, at, back e)) in
         omega (arith, ap (place_of number) history_is, behind, ap (place_of number) list_is, ap length b.is, length-append (rest_pieces there) b.below, b.size) in
         let starts : fault ≡ None → begun ≡ from + start = λ e.
-        next_start (number == first_number a.playlist.segments) start (place_of number history) (length old) (place_of number list + length (rest_pieces there)) (length stood)
+        ap (λ (c : ℕ). cond (number == c) start (min (place_of number history) (length old))) (sym oldest_is)
+        ∙ next_start (number == oldest) start (place_of number history) (length old) (place_of number list + length (rest_pieces there)) (length stood)
         (places e) (omega (arith, ap length old_is, length-append stood b.below, b.size)) in
         let windows : fault ≡ None → kept_window tolerance k p ≡ reverse (from_place begun (due_list p.end_list history)) = λ e.
         sym (ap (λ k. reverse (from_place k (due_list p.end_list history))) (omega (arith, starts e, b.size))
         ∙ (ap (λ f. reverse (from_place (from + length b.below) (numbered f new))) firsts ∙ window_on (grow e).0 stands new from (goes e) new_is)) in
         let rests : fault ≡ None → kept_rest tolerance k p ≡ rest_over 0 begun number history = λ e.
-        rest_next number (first_number a.playlist.segments) (end_number p.segments) start from begun more s gone list history there b refl list_is history_is links
-        (subst (λ h. FallFrom (end_number p.segments) h) history_is (following e).falls) at (back e) (starts e) (places e)
-        (λ c. same_start number (first_number a.playlist.segments) start (min (place_of number history) (length old)) c (number == first_number a.playlist.segments) refl)
-        (number == first_number a.playlist.segments) refl in
+        rest_next number oldest (end_number p.segments) start from begun more s gone list history there b refl list_is history_is links
+        (subst (λ h. FallFrom (end_number p.segments) h) history_is (following e).falls) (at ∙ sym oldest_is) (omega (arith, oldest_is, back e)) (starts e) (places e)
+        (λ c. same_start number (first_number a.playlist.segments) start (min (place_of number history) (length old)) (c ∙ oldest_is) (number == first_number a.playlist.segments) refl)
+        (number == oldest) refl in
         let ids : fault ≡ None → kept_breaks tolerance k p ≡ breaks_in_use begun number history = λ e.
         ids_same number (first_number a.playlist.segments) list gone history entered parts (back e) _ _ (rests e) in
         record {
-          refused = or_same fault _ _ (λ e. ap (λ b. fault_if (not b) NumberRange) (range e));
+          succeeds_is = faults;
+          refused = ap (λ o. or_earlier o (fault_if (not (list_all fits (kept_items tolerance k p))) NumberRange)) faults ∙ or_same fault _ _ (λ e. ap (λ b. fault_if (not b) NumberRange) (range e));
           fresh_is = sym (new_same newer s gone p.segments);
-          kept_is = λ r. let e = or_none fault _ r in kept_ext _ _ _ _ (Some p) _ _ _ _ _ _ _ _ _ _ (ap (λ is. kept_in_use is store) (ids e)) breaks
+          kept_is = λ r. let e = or_none fault _ r in kept_ext _ _ _ _ (Some (heading_of p)) _ _ _ _ _ _ _ _ _ _ (ap (λ is. kept_in_use is store) (ids e)) breaks
               (shown_same number (first_number a.playlist.segments) list gone history entered parts (back e)) last (ap head_numbers (windows e)) (sym lengths) (rests e);
           window_is = λ r. windows (or_none fault _ r);
           date_ranges_is = λ r. let e = or_none fault _ r in date_ranges_by p (kept_window tolerance k p) (reverse (from_place begun (due_list p.end_list history))) (kept_breaks tolerance k p) (breaks_in_use begun number history) (windows e) (ids e);
@@ -425,13 +437,13 @@ ends pieces h =
     record { front = k.front; q = k.here; is = k.is ∙ ap (λ xs. k.front ++ (k.here ∷ xs)) (empty k.after k.at) }
 
 later : (tolerance : ℕ) (p : Playlist) (a : Accepted) (earlier : List Accepted) (newer : List Marked) (s : Marked) (gone : List Marked) (store : Store) (start : ℕ)
-    → Standing a.playlist (newer ++ (s ∷ gone)) → StartAt s.segment.media_sequence (newer ++ (s ∷ gone)) start → IsSoundPlaylist p
+    → Standing a.playlist (newer ++ (s ∷ gone)) → AllByRecursion (Agrees a.playlist.segments) (newer ++ (s ∷ gone)) → StartAt s.segment.media_sequence (newer ++ (s ∷ gone)) start → IsSoundPlaylist p
     → (succession_fault (Some a.playlist) p ≡ None → Standing p (history_after (moment tolerance (record { accepted = a ∷ earlier; history = newer ++ (s ∷ gone); store = store; start = start }) p) (newer ++ (s ∷ gone)) p))
     → Linked (newer ++ (s ∷ gone)) → CarriesKnown (a ∷ earlier) → start < length (due_stitched a.playlist.end_list (newer ++ (s ∷ gone)))
     → s.segment.media_sequence ≡ first_number a.playlist.segments → shown_from (first_number a.playlist.segments) (newer ++ (s ∷ gone)) ≡ newer ++ (s ∷ []) → FallFrom (first_number a.playlist.segments) gone
     → FollowsFrom (kept_of (record { accepted = a ∷ earlier; history = newer ++ (s ∷ gone); store = store; start = start })) tolerance p
     (record { accepted = a ∷ earlier; history = newer ++ (s ∷ gone); store = store; start = start })
-later tolerance p a earlier newer s gone store start standing at read following linked carries some number shown rest =
+later tolerance p a earlier newer s gone store start standing agrees at read following linked carries some number shown rest =
     let whole = newer ++ (s ∷ gone) in
     let end = end_number a.playlist.segments in
     let t : Told = record { accepted = a ∷ earlier; history = whole; store = store; start = start } in
@@ -441,43 +453,45 @@ later tolerance p a earlier newer s gone store start standing at read following 
     let old = stand_on a.playlist.end_list newer s gone start there b linked in
     let k = ends stood (omega (arith, some, ap length old, length-append stood b.below, b.size)) in
     subst (λ x. FollowsFrom x tolerance p t) (sym (kept_there tolerance p a earlier newer s gone store start b linked k.front k.q k.is end number shown standing.falls))
-    (follow_later tolerance p a earlier newer s gone store start b linked k.front k.q k.is number rest standing read carries following)
+    (follow_later tolerance p a earlier newer s gone store start b linked k.front k.q k.is number
+    (ap (λ h. map kept_parts (listed h)) (sym shown) ∙ listed_parts a.playlist whole standing agrees) rest standing read carries following)
 
 from_history : (tolerance : ℕ) (p : Playlist) (a : Accepted) (earlier : List Accepted) (history : List Marked) (store : Store) (start : ℕ)
-    → WindowStanding a.playlist history start → StartAt (first_number a.playlist.segments) history start → IsSoundPlaylist p
+    → WindowStanding a.playlist history start → AllByRecursion (Agrees a.playlist.segments) history → StartAt (first_number a.playlist.segments) history start → IsSoundPlaylist p
     → (succession_fault (Some a.playlist) p ≡ None → Standing p (history_after (moment tolerance (record { accepted = a ∷ earlier; history = history; store = store; start = start }) p) history p))
     → Linked history → CarriesKnown (a ∷ earlier)
     → FollowsFrom (kept_of (record { accepted = a ∷ earlier; history = history; store = store; start = start })) tolerance p
     (record { accepted = a ∷ earlier; history = history; store = store; start = start })
-from_history tolerance p a earlier history store start st at read following linked carries =
+from_history tolerance p a earlier history store start st agrees at read following linked carries =
     let first = first_number a.playlist.segments in
     let k = cut first (end_number a.playlist.segments) history st.standing.falls (omega (arith, st.standing.read.some)) (omega (arith, st.standing.long)) in
     let told_of : List Marked → Told = λ h. record { accepted = a ∷ earlier; history = h; store = store; start = start } in
     subst (λ h. FollowsFrom (kept_of (told_of h)) tolerance p (told_of h)) (sym k.is)
-    (later tolerance p a earlier k.newer k.s k.gone store start (subst (λ h. Standing a.playlist h) k.is st.standing)
+    (later tolerance p a earlier k.newer k.s k.gone store start (subst (λ h. Standing a.playlist h) k.is st.standing) (subst (λ h. AllByRecursion (Agrees a.playlist.segments) h) k.is agrees)
     (subst (λ n. StartAt n (k.newer ++ (k.s ∷ k.gone)) start) (sym k.media_sequence) (subst (λ h. StartAt first h start) k.is at)) read
     (subst (λ h. succession_fault (Some a.playlist) p ≡ None → Standing p (history_after (moment tolerance (told_of h) p) h p)) k.is following)
     (subst Linked k.is linked) carries (subst (λ h. start < length (due_stitched a.playlist.end_list h)) k.is (start_inside a.playlist history start st a.playlist.end_list))
     k.media_sequence (ap (shown_from first) (sym k.is) ∙ k.shown) k.rest)
 
-pub each : (tolerance : ℕ) (p : Playlist) (accepted : List Accepted) (history : List Marked) (store : Store) (start : ℕ) → WindowOf accepted history start → StartOf accepted history start → IsStore store → IsSoundPlaylist p → Linked history → CarriesKnown accepted
+pub each : (tolerance : ℕ) (p : Playlist) (accepted : List Accepted) (history : List Marked) (store : Store) (start : ℕ) → WindowOf accepted history start → ListedOf accepted history → StartOf accepted history start → IsStore store → IsSoundPlaylist p → Linked history → CarriesKnown accepted
     → FollowsFrom (kept_of (record { accepted = accepted; history = history; store = store; start = start })) tolerance p (record { accepted = accepted; history = history; store = store; start = start })
-unfolding WindowOf StartOf
-each tolerance p [] history store start st at pods read linked carries =
+unfolding WindowOf StartOf ListedOf
+each tolerance p [] history store start st agrees at pods read linked carries =
     let told_of : List Marked → Told = λ h. record { accepted = []; history = h; store = store; start = start } in
     subst (λ h. FollowsFrom (kept_of (told_of h)) tolerance p (told_of h)) (sym st) (follow_first tolerance p store start)
-each tolerance p (a ∷ earlier) history store start st at pods read linked carries =
+each tolerance p (a ∷ earlier) history store start st agrees at pods read linked carries =
     let t : Told = record { accepted = a ∷ earlier; history = history; store = store; start = start } in
-    from_history tolerance p a earlier history store start st at read
+    from_history tolerance p a earlier history store start st agrees at read
     (λ e. new_standing (moment tolerance t p) (a ∷ earlier) history p (plain_standing (a ∷ earlier) history start st) read refl pods e) linked carries
 
 pub kept_follows : KeptFollows
 kept_follows tolerance p before g =
     let t = told tolerance before in
     let h = holds tolerance before g.1 in
-    let f = each tolerance p t.accepted t.history t.store t.start h.standing (all_start tolerance before g.1) h.store g.0 (histories_are_linked tolerance before) (marks_are_known tolerance before) in
+    let f = each tolerance p t.accepted t.history t.store t.start h.standing (lists tolerance before g.1) (all_start tolerance before g.1) h.store g.0 (histories_are_linked tolerance before) (marks_are_known tolerance before) in
     let now : refusal tolerance t p ≡ None → cond (is_none (refusal tolerance t p)) (after_refresh tolerance t p) t ≡ after_refresh tolerance t p = λ e. ap (λ o. cond (is_none o) (after_refresh tolerance t p) t) e in
     record {
+      succeeds = f.succeeds_is;
       refused = f.refused;
       fresh = f.fresh_is;
       kept = λ e. f.kept_is e ∙ ap kept_of (sym (now e));
@@ -490,5 +504,5 @@ pub items_go_on : ItemsGoOn
 items_go_on tolerance p before g =
     let t = told tolerance before in
     let h = holds tolerance before g.1 in
-    let f = each tolerance p t.accepted t.history t.store t.start h.standing (all_start tolerance before g.1) h.store g.0 (histories_are_linked tolerance before) (marks_are_known tolerance before) in
+    let f = each tolerance p t.accepted t.history t.store t.start h.standing (lists tolerance before g.1) (all_start tolerance before g.1) h.store g.0 (histories_are_linked tolerance before) (marks_are_known tolerance before) in
     record { last = f.last_is; on = f.items_on }

@@ -1,7 +1,8 @@
 -- Each segment that the origin lists is shown as it is listed.
-use Rattle.std.proofs.Common.{◌≡◌, inl, inr, ℕ, ◌+◌, ◌<◌, ◌≤◌, Bool, true, false, cond, List, [], ◌∷◌, length, refl, ap, sym, ◌∙◌, subst, arith}
-use Rattle.std.proofs.lemmas.Bool.{le-leb, ltb-true, ltb-false}
-use Rattle.std.specs.Prelude.{Option, Some, None, nat_lt, filter, is_none}
+use Rattle.std.proofs.Common.{◌≡◌, inl, inr, ℕ, ◌+◌, ◌<◌, ◌≤◌, Bool, true, false, cond, List, [], ◌∷◌, map, length, refl, ap, sym, ◌∙◌, subst, arith}
+use Rattle.std.proofs.lemmas.Bool.{leb-true, leb-false, ltb-true, ltb-false}
+use mathlib.Core.List.{reverse_aux}
+use Rattle.std.specs.Prelude.{Option, Some, None, nat_le, nat_lt, filter, is_none}
 use Rattle.std.specs.List.{AllByRecursion}
 use Rattle.playlist_model.specs.declared.Segment.{Segment}
 use Rattle.playlist_model.specs.declared.Playlist.{Playlist}
@@ -11,10 +12,10 @@ use Rattle.break_finder.specs.Known.{Accepted}
 use Rattle.channel_spec.specs.declared.fault.RefreshFault.{RefreshFault}
 use Rattle.channel_spec.specs.Marking.{Moment, next_shown, show_all, is_new, history_after}
 use Rattle.channel_spec.specs.Live.{Event, decided, refreshed, Told, told, happens, moment, after_refresh, refusal, succession_fault, last_playlist}
-use Rattle.channel_spec.specs.Kept.{shown_from, shown_by}
+use Rattle.channel_spec.specs.Kept.{segment_of, listed, shown_from, shown_by}
 use Rattle.channel_spec.specs.Sound.{RiseFrom, IsSoundPlaylist, IsSoundEvent}
 use Rattle.channel_spec.specs.Successor.{AgreesWith, Succeeds, first_number, end_number}
-use Rattle.channel_spec.specs.ListedLaws.{IsShown, ListedAreShown}
+use Rattle.channel_spec.specs.ListedLaws.{ShownAreListed}
 use Rattle.channel_spec.proofs.Decided.{from_all, no_fault_succeeds}
 use Rattle.channel_spec.proofs.EachWindow.{WindowOf, Holds, first_none, holds}
 use Rattle.channel_spec.proofs.LiveState.{Standing}
@@ -59,7 +60,7 @@ own n segments r =
 
 -- ---- a history that agrees with a playlist
 
-abbrev Agrees : List Segment → Marked → Type 0
+abbrev pub Agrees : List Segment → Marked → Type 0
 Agrees segments m = AgreesWith segments m.segment
 
 below : (end : ℕ) (history : List Marked) (m : Marked) → FallFrom end history → In m history → m.segment.media_sequence < end
@@ -97,7 +98,7 @@ all_filter P test (x ∷ xs) h = filter_step P x (filter test xs) (test x) h.0 (
 
 -- ---- after every list of events
 
-unfoldable ListedOf : List Accepted → List Marked → Type 0
+unfoldable pub ListedOf : List Accepted → List Marked → Type 0
 ListedOf [] history = Unit {0}
 ListedOf (r ∷ before) history = AllByRecursion (Agrees r.playlist.segments) history
 
@@ -127,44 +128,85 @@ event_lists : (tolerance : ℕ) (p : Told) (event : Event) → Holds p → Lists
 event_lists tolerance p (decided ds) h l g = l
 event_lists tolerance p (refreshed playlist) h l g = refusal_lists tolerance p playlist h l g (refusal tolerance p playlist) refl
 
-lists : (tolerance : ℕ) (events : List Event) → AllByRecursion IsSoundEvent events → Lists (told tolerance events)
+pub lists : (tolerance : ℕ) (events : List Event) → AllByRecursion IsSoundEvent events → Lists (told tolerance events)
 unfolding ListedOf
 lists tolerance [] g = tt
 lists tolerance (event ∷ before) g = event_lists tolerance (told tolerance before) event (holds tolerance before g.1) (lists tolerance before g.1) g.0
 
--- ---- each is shown
+-- ---- each is shown, and no more is, number for number
 
-pick : (segments : List Segment) (s : Segment) (x : Marked) (rest : List Marked) → Agrees segments x → In s segments → s.media_sequence < x.segment.media_sequence + 1
-    → (s.media_sequence < x.segment.media_sequence → IsShown rest s) → (b : Bool) → nat_lt s.media_sequence x.segment.media_sequence ≡ b → IsShown (x ∷ rest) s
-pick segments s x rest a i k rec true e = inr (rec (ltb-true s.media_sequence x.segment.media_sequence e))
-pick segments s x rest a i k rec false e =
-    inl (from_all (λ (t : Segment). x.segment.media_sequence ≡ t.media_sequence → kept_parts x.segment ≡ kept_parts t) segments s a i
-    (omega (arith, k, ltb-false s.media_sequence x.segment.media_sequence e)))
+less : (y : Segment) (ys xs : List Segment) → AllByRecursion (AgreesWith (y ∷ ys)) xs → AllByRecursion (AgreesWith ys) xs
+less y ys [] h = tt
+less y ys (x ∷ xs) h = (h.0.1, less y ys xs h.1)
 
-is_shown : (segments : List Segment) (s : Segment) (first end : ℕ) (history : List Marked) → FallFrom end history → In s segments → AllByRecursion (Agrees segments) history
-    → first ≤ s.media_sequence → s.media_sequence < end → end ≤ s.media_sequence + length history → IsShown (shown_from first history) s
-is_shown segments s first end [] f i a h k l = absurd (omega (arith, k, l))
-is_shown segments s first end (x ∷ before) f i a h k l =
-    subst (λ b. IsShown (cond b (x ∷ shown_from first before) []) s) (sym (le-leb first x.segment.media_sequence (omega (arith, f.0, h, k))))
-    (pick segments s x (shown_from first before) a.0 i (omega (arith, f.0, k))
-    (λ less. is_shown segments s first x.segment.media_sequence before f.1 i a.1 h less (omega (arith, f.0, l))) (nat_lt s.media_sequence x.segment.media_sequence) refl)
+-- segments of the same numbers that agree are the same
+same_parts : (n : ℕ) (xs ys : List Segment) → RiseFrom n xs → RiseFrom n ys → length xs ≡ length ys → AllByRecursion (AgreesWith ys) xs → map kept_parts xs ≡ map kept_parts ys
+same_parts n [] [] r q e h = refl
+same_parts n [] (y ∷ ys) r q e h = absurd (omega (arith, e))
+same_parts n (x ∷ xs) [] r q e h = absurd (omega (arith, e))
+same_parts n (x ∷ xs) (y ∷ ys) r q e h =
+    ap (λ s. s ∷ map kept_parts xs) (h.0.0 (r.0 ∙ sym q.0))
+    ∙ ap (λ ss. kept_parts y ∷ ss) (same_parts (n + 1) xs ys r.1 q.1 (omega (arith, e)) (less y ys xs h.1))
 
-shown_in : (last : Playlist) (history : List Marked) → Standing last history → AllByRecursion (Agrees last.segments) history
-    → AllByRecursion (IsShown (shown_from (first_number last.segments) history)) last.segments
-shown_in last history s a =
-    all_from (IsShown (shown_from (first_number last.segments) history)) last.segments (λ x i.
-    let w = within (first_number last.segments) last.segments x s.read.numbers i in
-    is_shown last.segments x (first_number last.segments) (end_number last.segments) history s.falls i a w.0 w.1 (omega (arith, w.0, s.long)))
+-- the segments of a history from a number on, turned round, before others
+record Turned (first end : ℕ) (history after : List Marked) : Type 0 where
+  rise : RiseFrom first (map segment_of (reverse_aux (shown_from first history) after))
+  size : length (map segment_of (reverse_aux (shown_from first history) after)) + first ≡ end + length after
 
-shown_after : (accepted : List Accepted) (history : List Marked) (start : ℕ) (last : Playlist) → last_playlist accepted ≡ Some last → WindowOf accepted history start → ListedOf accepted history
-    → AllByRecursion (IsShown (shown_by (Some last) history)) last.segments
+length_map : (xs : List Marked) → length (map segment_of xs) ≡ length xs
+length_map [] = refl
+length_map (x ∷ xs) = omega (arith, length_map xs)
+
+turn_step : (first : ℕ) (x : Marked) (before after : List Marked) → RiseFrom (x.segment.media_sequence + 1) (map segment_of after) → first ≤ x.segment.media_sequence + 1
+    → (first ≤ x.segment.media_sequence → Turned first x.segment.media_sequence before (x ∷ after)) → (b : Bool) → nat_le first x.segment.media_sequence ≡ b
+    → Turned first (x.segment.media_sequence + 1) (x ∷ before) after
+turn_step first x before after r h rec true e =
+    let k = rec (leb-true first x.segment.media_sequence e) in
+    record { rise = rw e k.rise; size = rw e (omega (arith, k.size)) }
+turn_step first x before after r h rec false e =
+    let same : first ≡ x.segment.media_sequence + 1 = omega (arith, h, leb-false first x.segment.media_sequence e) in
+    record { rise = rw e (subst (λ n. RiseFrom n (map segment_of after)) (sym same) r); size = rw e (omega (arith, same, length_map after)) }
+
+turn : (first end : ℕ) (history after : List Marked) → FallFrom end history → RiseFrom end (map segment_of after) → first ≤ end → end ≤ first + length history → Turned first end history after
+turn first end [] after f r h k =
+    let same : first ≡ end = omega (arith, h, k) in
+    record { rise = subst (λ n. RiseFrom n (map segment_of after)) (sym same) r; size = omega (arith, same, length_map after) }
+turn first end (x ∷ before) after f r h k =
+    subst (λ n. Turned first n (x ∷ before) after) f.0
+    (turn_step first x before after (subst (λ n. RiseFrom n (map segment_of after)) (sym f.0) r) (omega (arith, f.0, h))
+    (λ less. turn first x.segment.media_sequence before (x ∷ after) f.1 (refl, subst (λ n. RiseFrom n (map segment_of after)) (sym f.0) r) less (omega (arith, f.0, k)))
+    (nat_le first x.segment.media_sequence) refl)
+
+from_agree : (segments : List Segment) (first : ℕ) (history : List Marked) → AllByRecursion (Agrees segments) history → AllByRecursion (Agrees segments) (shown_from first history)
+from_agree segments first [] a = tt
+from_agree segments first (x ∷ before) a = step (nat_le first x.segment.media_sequence) (from_agree segments first before a.1)
+  where
+    step : (b : Bool) → AllByRecursion (Agrees segments) (shown_from first before) → AllByRecursion (Agrees segments) (cond b (x ∷ shown_from first before) [])
+    step true h = (a.0, h)
+    step false h = tt
+
+turn_agree : (segments : List Segment) (history after : List Marked) → AllByRecursion (Agrees segments) history → AllByRecursion (AgreesWith segments) (map segment_of after)
+    → AllByRecursion (AgreesWith segments) (map segment_of (reverse_aux history after))
+turn_agree segments [] after a h = h
+turn_agree segments (x ∷ before) after a h = turn_agree segments before (x ∷ after) a.1 (a.0, h)
+
+pub listed_parts : (last : Playlist) (history : List Marked) → Standing last history → AllByRecursion (Agrees last.segments) history
+    → map kept_parts (listed (shown_from (first_number last.segments) history)) ≡ map kept_parts last.segments
+listed_parts last history s a =
+    let first = first_number last.segments in
+    let t = turn first (end_number last.segments) history [] s.falls tt (omega arith) (omega (arith, s.long)) in
+    same_parts first (listed (shown_from first history)) last.segments t.rise s.read.numbers (omega (arith, t.size))
+    (turn_agree last.segments (shown_from first history) [] (from_agree last.segments first history a) tt)
+
+parts_after : (accepted : List Accepted) (history : List Marked) (start : ℕ) (last : Playlist) → last_playlist accepted ≡ Some last → WindowOf accepted history start → ListedOf accepted history
+    → map kept_parts (listed (shown_by (Some last) history)) ≡ map kept_parts last.segments
 unfolding WindowOf ListedOf
-shown_after [] history start last e w l = absurd (cc)
-shown_after (r ∷ before) history start last e w l =
+parts_after [] history start last e w l = absurd (cc)
+parts_after (r ∷ before) history start last e w l =
     let same : r.playlist ≡ last = cc in
-    subst (λ (p : Playlist). AllByRecursion (IsShown (shown_from (first_number p.segments) history)) p.segments) same (shown_in r.playlist history w.standing l)
+    subst (λ (p : Playlist). map kept_parts (listed (shown_by (Some p) history)) ≡ map kept_parts p.segments) same (listed_parts r.playlist history w.standing l)
 
-pub listed_are_shown : ListedAreShown
-listed_are_shown tolerance events last now h =
+pub shown_are_listed : ShownAreListed
+shown_are_listed tolerance events last now h =
     let t = told tolerance events in
-    shown_after t.accepted t.history t.start last h.accepted (holds tolerance events h.sound).standing (lists tolerance events h.sound)
+    parts_after t.accepted t.history t.start last h.accepted (holds tolerance events h.sound).standing (lists tolerance events h.sound)

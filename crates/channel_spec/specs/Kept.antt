@@ -4,6 +4,7 @@ use Rattle.std.specs.List.{list_all, list_any}
 use Rattle.playlist_model.specs.declared.Segment.{Segment}
 use Rattle.playlist_model.specs.declared.DateRange.{DateRange}
 use Rattle.playlist_model.specs.declared.Playlist.{Playlist}
+use Rattle.channel_spec.specs.declared.heading.Heading.{Heading}
 use Rattle.playlist_model.specs.LookBack.{or_earlier}
 use Rattle.pod_store.specs.Marks.{Mark, Marked, newest_mark, continues}
 use Rattle.stitcher.specs.Stitched.{Numbers, Piece, Item, fits, numbered, first_numbers, from_place}
@@ -15,17 +16,17 @@ use Rattle.channel_spec.specs.declared.fault.RefreshFault.TheVariants.{NumberRan
 use Rattle.break_finder.specs.Known.{Accepted, known}
 use Rattle.break_finder.specs.Breaks.{Break}
 use Rattle.channel_spec.specs.Marking.{Moment, mark_id, last_entered, next_mark, instant_of, is_new}
-use Rattle.channel_spec.specs.Successor.{first_number, has_init_sections, fault_if}
-use Rattle.channel_spec.specs.Live.{Told, last_playlist, succession_fault, place_of, rest_over, rest_by, in_use_with, date_ranges_left, window_from, item_segment, states_instant, playlist_with}
+use Rattle.channel_spec.specs.Successor.{heading_of, following_fault, first_number, has_init_sections, fault_if}
+use Rattle.channel_spec.specs.Live.{Told, last_playlist, place_of, rest_over, rest_by, in_use_with, date_ranges_left, window_from, item_segment, states_instant, playlist_with}
 use Rattle.break_finder.specs.Known.{carry}
 
--- the store, the known breaks, the last playlist, the segments that it shows (the newest first), the last break
+-- the store, the known breaks, the heading of the last playlist, the segments that it shows (the newest first), the last break
 -- entered, the numbers of the window's first item, how long the newest run has lasted, and the rest of a pod that the
 -- window starts with
 pub record Kept : Type 0 where
   pub store : Store
   pub breaks : List Break
-  pub last : Option Playlist
+  pub last : Option Heading
   pub shown : List Marked
   pub entered : Option (List ℕ)
   pub numbers : Numbers
@@ -42,6 +43,13 @@ shown_from first (s ∷ before) = if nat_le first s.segment.media_sequence then 
 abbrev pub head_numbers : List Item → Numbers
 head_numbers [] = record { media_sequence = 0; discontinuity_sequence = 0; discontinuities = 0 }
 head_numbers (item ∷ later) = item.numbers
+
+abbrev pub segment_of : Marked → Segment
+segment_of m = m.segment
+
+-- the segments of a history as a playlist lists them, the oldest first
+abbrev pub listed : List Marked → List Segment
+listed history = map segment_of (reverse history)
 
 abbrev pub shown_by : Option Playlist → List Marked → List Marked
 shown_by None history = []
@@ -61,7 +69,7 @@ abbrev pub kept_of : Told → Kept
 kept_of told = record {
   store = told.store;
   breaks = known told.accepted;
-  last = last_playlist told.accepted;
+  last = option_map heading_of (last_playlist told.accepted);
   shown = shown_by (last_playlist told.accepted) told.history;
   entered = last_entered told.history;
   numbers = head_numbers (window_by (last_playlist told.accepted) told.start told.history);
@@ -104,9 +112,9 @@ abbrev pub kept_list : ℕ → Kept → Playlist → List Marked
 kept_list tolerance kept playlist =
     show_on (kept_moment tolerance kept playlist) kept.shown kept.entered (filter (is_new kept.shown) playlist.segments)
 
-abbrev pub numbers_on : Option Playlist → Numbers → List Marked → Numbers
+abbrev pub numbers_on : Option Heading → Numbers → List Marked → Numbers
 numbers_on None numbers list = first_numbers list
-numbers_on (Some p) numbers list = numbers
+numbers_on (Some last) numbers list = numbers
 
 -- the newest run's length with one more segment
 abbrev pub extended : Marked → List Marked → ℕ → ℕ
@@ -133,25 +141,25 @@ items_on kept playlist list so_far =
     numbered (numbers_on kept.last kept.numbers list) (stitched_on playlist.end_list so_far list kept.rest)
 
 -- where the next window starts, counted from there
-abbrev pub start_on : Option Playlist → ℕ → Kept → List Marked → ℕ
+abbrev pub start_on : Option Heading → ℕ → Kept → List Marked → ℕ
 start_on None number kept list = place_of number list
 start_on (Some last) number kept list =
-    if number == first_number last.segments then 0
+    if number == first_number (listed kept.shown) then 0
     else min (place_of number list + length (rest_pieces kept.rest)) (length (stitched_on last.end_list kept.so_far kept.shown kept.rest))
 
 abbrev pub window_on : Kept → Playlist → List Marked → ℕ → List Item
 window_on kept playlist list so_far =
     reverse (from_place (start_on kept.last (first_number playlist.segments) kept list) (items_on kept playlist list so_far))
 
--- the rest that the next window starts with
-abbrev pub rest_on : Option Playlist → ℕ → ℕ → List Marked → Option Rest → Option Rest
-rest_on None number start list rest = None
-rest_on (Some last) number start list rest =
-    if number == first_number last.segments then rest else rest_over (length (rest_pieces rest)) start number list
+-- the rest that the next window starts with, if the last one showed the segments from `first` on
+abbrev pub rest_on : Option Heading → ℕ → ℕ → ℕ → List Marked → Option Rest → Option Rest
+rest_on None first number start list rest = None
+rest_on (Some last) first number start list rest =
+    if number == first then rest else rest_over (length (rest_pieces rest)) start number list
 
 abbrev pub rest_after : Kept → Playlist → List Marked → Option Rest
 rest_after kept playlist list =
-    rest_on kept.last (first_number playlist.segments) (start_on kept.last (first_number playlist.segments) kept list) list kept.rest
+    rest_on kept.last (first_number (listed kept.shown)) (first_number playlist.segments) (start_on kept.last (first_number playlist.segments) kept list) list kept.rest
 
 abbrev pub kept_items : ℕ → Kept → Playlist → List Item
 kept_items tolerance kept playlist = items_on kept playlist (kept_list tolerance kept playlist) (kept_length tolerance kept playlist)
@@ -170,10 +178,19 @@ abbrev pub kept_breaks : ℕ → Kept → Playlist → List (List ℕ)
 kept_breaks tolerance kept playlist =
     in_use_with (first_number playlist.segments) (kept_list tolerance kept playlist) (kept_entered tolerance kept playlist) (kept_rest tolerance kept playlist)
 
+-- why a playlist may not follow one of this heading that showed these segments, if it may not
+abbrev pub succession_on : Option Heading → List Segment → Playlist → Option RefreshFault
+succession_on None segments playlist = None
+succession_on (Some last) segments playlist = following_fault last segments playlist
+
+-- it is asked of the shown segments, and not of those of the last playlist
+abbrev pub kept_succession : Kept → Playlist → Option RefreshFault
+kept_succession kept playlist = succession_on kept.last (listed kept.shown) playlist
+
 -- why a readable refresh is refused, if it is
 abbrev pub kept_refusal : ℕ → Kept → Playlist → Option RefreshFault
 kept_refusal tolerance kept playlist =
-    or_earlier (succession_fault kept.last playlist)
+    or_earlier (kept_succession kept playlist)
     (fault_if (not (list_all fits (kept_items tolerance kept playlist))) NumberRange)
 
 -- what is kept after an accepted refresh
@@ -181,7 +198,7 @@ abbrev pub kept_after : ℕ → Kept → Playlist → Kept
 kept_after tolerance kept playlist = record {
   store = kept_in_use (kept_breaks tolerance kept playlist) kept.store;
   breaks = carry (kept_acceptance kept playlist) kept.breaks;
-  last = Some playlist;
+  last = Some (heading_of playlist);
   shown = shown_from (first_number playlist.segments) (kept_list tolerance kept playlist);
   entered = kept_entered tolerance kept playlist;
   numbers = head_numbers (kept_window tolerance kept playlist);

@@ -5,13 +5,14 @@ use Rattle.playlist_model.specs.declared.Playlist.{Playlist}
 use Rattle.pod_store.specs.Marks.{Marked}
 use Rattle.channel_spec.specs.LiveLaws.{HasPod, rest_mark}
 use Rattle.channel_spec.specs.Sound.{IsSoundEvent}
-use Rattle.channel_spec.specs.Live.{Event, refreshed, told, refusal, window_after, written_date_ranges, owed_for}
+use Rattle.channel_spec.specs.Live.{Event, refreshed, told, last_playlist, succession_fault, refusal, window_after, written_date_ranges, owed_for}
 use Rattle.channel_spec.specs.Marking.{is_new}
-use Rattle.channel_spec.specs.Kept.{kept_of, kept_refusal, kept_after, kept_window, date_ranges_after, kept_owed}
+use Rattle.channel_spec.specs.Kept.{kept_of, kept_succession, kept_refusal, kept_after, kept_window, date_ranges_after, kept_owed}
 
--- whether a refresh is refused, what is kept after it, the window and the date ranges that are written, and so
--- what is owed, follow from what is kept
+-- whether the playlist may follow the last one, whether the refresh is refused, what is kept after it, the window and the date
+-- ranges that are written, and so what is owed, follow from what is kept
 pub record Follows (tolerance : ℕ) (playlist : Playlist) (before : List Event) : Type 0 where
+  pub succeeds : kept_succession (kept_of (told tolerance before)) playlist ≡ succession_fault (last_playlist (told tolerance before).accepted) playlist
   pub refused : kept_refusal tolerance (kept_of (told tolerance before)) playlist ≡ refusal tolerance (told tolerance before) playlist
   pub fresh : filter (is_new (kept_of (told tolerance before)).shown) playlist.segments ≡ filter (is_new (told tolerance before).history) playlist.segments
   pub kept : refusal tolerance (told tolerance before) playlist ≡ None →

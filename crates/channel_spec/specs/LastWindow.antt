@@ -2,6 +2,7 @@
 use Rattle.std.specs.Prelude.{◌≡◌, ℕ, List, [], ◌∷◌, reverse, Option, Some, None}
 use Rattle.std.specs.List.{AllByRecursion}
 use Rattle.playlist_model.specs.declared.Playlist.{Playlist}
+use Rattle.channel_spec.specs.declared.heading.Heading.{Heading}
 use Rattle.stitcher.specs.Stitched.{Piece, Item, numbered}
 use Rattle.channel_spec.specs.LiveLaws.{GoesOn}
 use Rattle.channel_spec.specs.Sound.{IsSoundEvent}
@@ -9,7 +10,7 @@ use Rattle.channel_spec.specs.Live.{Event, refreshed, told, last_playlist, succe
 use Rattle.channel_spec.specs.Kept.{Kept, kept_of, kept_items, stitched_on, window_by}
 
 -- its pieces and its items, the newest first
-abbrev pub last_pieces : Option Playlist → Kept → List Piece
+abbrev pub last_pieces : Option Heading → Kept → List Piece
 last_pieces None kept = []
 last_pieces (Some last) kept = stitched_on last.end_list kept.so_far kept.shown kept.rest
 

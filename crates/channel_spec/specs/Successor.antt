@@ -8,6 +8,7 @@ use Rattle.playlist_model.specs.declared.PlaylistKind.TheVariants.{Event, Vod}
 use Rattle.playlist_model.specs.LookBack.{or_earlier}
 use Rattle.playlist_model.specs.Same.{kept_parts, same_segment}
 use Rattle.channel_spec.specs.declared.fault.RefreshFault.{RefreshFault}
+use Rattle.channel_spec.specs.declared.heading.Heading.{Heading}
 use Rattle.channel_spec.specs.declared.fault.RefreshFault.TheVariants.{VersionChanged, TargetChanged, TypeChanged, MapsChanged, Back, Gap, Shrunk, Changed, Ended}
 
 abbrev pub first_number : List Segment → ℕ
@@ -52,6 +53,10 @@ pub record Succeeds (Q P : Playlist) : Type 0 where
 
 -- ---- the same, computed: the first of the faults in their order
 
+-- what is asked of the playlist before, its segments apart
+abbrev pub heading_of : Playlist → Heading
+heading_of p = record { version = p.version; target_duration = p.target_duration; playlist_type = p.playlist_type; end_list = p.end_list }
+
 abbrev pub fault_if : Bool → RefreshFault → Option RefreshFault
 fault_if test fault = if test then Some fault else None
 
@@ -83,19 +88,23 @@ is_same_window old new = first_number new == first_number old && end_number new 
 abbrev pub are_different : Bool → Bool → Bool
 are_different a b = if a then not b else b
 
--- why `new` may not follow `old`, if it may not
-abbrev pub successor_fault : Playlist → Playlist → Option RefreshFault
-successor_fault old new =
+-- why `new` may not follow a playlist of this heading with these segments, if it may not
+abbrev pub following_fault : Heading → List Segment → Playlist → Option RefreshFault
+following_fault old segments new =
     or_earlier (fault_if (not (new.version == old.version)) VersionChanged)
     (or_earlier (fault_if (not (new.target_duration == old.target_duration)) TargetChanged)
     (or_earlier (fault_if (not (kind_eq new.playlist_type old.playlist_type)) TypeChanged)
-    (or_earlier (fault_if (are_different (has_init_sections new.segments) (has_init_sections old.segments)) MapsChanged)
-    (or_earlier (fault_if (nat_lt (first_number new.segments) (first_number old.segments)) Back)
-    (or_earlier (fault_if (nat_lt (end_number old.segments) (first_number new.segments)) Gap)
-    (or_earlier (fault_if (nat_lt (end_number new.segments) (end_number old.segments)) Shrunk)
-    (or_earlier (first_changed old.segments new.segments)
-    (or_earlier (fault_if (discontinuity_out_of_range old.segments new.segments) (Changed (first_number new.segments)))
-    (fault_if (old.end_list && not (new.end_list && is_same_window old.segments new.segments)) Ended)))))))))
+    (or_earlier (fault_if (are_different (has_init_sections new.segments) (has_init_sections segments)) MapsChanged)
+    (or_earlier (fault_if (nat_lt (first_number new.segments) (first_number segments)) Back)
+    (or_earlier (fault_if (nat_lt (end_number segments) (first_number new.segments)) Gap)
+    (or_earlier (fault_if (nat_lt (end_number new.segments) (end_number segments)) Shrunk)
+    (or_earlier (first_changed segments new.segments)
+    (or_earlier (fault_if (discontinuity_out_of_range segments new.segments) (Changed (first_number new.segments)))
+    (fault_if (old.end_list && not (new.end_list && is_same_window segments new.segments)) Ended)))))))))
+
+-- why `new` may not follow `old`, if it may not
+abbrev pub successor_fault : Playlist → Playlist → Option RefreshFault
+successor_fault old new = following_fault (heading_of old) old.segments new
 
 -- a fault as an answer
 abbrev pub answer_of : Option RefreshFault → Result (Unit {0}) RefreshFault

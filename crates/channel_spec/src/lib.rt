@@ -8,16 +8,15 @@ ghost use Rattle.channel_spec.specs.KeptLaws.{KeptFollows, KeptHavePods};
 ghost use Rattle.channel_spec.specs.LastWindow.{ItemsGoOn};
 ghost use Rattle.channel_spec.specs.OwedLaws.{HeaderIsTheLast, DateRangesAreTheOrigins, WindowIsStitched, UnmarkedStandOnce, SegmentsPlayTheWindow, NothingDecidedNothingChanged, PodsAreKept, StoreStaysSmall};
 ghost use Rattle.channel_spec.specs.LiveLaws.{OnlyGrows, EachSucceeds, MarksFollow, HistoriesAreLinked, MarksAreKnown, NoFaultSucceeds, NewestFits, MarksHavePods, UsedAreInUse};
-ghost use Rattle.channel_spec.specs.ListedLaws.{ListedAreShown};
+ghost use Rattle.channel_spec.specs.ListedLaws.{ShownAreListed};
 ghost use Rattle.std.specs.Prelude.{◌≡◌};
 ghost use Rattle.channel_spec.specs.Limits.{default_tolerance, max_tolerance};
 
-mod fallback_examples;
 mod fault;
-mod paced_examples;
-mod worked_examples;
+mod heading;
 
 pub use fault::{RefreshFault, short_text};
+pub use heading::{Heading, heading_of};
 
 /// How far from the start of a break an instant may lie and still enter it, and how far before its end it must lie, if
 /// nothing else is asked: 100 ms, in nanoseconds.
@@ -89,7 +88,8 @@ pub fn runs_keep_their_pods()
     ensures { RunsKeepTheirPods }
 {}
 
-/// A signalled break that has no pod of its own is filled with the fallback, if that fits.
+/// A signalled break that begins at a segment and has no pod of its own is filled with the fallback, if that fits: the
+/// segment begins within the tolerance of START-DATE, the run before ends there, and no earlier break is entered.
 pub fn fallback_fills()
     ensures { FallbackFills }
 {}
@@ -162,8 +162,8 @@ pub fn items_go_on()
     ensures { ItemsGoOn }
 {}
 
-/// Each segment of the playlist that was accepted last is shown with its own numbers, resource, byte range, keys,
-/// initialisation section and duration.
-pub fn listed_are_shown()
-    ensures { ListedAreShown }
+/// The segments that are shown from the first number of the playlist that was accepted last on are those that it lists,
+/// one for one, each the same in all but title, time and steps.
+pub fn shown_are_listed()
+    ensures { ShownAreListed }
 {}

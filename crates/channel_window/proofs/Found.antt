@@ -1,8 +1,15 @@
 -- Where the segment of a number stands.
-use Rattle.std.proofs.Common.{◌≡◌, ℕ, ◌+◌, ◌-◌, ◌<◌, ◌≤◌, Bool, true, false, cond, zero, suc, List, [], ◌∷◌, ◌++◌, refl, ap, sym, ◌∙◌, arith, get_or}
+use Rattle.std.proofs.Common.{◌≡◌, ℕ, ◌+◌, ◌-◌, ◌<◌, ◌≤◌, Bool, true, false, cond, zero, suc, List, [], ◌∷◌, ◌++◌, map, refl, ap, sym, ◌∙◌, arith, get_or}
 use Rattle.std.specs.Prelude.{Some, None, is_none, not, ◌==◌, find, slice_get, nat_lt, length}
 use Rattle.std.proofs.lemmas.Bool.{eqb-true, eq-eqb, ltb-true, ltb-false}
+use Rattle.std.proofs.lemmas.List.{reverse-reverse}
 use Rattle.playlist_model.specs.declared.Segment.{Segment}
+use Rattle.pod_store.specs.Store.{Store}
+use Rattle.stitcher.specs.declared.marked.MarkedSegment.{MarkedSegment as Held}
+use Rattle.stitcher.specs.StitchedSegments.{meant}
+use Rattle.channel_spec.specs.Kept.{segment_of, listed}
+use Rattle.channel_window.specs.Marking.{so_far}
+use Rattle.channel_window.specs.Listed.{held_segment, segments_in}
 use Rattle.playlist_model.specs.Same.{same_segment}
 use Rattle.channel_spec.specs.declared.fault.RefreshFault.{RefreshFault}
 use Rattle.channel_spec.specs.declared.fault.RefreshFault.TheVariants.{Changed}
@@ -75,6 +82,30 @@ was_after old s first r e h outside =
     let at = slice_past old (s.media_sequence - first) (ltb-false (s.media_sequence - first) (length old) (sym outside)) in
     let found = there (first_number old) s.media_sequence old r (omega (arith, e, h)) ∙ (ap (λ n. slice_get old (s.media_sequence - n)) (sym e) ∙ at) in
     sym (ap (λ o. is_none (difference s o)) found)
+
+-- ---- of the segments that are held
+
+pub held_there : (held : List Held) (i : ℕ) (m : Held) → i < length held → m ≡ get_or held i m → m.segment ≡ get_or (segments_in held) i m.segment
+held_there [] i m h e = absurd (omega (arith, h))
+held_there (x ∷ held) zero m h e = ap held_segment e
+held_there (x ∷ held) (suc i) m h e = held_there held i m (omega (arith, h)) e
+
+pub held_length : (held : List Held) → length (segments_in held) ≡ length held
+held_length [] = refl
+held_length (x ∷ held) = omega (arith, held_length held)
+
+pub held_last : (held : List Held) (m : Held) → last_discontinuity (segments_in (held ++ m ∷ [])) ≡ m.segment.discontinuity_sequence
+held_last [] m = refl
+held_last (x ∷ []) m = refl
+held_last (x ∷ y ∷ held) m = held_last (y ∷ held) m
+
+meant_listed : (store : Store) (held : List Held) → map segment_of (map (meant store) held) ≡ segments_in held
+meant_listed store [] = refl
+meant_listed store (m ∷ held) = ap (λ ss. m.segment ∷ ss) (meant_listed store held)
+
+-- as they are meant, the newest first, they are listed as they are held
+pub held_listed : (store : Store) (held : List Held) → listed (so_far store held) ≡ segments_in held
+held_listed store held = ap (map segment_of) (reverse-reverse (map (meant store) held)) ∙ meant_listed store held
 
 pub last_append : (xs : List Segment) (x : Segment) → last_discontinuity (xs ++ x ∷ []) ≡ x.discontinuity_sequence
 last_append [] x = refl

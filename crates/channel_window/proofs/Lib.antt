@@ -12,3 +12,4 @@ pub mod ShownWith
 pub mod Sizes
 pub mod Starting
 pub mod TakenOver
+pub mod Few

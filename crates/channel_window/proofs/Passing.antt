@@ -7,7 +7,7 @@ use mathlib.Core.List.{reverse_aux}
 use Rattle.pod_store.specs.Pods.{Pod, Ad, PodSegment}
 use Rattle.pod_store.specs.Marks.{Mark, Marked as Meant}
 use Rattle.playlist_model.specs.declared.Segment.{Segment}
-use Rattle.playlist_model.specs.declared.Playlist.{Playlist}
+use Rattle.channel_spec.specs.declared.heading.Heading.{Heading}
 use Rattle.stitcher.specs.Stitched.{Piece, Numbers, ad_pieces, pieces_of_ads, numbers_from, first_numbers}
 use Rattle.pod_store.specs.Store.{Store, pod_for}
 use Rattle.stitcher.specs.declared.marked.MarkedSegment.{MarkedSegment}
@@ -176,10 +176,10 @@ within store first ends list front d f =
 pub front_decided : (store : Store) (list front : List MarkedSegment) → AreDecided store list → IsFront front list → AreDecided store front
 front_decided store list front d f = (all_after (λ (m : MarkedSegment). IsDecided store m.mark) front f.0 (subst (AreDecided store) f.1 d)).0
 
-pub first_here : (store : Store) (held : List MarkedSegment) (numbers : Numbers) (last : Option Playlist) → AreDecided store held → last ≡ None → first_numbers_of held ≡ numbers_on last numbers (so_far store held)
+pub first_here : (store : Store) (held : List MarkedSegment) (numbers : Numbers) (last : Option Heading) → AreDecided store held → last ≡ None → first_numbers_of held ≡ numbers_on last numbers (so_far store held)
 first_here store held numbers last d e = sym (ap (λ o. numbers_on o numbers (so_far store held)) e ∙ begins store held d)
 
-pub refuses_first : (store : Store) (ends : Ends) (held : List MarkedSegment) (numbers : Numbers) (last : Option Playlist) (e : RefreshFault) → AreDecided store held → last ≡ None
+pub refuses_first : (store : Store) (ends : Ends) (held : List MarkedSegment) (numbers : Numbers) (last : Option Heading) (e : RefreshFault) → AreDecided store held → last ≡ None
     → RefusesList e (list_all item_fits (stitched_segments store (first_numbers_of held) ends held) ≡ false)
     → RefusesList e (list_all item_fits (stitched_segments store (numbers_on last numbers (so_far store held)) ends held) ≡ false)
 refuses_first store ends held numbers last e d is h =

@@ -7,6 +7,7 @@ use Rattle.channel_spec.specs.declared.fault.RefreshFault.TheVariants.{NumberRan
 use Rattle.std.specs.List.{list_all}
 use Rattle.std.proofs.lemmas.Bool.{lt-ltb, ltb-true, eqb-true, eq-eqb}
 use Rattle.playlist_model.specs.declared.Playlist.{Playlist}
+use Rattle.channel_spec.specs.declared.heading.Heading.{Heading}
 use Rattle.pod_store.specs.Marks.{Mark, Marked, newest_mark}
 use Rattle.stitcher.specs.Stitched.{Numbers, Item, fits, numbered, newest_place, up_to, from_place}
 use Rattle.stitcher.specs.Paced.{Rest as MeantRest, Ends as MeantEnds, rest_pieces, stitched_with}
@@ -18,7 +19,7 @@ use Rattle.stitcher.specs.Written.{written_item}
 use Rattle.stitcher.specs.StitchedSegments.{mark_in, mark_with, rest_from, rest_in, ends_in, item_fits, stitched_segments, AreDecided}
 use Rattle.channel_spec.specs.Successor.{first_number}
 use Rattle.channel_spec.specs.Live.{place_of, gone_before, rest_over}
-use Rattle.channel_spec.specs.Kept.{items_on, numbers_on, start_on, rest_on, window_on}
+use Rattle.channel_spec.specs.Kept.{items_on, listed, numbers_on, start_on, rest_on, window_on}
 use Rattle.channel_spec.specs.Inner.Kept.{ends_of}
 use Rattle.channel_spec.specs.LastWindow.{last_pieces}
 use Rattle.channel_spec.proofs.EndsLaws.{between_ends}
@@ -45,7 +46,7 @@ module _ (state : ChannelState) (number : ℕ) (list : List Held) where
   pub start_first : (place : ℕ) → place ≡ place_of number (so_far state.store list) → state.last ≡ None → place ≡ start_on state.last number (kept_in state) (so_far state.store list)
   start_first place is e = is ∙ sym (ap (λ o. start_on o number (kept_in state) (so_far state.store list)) e)
 
-  pub start_later : (last : Playlist) (stood start : ℕ) → state.last ≡ Some last → (number == first_number last.segments) ≡ false → stood ≡ length (last_pieces state.last (kept_in state))
+  pub start_later : (last : Heading) (stood start : ℕ) → state.last ≡ Some last → (number == first_number (listed (kept_in state).shown)) ≡ false → stood ≡ length (last_pieces state.last (kept_in state))
       → start ≡ min (place_of number (so_far state.store list) + rest_count state.store state.shown.rest) stood → start ≡ start_on state.last number (kept_in state) (so_far state.store list)
   start_later last stood start e other s is =
       let here = place_of number (so_far state.store list) + rest_count state.store state.shown.rest in
@@ -53,22 +54,22 @@ module _ (state : ChannelState) (number : ℕ) (list : List Held) where
       is ∙ ap (min here) (s ∙ ap (λ o. length (last_pieces o (kept_in state))) e)
       ∙ sym (ap (λ o. start_on o number (kept_in state) (so_far state.store list)) e ∙ ap (λ t. cond t 0 (min here old)) other)
 
-  pub start_same : (last : Playlist) → state.last ≡ Some last → number ≡ first_number last.segments → 0 ≡ start_on state.last number (kept_in state) (so_far state.store list)
+  pub start_same : (last : Heading) → state.last ≡ Some last → number ≡ first_number (listed (kept_in state).shown) → 0 ≡ start_on state.last number (kept_in state) (so_far state.store list)
   start_same last e same =
       let here = place_of number (so_far state.store list) + rest_count state.store state.shown.rest in
       let old = length (last_pieces (Some last) (kept_in state)) in
-      sym (ap (λ o. start_on o number (kept_in state) (so_far state.store list)) e ∙ ap (λ t. cond t 0 (min here old)) (eq-eqb number (first_number last.segments) same))
+      sym (ap (λ o. start_on o number (kept_in state) (so_far state.store list)) e ∙ ap (λ t. cond t 0 (min here old)) (eq-eqb number (first_number (listed (kept_in state).shown)) same))
 
-  pub rest_later : (last : Playlist) (start : ℕ) → state.last ≡ Some last → (number == first_number last.segments) ≡ false
-      → rest_over (rest_count state.store state.shown.rest) start number (so_far state.store list) ≡ rest_on state.last number start (so_far state.store list) (rest_in state.store state.shown.rest)
+  pub rest_later : (last : Heading) (start : ℕ) → state.last ≡ Some last → (number == first_number (listed (kept_in state).shown)) ≡ false
+      → rest_over (rest_count state.store state.shown.rest) start number (so_far state.store list) ≡ rest_on state.last (first_number (listed (kept_in state).shown)) number start (so_far state.store list) (rest_in state.store state.shown.rest)
   rest_later last start e other =
-      sym (ap (λ o. rest_on o number start (so_far state.store list) (rest_in state.store state.shown.rest)) e
+      sym (ap (λ o. rest_on o (first_number (listed (kept_in state).shown)) number start (so_far state.store list) (rest_in state.store state.shown.rest)) e
       ∙ ap (λ t. cond t (rest_in state.store state.shown.rest) (rest_over (rest_count state.store state.shown.rest) start number (so_far state.store list))) other)
 
-  pub rest_same : (last : Playlist) (start : ℕ) → state.last ≡ Some last → number ≡ first_number last.segments → rest_in state.store state.shown.rest ≡ rest_on state.last number start (so_far state.store list) (rest_in state.store state.shown.rest)
+  pub rest_same : (last : Heading) (start : ℕ) → state.last ≡ Some last → number ≡ first_number (listed (kept_in state).shown) → rest_in state.store state.shown.rest ≡ rest_on state.last (first_number (listed (kept_in state).shown)) number start (so_far state.store list) (rest_in state.store state.shown.rest)
   rest_same last start e same =
-      sym (ap (λ o. rest_on o number start (so_far state.store list) (rest_in state.store state.shown.rest)) e
-      ∙ ap (λ t. cond t (rest_in state.store state.shown.rest) (rest_over (rest_count state.store state.shown.rest) start number (so_far state.store list))) (eq-eqb number (first_number last.segments) same))
+      sym (ap (λ o. rest_on o (first_number (listed (kept_in state).shown)) number start (so_far state.store list) (rest_in state.store state.shown.rest)) e
+      ∙ ap (λ t. cond t (rest_in state.store state.shown.rest) (rest_over (rest_count state.store state.shown.rest) start number (so_far state.store list))) (eq-eqb number (first_number (listed (kept_in state).shown)) same))
 
 pub not_equal : (a b : ℕ) → (a ≡ b → ⊥) → (a == b) ≡ false
 not_equal a b h = step (a == b) refl

@@ -1,11 +1,12 @@
 -- Segments that were taken over from a list are as they were in it.
-use Rattle.std.proofs.Common.{◌≡◌, ℕ, ◌+◌, ◌≤◌, Bool, true, false, zero, suc, List, [], ◌∷◌, ◌++◌, take, drop, length, refl, ap, sym, ◌∙◌, arith, subst, append_assoc}
+use Rattle.std.proofs.Common.{◌≡◌, ℕ, ◌+◌, ◌≤◌, Bool, true, false, zero, suc, List, [], ◌∷◌, ◌++◌, map, take, drop, length, refl, ap, sym, ◌∙◌, arith, subst, append_assoc}
 use Rattle.std.specs.Prelude.{Option, Some, None, not, ◌==◌, find}
 use Rattle.std.specs.List.{AllByRecursion}
 use Rattle.std.proofs.lemmas.Bool.{eqb-true, eq-eqb}
 use Rattle.std.proofs.lemmas.List.{take-append-drop}
 use Rattle.playlist_model.specs.declared.Segment.{Segment}
 use Rattle.playlist_model.specs.LookBack.{or_earlier}
+use Rattle.playlist_model.specs.Same.{kept_parts}
 use Rattle.playlist_model.proofs.SameSegments.{same_segment_decides}
 use Rattle.channel_spec.specs.declared.fault.RefreshFault.TheVariants.{Changed}
 use Rattle.channel_spec.specs.Sound.{RiseFrom}
@@ -61,6 +62,17 @@ all_take P zero xs h = tt
 all_take P (suc n) [] h = tt
 all_take P (suc n) (x ∷ xs) h = (h.0, all_take P n xs h.1)
 
+-- only what is asked of them is looked at
+difference_of : (s : Segment) (o : Option Segment) → difference (kept_parts s) o ≡ difference s o
+difference_of s None = refl
+difference_of s (Some t) = refl
+
+changed_of : (old segments : List Segment) → first_changed old (map kept_parts segments) ≡ first_changed old segments
+changed_of old [] = refl
+changed_of old (s ∷ later) =
+    ap (λ o. or_earlier o (first_changed old (map kept_parts later))) (difference_of s (find (has_number s.media_sequence) old))
+    ∙ ap (or_earlier (difference s (find (has_number s.media_sequence) old))) (changed_of old later)
+
 -- ---- the parts of a list
 
 earlier_twice : {A : Type 0} (a b c : Option A) → or_earlier a (or_earlier b c) ≡ or_earlier (or_earlier a b) c
@@ -87,7 +99,8 @@ in_three n m xs h =
 module _ (old new : List Segment) (start end : ℕ) (contiguous : AreContiguous old) (taken : AreTaken old new start end) where
   common_unchanged : first_changed old (drop start (take end new)) ≡ None
   common_unchanged =
-      ap (first_changed old) taken.same
+      sym (changed_of old (drop start (take end new)))
+      ∙ (ap (first_changed old) taken.same ∙ changed_of old (drop taken.from (take taken.till old)))
       ∙ unchanged old (drop taken.from (take taken.till old))
       (all_drop _ taken.from (take taken.till old) (all_take _ taken.till old (are_found (first_number old) [] old contiguous)))
 

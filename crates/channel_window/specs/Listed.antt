@@ -1,5 +1,5 @@
 -- What is kept, as the segments stand that a channel holds, the oldest first.
-use Rattle.std.specs.Prelude.{◌≡◌, ◌≤◌, ◌+◌, ℕ, length, Some, None, Bool, List, ◌∷◌, ◌++◌, [], Option, is_some}
+use Rattle.std.specs.Prelude.{◌≡◌, ◌≤◌, ◌+◌, ℕ, length, map, Some, None, Bool, List, ◌∷◌, ◌++◌, [], Option, is_some}
 use Rattle.playlist_model.specs.declared.Segment.{Segment}
 use Rattle.stitcher.specs.Stitched.{Numbers}
 use Rattle.stitcher.specs.declared.OutSegment.{OutSegment}
@@ -29,6 +29,13 @@ abbrev pub RefusesList : RefreshFault → Type 0 → Type 0
 RefusesList NumberRange OutOfRange = OutOfRange
 RefusesList OutOfMemory OutOfRange = Unit {0}
 RefusesList _ OutOfRange = ⊥
+
+-- the segments that are held
+abbrev pub held_segment : Held → Segment
+held_segment m = m.segment
+
+abbrev pub segments_in : List Held → List Segment
+segments_in held = map held_segment held
 
 -- these stand in front of the others
 abbrev pub IsFront : List Held → List Held → Type 0

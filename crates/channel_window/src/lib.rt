@@ -16,5 +16,7 @@ pub use marking::text_in;
 pub use placing::place_of;
 pub use showing::{Showing, shown_with};
 pub use state::{ChannelState, Shown};
-pub use successor::{check_successor, first_number, has_init_sections};
+pub use successor::{
+    check_successor, first_number, first_shown, has_init_sections, have_init_sections,
+};
 pub use writing::{PlacedList, date_ranges_left, head_of, placed_of};

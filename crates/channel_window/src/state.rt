@@ -2,8 +2,9 @@
 ghost use Rattle.std.specs.Prelude.{◌≡◌, [], None};
 
 use break_finder::Knowledge;
+use channel_spec::Heading;
 use fixed_duration::Nanos;
-use playlist_model::{Items, Playlist, Shared, Text};
+use playlist_model::{Items, Shared, Text};
 use pod_store::PodStore;
 use std::alloc::Global;
 use std::hash::RandomState;
@@ -51,8 +52,8 @@ impl Shown {
 pub struct ChannelState {
     /// The decided breaks.
     pub store: PodStore,
-    /// The playlist that was accepted last.
-    pub last: Option<Playlist>,
+    /// The heading of the playlist that was accepted last.
+    pub last: Option<Heading>,
     /// What it shows.
     pub shown: Shown,
 }

@@ -1,19 +1,20 @@
 //! The window, as it is written.
-ghost use Rattle.std.specs.Prelude.{◌≡◌, ◌<◌, ◌≤◌, ◌+◌, ◌-◌, ◌^◌, ◌||◌, ◌∷◌, ℕ, List, IfOk, IfErr, OnOk, None, drop, filter, length, map, min, nat_lt, not, bytes_eq, reverse, false, true};
+ghost use Rattle.std.specs.Prelude.{◌≡◌, ◌<◌, ◌≤◌, ◌+◌, ◌-◌, ◌^◌, ◌||◌, ◌∷◌, ◌++◌, [], ℕ, List, IfOk, IfErr, OnOk, MatchOption, None, drop, filter, length, map, min, nat_lt, not, bytes_eq, reverse, false, true};
 ghost use Rattle.std.specs.List.{list_all, list_any};
 ghost use Rattle.stitcher.specs.Stitched.{fits};
 ghost use Rattle.pod_store.specs.Store.{Store, pod_for};
 ghost use Rattle.playlist_model.specs.declared.DateRange.{DateRange};
 ghost use Rattle.stitcher.specs.StitchedSegments.{AreDecided, ends_in, item_fits, rest_in, stitched_segments};
 ghost use Rattle.stitcher.specs.Written.{written_item};
-ghost use Rattle.channel_spec.specs.Kept.{items_on, numbers_on, rest_after, rest_on, start_on, stitched_on, window_on};
+ghost use Rattle.channel_spec.specs.Kept.{items_on, listed, numbers_on, rest_after, rest_on, start_on, stitched_on, window_on};
 ghost use Rattle.channel_spec.specs.Inner.Kept.{ends_of};
 ghost use Rattle.channel_spec.specs.LastWindow.{last_pieces};
 ghost use Rattle.channel_spec.specs.Live.{date_range_text, date_ranges_left, place_of, rest_over};
 ghost use Rattle.channel_spec.specs.Successor.{first_number};
 ghost use Rattle.channel_window.specs.Marking.{place_on, so_far};
 ghost use Rattle.channel_window.specs.Listed.{AreRising, IsRestDecided, RefusesList, head_of, states_time};
-ghost use Rattle.channel_window.specs.Inner.Listed.{first_alone, first_numbers_of, pod_keeps, texts_left};
+ghost use Rattle.channel_window.specs.Inner.Listed.{first_alone, first_numbers_of, pod_keeps, texts_left, AreAmong};
+ghost use Rattle.pod_store.specs.Store.{is_one_of};
 ghost use Rattle.channel_window.specs.Inner.Placing.{rest_count};
 ghost use Rattle.channel_window.specs.Inner.Placing.{HasRoom, IsWithin, rest_of};
 ghost use Rattle.channel_window.specs.Showing.{kept_in};
@@ -21,8 +22,8 @@ ghost use Rattle.channel_window.specs.Showing.{kept_in};
 use crate::listing::{front_before, front_to};
 use crate::placing::{place_of, rest_count};
 use crate::state::ChannelState;
-use crate::successor::first_number;
-use channel_spec::RefreshFault;
+use crate::successor::{first_number, first_shown};
+use channel_spec::{Heading, RefreshFault};
 use fixed_duration::Nanos;
 use playlist_model::{DateRange, Playlist, Segment, Shared, Text};
 use pod_store::{IdSet, PodStore};
@@ -181,15 +182,16 @@ fn start_of(
     ensures decided { IfOk result (λ s. IsRestDecided state.now.store s.rest) }
     ensures rest { IfOk result
         (λ s. rest_in state.now.store s.rest
-        ≡ rest_on state.now.last (first_number playlist.now.segments) s.place
+        ≡ rest_on state.now.last (first_number (listed (kept_in state.now).shown))
+        (first_number playlist.now.segments) s.place
         (so_far state.now.store list.now) (rest_in state.now.store state.now.shown.rest)) }
 {
     let number = first_number(playlist.segments.as_slice());
-    let Some(last) = &state.last else {
+    let Some(_) = &state.last else {
         let place = item_place(state, number, list);
         return Ok(Start { place, rest: None });
     };
-    if number == first_number(last.segments.as_slice()) {
+    if number == first_shown(state.shown.list.as_slice()) {
         let rest = copied_rest(&state.shown.rest)?;
         return Ok(Start { place: 0, rest });
     }
@@ -348,7 +350,7 @@ fn first_numbers(
 // The numbers of the first item of the stitched list of these segments: those that are kept, if a playlist was
 // accepted before. `NumberRange` if one would pass 2^64 - 1.
 fn numbers_on(
-    last: &Option<Playlist>,
+    last: &Option<Heading>,
     numbers: Numbers,
     list: &[MarkedSegment],
     store: &PodStore,
@@ -386,6 +388,78 @@ fn texts_left<'a>(
     Ok(texts)
 }
 
+// What is left of these breaks after the first, if that is this one.
+fn left_after<'a>(ids: &'a [Shared<Text>], id: &str) -> Option<&'a [Shared<Text>]>
+    ensures { MatchOption result (Unit {0}) (λ left. ids.now ≡ id.now ∷ left.now) }
+{
+    match ids.split_first() {
+        Some((first, later)) if first.as_str() == id => Some(later),
+        _ => None,
+    }
+}
+
+#[tactic(auto, using(crate::proofs::Few::among_themselves, crate::proofs::Few::among_later, crate::proofs::Few::here, crate::proofs::Few::not_here))]
+// What is left of these breaks after this one, if it is one of them.
+fn left_after_found<'a>(ids: &'a [Shared<Text>], id: &str) -> Option<&'a [Shared<Text>]>
+    ensures { MatchOption result (is_one_of ids.now id.now ≡ false)
+        (λ left. (is_one_of ids.now id.now ≡ true) × AreAmong left.now ids.now) }
+{
+    let mut rest = ids;
+    while let Some((one, later)) = rest.split_first() {
+        if id == one.as_str() {
+            return Some(later);
+        }
+        rest = later;
+    }
+    None
+}
+
+#[tactic(auto, using(crate::proofs::Few::among_later, crate::proofs::Few::first_among, crate::proofs::Few::text_kept, crate::proofs::Few::text_gone))]
+// Puts the text of a date range after others, if it is of none of the breaks `ids`. Of these `left` are looked at first, and
+// the answer is looked at first the next time: breaks mostly come in the order of their date ranges.
+fn push_other<'a, 'b>(
+    texts: &mut Vec<TextRef<'a>>,
+    ids: &'b [Shared<Text>],
+    left: &'b [Shared<Text>],
+    date_range: &'a DateRange,
+) -> Result<&'b [Shared<Text>], AllocError>
+    requires { AreAmong left.now ids.now }
+    ensures texts { OnOk result
+        (texts.new.items ≡ texts.old.items ++ texts_left ids.now (date_range.now ∷ [])) }
+    ensures left { IfOk result (λ left. AreAmong left.now ids.now) }
+{
+    if let Some(later) = left_after(left, date_range.id.as_str()) {
+        return Ok(later);
+    }
+    if let Some(later) = left_after_found(ids, date_range.id.as_str()) {
+        return Ok(later);
+    }
+    texts.push(TextRef::new(&date_range.attributes))?;
+    Ok(left)
+}
+
+#[tactic(auto, using(crate::proofs::Few::among_themselves, crate::proofs::Few::texts_on))]
+// The texts of the date ranges of other breaks than these few.
+fn texts_of_others<'a>(
+    alloc: Global,
+    ids: &[Shared<Text>],
+    date_ranges: &'a [DateRange],
+) -> Result<Vec<TextRef<'a>>, AllocError>
+    ensures { IfOk result (λ v. v.items ≡ texts_left ids.now date_ranges.now) }
+{
+    let mut texts = Vec::new(alloc);
+    let mut left = ids;
+    let mut rest = date_ranges;
+    while let Some((date_range, later)) = rest.split_first() {
+        left = push_other(&mut texts, ids, left, date_range)?;
+        rest = later;
+    }
+    Ok(texts)
+}
+
+// So few IDs are looked through, and need no table.
+const FEW_IDS: usize = 64;
+
 /// The texts of those `date_ranges` that are written (RFC 8216, section 4.3.2.7): all but those of the breaks `ids`,
 /// and none if no item of `items` states a time. Fails only if an allocation fails. `hashing`: the keys for a table of the IDs.
 pub fn date_ranges_left<'a>(
@@ -401,6 +475,9 @@ pub fn date_ranges_left<'a>(
 {
     if !is_any_timed(items) {
         return Ok(Vec::new(alloc));
+    }
+    if ids.len() <= FEW_IDS {
+        return texts_of_others(alloc, ids, date_ranges);
     }
     let set = IdSet::of(alloc, hashing, ids)?;
     texts_left(alloc, &set, date_ranges)

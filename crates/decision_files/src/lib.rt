@@ -7,6 +7,5 @@ mod keys;
 mod members;
 mod segments;
 mod texts;
-mod worked_examples;
 
 pub use file::read_decisions;

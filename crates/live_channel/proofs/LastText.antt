@@ -5,6 +5,7 @@ use Rattle.std.specs.List.{AllByRecursion, list_all}
 use Rattle.std.proofs.lemmas.List.{map-append, reverse-append, take_at, length-map, length-reverse}
 use Rattle.url.specs.Parts.{Parts}
 use Rattle.playlist_model.specs.declared.Playlist.{Playlist}
+use Rattle.channel_spec.specs.declared.heading.Heading.{Heading}
 use Rattle.playlist_model.specs.LookBack.{or_earlier}
 use Rattle.playlist_model.specs.Reading.{reading, limited}
 use Rattle.stitcher.specs.Stitched.{Piece, Item, Numbers, numbered, fits}
@@ -20,9 +21,9 @@ use Rattle.pod_store.specs.Outcome.{Outcome}
 use Rattle.channel_spec.specs.declared.fault.RefreshFault.TheVariants.{NumberRange}
 use Rattle.channel_spec.specs.Successor.{fault_if}
 use Rattle.channel_spec.specs.LiveLaws.{GoesOn}
-use Rattle.channel_spec.specs.Live.{Told, told, refusal, last_playlist, succession_fault, after_refresh, window_after}
+use Rattle.channel_spec.specs.Live.{Told, told, refusal, last_playlist, after_refresh, window_after}
 use Rattle.channel_spec.specs.Live as live
-use Rattle.channel_spec.specs.Kept.{Kept, kept_of, kept_items, kept_window, kept_refusal, window_by}
+use Rattle.channel_spec.specs.Kept.{Kept, kept_of, kept_succession, kept_items, kept_window, kept_refusal, window_by}
 use Rattle.channel_spec.specs.LastWindow.{last_pieces, last_items}
 use Rattle.channel_spec.proofs.KeptWhole.{kept_follows, items_go_on}
 use Rattle.live_channel.specs.Channel.{Channel, Given, refreshed, readable, events_of, told_by, IsAsTyped, with_store, ChangesStore, ChangesStoreExactly}
@@ -59,11 +60,22 @@ pub stood_before : (base : Parts) (tolerance : ℕ) (given : List Given) (bytes 
 stood_before base tolerance given bytes p k None e typed read h = λ f. record { count = sym (ap (λ o. length (last_pieces o k)) h); stood = tt }
 stood_before base tolerance given bytes p k (Some w) e typed read h =
     let there = kept_of (told_by base tolerance given) in
-    let law = items_go_on tolerance p (events_of base given) (is_read p (can_be_written limited base bytes p read), all_given base given typed) in
+    let sound = is_read p (can_be_written limited base bytes p read) in
+    let law = items_go_on tolerance p (events_of base given) (sound, all_given base given typed) in
+    let follows = kept_follows tolerance p (events_of base given) (sound, all_given base given typed) in
     subst (λ x. StoodBefore tolerance x p (Some w)) (sym e)
-    (λ f. stood_by there (kept_items tolerance there p) w (law.on f) (subst (λ x. IsLaidOut x (Some w)) e h))
+    (λ f. stood_by there (kept_items tolerance there p) w (law.on (sym follows.succeeds ∙ f)) (subst (λ x. IsLaidOut x (Some w)) e h))
 
 -- ---- what is written is the last window then
+
+-- what it was told then
+pub told_next : (base : Parts) (tolerance : ℕ) (given : List Given) (bytes : List ℕ) (p : Playlist) → AllByRecursion (IsAsTyped base) (refreshed bytes ∷ given) → reading limited base bytes ≡ Ok p
+    → kept_refusal tolerance (kept_of (told_by base tolerance given)) p ≡ None → told_by base tolerance (refreshed bytes ∷ given) ≡ after_refresh tolerance (told_by base tolerance given) p
+told_next base tolerance given bytes p typed read unrefused =
+    let t = told_by base tolerance given in
+    let f = kept_follows tolerance p (events_of base given) (is_read p (can_be_written limited base bytes p read), all_given base given typed.1) in
+    let none : refusal tolerance t p ≡ None = sym f.refused ∙ unrefused in
+    ap (λ r. told tolerance (readable r ++ events_of base given)) read ∙ ap (λ o. cond (is_none o) (after_refresh tolerance t p) t) none
 
 window_written : (base : Parts) (tolerance : ℕ) (given : List Given) (bytes : List ℕ) (p : Playlist) → AllByRecursion (IsAsTyped base) (refreshed bytes ∷ given) → reading limited base bytes ≡ Ok p
     → kept_refusal tolerance (kept_of (told_by base tolerance given)) p ≡ None
@@ -81,7 +93,7 @@ window_written base tolerance given bytes p typed read unrefused =
     ∙ (ap (λ u. window_after u p) (sym now) ∙ sym (f.window none)))
 
 pub laid_next : (base : Parts) (tolerance : ℕ) (given : List Given) (bytes : List ℕ) (p : Playlist) (k k' : Kept) (w : WrittenText) → k ≡ kept_of (told_by base tolerance given) → k' ≡ kept_of (told_by base tolerance (refreshed bytes ∷ given))
-    → AllByRecursion (IsAsTyped base) (refreshed bytes ∷ given) → reading limited base bytes ≡ Ok p → succession_fault k.last p ≡ None → list_all fits (kept_items tolerance k p) ≡ true
+    → AllByRecursion (IsAsTyped base) (refreshed bytes ∷ given) → reading limited base bytes ≡ Ok p → kept_succession k p ≡ None → list_all fits (kept_items tolerance k p) ≡ true
     → IsLaid (map written_item (kept_window tolerance k p)) w → IsLaidOut k' (Some w)
 laid_next base tolerance given bytes p k k' w e e' typed read follows fit laid =
     let unrefused : kept_refusal tolerance k p ≡ None = ap (λ o. or_earlier o (fault_if (not (list_all fits (kept_items tolerance k p))) NumberRange)) follows ∙ ap (λ b. fault_if (not b) NumberRange) fit in
@@ -94,7 +106,7 @@ pub laid_still : (old new : Kept) (written : Option WrittenText) → new.last �
 laid_still old new None l e h = l ∙ h
 laid_still old new (Some w) l e h = subst (λ xs. IsLaid (map written_item (reverse xs)) w) (sym e) h
 
-pieces_still : (o : Option Playlist) (k : Kept) (store : Store) → last_pieces o (record k { store = store }) ≡ last_pieces o k
+pieces_still : (o : Option Heading) (k : Kept) (store : Store) → last_pieces o (record k { store = store }) ≡ last_pieces o k
 pieces_still None k store = refl
 pieces_still (Some last) k store = refl
 

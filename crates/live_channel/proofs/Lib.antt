@@ -9,3 +9,4 @@ pub mod Owed
 pub mod LastEntered
 pub mod Rises
 pub mod LastText
+pub mod Listing

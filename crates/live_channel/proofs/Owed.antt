@@ -9,7 +9,7 @@ use Rattle.playlist_model.specs.LookBack.{or_earlier}
 use Rattle.playlist_model.specs.Reading.{reading, limited}
 use Rattle.stitcher.specs.Stitched.{fits}
 use Rattle.read_is_writable.proofs.Whole.{can_be_written}
-use Rattle.pod_store.specs.Store.{Store}
+use Rattle.pod_store.specs.Store.{Store, is_used}
 use Rattle.pod_store.specs.Store.{withdrawn as without_break}
 use Rattle.pod_store.specs.Outcome.{Outcome, Refuses}
 use Rattle.decision_files.specs.Decided.{decisions_of}
@@ -22,11 +22,17 @@ use Rattle.break_finder.specs.declared.why.Why.{Why}
 use Rattle.channel_spec.specs.declared.fault.RefreshFault.{RefreshFault}
 use Rattle.channel_spec.specs.declared.fault.RefreshFault.TheVariants.{NumberRange}
 use Rattle.channel_spec.specs.Sound.{IsSoundPlaylist, IsSoundEvent}
-use Rattle.channel_spec.specs.Successor.{Succeeds, first_number, has_init_sections, fault_if}
+use Rattle.channel_spec.specs.Successor.{Succeeds, heading_of, first_number, has_init_sections, fault_if}
 use Rattle.channel_spec.specs.Live.{Event, Told, told, refusal, number_range_fault, succession_fault, last_playlist, list_of, in_use, after_refresh, window_after, owed, owed_for}
 use Rattle.channel_spec.specs.Live as live
 use Rattle.channel_spec.specs.LiveLaws.{GoesOn, first_shown}
-use Rattle.channel_spec.specs.Kept.{Kept, kept_of}
+use Rattle.channel_spec.specs.Kept.{Kept, kept_of, listed, shown_by}
+use Rattle.channel_spec.proofs.Listed.{shown_are_listed}
+use Rattle.channel_spec.proofs.SameFault.{same_init}
+use Rattle.stitcher.specs.declared.marked.MarkedSegment.{MarkedSegment as Held}
+use Rattle.channel_window.specs.Marking.{so_far}
+use Rattle.channel_window.specs.Listed.{segments_in}
+use Rattle.channel_window.proofs.Found.{held_listed}
 use Rattle.channel_spec.proofs.InUse.{used_are_in_use}
 use Rattle.channel_spec.proofs.EachWindow.{only_grows, each_succeeds, plain_standing, holds}
 use Rattle.channel_spec.proofs.Decided.{no_fault_succeeds}
@@ -71,12 +77,20 @@ first_is [] last e = absurd (cc)
 first_is (a ∷ before) last e = let same : a.playlist ≡ last = cc in ap (λ (p : Playlist). first_number p.segments) same
 
 explain_step : (tolerance : ℕ) (events : List Event) (id : List ℕ) → AllByRecursion IsSoundEvent events → (o : Option Playlist) → last_playlist (told tolerance events).accepted ≡ o
-    → why_by o (kept_of (told tolerance events)) id ≡ owed_why_by (told tolerance events) o id
+    → why_by (option_map heading_of o) (kept_of (told tolerance events)) id ≡ owed_why_by (told tolerance events) o id
 explain_step tolerance events id sound None e = refl
 explain_step tolerance events id sound (Some last) e =
     let t = told tolerance events in
-    ap (λ b. why (known t.accepted) id last.target_duration (has_init_sections last.segments) t.store b)
+    let law = shown_are_listed tolerance events last (owed_for t last) (record { sound = sound; accepted = e; owed = ap (option_map (owed_for t)) e }) in
+    let sections : has_init_sections (listed (shown_by (last_playlist t.accepted) t.history)) ≡ has_init_sections last.segments =
+    ap (λ o. has_init_sections (listed (shown_by o t.history))) e ∙ same_init (listed (shown_by (Some last) t.history)) last.segments law in
+    ap (λ m. why (known t.accepted) id last.target_duration m t.store (is_used t.store id)) sections
+    ∙ ap (λ b. why (known t.accepted) id last.target_duration (has_init_sections last.segments) t.store b)
     (used_are_in_use tolerance events id sound ∙ ap (λ n. in_use t.start n t.history id) (first_is t.accepted last e))
+
+-- as it is held
+pub explained_so : (store : Store) (held : List Held) → has_init_sections (segments_in held) ≡ has_init_sections (listed (so_far store held))
+explained_so store held = ap has_init_sections (sym (held_listed store held))
 
 pub explains : (c : Channel) (id : List ℕ) (result : Why) → result ≡ explained c.kept id → Explains c id result
 explains c id result h given s =

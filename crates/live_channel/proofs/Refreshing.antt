@@ -6,6 +6,7 @@ use Rattle.std.proofs.lemmas.Bool.{and_from}
 use Rattle.url.specs.Parts.{Parts}
 use Rattle.playlist_model.specs.declared.PlaylistFault.{PlaylistFault}
 use Rattle.playlist_model.specs.declared.Playlist.{Playlist}
+use Rattle.channel_spec.specs.declared.heading.Heading.{Heading}
 use Rattle.pod_store.specs.Marks.{Marked}
 use Rattle.playlist_model.specs.LookBack.{or_earlier}
 use Rattle.playlist_model.specs.Reading.{reading, limited}
@@ -26,10 +27,10 @@ use Rattle.playlist_model.specs.declared.FaultKind.TheVariants.{OutOfMemory as N
 use Rattle.channel_spec.specs.Unread.{is_out_of_memory_kind, fault_of_reading}
 use Rattle.channel_spec.specs.declared.fault.RefreshFault.TheVariants.{Playlist as Unreadable, NumberRange, OutOfMemory}
 use Rattle.channel_spec.specs.Successor.{first_number, fault_if}
-use Rattle.channel_spec.specs.Live.{is_marked, rest_id, succession_fault}
+use Rattle.channel_spec.specs.Live.{is_marked, rest_id}
 use Rattle.channel_spec.specs.Marking.{last_entered}
 use Rattle.channel_spec.proofs.StoreAfter.{entries_after}
-use Rattle.channel_spec.specs.Kept.{Kept, shown_from, kept_after, kept_items, kept_list, kept_window, kept_refusal, rest_after}
+use Rattle.channel_spec.specs.Kept.{Kept, kept_succession, shown_from, kept_after, kept_items, kept_list, kept_window, kept_refusal, rest_after}
 use Rattle.pod_store.proofs.Repeats.{kept_alike}
 use Rattle.channel_spec.proofs.HeldPods.{kept_found, same_id, is_shown_with, in_use_with_is}
 use Rattle.owed_is_denoted.proofs.Given.{is_read}
@@ -40,7 +41,7 @@ use Rattle.channel_window.specs.Checked.{AreContiguous}
 use Rattle.channel_window.specs.Marking.{so_far}
 use Rattle.channel_window.specs.Showing.{AreKept, kept_in}
 use Rattle.channel_window.specs.Listed.{IsRestDecided}
-use Rattle.live_channel.specs.Channel.{Channel, Reading, refreshed, IsAsTyped, Stands, IsContiguous, channel_with, judged, refreshed_with, fresh_after, step_judged, step_read, says_read, is_out_of_memory, Steps, StepsUnless, Refreshes}
+use Rattle.live_channel.specs.Channel.{Channel, Reading, refreshed, IsAsTyped, Stands, channel_with, judged, refreshed_with, fresh_after, step_judged, step_read, says_read, is_out_of_memory, Steps, StepsUnless, Refreshes}
 use Rattle.live_channel.specs.Inner.Accepting.{breaks_after, IsAccepted, IsRead, Follows, RefusesNext, Refused, accepted_state}
 use Rattle.channel_window.proofs.ShownWith.{marked_too}
 use Rattle.live_channel.proofs.Stores.{MarksStay, RestStays, Stay, unturned}
@@ -130,7 +131,7 @@ kept_ext : (a b : Kept) → a.store ≡ b.store → a.breaks ≡ b.breaks → a.
 kept_ext a b store breaks last shown entered numbers lasted rest =
     ap (λ (x : Store). record a { store = x }) store
     ∙ (ap (λ (x : List Break). record a { store = b.store; breaks = x }) breaks
-    ∙ (ap (λ (x : Option Playlist). record a { store = b.store; breaks = b.breaks; last = x }) last
+    ∙ (ap (λ (x : Option Heading). record a { store = b.store; breaks = b.breaks; last = x }) last
     ∙ (ap (λ (x : List Marked). record a { store = b.store; breaks = b.breaks; last = b.last; shown = x }) shown
     ∙ (ap (λ (x : Option (List ℕ)). record b { entered = x; numbers = a.numbers; so_far = a.so_far; rest = a.rest }) entered
     ∙ (ap (λ (x : Numbers). record b { numbers = x; so_far = a.so_far; rest = a.rest }) numbers
@@ -167,8 +168,8 @@ module _ (base : Parts) (tolerance : ℕ) (state : ChannelState) (text : Option 
     abbrev after : Channel
     after = channel_with base tolerance (accepted_state state p a) (Some a.written.text)
 
-    unrefused : kept_refusal tolerance kept p ≡ None
-    unrefused = no_fault (succession_fault kept.last p) (fault_if (not (list_all fits (kept_items tolerance kept p))) NumberRange) f.succeeds (ap (λ b. fault_if (not b) NumberRange) accepted.fit)
+    pub unrefused : kept_refusal tolerance kept p ≡ None
+    unrefused = no_fault (kept_succession kept p) (fault_if (not (list_all fits (kept_items tolerance kept p))) NumberRange) f.succeeds (ap (λ b. fault_if (not b) NumberRange) accepted.fit)
 
     listed : (id : List ℕ) → (is_shown_with (first_number p.segments) (kept_list tolerance kept p) (or_earlier (last_entered (kept_list tolerance kept p)) kept.entered) id || is_this id (rest_id (rest_after kept p (kept_list tolerance kept p)))) ≡ true
         → is_one_of a.in_use.items id ≡ true
@@ -211,13 +212,12 @@ module _ (base : Parts) (tolerance : ℕ) (state : ChannelState) (text : Option 
     pub record Goes (new : ChannelState) (done : Refreshed) : Type 0 where
       pub stands : Stands (channel_with base tolerance new (Some a.written.text))
       pub decided : AreKept new.store new
-      pub numbers : IsContiguous new.last
       pub refreshes : Refreshes before bytes (Ok done) (channel_with base tolerance new (Some a.written.text))
 
     goes_so : Stands before → Goes (accepted_state state p a) a.refreshed
     goes_so s =
         let r = steps_refresh before bytes (Ok a.refreshed) after steps in
-        record { stands = (refreshed bytes ∷ s.0, (r s.0 s.1).stands); decided = (stay.marks.decided, stay.rest.decided); numbers = h.numbers; refreshes = r }
+        record { stands = (refreshed bytes ∷ s.0, (r s.0 s.1).stands); decided = (stay.marks.decided, stay.rest.decided); refreshes = r }
 
     pub goes : (new : ChannelState) (done : Refreshed) → new ≡ accepted_state state p a → done ≡ a.refreshed → Stands before → Goes new done
     goes new done e k s = subst (λ (x : ChannelState). Goes x done) (sym e) (subst (Goes (accepted_state state p a)) (sym k) (goes_so s))

@@ -1,6 +1,6 @@
 -- The numbers of the shown segments rise by one, and a playlist that may follow leaves none out.
 use Rattle.std.proofs.Common.{◌≡◌, ℕ, ◌+◌, ◌≤◌, Bool, true, false, cond, List, [], ◌∷◌, map, length, refl, ap, sym, ◌∙◌, subst, arith}
-use Rattle.std.specs.Prelude.{None, nat_le}
+use Rattle.std.specs.Prelude.{None, Ok, nat_le}
 use Rattle.std.specs.List.{AllByRecursion}
 use Rattle.std.proofs.lemmas.List.{length-map, length-reverse}
 use mathlib.Core.List.{reverse_aux}
@@ -14,9 +14,13 @@ use Rattle.stitcher.specs.StitchedSegments.{meant}
 use Rattle.break_finder.specs.Known.{Accepted}
 use Rattle.channel_spec.specs.Live.{last_playlist, succession_fault}
 use Rattle.channel_spec.specs.Successor.{first_number}
-use Rattle.channel_spec.specs.Kept.{Kept, kept_of, shown_from, shown_by}
+use Rattle.channel_spec.specs.Kept.{Kept, kept_of, kept_succession, shown_from, shown_by}
 use Rattle.channel_spec.proofs.Risen.{FallFrom}
 use Rattle.channel_spec.proofs.Passed.{passed}
+use Rattle.channel_spec.proofs.KeptWhole.{kept_follows}
+use Rattle.playlist_model.specs.Reading.{reading, limited}
+use Rattle.read_is_writable.proofs.Whole.{can_be_written}
+use Rattle.owed_is_denoted.proofs.Given.{is_read}
 use Rattle.channel_spec.proofs.LiveState.{StandingOf}
 use Rattle.channel_spec.proofs.EachWindow.{plain_standing, holds}
 use Rattle.channel_window.specs.declared.state.ChannelState.{ChannelState}
@@ -86,10 +90,10 @@ held_rises store list segments b =
       anew = λ e. r.long ∙ b.anew (seen_long store list ∙ e);
     }
 
-pub rises_next : (base : Parts) (tolerance : ℕ) (given : List Given) (state : ChannelState) (p : Playlist) → kept_in state ≡ kept_of (told_by base tolerance given) → AllByRecursion (IsAsTyped base) given → RisesNext state p
-rises_next base tolerance given state p e typed f =
+pub rises_next : (base : Parts) (tolerance : ℕ) (given : List Given) (bytes : List ℕ) (state : ChannelState) (p : Playlist) → reading limited base bytes ≡ Ok p → kept_in state ≡ kept_of (told_by base tolerance given) → AllByRecursion (IsAsTyped base) given → RisesNext state p
+rises_next base tolerance given bytes state p read e typed f =
     let t = told_by base tolerance given in
     let standing = plain_standing t.accepted t.history t.start (holds tolerance (events_of base given) (all_given base given typed)).standing in
-    let last_is = ap (λ (k : Kept). k.last) e in
-    let b = shown_falls t.accepted t.history p standing (ap (λ o. succession_fault o p) (sym last_is) ∙ f) in
+    let follows = kept_follows tolerance p (events_of base given) (is_read p (can_be_written limited base bytes p read), all_given base given typed) in
+    let b = shown_falls t.accepted t.history p standing (sym follows.succeeds ∙ (ap (λ k. kept_succession k p) (sym e) ∙ f)) in
     held_rises state.store state.shown.list p.segments (subst (λ seen. FallsBefore seen p.segments) (sym (ap (λ (k : Kept). k.shown) e)) b)

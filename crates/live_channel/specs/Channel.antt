@@ -32,10 +32,13 @@ use Rattle.channel_spec.specs.Successor.{first_number, has_init_sections}
 use Rattle.channel_spec.specs.Marking.{is_new}
 use Rattle.channel_spec.specs.Live.{Event, Told, told, refusal, last_playlist, in_use, after_refresh, window_after, owed_for, date_range_text}
 use Rattle.channel_spec.specs.Live as live
-use Rattle.channel_spec.specs.Kept.{Kept, head_numbers, kept_of, kept_refusal, kept_after, kept_window, date_ranges_after}
+use Rattle.channel_spec.specs.Kept.{Kept, listed, head_numbers, kept_of, kept_refusal, kept_after, kept_window, date_ranges_after}
 use Rattle.owed_is_denoted.specs.Owed.{out_playlist, owed_text}
 use Rattle.owed_is_denoted.specs.Laws.{KeepsRules}
-use Rattle.channel_window.specs.Checked.{AreContiguous}
+use Rattle.playlist_model.specs.Same.{kept_parts}
+use Rattle.channel_spec.specs.declared.heading.Heading.{Heading}
+use Rattle.channel_window.specs.Listed.{segments_in}
+use Rattle.stitcher.specs.declared.marked.MarkedSegment.{MarkedSegment as Held}
 use Rattle.live_channel.specs.declared.channel.Refreshed.{Refreshed}
 use Rattle.channel_window.specs.declared.state.ChannelState.{ChannelState}
 use Rattle.channel_window.specs.Showing.{kept_in}
@@ -236,10 +239,11 @@ Writes c = (given : List Given) → Represents c given → WritesOwed (told_by c
 
 -- ---- why a break is filled or not
 
--- by the last playlist, what is known since, and the store now; before the first refresh nothing is known
-abbrev pub why_by : Option Playlist → Kept → List ℕ → Why
+-- by the heading of the last playlist and the segments that are shown, what is known since, and the store now; before the first
+-- refresh nothing is known
+abbrev pub why_by : Option Heading → Kept → List ℕ → Why
 why_by None kept id = NotKnown
-why_by (Some last) kept id = why kept.breaks id last.target_duration (has_init_sections last.segments) kept.store (is_used kept.store id)
+why_by (Some last) kept id = why kept.breaks id last.target_duration (has_init_sections (listed kept.shown)) kept.store (is_used kept.store id)
 
 abbrev pub explained : Kept → List ℕ → Why
 explained kept id = why_by kept.last kept id
@@ -267,10 +271,10 @@ Knows c place result = (given : List Given) → Represents c given → result �
 abbrev pub Stands : Channel → Type 0
 Stands c = (given : List Given) × Represents c given
 
--- the media numbers of a playlist, if any, rise by one
-abbrev pub IsContiguous : Option Playlist → Type 0
-IsContiguous None = Unit {0}
-IsContiguous (Some p) = AreContiguous p.segments
+-- the segments that are held are those of the playlist that was read last, number for number, in all but title, time and steps
+abbrev pub IsListed : Option Playlist → List Held → Type 0
+IsListed None held = Unit {0}
+IsListed (Some p) held = map kept_parts (segments_in held) ≡ map kept_parts p.segments
 
 -- the text of what was written last
 abbrev pub text_in : Option WrittenText → Option (List ℕ)

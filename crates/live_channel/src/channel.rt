@@ -4,7 +4,10 @@ ghost use Rattle.std.specs.Option.{option_copied};
 ghost use Rattle.playlist_model.specs.Uri.{base_of};
 ghost use Rattle.live_channel.specs.Channel.{decided, withdrawn, ChangesStore, ChangesStoreExactly, after_bytes, StandsOn, AlwaysStandsOn, Represents, Decides, Withdraws, Writes, Refreshes, Knows, Explains, explained};
 ghost use Rattle.live_channel.specs.Inner.Accepting.{IsRead, WasRead};
-ghost use Rattle.playlist_parse.specs.Kept.{AreTaken, IsSource, last_segments};
+ghost use Rattle.playlist_parse.specs.Kept.{IsSource};
+ghost use Rattle.channel_window.specs.Checked.{AreTaken};
+ghost use Rattle.channel_window.specs.Listed.{segments_in};
+ghost use Rattle.channel_spec.specs.Kept.{listed};
 ghost use Rattle.pod_store.specs.Store.{withdrawn as without_break};
 ghost use Rattle.pod_store.specs.Store.{is_used};
 ghost use Rattle.break_finder.specs.Entering.{id_of, why};
@@ -13,9 +16,9 @@ ghost use Rattle.channel_spec.specs.Limits.{max_tolerance};
 
 use crate::refresh::{accept, next_after, playlist_after, playlist_of};
 use crate::type_facts::know_pods;
-use break_finder::{Knowledge, Why};
-use channel_spec::{MAX_TOLERANCE, RefreshFault};
-use channel_window::{ChannelState, Shown, has_init_sections};
+use break_finder::Why;
+use channel_spec::{MAX_TOLERANCE, RefreshFault, heading_of};
+use channel_window::{ChannelState, Shown, have_init_sections};
 use decision_files::read_decisions;
 use fixed_duration::Nanos;
 use playlist_model::{Playlist, Shared, Text};
@@ -49,12 +52,13 @@ pub struct Channel {
     state: ChannelState,
     // What was written last.
     written: Option<WrittenText>,
-    // What the next refresh may take over of the text that was read last.
+    // The playlist that was read last, and what the next refresh may take over of its text: for reading alone.
+    last: Option<Playlist>,
     source: Option<Source>,
 }
 
 impl Model for Channel {
-    ghost use Rattle.live_channel.specs.Channel.{Channel, Stands, IsContiguous, channel_with, text_in};
+    ghost use Rattle.live_channel.specs.Channel.{Channel, Stands, IsListed, channel_with, text_in};
     ghost use Rattle.playlist_parse.specs.Kept.{IsKept};
 
     ghost Value = { Channel };
@@ -62,10 +66,12 @@ impl Model for Channel {
     ghost view = { λ a. channel_with a.base a.tolerance a.state (text_in a.written) };
 
     ghost use Rattle.channel_window.specs.Showing.{AreKept};
+    ghost use Rattle.channel_window.specs.Checked.{AreContiguous};
+    ghost use Rattle.channel_window.specs.Listed.{segments_in};
     ghost use Rattle.channel_window.specs.Showing.{kept_in};
     ghost use Rattle.live_channel.specs.LastText.{IsLaidOut};
 
-    ghost invariant = { λ a. Stands (channel_with a.base a.tolerance a.state (text_in a.written)) × AreKept a.state.store a.state × IsContiguous a.state.last × IsLaidOut (kept_in a.state) a.written × IsKept a.base a.state.last a.source };
+    ghost invariant = { λ a. Stands (channel_with a.base a.tolerance a.state (text_in a.written)) × AreKept a.state.store a.state × (IsListed a.last a.state.shown.list × AreContiguous (segments_in a.state.shown.list)) × IsLaidOut (kept_in a.state) a.written × IsKept a.base a.last a.source };
 }
 
 /// Why a channel can't be made.
@@ -108,15 +114,15 @@ impl fmt::Display for ChannelFault {
 
 impl Error for ChannelFault {}
 
-// Why a break is filled or not, if this playlist was accepted last.
-fn why_after(knowledge: &Knowledge, store: &PodStore, last: &Playlist, id: &str) -> Why
-    ensures { result ≡ why knowledge.now id.now last.now.target_duration
-        (has_init_sections last.now.segments) store.now (is_used store.now id.now) }
+// Why a break is filled or not, if a playlist of this target duration was accepted last.
+fn why_after(shown: &Shown, store: &PodStore, target_duration: u64, id: &str) -> Why
+    ensures { result ≡ why shown.now.knowledge id.now target_duration
+        (has_init_sections (segments_in shown.now.list)) store.now (is_used store.now id.now) }
 {
-    let with_init_sections = has_init_sections(last.segments.as_slice());
-    knowledge.why(
+    let with_init_sections = have_init_sections(shown.list.as_slice());
+    shown.knowledge.why(
         id,
-        last.target_duration,
+        target_duration,
         with_init_sections,
         store,
         store.is_used(id),
@@ -158,6 +164,7 @@ impl Channel {
                 shown: Shown::new(alloc, hashing),
             },
             written: None,
+            last: None,
             source: None,
         })
     }
@@ -167,12 +174,14 @@ impl Channel {
         requires read { WasRead self.old.base read.playlist }
         requires source { IsSource self.old.base read.playlist read.source }
         requires taken { AreTaken
-            (last_segments self.old.kept.last) read.playlist.segments read.taken.start read.taken.end }
+            (listed self.old.kept.shown) read.playlist.segments read.taken.start read.taken.end }
         ensures { (bytes : List ℕ) → IsRead self.old.base bytes read.playlist
             → Refreshes self.old bytes result self.new }
     {
         let next = next_after(alloc, self.tolerance, &self.state, &self.written, &read)?;
-        let refreshed = accept(&mut self.state, &mut self.written, read.playlist, next)?;
+        let last = heading_of(&read.playlist);
+        let refreshed = accept(&mut self.state, &mut self.written, last, next)?;
+        self.last = Some(read.playlist);
         self.source = read.source;
         Ok(refreshed)
     }
@@ -192,7 +201,7 @@ impl Channel {
     pub fn refresh(&mut self, alloc: Global, bytes: &[u8]) -> Result<Refreshed, RefreshFault>
         ensures { Refreshes self.old bytes.now result self.new }
     {
-        let (last, source) = (&self.state.last, &self.source);
+        let (last, source) = (&self.last, &self.source);
         let read = playlist_after(alloc, bytes, &self.base, last, source)?;
         self.take(alloc, read)
     }
@@ -270,7 +279,7 @@ impl Channel {
         self.state.shown.knowledge.ids(place)
     }
 
-    #[tactic(auto, using(crate::proofs::Owed::explains))]
+    #[tactic(auto, using(crate::proofs::Owed::explains, crate::proofs::Owed::explained_so))]
     /// Why the break `id` is filled or not, by the last accepted refresh and the pods that are decided now:
     /// `NotKnown` before the first refresh. Takes no memory.
     pub fn explain(&self, id: &str) -> Why
@@ -278,7 +287,14 @@ impl Channel {
         ensures owed { Explains self.now id.now result }
     {
         match &self.state.last {
-            Some(last) => why_after(&self.state.shown.knowledge, &self.state.store, last, id),
+            Some(last) => {
+                why_after(
+                    &self.state.shown,
+                    &self.state.store,
+                    last.target_duration,
+                    id,
+                )
+            }
             None => Why::NotKnown,
         }
     }

@@ -3,22 +3,21 @@
 ghost use Rattle.std.specs.Prelude.{◌≡◌, ℕ, Some, IfOk, IfErr, OnOk, OnErr, false};
 ghost use Rattle.std.specs.List.{list_all};
 ghost use Rattle.stitcher.specs.Stitched.{fits};
-ghost use Rattle.channel_spec.specs.Kept.{kept_items, kept_refusal};
-ghost use Rattle.channel_spec.specs.Live.{succession_fault};
+ghost use Rattle.channel_spec.specs.Kept.{kept_items, kept_refusal, kept_succession};
 ghost use Rattle.channel_spec.specs.Successor.{answer_of};
-ghost use Rattle.channel_window.specs.Checked.{AreContiguous};
-ghost use Rattle.playlist_parse.specs.Kept.{AreTaken, IsKept, IsSource, last_segments};
+ghost use Rattle.channel_window.specs.Checked.{AreContiguous, AreTaken};
+ghost use Rattle.playlist_parse.specs.Kept.{IsKept, IsSource, last_segments};
+ghost use Rattle.playlist_parse.specs.Kept.{AreTaken as AreReadAgain};
 ghost use Rattle.channel_window.specs.Showing.{AreKept, IsLastEntered, kept_in};
-ghost use Rattle.live_channel.specs.Channel.{IsContiguous};
-ghost use Rattle.live_channel.specs.Inner.Accepting.{IsAccepted, IsRead, Follows, RisesNext, Refused, RefusesNext, accepted_state};
-ghost use Rattle.channel_window.specs.Listed.{RefusesList, RisesOn};
+ghost use Rattle.live_channel.specs.Inner.Accepting.{IsAccepted, IsRead, Follows, RisesNext, Refused, RefusesNext, state_with};
+ghost use Rattle.channel_window.specs.Listed.{RefusesList, RisesOn, segments_in};
 ghost use Rattle.live_channel.specs.Inner.LastText.{StoodIn, StoodBefore};
 ghost use Rattle.channel_window.specs.declared.state.ChannelState.{ChannelState as LiveState};
 
 use crate::channel::Refreshed;
 use crate::next::{NextState, next_of};
 use crate::type_facts::utf8_of_uris;
-use channel_spec::RefreshFault;
+use channel_spec::{Heading, RefreshFault};
 use channel_window::{ChannelState, check_successor, shown_with};
 use fixed_duration::Nanos;
 use playlist_model::Playlist;
@@ -27,15 +26,16 @@ use playlist_write::resumed::WrittenText;
 use std::alloc::Global;
 use uri_resolver::Base;
 
-// Whether the playlist that was read may follow the last one.
-fn may_follow(last: &Option<Playlist>, read: &Read) -> Result<(), RefreshFault>
-    requires contiguous { IsContiguous last.now }
+// Whether the playlist that was read may follow what is shown.
+fn may_follow(state: &ChannelState, read: &Read) -> Result<(), RefreshFault>
+    requires contiguous { AreContiguous (segments_in state.now.shown.list) }
     requires taken { AreTaken
-        (last_segments last.now) read.now.playlist.segments read.now.taken.start read.now.taken.end }
-    ensures { result ≡ answer_of (succession_fault last.now read.now.playlist) }
+        (segments_in state.now.shown.list) read.now.playlist.segments read.now.taken.start read.now.taken.end }
+    ensures { result ≡ answer_of (kept_succession (kept_in state.now) read.now.playlist) }
 {
-    match last {
-        Some(last) => check_successor(last, &read.playlist, &read.taken),
+    let shown = state.shown.list.as_slice();
+    match &state.last {
+        Some(last) => check_successor(last, shown, &read.playlist, &read.taken),
         None => Ok(()),
     }
 }
@@ -80,14 +80,14 @@ pub fn next_after(
     requires decided { AreKept state.now.store state.now }
     requires entered { IsLastEntered (kept_in state.now) }
     requires rising { RisesNext state.now read.now.playlist }
-    requires last { IsContiguous state.now.last }
+    requires last { AreContiguous (segments_in state.now.shown.list) }
     requires taken { AreTaken
-        (last_segments state.now.last) read.now.playlist.segments read.now.taken.start read.now.taken.end }
+        (segments_in state.now.shown.list) read.now.playlist.segments read.now.taken.start read.now.taken.end }
     ensures ok { IfOk result (λ a. Follows tolerance (kept_in state.now) read.now.playlist a) }
     ensures err { IfErr result
         (λ e. RefusesNext e (kept_refusal tolerance (kept_in state.now) read.now.playlist)) }
 {
-    may_follow(&state.last, read)?;
+    may_follow(state, read)?;
     next_kept(alloc, tolerance, state, written, &read.playlist)
 }
 
@@ -106,7 +106,7 @@ pub fn playlist_after(
     ensures ok { IfOk result (λ read. IsRead base.now bytes.now read.playlist) }
     ensures source { IfOk result (λ read. IsSource base.now read.playlist read.source) }
     ensures taken { IfOk result
-        (λ read. AreTaken (last_segments last.now) read.playlist.segments read.taken.start read.taken.end) }
+        (λ read. AreReadAgain (last_segments last.now) read.playlist.segments read.taken.start read.taken.end) }
     ensures err { IfErr result
         (λ e. (tolerance : ℕ) (state : LiveState) → Refused base.now tolerance state bytes.now e) }
 {
@@ -134,16 +134,16 @@ pub fn playlist_of(alloc: Global, bytes: &[u8], base: &Base) -> Result<Read, Ref
     })
 }
 
-/// Keeps in `state` what an accepted refresh by `playlist` comes to, which is `next`, and in `written` the text that
-/// is written then. The breaks that were entered with the fallback keep copies of it. `OutOfMemory` only if an
-/// allocation for these fails; `state` and `written` are then as they were.
+/// Keeps in `state` what an accepted refresh by a playlist of the heading `last` comes to, which is `next`, and in
+/// `written` the text that is written then. The breaks that were entered with the fallback keep copies of it.
+/// `OutOfMemory` only if an allocation for these fails; `state` and `written` are then as they were.
 pub fn accept(
     state: &mut ChannelState,
     written: &mut Option<WrittenText>,
-    playlist: Playlist,
+    last: Heading,
     next: NextState,
 ) -> Result<Refreshed, RefreshFault>
-    ensures state { OnOk result (state.new ≡ accepted_state state.old playlist next) }
+    ensures state { OnOk result (state.new ≡ state_with state.old last next) }
     ensures answer { IfOk result (λ done. done ≡ next.refreshed) }
     ensures written { OnOk result (written.new ≡ Some next.written) }
     ensures err { IfErr result (λ e. (e ≡ RefreshFault.OutOfMemory) × (state.new ≡ state.old)) }
@@ -151,7 +151,7 @@ pub fn accept(
 {
     state.store.keep_in_use(next.in_use.as_slice())?;
     *written = Some(next.written);
-    state.last = Some(playlist);
+    state.last = Some(last);
     state.shown = next.shown;
     Ok(next.refreshed)
 }

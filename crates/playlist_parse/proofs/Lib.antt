@@ -17,3 +17,6 @@ pub mod JoinedLines
 pub mod GoingTo
 pub mod Again
 pub mod Light
+pub mod DateRanges
+pub mod SaidAgain
+pub mod KnownRanges

@@ -5,3 +5,4 @@ pub mod Answers
 pub mod Resumed
 pub mod Reached
 pub mod Source
+pub mod DateRanges

@@ -2,6 +2,7 @@
 #![tactic(auto)]
 
 mod date_range;
+mod date_ranges;
 mod line;
 mod progress;
 mod reader;

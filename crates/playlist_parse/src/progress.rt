@@ -12,12 +12,12 @@ ghost use Rattle.playlist_parse.specs.Light.{IsOfWhole, IsLight};
 ghost use Rattle.playlist_parse.specs.Inner.Progress.{progress_at, playlist_from, target_owed, IsLineAgain, TakesLine, TakesLineExactly, TakesTag, TakesTagExactly, Ends};
 ghost use Rattle.playlist_parse.specs.Inner.Source.{gone_to};
 
-use crate::date_range::date_range_of;
+use crate::date_ranges::{DateRanges, Known};
 use crate::line::{LineKind, Lines, kind_of, stated_in, whole_line};
 use crate::tag::{Tag, tag_of};
 use attr_list::read_decimal;
 use playlist_model::{
-    DateRange, FaultKind, Items, Playlist, PlaylistKind, Segment, Shared, Text, has_control,
+    DateRange, FaultKind, Items, Playlist, PlaylistKind, Segment, Shared, has_control,
 };
 use segment_state::{ReaderState, Stop};
 use std::alloc::{AllocError, Global};
@@ -37,7 +37,7 @@ pub struct Progress<'a> {
     has_discontinuity_sequence: bool,
     has_media: bool,
     state: ReaderState<'a>,
-    date_ranges: Vec<DateRange>,
+    date_ranges: DateRanges<'a>,
     segments: Vec<Segment>,
 }
 
@@ -147,42 +147,6 @@ impl ReadHeading {
     }
 }
 
-fn copied_text(text: &Option<Text>) -> Result<Option<Text>, AllocError>
-    ensures { IfOk result (λ copy. copy ≡ text.now) }
-{
-    match text {
-        Some(text) => Ok(Some(text.clone()?)),
-        None => Ok(None),
-    }
-}
-
-fn copied_date_range(date_range: &DateRange) -> Result<DateRange, AllocError>
-    ensures { IfOk result (λ copy. copy ≡ date_range.now) }
-{
-    Ok(DateRange {
-        id: date_range.id.clone()?,
-        start: date_range.start,
-        end: date_range.end,
-        duration: date_range.duration,
-        planned_duration: date_range.planned_duration,
-        scte35_out: copied_text(&date_range.scte35_out)?,
-        scte35_in: copied_text(&date_range.scte35_in)?,
-        attributes: date_range.attributes.clone()?,
-    })
-}
-
-// Puts copies of these after a list.
-fn copy_date_ranges(list: &mut Vec<DateRange>, more: &[DateRange]) -> Result<(), AllocError>
-    ensures { OnOk result (list.new.items ≡ list.old.items ++ more.now) }
-{
-    let mut rest = more;
-    while let Some((date_range, later)) = rest.split_first() {
-        list.push(copied_date_range(date_range)?)?;
-        rest = later;
-    }
-    Ok(())
-}
-
 // Puts copies of these after a list: each shares all but a short URI.
 fn copy_segments(list: &mut Vec<Segment>, more: &[Segment]) -> Result<(), AllocError>
     ensures { OnOk result (list.new.items ≡ list.old.items ++ more.now) }
@@ -197,8 +161,9 @@ fn copy_segments(list: &mut Vec<Segment>, more: &[Segment]) -> Result<(), AllocE
 }
 
 impl<'a> Progress<'a> {
-    /// The progress of a reading under `base` of which nothing but the header was read.
-    pub fn new(alloc: Global, base: &'a Base) -> Progress<'a>
+    /// The progress of a reading under `base` of which nothing but the header was read. The `known` date ranges may
+    /// come.
+    pub fn new(alloc: Global, base: &'a Base, known: Known<'a>) -> Progress<'a>
         ensures { result ≡ progress_at base.now (said.nothing ∷ []) }
     {
         Progress {
@@ -212,7 +177,7 @@ impl<'a> Progress<'a> {
             has_discontinuity_sequence: false,
             has_media: false,
             state: ReaderState::new(alloc, base),
-            date_ranges: Vec::new(alloc),
+            date_ranges: DateRanges::new(alloc, known),
             segments: Vec::new(alloc),
         }
     }
@@ -380,9 +345,7 @@ impl<'a> Progress<'a> {
     fn date_range(&mut self, rest: &str) -> Result<(), FaultKind>
         ensures { TakesTag said.date_range_tag rest.now self.old self.new result }
     {
-        let date_range = date_range_of(self.alloc, rest)?;
-        self.date_ranges.push(date_range)?;
-        Ok(())
+        self.date_ranges.push(self.alloc, rest)
     }
 
     // EXT-X-VERSION (4.3.1.2)
@@ -487,7 +450,7 @@ impl<'a> Progress<'a> {
             playlist_type: self.playlist_type,
             independent_segments: self.independent_segments,
             end_list: self.end_list,
-            date_ranges: Items::from_vec(self.date_ranges),
+            date_ranges: self.date_ranges.into_items(self.alloc)?,
             segments: Shared::new(self.alloc, Items::from_vec(self.segments))?,
         })
     }
@@ -562,7 +525,7 @@ impl<'a> Progress<'a> {
         if !self.state.go_to(stop)? {
             return Ok(false);
         }
-        copy_date_ranges(&mut self.date_ranges, date_ranges)?;
+        self.date_ranges.append_copies(date_ranges)?;
         copy_segments(&mut self.segments, segments)?;
         self.version = heading.version;
         self.target_duration = heading.target_duration;

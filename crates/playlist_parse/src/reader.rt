@@ -15,6 +15,7 @@ ghost use Rattle.playlist_parse.specs.Inner.Answers.{fault_at};
 ghost use Rattle.playlist_parse.specs.Inner.Progress.{Ends};
 ghost use Rattle.playlist_parse.specs.Inner.Reached.{Reached, Telling, IsToBeTold, Faulted, Reads, Tells, left_in};
 
+use crate::date_ranges::Known;
 use crate::line::{Lines, has_plain_bytes};
 use crate::progress::Progress;
 use playlist_model::{FaultKind, MAX_BYTES, Playlist, PlaylistFault, text_of};
@@ -44,15 +45,20 @@ pub struct Reading<'a> {
     pub number: u64,
 }
 
-/// A reading under `base` of `lines`, which come after a header that was read.
-pub fn reading_of<'a>(alloc: Global, base: &'a Base, lines: Lines<'a>) -> Reading<'a>
+/// A reading under `base` of `lines`, which come after a header that was read. The `known` date ranges may come.
+pub fn reading_of<'a>(
+    alloc: Global,
+    base: &'a Base,
+    known: Known<'a>,
+    lines: Lines<'a>,
+) -> Reading<'a>
     ensures lines { result.lines ≡ lines.entry }
     ensures number { result.number ≡ 2 }
     ensures begun { (all : List (List ℕ)) → Reached base.now result.progress 2 all all }
     ensures light { (all : List (List ℕ)) → IsToBeTold base.now result.progress 2 all all }
 {
     Reading {
-        progress: Progress::new(alloc, base),
+        progress: Progress::new(alloc, base, known),
         lines,
         number: 2,
     }
@@ -153,7 +159,7 @@ fn read_lines<'a>(
         → said_from (said_by limited base.now) (nothing ∷ []) front ≡ Err e → result ≡ Err e }
 {
     // (in variables of its own: a value behind a reference keeps none of its fields in registers)
-    let mut progress = Progress::new(alloc, base);
+    let mut progress = Progress::new(alloc, base, Known::none());
     let mut lines = lines;
     let mut number: u64 = 2;
     while let Some(line) = lines.next() {

@@ -14,6 +14,7 @@ ghost use Rattle.playlist_parse.specs.KeptLines.{WasRead};
 ghost use Rattle.playlist_parse.specs.Inner.Source.{Agree, TakesOver, IsSourceOf, Grown, gone_after};
 ghost use Rattle.playlist_parse.specs.Kept.{AnswersRead, AreTaken, IsSource, IsKept, last_segments};
 
+use crate::date_ranges::Known;
 use crate::line::{Lines, cut_after_segments, has_plain_bytes};
 use crate::progress::{Progress, ReadHeading};
 use crate::reader::{Reading, fault_at, playlist_of, read_all, read_some, reading_of};
@@ -81,8 +82,8 @@ fn from_place<T>(list: &[T], place: usize) -> &[T]
 }
 
 #[tactic(auto, using(crate::proofs::GoingTo::taken_all))]
-// The values up to a place.
-fn up_to<T>(list: &[T], place: usize) -> &[T]
+/// The first values of `list`, up to `place`, from 0; all if it has no more.
+pub(crate) fn up_to<T>(list: &[T], place: usize) -> &[T]
     ensures { result.now ≡ take place list.now }
 {
     match list.get(..place) {
@@ -91,10 +92,36 @@ fn up_to<T>(list: &[T], place: usize) -> &[T]
     }
 }
 
-// How many segments of the last playlist stand up to the first one that is read here, by its number. It has no contract:
-// `agrees` decides, whatever it answers.
-fn place_in(last: &Playlist, progress: &Progress<'_>) -> Option<usize> {
-    let first = progress.first_number()?;
+// The date ranges that a source has.
+fn known_in<'a>(base: &Base, source: &Source, last: &'a Playlist) -> Known<'a>
+    requires { WasRead base.now source.now last.now }
+{
+    Known::of(up_to(last.date_ranges.as_slice(), source.date_ranges))
+}
+
+// The same, if something is kept.
+fn known_of<'a>(base: &Base, source: &Option<Source>, last: &'a Option<Playlist>) -> Known<'a>
+    requires { IsKept base.now last.now source.now }
+{
+    let Some(last) = last else {
+        return Known::none();
+    };
+    match source {
+        Some(source) => known_in(base, source, last),
+        None => Known::none(),
+    }
+}
+
+// A text of which less is left than this part of what is kept is read whole: that takes less than to read what is kept again.
+const SMALL_PART: usize = 8;
+
+// How many segments of the last playlist stand up to the first one that is read here, by its number; none if little is left to
+// read. It has no contract: `agrees` decides, whatever it answers.
+fn place_in(last: &Playlist, source: &Source, reading: &Reading<'_>) -> Option<usize> {
+    if reading.lines.left().len() < source.text.as_str().len() / SMALL_PART {
+        return None;
+    }
+    let first = reading.progress.first_number()?;
     let before = last.segments.as_slice().first()?.media_sequence;
     let place = first.checked_sub(before)? as usize;
     place.checked_add(1)
@@ -109,12 +136,18 @@ fn number_after(here: u64, there: u64, end: u64) -> Option<u64>
 }
 
 // The lines after a header, read up to `most` segments; none if a line has a fault.
-fn front_of<'a>(alloc: Global, text: &'a str, base: &'a Base, most: usize) -> Option<Reading<'a>>
+fn front_of<'a>(
+    alloc: Global,
+    text: &'a str,
+    base: &'a Base,
+    known: Known<'a>,
+    most: usize,
+) -> Option<Reading<'a>>
     requires { length (lines text.now) < 2 ^ 63 }
     ensures { MatchOption result (Unit {0})
         (λ front. Reached base.now front.progress front.number (left_in front) (lines text.now)) }
 {
-    let mut front = reading_of(alloc, base, Lines::new(text));
+    let mut front = reading_of(alloc, base, known, Lines::new(text));
     match read_some(&mut front, false, most) {
         Ok(()) => Some(front),
         Err(_) => None,
@@ -211,10 +244,11 @@ fn take_over_from<'a>(
     ensures taken { IfOk result
         (λ taken. AreTaken last.now.segments reading.new.progress.segments taken.start taken.end) }
 {
-    let Some(most) = place_in(last, &reading.progress) else {
+    let Some(most) = place_in(last, source, reading) else {
         return Ok(0..0);
     };
-    match front_of(alloc, source.text.as_str(), base, most) {
+    let known = known_in(base, source, last);
+    match front_of(alloc, source.text.as_str(), base, known, most) {
         Some(front) => take_over(reading, &front, source, last),
         None => Ok(0..0),
     }
@@ -365,7 +399,7 @@ fn read_body<'a>(
     is_plain: bool,
     base: &'a Base,
     source: &Option<Source>,
-    last: &Option<Playlist>,
+    last: &'a Option<Playlist>,
 ) -> Result<Read, PlaylistFault>
     requires few { length (lines body.now) < 2 ^ 63 }
     requires plain { is_plain ≡ true → list_all is_free (lines body.now) ≡ true }
@@ -380,7 +414,8 @@ fn read_body<'a>(
         (λ read. AreTaken (last_segments last.now) read.playlist.segments read.taken.start read.taken.end) }
 {
     let cut = cut_after_segments(body);
-    let mut reading = reading_of(alloc, base, Lines::new(cut.front));
+    let known = known_of(base, source, last);
+    let mut reading = reading_of(alloc, base, known, Lines::new(cut.front));
     let taken = match read_front(alloc, &mut reading, is_plain, base, source, last) {
         Ok(taken) => taken,
         Err(fault) => return Err(fault),

@@ -1,3 +1,2 @@
-pub mod WorkedExamples
 pub mod Store
 pub mod Kept

@@ -10,7 +10,7 @@ ghost use Rattle.spec_words.specs.Outcomes.{Tells};
 
 use crate::fault::{DecisionFault, DecisionKind, Place};
 use crate::kept::{
-    Pods, SharedDecision, copy, count_named, keep_in_use, kept_for, mark, put_all, remove,
+    Pods, SharedDecision, are_used, copy, count_named, keep_in_use, kept_for, mark, put_all, remove,
 };
 use crate::{Ad, Decision, Decisions, IdSet, Pod, PodSegment};
 use indexmap::IndexMap;
@@ -364,6 +364,9 @@ impl PodStore {
         ensures ok { OnOk result (self.new ≡ kept_in_use ids.now self.old) }
         ensures err { OnErr result (self.new ≡ self.old) }
     {
+        if are_used(&self.kept, ids) {
+            return Ok(());
+        }
         let set = IdSet::of(self.alloc, *self.kept.hasher(), ids)?;
         self.copy_fallback(ids)?;
         keep_in_use(&mut self.kept, &set);

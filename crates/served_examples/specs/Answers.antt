@@ -1,5 +1,5 @@
 -- What each request on channels is answered: the lines of the table "Answers" in docs/OPERATING.md.
-use Rattle.std.specs.Prelude.{ℕ, zero, suc, true, false, ◌++◌, List, [], ◌∷◌, codes, Option, Some, None, option_map}
+use Rattle.std.specs.Prelude.{ℕ, zero, suc, true, false, ◌++◌, List, [], ◌∷◌, replicate, codes, Option, Some, None, option_map, Err}
 use Rattle.url.specs.Parts.{Parts}
 use Rattle.playlist_model.specs.Uri.{base_of}
 use Rattle.http_messages.specs.declared.message.Request.{Request}
@@ -8,6 +8,15 @@ use Rattle.http_messages.specs.declared.message.Allow.{Allow}
 use Rattle.http_messages.specs.declared.message.Allow.TheVariants as allow
 use Rattle.http_messages.specs.declared.message.ContentType.TheVariants.{Playlist}
 use Rattle.http_messages.specs.Replies.{bare, plain}
+use Rattle.pod_store.specs.declared.fault.DecisionKind.{DecisionKind}
+use Rattle.pod_store.specs.declared.fault.DecisionKind.TheVariants as decision
+use Rattle.pod_store.specs.Outcome.{Outcome}
+use Rattle.pod_store.specs.Store.{Store}
+use Rattle.playlist_model.specs.declared.FaultKind.TheVariants.{NoDuration}
+use Rattle.channel_spec.specs.declared.fault.RefreshFault.TheVariants as refusal
+use Rattle.break_finder.specs.declared.why.Why.TheVariants as reason
+use Rattle.channel_api.specs.Replies.{refused_refresh, decisions_reply}
+use Rattle.channel_api.specs.FaultTexts.{why_word}
 use Rattle.http_edge.specs.Table.{Table, Turn, added, reply_to}
 use Rattle.http_edge.specs.Isolation.{Exchange, replies_on, is_served_on, asked_of, answered_of}
 use Rattle.worked_examples.specs.Playlists.{text}
@@ -40,6 +49,7 @@ abbrev pub answer : List Request → Option Reply
 answer [] = None
 answer (r ∷ before) = Some (reply_to before r)
 
+-- RFC 9110, 9.1: a method is told by its letters' case, too; RFC 3986, 3.4: a query is no part of the path
 abbrev pub ChannelsAreMade : Type 0
 ChannelsAreMade = Gives answer (
     (make ∷ [], Some (bare 201))
@@ -48,7 +58,10 @@ ChannelsAreMade = Gives answer (
     ∷ (put (codes "/channels/a") (codes "{\"base\":\"http://h/\",\"tolerance\":\"10.000000001\"}") ∷ [], Some (line 422 (codes "C2 BadTolerance")))
     ∷ (put (codes "/channels/a") (codes "{\"base\":\"http://h/\",\"tolerance\":\"x\"}") ∷ [], Some (line 422 (codes "C2 BadTolerance")))
     ∷ (put (codes "/channels/a") (codes "{\"base\":\"http://h/\",\"tolerance\":1}") ∷ [], Some (line 422 (codes "J2 Shape")))
+    ∷ (put (codes "/channels/a?x=1") (codes "{\"base\":\"http://h/\"}") ∷ [], Some (bare 201))
+    ∷ (put (codes "/channels/a") (codes "{\"base\":\"http://h/" ++ (replicate 300 97 ++ codes "\"}")) ∷ [], Some (bare 201))
     ∷ (put (codes "/channels/a") (codes "{\"base\":\"ftp://h/\"}") ∷ [], Some (line 422 (codes "C1 BadBase")))
+    ∷ (put (codes "/channels/a") (codes "{\"base\":\"ftp://h/\",\"tolerance\":\"x\"}") ∷ [], Some (line 422 (codes "C1 BadBase")))
     ∷ (put (codes "/channels/a") (codes "{}") ∷ [], Some (line 422 (codes "J2 Shape")))
     ∷ (put (codes "/channels/a") (codes "{") ∷ [], Some (line 422 (codes "J1 NotJson")))
     ∷ (put (codes "/channels/a") (255 ∷ []) ∷ [], Some (line 422 (codes "J1 NotJson")))
@@ -57,6 +70,8 @@ ChannelsAreMade = Gives answer (
     ∷ (make ∷ asks (codes "DELETE") (codes "/channels/a") [] ∷ make ∷ [], Some (bare 201))
     ∷ (get (codes "/channels/a") ∷ make ∷ [], Some (not_allowed allow.PutDelete))
     ∷ (asks (codes "POST") (codes "/channels/a") [] ∷ make ∷ [], Some (not_allowed allow.PutDelete))
+    ∷ (asks (codes "put") (codes "/channels/a") (codes "{\"base\":\"http://h/\"}") ∷ [], Some (not_allowed allow.PutDelete))
+    ∷ (asks (codes "Delete") (codes "/channels/a") [] ∷ make ∷ [], Some (not_allowed allow.PutDelete))
     ∷ (get (codes "/") ∷ make ∷ [], Some not_found)
     ∷ (put (codes "/channels/A") (codes "{\"base\":\"http://h/\"}") ∷ [], Some not_found) ∷ [])
 
@@ -73,6 +88,13 @@ RefreshesAreAnswered = Gives answer (
     ∷ (put (codes "/channels/a/origin") [] ∷ make ∷ [], Some (line 422 (codes "P3 NoHeader line 1")))
     ∷ (refresh (codes "#EXTINF:10," ∷ codes "a:t" ∷ []) ∷ first_refresh ∷ make ∷ [], Some (line 409 (codes "N8 Changed 0")))
     ∷ (refresh (codes "#EXT-X-VERSION:3" ∷ codes "#EXTINF:10," ∷ codes "a:s" ∷ []) ∷ first_refresh ∷ make ∷ [], Some (line 409 (codes "N1 VersionChanged")))
+    ∷ (put (codes "/channels/a/origin") (text (codes "#EXTM3U" ∷ codes "#EXT-X-TARGETDURATION:11" ∷ codes "#EXTINF:10," ∷ codes "a:s" ∷ [])) ∷ first_refresh ∷ make ∷ [], Some (line 409 (codes "N2 TargetChanged")))
+    ∷ (refresh (codes "#EXT-X-PLAYLIST-TYPE:EVENT" ∷ codes "#EXTINF:10," ∷ codes "a:s" ∷ []) ∷ first_refresh ∷ make ∷ [], Some (line 409 (codes "N3 TypeChanged")))
+    ∷ (refresh (codes "#EXT-X-MAP:URI=\"a:i\"" ∷ codes "#EXTINF:10," ∷ codes "a:s" ∷ []) ∷ first_refresh ∷ make ∷ [], Some (line 409 (codes "N4 MapsChanged")))
+    ∷ (first_refresh ∷ refresh (codes "#EXT-X-MEDIA-SEQUENCE:1" ∷ codes "#EXTINF:10," ∷ codes "a:s" ∷ []) ∷ make ∷ [], Some (line 409 (codes "N5 Back")))
+    ∷ (refresh (codes "#EXT-X-MEDIA-SEQUENCE:2" ∷ codes "#EXTINF:10," ∷ codes "a:s" ∷ []) ∷ first_refresh ∷ make ∷ [], Some (line 409 (codes "N6 Gap")))
+    ∷ (first_refresh ∷ refresh (codes "#EXTINF:10," ∷ codes "a:s" ∷ codes "#EXTINF:10," ∷ codes "a:t" ∷ []) ∷ make ∷ [], Some (line 409 (codes "N7 Shrunk")))
+    ∷ (first_refresh ∷ refresh (codes "#EXT-X-ENDLIST" ∷ codes "#EXTINF:10," ∷ codes "a:s" ∷ []) ∷ make ∷ [], Some (line 409 (codes "N9 Ended")))
     ∷ (get (codes "/channels/a/origin") ∷ make ∷ [], Some (not_allowed allow.Put))
     ∷ (asks (codes "POST") (codes "/channels/a/origin") [] ∷ [], Some (not_allowed allow.Put)) ∷ [])
 
@@ -92,6 +114,8 @@ PlaylistsAreRead = Gives answer (
     (live ∷ first_refresh ∷ make ∷ [], Some owed)
     ∷ (live ∷ refresh [] ∷ first_refresh ∷ make ∷ [], Some owed)
     ∷ (live ∷ live ∷ first_refresh ∷ make ∷ [], Some owed)
+    ∷ (get (codes "/channels/a/live.m3u8?_HLS_msn=3") ∷ first_refresh ∷ make ∷ [], Some owed)
+    ∷ (asks (codes "get") (codes "/channels/a/live.m3u8") [] ∷ first_refresh ∷ make ∷ [], Some (not_allowed allow.Get))
     ∷ (live ∷ make ∷ [], Some not_found)
     ∷ (live ∷ [], Some not_found)
     ∷ (live ∷ make ∷ asks (codes "DELETE") (codes "/channels/a") [] ∷ first_refresh ∷ make ∷ [], Some not_found)
@@ -111,6 +135,49 @@ DecisionsAreAnswered = Gives answer (
     ∷ (decide (codes "{\"withdraw\":\"b\"}") ∷ make ∷ [], Some (line 409 (codes "J11 Unknown")))
     ∷ (get (codes "/channels/a/decisions") ∷ make ∷ [], Some (not_allowed allow.Put))
     ∷ (asks (codes "DELETE") (codes "/channels/a/decisions") [] ∷ make ∷ [], Some (not_allowed allow.Put)) ∷ [])
+
+abbrev pub refused_by : DecisionKind → Outcome Store
+refused_by kind = Err (record { kind = kind; place = record { pod = None; ad = None; segment = None } })
+
+-- RFC 9110, 15.5.21 and 15.5.10: what isn't well written is 422, and what conflicts with what the channel is doing 409
+abbrev pub DecisionFaultsAreAnswered : Type 0
+DecisionFaultsAreAnswered = Gives (λ (kind : DecisionKind). decisions_reply (refused_by kind)) (
+    (decision.NotJson, line 422 (codes "J1 NotJson"))
+    ∷ (decision.Shape, line 422 (codes "J2 Shape"))
+    ∷ (decision.BadUri, line 422 (codes "J3 BadUri"))
+    ∷ (decision.BadDuration, line 422 (codes "J4 BadDuration"))
+    ∷ (decision.BadKey, line 422 (codes "J5 BadKey"))
+    ∷ (decision.EmptyPod, line 422 (codes "J6 EmptyPod"))
+    ∷ (decision.TooMany, line 422 (codes "J7 TooMany"))
+    ∷ (decision.Used, line 409 (codes "J9 Used"))
+    ∷ (decision.Full, line 409 (codes "J10 Full"))
+    ∷ (decision.Unknown, line 409 (codes "J11 Unknown")) ∷ [])
+
+-- the same of a refresh
+abbrev pub RefreshFaultsAreAnswered : Type 0
+RefreshFaultsAreAnswered = Gives refused_refresh (
+    (refusal.Playlist (record { kind = NoDuration; line = 12 }), line 422 (codes "P17 NoDuration line 12"))
+    ∷ (refusal.VersionChanged, line 409 (codes "N1 VersionChanged"))
+    ∷ (refusal.TargetChanged, line 409 (codes "N2 TargetChanged"))
+    ∷ (refusal.TypeChanged, line 409 (codes "N3 TypeChanged"))
+    ∷ (refusal.MapsChanged, line 409 (codes "N4 MapsChanged"))
+    ∷ (refusal.Back, line 409 (codes "N5 Back"))
+    ∷ (refusal.Gap, line 409 (codes "N6 Gap"))
+    ∷ (refusal.Shrunk, line 409 (codes "N7 Shrunk"))
+    ∷ (refusal.Changed 7, line 409 (codes "N8 Changed 7"))
+    ∷ (refusal.Ended, line 409 (codes "N9 Ended"))
+    ∷ (refusal.NumberRange, line 409 (codes "N10 NumberRange")) ∷ [])
+
+-- docs/OPERATING.md: the words of `why`
+abbrev pub WordsOfWhyAreTold : Type 0
+WordsOfWhyAreTold = Gives why_word (
+    (reason.Filled, codes "Filled")
+    ∷ (reason.NotKnown, codes "NotKnown")
+    ∷ (reason.NoStart, codes "NoStart")
+    ∷ (reason.NotSignalled, codes "NotSignalled")
+    ∷ (reason.NotDecided, codes "NotDecided")
+    ∷ (reason.DoesNotFit, codes "DoesNotFit")
+    ∷ (reason.Waiting, codes "Waiting") ∷ [])
 
 abbrev pub why : Request
 why = get (codes "/channels/a/why")
@@ -159,6 +226,8 @@ abbrev pub RequestsAreServed : Type 0
 RequestsAreServed = Gives (is_served_on (codes "a")) (
     (exchange make (bare 201), true)
     ∷ (exchange live not_found, true)
+    ∷ (exchange (get (codes "/channels/a/why?x")) not_found, true)
+    ∷ (exchange (get (codes "/channels/b/why?/channels/a/why")) not_found, false)
     ∷ (exchange make (bare 503), false)
     ∷ (exchange (get (codes "/channels/b/live.m3u8")) not_found, false)
     ∷ (exchange (get (codes "/")) not_found, false) ∷ [])

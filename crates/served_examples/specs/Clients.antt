@@ -7,15 +7,16 @@ use Rattle.connections.specs.declared.devices.Passage.TheVariants.{WouldWait, Ha
 use Rattle.connections.specs.declared.arrivals.Arrival.{Arrival}
 use Rattle.connections.specs.declared.conversation.Conversation.TheVariants.{Asking, Answering}
 use Rattle.connections.specs.Arrivals.{gives_place, gives_room}
-use Rattle.connections.specs.Limits.{most_held, place_count, serving_nanos, ending_nanos}
+use Rattle.connections.specs.Limits.{most_held, place_count, serving_nanos, ending_nanos, reads_in_turn, writes_in_turn, drains_in_turn}
 use Rattle.connections.specs.Runs.{visits, said, taken}
 use Rattle.connections.specs.Table.{State, ClientEvent, arrival, request_bytes, reply_bytes, departure, held_in, left_of, taken_of}
 use Rattle.connections.specs.Turns.{joined}
 use Rattle.worked_examples.specs.Tables.{Gives}
 
--- docs/OPERATING.md, "Slow clients": 64 MiB, 512 places, 10 s, a quarter of a second
+-- docs/OPERATING.md, "Slow clients": 64 MiB, 512 places, 10 s, a quarter of a second, and the reads and writes of a turn
 abbrev pub ClientsAreLimited : Type 0
-ClientsAreLimited = Gives (λ (n : ℕ). n) ((most_held, 67108864) ∷ (place_count, 512) ∷ (serving_nanos, 10000000000) ∷ (ending_nanos, 250000000) ∷ [])
+ClientsAreLimited = Gives (λ (n : ℕ). n) ((most_held, 67108864) ∷ (place_count, 512) ∷ (serving_nanos, 10000000000) ∷ (ending_nanos, 250000000) ∷ (reads_in_turn, 4)
+    ∷ (writes_in_turn, 4) ∷ (drains_in_turn, 32) ∷ [])
 
 -- place 0: a client with a reply on its way; 1: one that has said nothing; 2: one that has said two bytes; 3: nobody
 abbrev pub three : State

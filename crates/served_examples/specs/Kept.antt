@@ -7,9 +7,11 @@ use Rattle.playlist_write.specs.declared.resumed.WrittenText.{WrittenText}
 use Rattle.pod_store.specs.Store.{Entry, nothing_decided}
 use Rattle.channel_spec.specs.declared.fault.RefreshFault.{RefreshFault}
 use Rattle.channel_spec.specs.declared.fault.RefreshFault.TheVariants.{Playlist as Unreadable, Changed, NumberRange, OutOfMemory}
+use Rattle.channel_spec.specs.Successor.{heading_of}
 use Rattle.channel_spec.specs.Live.{told}
 use Rattle.channel_spec.specs.Kept.{Kept, kept_of}
 use Rattle.channel_window.specs.declared.state.ChannelState.{ChannelState}
+use Rattle.channel_window.specs.Listed.{segments_in}
 use Rattle.live_channel.specs.declared.channel.Refreshed.{Refreshed}
 use Rattle.live_channel.specs.Channel.{Channel, Given, decided, withdrawn, refreshed, channel_with, with_store, text_in, owed_answer, is_out_of_memory, store_by}
 use Rattle.worked_examples.specs.Breaks.{nothing_said}
@@ -25,7 +27,7 @@ use Rattle.served_examples.specs.Answers.{first_refresh, refresh}
 abbrev pub state : ChannelState
 state = record {
   store = ab;
-  last = Some five;
+  last = Some (heading_of five);
   shown = record {
     knowledge = record { id = codes "a"; said = nothing_said } ∷ [];
     list = record { segment = stepped 5 3 1; instant = None; mark = None } ∷ record { segment = stepped 6 3 0; instant = None; mark = Some (codes "a") } ∷ [];
@@ -41,7 +43,7 @@ abbrev pub kept : Kept
 kept = record {
   store = ab;
   breaks = record { id = codes "a"; said = nothing_said } ∷ [];
-  last = Some five;
+  last = Some (heading_of five);
   shown = marked (record { id = codes "a"; pod = short 1 }) (stepped 6 3 0) ∷ unmarked (stepped 5 3 1) ∷ [];
   entered = Some (codes "a");
   numbers = record { media_sequence = 8; discontinuity_sequence = 4; discontinuities = 2 };
@@ -53,6 +55,10 @@ abbrev pub StatesAreMeant : Type 0
 StatesAreMeant = (base : Parts) → Gives (channel_with base 5 state) (
     (None, record { base = base; tolerance = 5; kept = kept; text = None })
     ∷ (Some (codes "x"), record { base = base; tolerance = 5; kept = kept; text = Some (codes "x") }) ∷ [])
+
+-- the segments that it holds, the oldest first
+abbrev pub SegmentsAreHeld : Type 0
+SegmentsAreHeld = Gives segments_in ((state.shown.list, stepped 5 3 1 ∷ stepped 6 3 0 ∷ []) ∷ ([], []) ∷ [])
 
 abbrev pub holding : Parts → Kept → Channel
 holding base kept = record { base = base; tolerance = 5; kept = kept; text = Some (codes "x") }

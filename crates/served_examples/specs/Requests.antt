@@ -56,7 +56,10 @@ BodiesAreFramed = Gives framing (
     ∷ ((codes "PUT", (codes "Content-Length", codes "4194305") ∷ []), Refused TooLarge)
     ∷ ((codes "PUT", (codes "Content-Length", codes "-1") ∷ []), Refused BadRequest)
     ∷ ((codes "PUT", (codes "Content-Length", codes "5") ∷ (codes "Content-Length", codes "5") ∷ []), Refused BadRequest)
+    ∷ ((codes "PUT", (codes "Content-Length", codes "5000000") ∷ (codes "Content-Length", codes "5000000") ∷ []), Refused BadRequest)
+    ∷ ((codes "PUT", (codes "Content-Length", codes "000000000000000000005") ∷ []), Refused BadRequest)
     ∷ ((codes "PUT", []), Refused LengthRequired)
+    ∷ ((codes "PUT", (codes "Content-Length", codes "5") ∷ (codes "Content-Length", codes "5") ∷ (codes "Transfer-Encoding", codes "chunked") ∷ []), Refused LengthRequired)
     ∷ ((codes "PUT", (codes "Content-Length", codes "5") ∷ (codes "transfer-encoding", codes "chunked") ∷ []), Refused LengthRequired)
     ∷ ((codes "GET", (codes "Content-Length", codes "5") ∷ []), Body 0)
     ∷ ((codes "POST", (codes "Transfer-Encoding", codes "chunked") ∷ []), Body 0)
@@ -77,6 +80,10 @@ abbrev pub RepliesAreWritten : Type 0
 RepliesAreWritten = Gives (text_sent true) (
     (bare 204, lines (codes "HTTP/1.1 204 No Content" ∷ codes "Connection: close" ∷ [] ∷ []))
     ∷ (bare 201, lines (codes "HTTP/1.1 201 Created" ∷ codes "Content-Length: 0" ∷ codes "Connection: close" ∷ [] ∷ []))
+    ∷ (bare 200, lines (codes "HTTP/1.1 200 OK" ∷ codes "Content-Length: 0" ∷ codes "Connection: close" ∷ [] ∷ []))
+    ∷ (plain 404 (codes "not found\n"), lines (codes "HTTP/1.1 404 Not Found" ∷ codes "Content-Type: text/plain; charset=utf-8" ∷ codes "Content-Length: 10" ∷ codes "Connection: close" ∷ [] ∷ []) ++ codes "not found\n")
+    ∷ (plain 409 (codes "N5 Back\n"), lines (codes "HTTP/1.1 409 Conflict" ∷ codes "Content-Type: text/plain; charset=utf-8" ∷ codes "Content-Length: 8" ∷ codes "Connection: close" ∷ [] ∷ []) ++ codes "N5 Back\n")
+    ∷ (plain 422 (codes "J6 EmptyPod\n"), lines (codes "HTTP/1.1 422 Unprocessable Entity" ∷ codes "Content-Type: text/plain; charset=utf-8" ∷ codes "Content-Length: 12" ∷ codes "Connection: close" ∷ [] ∷ []) ++ codes "J6 EmptyPod\n")
     ∷ (bare 503, lines (codes "HTTP/1.1 503 Service Unavailable" ∷ codes "Content-Length: 0" ∷ codes "Connection: close" ∷ [] ∷ []))
     ∷ (
       record { status = 200; allow = None; content = Some (record { media = Playlist; text = codes "hi" }) },

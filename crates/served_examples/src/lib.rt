@@ -4,9 +4,9 @@
 #![tactic(auto)]
 
 ghost use Rattle.served_examples.specs.Requests.{NamesAreChecked, QueriesArePassedOver, RoutesAreFound, OtherPathsAreNone, BodiesAreFramed, HeadsAreFramed, MessagesAreLimited, RepliesAreWritten, HeadsAreSent, HeadRepliesAreWritten};
-ghost use Rattle.served_examples.specs.Answers.{ChannelsAreMade, RefreshesAreAnswered, PlaylistsAreRead, DecisionsAreAnswered, ReasonsAreAnswered, TablesAreLimited, ChannelsAreApart, RequestsAreServed, RequestsWereAsked, RequestsWereAnswered};
+ghost use Rattle.served_examples.specs.Answers.{ChannelsAreMade, RefreshesAreAnswered, PlaylistsAreRead, DecisionsAreAnswered, DecisionFaultsAreAnswered, RefreshFaultsAreAnswered, WordsOfWhyAreTold, ReasonsAreAnswered, TablesAreLimited, ChannelsAreApart, RequestsAreServed, RequestsWereAsked, RequestsWereAnswered};
 ghost use Rattle.served_examples.specs.Clients.{ClientsAreLimited, PlacesAreGiven, RepliesAreGivenUpLast, RoomIsGiven, BytesAreHeld, RepliesAreLeft, BytesAreTaken, VisitsAreCounted, WordsAreSaid, TakenIsCounted, PiecesAreJoined, CallsAreCounted, FailuresAreCounted};
-ghost use Rattle.served_examples.specs.Kept.{StatesAreMeant, StoresAreReplaced, TextsAreKept, RefreshesAreOwed, LackOfMemoryIsSeen, DecisionsAreStored};
+ghost use Rattle.served_examples.specs.Kept.{StatesAreMeant, SegmentsAreHeld, StoresAreReplaced, TextsAreKept, RefreshesAreOwed, LackOfMemoryIsSeen, DecisionsAreStored};
 ghost use Rattle.served_examples.specs.Runs.{ReadsAreLimited, FilesAreTold, FilesAreGiven, BytesAreTold, UrisAreText, InputsAreReadUnderBases, RunsAreTold};
 
 /// What a request names, the length of its body, and how a reply is written.
@@ -29,6 +29,9 @@ pub fn answers_have_their_values()
     ensures refreshes_are_answered { RefreshesAreAnswered }
     ensures playlists_are_read { PlaylistsAreRead }
     ensures decisions_are_answered { DecisionsAreAnswered }
+    ensures decision_faults_are_answered { DecisionFaultsAreAnswered }
+    ensures refresh_faults_are_answered { RefreshFaultsAreAnswered }
+    ensures words_of_why_are_told { WordsOfWhyAreTold }
     ensures reasons_are_answered { ReasonsAreAnswered }
     ensures tables_are_limited { TablesAreLimited }
     ensures channels_are_apart { ChannelsAreApart }
@@ -68,6 +71,7 @@ pub fn runs_have_their_values()
 /// What a channel keeps, is owed and answers, by what it was given.
 pub fn kept_have_their_values()
     ensures states_are_meant { StatesAreMeant }
+    ensures segments_are_held { SegmentsAreHeld }
     ensures stores_are_replaced { StoresAreReplaced }
     ensures texts_are_kept { TextsAreKept }
     ensures refreshes_are_owed { RefreshesAreOwed }

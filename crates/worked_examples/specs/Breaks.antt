@@ -23,7 +23,9 @@ SignalsAreRead = Gives signal_of (
     ∷ (codes "0xFC301600000000000000FFF0050500000002FF000000000000", Nothing)
     ∷ (codes "0xFC301600000000000000FFF00506FE00000009000000000000", Nothing)
     ∷ (codes "0xFC301100000000000000FFF00000000000000000", Nothing)
-    ∷ (codes "0xFC301200000000000000FFFFFF067F000000000000", Nothing) ∷ (codes "0xF", Nothing) ∷ [])
+    ∷ (codes "0xFC301200000000000000FFFFFF067F000000000000", Nothing)
+    ∷ (codes "0xFC302000000000000000FFF00F05000000017FFFFE002932E0000100000000000000", Nothing)
+    ∷ (codes "0xF", Nothing) ∷ [])
 
 -- 9.8.2: ticks of 90 kHz
 abbrev pub TicksAreCounted : Type 0
@@ -58,7 +60,15 @@ BreaksEnd = Gives ends (
     (starting, Some (at (pos 150)))
     ∷ (record starting { scte35_out = Some (Leaves (Some 90000)) }, Some (at (pos 1000000100)))
     ∷ (record starting { scte35_out = Some (Leaves (Some 90000)); planned_duration = Some 30 }, Some (at (pos 130)))
+    ∷ (record starting { scte35_out = Some (Leaves (Some 90000)); scte35_in = Some (Returns None) }, Some closed)
+    ∷ (record starting { scte35_out = Some (Leaves (Some 90000)); duration = Some 20 }, Some (at (pos 120)))
+    ∷ (record starting { scte35_out = Some (Leaves (Some 90000)); end = Some (pos 110) }, Some (at (pos 110)))
     ∷ (record starting { planned_duration = Some 30; scte35_in = Some (Returns None) }, Some closed)
+    ∷ (record starting { planned_duration = Some 30; duration = Some 20 }, Some (at (pos 120)))
+    ∷ (record starting { planned_duration = Some 30; end = Some (pos 110) }, Some (at (pos 110)))
+    ∷ (record starting { scte35_in = Some (Returns None); end = Some (pos 110) }, Some (at (pos 110)))
+    ∷ (record starting { start = None }, None)
+    ∷ (record starting { start = None; planned_duration = Some 30; scte35_out = Some (Leaves (Some 90000)) }, None)
     ∷ (record starting { planned_duration = Some 30; scte35_in = Some (Leaves None) }, Some (at (pos 130)))
     ∷ (record starting { planned_duration = Some 30; scte35_in = Some Nothing }, Some (at (pos 130)))
     ∷ (record starting { scte35_in = Some (Returns None); duration = Some 20 }, Some (at (pos 120)))
@@ -130,6 +140,10 @@ BreaksAreKnown = Gives known_briefly (
 abbrev pub pod : Pod
 pod = record { ads = record { init_section = None; keys = []; segments = record { uri = codes "http://a/b"; byte_range = None; duration = 8000000000 } ∷ [] } ∷ [] }
 
+-- the same with an initialisation section
+abbrev pub pod_with_init_section : Pod
+pod_with_init_section = record { ads = record { init_section = Some (record { uri = codes "http://a/i"; byte_range = None; keys = [] }); keys = []; segments = record { uri = codes "http://a/b"; byte_range = None; duration = 8000000000 } ∷ [] } ∷ [] }
+
 abbrev pub decided_b : Store
 decided_b = record { entries = record { id = codes "b"; pod = pod; used = false; copied = false } ∷ []; fallback = None }
 
@@ -160,7 +174,9 @@ BreaksAreEntered = Gives enters (
     ∷ ((limits 8 false None, record { entries = []; fallback = Some pod }, break starting ∷ [], Some (pos 100)), Some (codes "b"))
     ∷ ((limits 8 false None, decided_b, break (record starting { scte35_out = None }) ∷ [], Some (pos 100)), None)
     ∷ ((limits 8 false None, decided_b, break (record starting { end = Some (pos 105) }) ∷ [], Some (pos 100)), None)
-    ∷ ((limits 8 false None, record { entries = []; fallback = Some pod }, record { id = codes "c"; said = starting } ∷ break starting ∷ [], Some (pos 100)), Some (codes "c")) ∷ [])
+    ∷ ((limits 8 false None, record { entries = []; fallback = Some pod }, record { id = codes "c"; said = starting } ∷ break starting ∷ [], Some (pos 100)), Some (codes "c"))
+    ∷ ((limits 8 true None, record decided_b { fallback = Some pod_with_init_section }, break starting ∷ [], Some (pos 100)), None)
+    ∷ ((limits 8 true None, record { entries = []; fallback = Some pod_with_init_section }, break starting ∷ [], Some (pos 100)), Some (codes "b")) ∷ [])
 
 -- a segment at 100 is inside the break of an ID, if its end allows it
 abbrev pub BreaksGoOn : Type 0
@@ -187,4 +203,6 @@ ReasonsAreTold = Gives reason (
     ∷ ((break starting ∷ [], 8, false, record { entries = []; fallback = None }, false), NotDecided)
     ∷ ((break starting ∷ [], 7, false, decided_b, false), DoesNotFit)
     ∷ ((break starting ∷ [], 8, true, decided_b, false), DoesNotFit)
+    ∷ ((break starting ∷ [], 8, true, record decided_b { fallback = Some pod_with_init_section }, false), DoesNotFit)
+    ∷ ((break starting ∷ [], 8, true, record { entries = []; fallback = Some pod_with_init_section }, false), Waiting)
     ∷ ((break starting ∷ [], 8, false, decided_b, false), Waiting) ∷ [])

@@ -2,13 +2,17 @@
 use Rattle.std.specs.Prelude.{ℕ, zero, suc, length, ◌+◌, ◌*◌, ◌==◌, Bool, true, false, List, [], ◌∷◌, ◌++◌, map, codes, ℤ, pos, Option, Some, None, option_map, if◌then◌else◌}
 use Rattle.playlist_model.specs.declared.Segment.{Segment}
 use Rattle.playlist_model.specs.declared.Playlist.{Playlist}
+use Rattle.playlist_model.specs.declared.PlaylistKind.{PlaylistKind}
 use Rattle.playlist_model.specs.declared.PlaylistKind.TheVariants.{Event, Vod}
 use Rattle.playlist_model.specs.declared.DateRange.{DateRange}
 use Rattle.pod_store.specs.Pods.{Pod}
 use Rattle.pod_store.specs.Store.{Entry}
 use Rattle.pod_store.specs.declared.Decisions.TheVariants.{Breaks, Withdraw, Fallback}
 use Rattle.channel_spec.specs.declared.fault.RefreshFault.{RefreshFault}
-use Rattle.channel_spec.specs.declared.fault.RefreshFault.TheVariants.{VersionChanged, TargetChanged, TypeChanged, MapsChanged, Back, Gap, Shrunk, Changed, Ended, NumberRange}
+use Rattle.channel_spec.specs.declared.fault.RefreshFault.TheVariants as fault
+use Rattle.channel_spec.specs.declared.fault.RefreshFault.TheVariants.{VersionChanged, TargetChanged, TypeChanged, MapsChanged, Back, Gap, Shrunk, Changed, Ended, NumberRange, OutOfMemory}
+use Rattle.channel_spec.specs.FaultTexts.{refresh_fault_text}
+use Rattle.playlist_model.specs.declared.FaultKind.TheVariants.{NoDuration}
 use Rattle.channel_spec.specs.Limits.{default_tolerance, max_tolerance}
 use Rattle.channel_spec.specs.Live as live
 use Rattle.channel_spec.specs.Live.{decided, refreshed, told, refusal}
@@ -42,7 +46,7 @@ five = plays [] (segments 10 5)
 abbrev pub follows : Playlist × Playlist → Option RefreshFault
 follows it = successor_fault it.0 it.1
 
--- RFC 8216, 6.2.1 and 6.2.2: what a client that holds the playlist before it may be given (N1 to N7 and N9)
+-- RFC 8216, 6.2.1 and 6.2.2: what a client that holds the playlist before it may be given (N1 to N7 and N9), each told before the next
 abbrev pub PlaylistsFollow : Type 0
 PlaylistsFollow = Gives (λ (new : Playlist). successor_fault five new) (
     (five, None)
@@ -57,10 +61,15 @@ PlaylistsFollow = Gives (λ (new : Playlist). successor_fault five new) (
     ∷ (record five { playlist_type = Some Event }, Some TypeChanged)
     ∷ (record five { target_duration = 11; playlist_type = Some Event }, Some TargetChanged)
     ∷ (record five { segments = record (origin 10) { init_section = Some under_key_1 } ∷ segments 11 4 }, Some MapsChanged)
+    ∷ (record five { playlist_type = Some Event; segments = record (origin 10) { init_section = Some under_key_1 } ∷ segments 11 4 }, Some TypeChanged)
+    ∷ (record five { segments = record (origin 9) { init_section = Some under_key_1 } ∷ segments 10 5 }, Some MapsChanged)
     ∷ (plays [] (segments 9 6), Some Back)
+    ∷ (plays [] (segments 9 5), Some Back)
     ∷ (plays [] (segments 16 5), Some Gap)
     ∷ (plays [] (segments 10 4), Some Shrunk)
-    ∷ (plays [] (segments 11 3), Some Shrunk) ∷ [])
+    ∷ (plays [] (segments 11 3), Some Shrunk)
+    ∷ (plays [] (origin 10 ∷ record (origin 11) { uri = codes "u" } ∷ segments 12 2), Some Shrunk)
+    ∷ (plays [] (origin 10 ∷ record (origin 11) { uri = codes "u" } ∷ origin 12 ∷ record (origin 13) { uri = codes "u" } ∷ origin 14 ∷ []), Some (Changed 11)) ∷ [])
 
 -- an EVENT stays one, and a VOD
 abbrev pub TypesStay : Type 0
@@ -102,7 +111,8 @@ EndedStays = Gives (λ (new : Playlist). successor_fault (record five { end_list
     ∷ (five, Some Ended)
     ∷ (record (plays [] (segments 10 6)) { end_list = true }, Some Ended)
     ∷ (record (plays [] (segments 11 4)) { end_list = true }, Some Ended)
-    ∷ (plays [] (segments 10 4), Some Shrunk) ∷ [])
+    ∷ (plays [] (segments 10 4), Some Shrunk)
+    ∷ (with_11 (record (origin 11) { uri = codes "u" }), Some (Changed 11)) ∷ [])
 
 -- docs/OPERATING.md: 100 ms if nothing else is asked, and 10 s at the most
 abbrev pub TolerancesAreStated : Type 0
@@ -132,8 +142,12 @@ decide id uris = decided (Breaks ((id, pod uris) ∷ []))
 abbrev pub window : List DateRange → ℕ → ℕ → live.Event
 window date_ranges n count = refreshed (plays date_ranges (segments n count))
 
+-- what a channel of this tolerance owes after these events, the newest of which stands first
+abbrev pub owed_by : ℕ → List live.Event → Option Playlist
+owed_by tolerance events = live.owed (told tolerance events)
+
 abbrev pub owed : List live.Event → Option Playlist
-owed events = live.owed (told 100000000 events)
+owed events = owed_by 100000000 events
 
 -- a segment in short: URI, media number, discontinuity number, steps
 abbrev pub brief : Segment → List ℕ
@@ -145,6 +159,9 @@ written events = option_map (λ (p : Playlist). map brief p.segments) (owed even
 
 abbrev pub decide_b : live.Event
 decide_b = decide (codes "b") (1000 ∷ 1001 ∷ 1002 ∷ [])
+
+abbrev pub written_by : ℕ × List live.Event → Option (List (List ℕ))
+written_by it = option_map (λ (p : Playlist). map brief p.segments) (owed_by it.0 it.1)
 
 -- docs/OPERATING.md: a pod goes through the window at the pace of its break; the rest of it at once if the break has ended;
 -- what was written stays, also if a decision comes later; nothing is written before a refresh
@@ -161,6 +178,25 @@ BreaksAreFilled = Gives written (
     ∷ (window (lasting 10 b ∷ []) 3 2 ∷ window (lasting 10 b ∷ []) 2 2 ∷ window (lasting 10 b ∷ []) 0 2 ∷ decide_b ∷ [], Some ((3 ∷ 5 ∷ 7 ∷ 0 ∷ []) ∷ (4 ∷ 6 ∷ 7 ∷ 0 ∷ []) ∷ []))
     ∷ (decide_b ∷ window (b ∷ []) 0 2 ∷ [], Some ((0 ∷ 0 ∷ 5 ∷ 0 ∷ []) ∷ (1 ∷ 1 ∷ 5 ∷ 0 ∷ []) ∷ []))
     ∷ (window (b ∷ []) 0 3 ∷ decide_b ∷ window (b ∷ []) 0 2 ∷ [], Some ((0 ∷ 0 ∷ 5 ∷ 0 ∷ []) ∷ (1 ∷ 1 ∷ 5 ∷ 0 ∷ []) ∷ (2 ∷ 2 ∷ 5 ∷ 0 ∷ []) ∷ [])) ∷ [])
+
+-- the break begins at 11 s, a second after segment 1: that enters it if the tolerance is a second
+abbrev pub TolerancesCount : Type 0
+TolerancesCount = Gives written_by (
+    ((1000000000, window (tag (codes "b") 11 ∷ []) 0 3 ∷ decide (codes "b") (1000 ∷ []) ∷ []), Some ((0 ∷ 0 ∷ 5 ∷ 0 ∷ []) ∷ (1000 ∷ 1 ∷ 6 ∷ 1 ∷ []) ∷ []))
+    ∷ ((999999999, window (tag (codes "b") 11 ∷ []) 0 3 ∷ decide (codes "b") (1000 ∷ []) ∷ []), Some ((0 ∷ 0 ∷ 5 ∷ 0 ∷ []) ∷ (1 ∷ 1 ∷ 5 ∷ 0 ∷ []) ∷ (2 ∷ 2 ∷ 5 ∷ 0 ∷ []) ∷ [])) ∷ [])
+
+-- four breaks, one after the other
+abbrev pub four : List DateRange
+four = lasting 10 b ∷ lasting 10 (tag (codes "c") 20) ∷ lasting 10 (tag (codes "d") 30) ∷ lasting 10 (tag (codes "e") 40) ∷ []
+
+abbrev pub four_are_decided : List live.Event
+four_are_decided = decide (codes "e") (4000 ∷ []) ∷ decide (codes "d") (3000 ∷ []) ∷ decide (codes "c") (2000 ∷ []) ∷ decide (codes "b") (1000 ∷ []) ∷ []
+
+-- each is filled with its own pod; and one that begins within another isn't entered
+abbrev pub SeveralAreFilled : Type 0
+SeveralAreFilled = Gives written (
+    (window four 0 6 ∷ four_are_decided, Some ((0 ∷ 0 ∷ 5 ∷ 0 ∷ []) ∷ (1000 ∷ 1 ∷ 6 ∷ 1 ∷ []) ∷ (2000 ∷ 2 ∷ 7 ∷ 1 ∷ []) ∷ (3000 ∷ 3 ∷ 8 ∷ 1 ∷ []) ∷ (4000 ∷ 4 ∷ 9 ∷ 1 ∷ []) ∷ (5 ∷ 5 ∷ 10 ∷ 1 ∷ []) ∷ []))
+    ∷ (window (b ∷ tag (codes "c") 20 ∷ []) 0 5 ∷ decide (codes "c") (2000 ∷ []) ∷ decide_b ∷ [], Some ((0 ∷ 0 ∷ 5 ∷ 0 ∷ []) ∷ (1000 ∷ 1 ∷ 6 ∷ 1 ∷ []) ∷ (1001 ∷ 2 ∷ 6 ∷ 0 ∷ []) ∷ (1002 ∷ 3 ∷ 6 ∷ 0 ∷ []) ∷ (4 ∷ 4 ∷ 7 ∷ 1 ∷ []) ∷ [])) ∷ [])
 
 -- a refused refresh changes nothing, nor does a refused decision; a mark stands although the break's end is stated earlier later
 -- on; two breaks that follow one another; a fallback
@@ -185,10 +221,21 @@ header_owed events = option_map header_and_ids (owed events)
 abbrev pub HeadersAreOwed : Type 0
 HeadersAreOwed = Gives header_owed (
     (window (b ∷ tag (codes "c") 90 ∷ []) 0 2 ∷ [], Some ((6, 10, false), codes "b" ∷ codes "c" ∷ [], Some (noon_and 0) ∷ Some (noon_and 10) ∷ []))
+    ∷ (window (tag (codes "f") 90 ∷ four) 0 6 ∷ four_are_decided, Some ((6, 10, false), codes "f" ∷ [], Some (noon_and 0) ∷ None ∷ None ∷ None ∷ None ∷ Some (noon_and 50) ∷ []))
     ∷ (refreshed (record (plays (b ∷ []) (segments 0 1)) { version = 7; end_list = true }) ∷ [], Some ((7, 10, true), codes "b" ∷ [], Some (noon_and 0) ∷ []))
     ∷ (window (b ∷ tag (codes "c") 90 ∷ []) 0 2 ∷ decide_b ∷ [], Some ((6, 10, false), codes "c" ∷ [], Some (noon_and 0) ∷ None ∷ []))
     ∷ (window (b ∷ tag (codes "c") 90 ∷ []) 1 2 ∷ window (b ∷ tag (codes "c") 90 ∷ []) 0 2 ∷ decide_b ∷ [], Some ((6, 10, false), [], None ∷ None ∷ []))
     ∷ (window (b ∷ []) 5 2 ∷ window (b ∷ []) 4 2 ∷ window (b ∷ []) 3 2 ∷ window (b ∷ []) 0 4 ∷ decide_b ∷ [], Some ((6, 10, false), [], Some (noon_and 50) ∷ Some (noon_and 60) ∷ [])) ∷ [])
+
+abbrev pub type_owed : List live.Event → Option (Option PlaylistKind × Bool)
+type_owed events = option_map (λ (p : Playlist). (p.playlist_type, p.independent_segments)) (owed events)
+
+-- the playlist's type and EXT-X-INDEPENDENT-SEGMENTS are those of the last accepted refresh (4.3.3.5, 4.3.5.1)
+abbrev pub TypesAreOwed : Type 0
+TypesAreOwed = Gives type_owed (
+    (refreshed (record (plays [] (segments 0 2)) { playlist_type = Some Event; independent_segments = true }) ∷ [], Some (Some Event, true))
+    ∷ (refreshed (record (plays [] (segments 0 2)) { playlist_type = Some Vod }) ∷ [], Some (Some Vod, false))
+    ∷ (refreshed (record (plays [] (segments 0 2)) { independent_segments = true }) ∷ window [] 0 2 ∷ [], Some (None, true)) ∷ [])
 
 abbrev pub stored : List live.Event → List (List ℕ × Bool)
 stored events = map (λ (e : Entry). (e.id, e.used)) (told 100000000 events).store.entries
@@ -222,6 +269,22 @@ StatesAreKept = Gives kept (
     ∷ (window (b ∷ []) 1 2 ∷ window (b ∷ []) 0 2 ∷ decide_b ∷ [], (Some (codes "b"), 1 ∷ 6 ∷ 1 ∷ [], 20000000000, None, 2))
     ∷ (window (b ∷ []) 0 4 ∷ decide (codes "b") (1000 ∷ []) ∷ [], (Some (codes "b"), 0 ∷ 5 ∷ 0 ∷ [], 10000000001, None, 4))
     ∷ (window (lasting 10 b ∷ []) 2 2 ∷ window (lasting 10 b ∷ []) 0 2 ∷ decide_b ∷ [], (Some (codes "b"), 2 ∷ 6 ∷ 0 ∷ [], 0, Some 1, 2)) ∷ [])
+
+-- docs/OPERATING.md, "Faults"
+abbrev pub RefreshFaultsAreTold : Type 0
+RefreshFaultsAreTold = Gives refresh_fault_text (
+    (fault.Playlist (record { kind = NoDuration; line = 12 }), codes "P17 NoDuration line 12")
+    ∷ (VersionChanged, codes "N1 VersionChanged")
+    ∷ (TargetChanged, codes "N2 TargetChanged")
+    ∷ (TypeChanged, codes "N3 TypeChanged")
+    ∷ (MapsChanged, codes "N4 MapsChanged")
+    ∷ (Back, codes "N5 Back")
+    ∷ (Gap, codes "N6 Gap")
+    ∷ (Shrunk, codes "N7 Shrunk")
+    ∷ (Changed 120, codes "N8 Changed 120")
+    ∷ (Ended, codes "N9 Ended")
+    ∷ (NumberRange, codes "N10 NumberRange")
+    ∷ (OutOfMemory, codes "N11 OutOfMemory") ∷ [])
 
 abbrev pub refused : List live.Event × Playlist → Option RefreshFault
 refused it = refusal 100000000 (told 100000000 it.0) it.1

@@ -9,3 +9,4 @@ pub mod Stitched
 pub mod Written
 pub mod Channels
 pub mod Windows
+pub mod Paced

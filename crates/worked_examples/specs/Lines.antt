@@ -1,5 +1,5 @@
 -- What one line of a playlist says.
-use Rattle.std.specs.Prelude.{ℕ, Bool, true, false, pos, List, [], ◌∷◌, codes, Option, Some, None, option_map, Ok, Err}
+use Rattle.std.specs.Prelude.{ℕ, Bool, true, false, pos, List, [], ◌∷◌, ◌++◌, replicate, codes, Option, Some, None, option_map, Ok, Err}
 use Rattle.url.specs.Parts.{Parts}
 use Rattle.playlist_model.specs.declared.FaultKind.TheVariants.{BadVersion, Version, BadValue, BadDuration, BadAttributes, MissingAttribute, BadRange, BadTime, BadUri}
 use Rattle.playlist_model.specs.declared.PlaylistKind.TheVariants.{Event, Vod}
@@ -96,15 +96,21 @@ ReferencesAreResolved = Gives (λ reference. based (λ base. resolved base refer
 -- a base is an absolute http or https URL
 abbrev pub BasesAreWebUrls : Type 0
 BasesAreWebUrls = Gives (λ text. option_map (λ (parts : Parts). parts.scheme) (base_of text)) (
-    (codes "http://h/", Some (codes "http")) ∷ (codes "https://h/a", Some (codes "https")) ∷ (codes "ftp://h/", None) ∷ (codes "h/a", None) ∷ [])
+    (codes "http://h/", Some (codes "http"))
+    ∷ (codes "https://h/a", Some (codes "https"))
+    ∷ (codes "http://h/" ++ replicate 300 97, Some (codes "http"))
+    ∷ (codes "ftp://h/", None)
+    ∷ (codes "h/a", None) ∷ [])
 
 abbrev pub aes : List ℕ → List ℕ → Option ℕ → List ℕ → Key
 aes format resource iv others = record { format = format; method = codes "AES-128"; uri = resource; iv = iv; other_attributes = others }
 
--- 4.3.2.4: METHOD and, except for NONE, URI are required; KEYFORMAT is `identity` if it isn't stated
+-- 4.3.2.4: METHOD and, except for NONE, URI are required; KEYFORMAT is `identity` if it isn't stated. The first fault of METHOD,
+-- URI, IV and KEYFORMAT is told, and then that the URI can't be resolved
 abbrev pub KeysAreRead : Type 0
 KeysAreRead = Gives (λ text. based (λ base. key_said limited base text)) (
     (codes "METHOD=NONE", Some (Ok no_keys))
+    ∷ (codes "METHOD=NONE,URI=a", Some (Ok no_keys))
     ∷ (codes "METHOD=AES-128,URI=\"k\"", Some (Ok (key (aes (codes "identity") (codes "http://origin.example/ch/k") None []))))
     ∷ (codes "METHOD=AES-128,URI=\"a:k\",IV=0x1F,KEYFORMAT=\"f\",KEYFORMATVERSIONS=\"1\"", Some (Ok (key (aes (codes "f") (codes "a:k") (Some 31) (codes ",KEYFORMATVERSIONS=\"1\"")))))
     ∷ (codes "URI=\"a:k\"", Some (Err MissingAttribute))
@@ -114,9 +120,15 @@ KeysAreRead = Gives (λ text. based (λ base. key_said limited base text)) (
     ∷ (codes "METHOD=AES-128,URI=\"a:k\",IV=31", Some (Err BadAttributes))
     ∷ (codes "METHOD=AES-128,URI=\"a:k\",IV=\"0x1F\"", Some (Err BadAttributes))
     ∷ (codes "METHOD=AES-128,URI=\"a:k\",KEYFORMAT=f", Some (Err BadAttributes))
+    ∷ (codes "URI=a", Some (Err MissingAttribute))
+    ∷ (codes "METHOD=\"AES-128\"", Some (Err BadAttributes))
+    ∷ (codes "METHOD=AES-128,IV=31", Some (Err MissingAttribute))
+    ∷ (codes "METHOD=AES-128,URI=\"//[/x\",IV=31", Some (Err BadAttributes))
+    ∷ (codes "METHOD=AES-128,URI=\"//[/x\",KEYFORMAT=f", Some (Err BadAttributes))
     ∷ (codes "METHOD=AES-128,URI=\"//[/x\"", Some (Err BadUri)) ∷ [])
 
--- 4.3.2.5: URI is required; a BYTERANGE without an offset begins at 0
+-- 4.3.2.5: URI is required; a BYTERANGE without an offset begins at 0. A fault of BYTERANGE is told before that the URI can't be
+-- resolved
 abbrev pub InitSectionsAreRead : Type 0
 InitSectionsAreRead = Gives (λ text. based (λ base. init_section_said limited base text)) (
     (codes "URI=\"a:i\"", Some (Ok (init_section (codes "a:i") None)))
@@ -125,9 +137,14 @@ InitSectionsAreRead = Gives (λ text. based (λ base. init_section_said limited 
     ∷ (codes "BYTERANGE=\"100@5\"", Some (Err MissingAttribute))
     ∷ (codes "URI=a", Some (Err BadAttributes))
     ∷ (codes "URI=\"a:i\",BYTERANGE=100", Some (Err BadAttributes))
-    ∷ (codes "URI=\"a:i\",BYTERANGE=\"x\"", Some (Err BadRange)) ∷ [])
+    ∷ (codes "URI=\"a:i\",BYTERANGE=\"x\"", Some (Err BadRange))
+    ∷ (codes "BYTERANGE=\"x\"", Some (Err MissingAttribute))
+    ∷ (codes "URI=a,BYTERANGE=\"x\"", Some (Err BadAttributes))
+    ∷ (codes "URI=\"//[/x\",BYTERANGE=\"x\"", Some (Err BadRange))
+    ∷ (codes "URI=\"//[/x\"", Some (Err BadUri)) ∷ [])
 
--- 4.3.2.7 and 4.3.2.7.1: each field is that of its own attribute, and SCTE35-CMD is none of them
+-- 4.3.2.7 and 4.3.2.7.1: each field is that of its own attribute, quoted or not, and SCTE35-CMD is none of them. Faults are told in
+-- the order ID, START-DATE, END-DATE, DURATION, PLANNED-DURATION
 abbrev pub DateRangesAreRead : Type 0
 DateRangesAreRead = Gives (date_range_said limited) ((
   codes "ID=\"b\",START-DATE=\"2024-05-01T12:00:00Z\",END-DATE=\"2024-05-01T12:00:10Z\",DURATION=20,PLANNED-DURATION=30,SCTE35-OUT=0xA,SCTE35-IN=0xB,SCTE35-CMD=0xC",
@@ -146,7 +163,23 @@ DateRangesAreRead = Gives (date_range_said limited) ((
       codes "ID=\"b\",SCTE35-CMD=0xC",
       Ok (date_range (record { id = codes "b"; start = None; end = None; duration = None; planned_duration = None; scte35_out = None; scte35_in = None; attributes = codes "ID=\"b\",SCTE35-CMD=0xC" })),
     )
+    ∷ (
+      codes "ID=\"b\",START-DATE=2024-05-01T12:00:00Z,DURATION=\"20\",SCTE35-OUT=\"0xA\",SCTE35-IN=\"0xB\"",
+      Ok (date_range (record {
+        id = codes "b";
+        start = Some (pos 1714564800000000000);
+        end = None;
+        duration = Some 20000000000;
+        planned_duration = None;
+        scte35_out = Some (codes "0xA");
+        scte35_in = Some (codes "0xB");
+        attributes = codes "ID=\"b\",START-DATE=2024-05-01T12:00:00Z,DURATION=\"20\",SCTE35-OUT=\"0xA\",SCTE35-IN=\"0xB\"";
+      })),
+    )
     ∷ (codes "START-DATE=\"2024-05-01T12:00:00Z\"", Err MissingAttribute)
+    ∷ (codes "START-DATE=\"x\"", Err MissingAttribute)
+    ∷ (codes "ID=\"b\",DURATION=x,START-DATE=\"x\"", Err BadTime)
+    ∷ (codes "ID=\"b\",PLANNED-DURATION=x,END-DATE=\"x\"", Err BadTime)
     ∷ (codes "ID=b", Err BadAttributes)
     ∷ (codes "ID=\"b\",START-DATE=\"x\"", Err BadTime)
     ∷ (codes "ID=\"b\",END-DATE=\"x\"", Err BadTime)

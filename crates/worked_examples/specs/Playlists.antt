@@ -103,7 +103,8 @@ abbrev pub read_on : List (List ℕ) → Read
 read_on lines = read_by limited (codes "#EXTM3U" ∷ codes "#EXT-X-TARGETDURATION:10" ∷ lines)
 
 -- a tag of the whole playlist stands once; the first numbers stand before the first segment, and the discontinuity's before any
--- EXT-X-DISCONTINUITY (4.3.3.2, 4.3.3.3); a playlist of I-frames or a master playlist is none that is read
+-- EXT-X-DISCONTINUITY (4.3.3.2, 4.3.3.3); a playlist of I-frames or a master playlist is none that is read. Of two faults of a line a
+-- control character is told first, then that its tag stands twice, then that it is misplaced, then that its value is wrong
 abbrev pub TagsArePlaced : Type 0
 TagsArePlaced = Gives read_on (
     (codes "#EXT-X-VERSION:3" ∷ codes "#EXT-X-VERSION:3" ∷ [], refused_at 4 fault.Repeated)
@@ -120,10 +121,22 @@ TagsArePlaced = Gives read_on (
     ∷ (codes "#EXT-X-I-FRAMES-ONLY" ∷ [], refused_at 3 fault.IFramesOnly)
     ∷ (codes "#EXT-X-STREAM-INF:BANDWIDTH=1" ∷ [], refused_at 3 fault.MasterPlaylist)
     ∷ (codes "#EXT-X-PROGRAM-DATE-TIME:now" ∷ [], refused_at 3 fault.BadTime)
-    ∷ ((97 ∷ 7 ∷ []) ∷ [], refused_at 3 fault.Control) ∷ [])
+    ∷ (codes "#EXT-X-VERSION:3" ∷ codes "#EXT-X-VERSION:x" ∷ [], refused_at 4 fault.Repeated)
+    ∷ (codes "#EXT-X-TARGETDURATION:x" ∷ [], refused_at 3 fault.Repeated)
+    ∷ (codes "#EXT-X-MEDIA-SEQUENCE:1" ∷ codes "#EXTINF:1," ∷ codes "a:s" ∷ codes "#EXT-X-MEDIA-SEQUENCE:x" ∷ [], refused_at 6 fault.Repeated)
+    ∷ (codes "#EXTINF:1," ∷ codes "a:s" ∷ codes "#EXT-X-MEDIA-SEQUENCE:x" ∷ [], refused_at 5 fault.Misplaced)
+    ∷ (codes "#EXT-X-DISCONTINUITY" ∷ codes "#EXT-X-DISCONTINUITY-SEQUENCE:x" ∷ [], refused_at 4 fault.Misplaced)
+    ∷ (codes "#EXT-X-PLAYLIST-TYPE:VOD" ∷ codes "#EXT-X-PLAYLIST-TYPE:x" ∷ [], refused_at 4 fault.Repeated)
+    ∷ ((codes "#EXT-X-VERSION:x" ++ 7 ∷ []) ∷ [], refused_at 3 fault.Control)
+    ∷ ((97 ∷ 7 ∷ []) ∷ [], refused_at 3 fault.Control)
+    ∷ ((codes "#EXTINF:1," ++ 9 ∷ []) ∷ [], refused_at 3 fault.Control)
+    ∷ ((codes "# " ++ 127 ∷ []) ∷ [], refused_at 3 fault.Control)
+    ∷ ((codes "# " ++ 194 ∷ 133 ∷ []) ∷ [], refused_at 3 fault.Control)
+    ∷ ((codes "# " ++ 194 ∷ 160 ∷ []) ∷ [], refused_at 0 fault.NoSegments) ∷ [])
 
 -- a segment has an EXTINF of its own (4.3.2.1), numbers have 64 bits, a byte range without an offset follows one of the same
--- resource (4.3.2.2), EXT-X-MAP under AES-128 needs an IV (4.3.2.5), and either all segments have an initialisation section or none has
+-- resource (4.3.2.2), EXT-X-MAP under AES-128 needs an IV (4.3.2.5), and either all segments have an initialisation section or none has.
+-- Of two faults of a segment a missing EXTINF is told first, then its number, then its URI, then its byte range
 abbrev pub SegmentsAreChecked : Type 0
 SegmentsAreChecked = Gives read_on (
     (codes "a:s" ∷ [], refused_at 3 fault.NoDuration)
@@ -133,11 +146,16 @@ SegmentsAreChecked = Gives read_on (
     ∷ (codes "#EXTINF:1," ∷ codes "#EXT-X-BYTERANGE:5" ∷ codes "a:s" ∷ [], refused_at 5 fault.RangeNoStart)
     ∷ (codes "#EXTINF:1," ∷ codes "#EXT-X-BYTERANGE:5@0" ∷ codes "a:s" ∷ codes "#EXTINF:1," ∷ codes "#EXT-X-BYTERANGE:5" ∷ codes "a:t" ∷ [], refused_at 8 fault.RangeNoStart)
     ∷ (codes "#EXTINF:1," ∷ codes "#EXT-X-BYTERANGE:1@18446744073709551614" ∷ codes "a:s" ∷ codes "#EXTINF:1," ∷ codes "#EXT-X-BYTERANGE:1" ∷ codes "a:s" ∷ [], refused_at 8 fault.BadRange)
+    ∷ (codes "//[/x" ∷ [], refused_at 3 fault.NoDuration)
+    ∷ (codes "#EXT-X-MEDIA-SEQUENCE:18446744073709551615" ∷ codes "#EXTINF:1," ∷ codes "a:s" ∷ codes "#EXTINF:1," ∷ codes "//[/x" ∷ [], refused_at 7 fault.BadValue)
+    ∷ (codes "#EXTINF:1," ∷ codes "#EXT-X-BYTERANGE:5" ∷ codes "//[/x" ∷ [], refused_at 5 fault.BadUri)
     ∷ (codes "#EXT-X-KEY:METHOD=AES-128,URI=\"a:k\"" ∷ codes "#EXT-X-MAP:URI=\"a:i\"" ∷ [], refused_at 4 fault.MapWithoutIv)
+    ∷ (codes "#EXT-X-KEY:METHOD=AES-128,URI=\"a:k\"" ∷ codes "#EXT-X-MAP:URI=\"//[/x\"" ∷ [], refused_at 4 fault.BadUri)
     ∷ (codes "#EXT-X-KEY:METHOD=SAMPLE-AES,URI=\"a:k\"" ∷ codes "#EXT-X-MAP:URI=\"a:i\"" ∷ [], refused_at 0 fault.NoSegments)
     ∷ (codes "#EXTINF:1," ∷ codes "a:s" ∷ codes "#EXT-X-MAP:URI=\"a:i\"" ∷ codes "#EXTINF:1," ∷ codes "a:t" ∷ [], refused_at 0 fault.MixedMaps) ∷ [])
 
--- 4.3.1.1 and 4.3.3.1: EXTM3U is the first line, and EXT-X-TARGETDURATION is required; 4.1: a playlist is UTF-8
+-- 4.3.1.1 and 4.3.3.1: EXTM3U is the first line, and EXT-X-TARGETDURATION is required; 4.1: a playlist is UTF-8. What the whole
+-- playlist lacks is told after the faults of its lines, the target duration first
 abbrev pub HeadersAreChecked : Type 0
 HeadersAreChecked = Gives (read_by limited) (
     ([], refused_at 1 fault.NoHeader)
@@ -145,7 +163,11 @@ HeadersAreChecked = Gives (read_by limited) (
     ∷ (codes "" ∷ codes "#EXTM3U" ∷ [], refused_at 1 fault.NoHeader)
     ∷ (codes "#EXTM3U" ∷ codes "#EXTINF:1," ∷ codes "a:s" ∷ [], refused_at 0 fault.NoTarget)
     ∷ (codes "#EXTM3U" ∷ codes "#EXT-X-TARGETDURATION:1" ∷ [], refused_at 0 fault.NoSegments)
-    ∷ (codes "#EXTM3U" ∷ (128 ∷ []) ∷ [], refused_at 0 fault.NotUtf8) ∷ [])
+    ∷ (codes "#EXTM3U" ∷ [], refused_at 0 fault.NoTarget)
+    ∷ (codes "#EXTM3U" ∷ codes "#EXT-X-VERSION:x" ∷ [], refused_at 2 fault.BadVersion)
+    ∷ (codes "#EXTM3U" ∷ codes "#EXTINF:1," ∷ codes "a:s" ∷ codes "#EXT-X-MAP:URI=\"a:i\"" ∷ codes "#EXTINF:1," ∷ codes "a:t" ∷ [], refused_at 0 fault.NoTarget)
+    ∷ (codes "#EXTM3U" ∷ (128 ∷ []) ∷ [], refused_at 0 fault.NotUtf8)
+    ∷ ((128 ∷ []) ∷ [], refused_at 0 fault.NotUtf8) ∷ [])
 
 abbrev pub small : Reader
 small = record { bytes = Some 90; attributes = Some 3; formats = Some 1; segments = Some 1 }

@@ -39,7 +39,19 @@ fault_at place kind = record { kind = kind; place = place }
 -- docs/DECISION_FILES.md: an ID has 1 to 255 bytes, and neither a quote nor a control character
 abbrev pub IdsAreChecked : Type 0
 IdsAreChecked = Gives is_id (
-    (codes "b 1", true) ∷ ([], false) ∷ (replicate 255 97, true) ∷ (replicate 256 97, false) ∷ (codes "b\"", false) ∷ (7 ∷ [], false) ∷ (255 ∷ [], false) ∷ [])
+    (codes "b 1", true)
+    ∷ ([], false)
+    ∷ (replicate 255 97, true)
+    ∷ (replicate 256 97, false)
+    ∷ (codes "b\"", false)
+    ∷ (7 ∷ [], false)
+    ∷ (9 ∷ [], false)
+    ∷ (31 ∷ [], false)
+    ∷ (32 ∷ [], true)
+    ∷ (127 ∷ [], false)
+    ∷ (194 ∷ 128 ∷ [], false)
+    ∷ (194 ∷ 160 ∷ [], true)
+    ∷ (255 ∷ [], false) ∷ [])
 
 -- a URI is absolute, of http or https, and of printable ASCII without spaces and quotes
 abbrev pub UrisAreChecked : Type 0
@@ -49,6 +61,7 @@ UrisAreChecked = Gives is_uri (
     ∷ (codes "http://", false)
     ∷ (codes "https://", false)
     ∷ (codes "ftp://a", false)
+    ∷ (codes "HTTP://a", false)
     ∷ (codes "a.ts", false)
     ∷ (codes "http://a b", false)
     ∷ (codes "http://a\"", false)
@@ -88,7 +101,12 @@ PodsAreSummed = Gives total ((pod (clear (segment 1 ∷ segment 20 ∷ []) ∷ a
 -- have one
 abbrev pub PodsFit : Type 0
 PodsFit = Gives (pod_fits 10 false) (
-    (pod (clear (segment 10499999999 ∷ []) ∷ []), true) ∷ (pod (clear (segment 1 ∷ []) ∷ clear (segment 10500000000 ∷ []) ∷ []), false) ∷ (pod (ad (segment 1 ∷ []) ∷ []), false) ∷ [])
+    (pod (clear (segment 10499999999 ∷ []) ∷ []), true)
+    ∷ (pod (clear (segment 1 ∷ []) ∷ clear (segment 10500000000 ∷ []) ∷ []), false)
+    ∷ (pod (clear (segment 1 ∷ segment 10499999999 ∷ []) ∷ clear (segment 10499999999 ∷ segment 1 ∷ []) ∷ []), true)
+    ∷ (pod (clear (segment 1 ∷ segment 10500000000 ∷ []) ∷ []), false)
+    ∷ (pod (clear (segment 10500000000 ∷ segment 1 ∷ []) ∷ []), false)
+    ∷ (pod (ad (segment 1 ∷ []) ∷ []), false) ∷ [])
 
 abbrev pub PodsWithInitSectionsFit : Type 0
 PodsWithInitSectionsFit = Gives (pod_fits 10 true) (
@@ -160,14 +178,16 @@ fault_of (Err fault) = Some fault.kind
 abbrev pub fault_of_breaks : Store × ℕ → Option DecisionKind
 fault_of_breaks it = fault_of (decided it.0 (Breaks (breaks it.1)))
 
--- at most 256 breaks have pods that decisions gave them (J10); one that had one counts once, and a copy of the fallback doesn't
+-- at most 256 breaks have pods that decisions gave them (J10); one that had one counts once, and a copy of the fallback doesn't.
+-- That a break is used (J9) comes first
 abbrev pub StoreIsLimited : Type 0
 StoreIsLimited = Gives fault_of_breaks (
     ((nothing_decided, 256), None)
     ∷ ((nothing_decided, 257), Some fault.Full)
     ∷ ((record { entries = unused (codes "ab") 1 ∷ []; fallback = None }, 256), Some fault.Full)
     ∷ ((record { entries = unused (0 ∷ []) 1 ∷ []; fallback = None }, 256), None)
-    ∷ ((record { entries = copy (codes "ab") 1 ∷ []; fallback = None }, 256), None) ∷ [])
+    ∷ ((record { entries = copy (codes "ab") 1 ∷ []; fallback = None }, 256), None)
+    ∷ ((record { entries = used (0 ∷ []) 1 ∷ []; fallback = None }, 257), Some fault.Used) ∷ [])
 
 -- a break is filled with the pod of its own, else with the fallback
 abbrev pub PodsAreFound : Type 0
@@ -192,7 +212,9 @@ UsedPodsStay = Gives (λ (ids : List (List ℕ)). kept_in_use ids (record { entr
 abbrev pub refused : ℕ → ℕ → ℕ → DecisionKind → Outcome Decisions
 refused pod ad segment kind = Err (fault_at (in_segment pod ad segment) kind)
 
--- docs/DECISION_FILES.md: one of `breaks`, `withdraw` and `fallback`, and each of their members
+-- docs/DECISION_FILES.md: one of `breaks`, `withdraw` and `fallback`, and each of their members. RFC 8259: the bytes 91 and 93 are
+-- brackets; of a member that comes twice the last counts, and `serde_json` reads 127 levels, no number past the doubles and no lone
+-- surrogate
 abbrev pub FilesAreRead : Type 0
 FilesAreRead = Gives decisions_of ((
   codes "{\"breaks\":[{\"id\":\"b\",\"ads\":[{\"map\":{\"uri\":\"http://a/i\",\"offset\":1,\"length\":9},\"key\":{\"method\":\"AES-128\",\"uri\":\"http://a/k\",\"iv\":\"0x1F\",\"format\":\"f\"},\"segments\":[{\"uri\":\"http://a/s\",\"duration\":\"9.5\",\"offset\":5,\"length\":100}]}]}]}",
@@ -206,16 +228,32 @@ FilesAreRead = Gives decisions_of ((
     ∷ (codes "{\"withdraw\":\"b\"}", Ok (Withdraw (codes "b")))
     ∷ (codes "{\"fallback\":null}", Ok NoFallback)
     ∷ (codes "{\"fallback\":{\"ads\":[{\"segments\":[{\"uri\":\"http://a/s\",\"duration\":\"1\",\"offset\":5,\"length\":100}]}]}}", Ok (Fallback (short 1000000000)))
+    ∷ (codes "{\"breaks\":7,\"breaks\":[]}", Ok (Breaks []))
     ∷ (codes "{", Err (fault_at nowhere fault.NotJson))
+    ∷ (replicate 128 91 ++ replicate 128 93, Err (fault_at nowhere fault.NotJson))
+    ∷ (replicate 127 91 ++ replicate 127 93, Err (fault_at nowhere fault.Shape))
+    ∷ (codes "{\"breaks\":[],\"x\":1e999}", Err (fault_at nowhere fault.NotJson))
+    ∷ (codes "{\"breaks\":[],\"x\":\"\\ud800\"}", Err (fault_at nowhere fault.NotJson))
     ∷ (34 ∷ 233 ∷ 34 ∷ [], Err (fault_at nowhere fault.NotJson))
     ∷ (codes "[]", Err (fault_at nowhere fault.Shape))
     ∷ (codes "{}", Err (fault_at nowhere fault.Shape))
     ∷ (codes "{\"breaks\":[],\"withdraw\":\"b\"}", Err (fault_at nowhere fault.Shape))
+    ∷ (codes "{\"breaks\":[],\"fallback\":null}", Err (fault_at nowhere fault.Shape))
+    ∷ (codes "{\"withdraw\":\"b\",\"fallback\":null}", Err (fault_at nowhere fault.Shape))
+    ∷ (codes "{\"Breaks\":[]}", Err (fault_at nowhere fault.Shape))
+    ∷ (codes "{\"x\":1,\"breaks\":[]}", Ok (Breaks []))
     ∷ (codes "{\"breaks\":7}", Err (fault_at nowhere fault.Shape))
+    ∷ (codes "{\"breaks\":null}", Err (fault_at nowhere fault.Shape))
+    ∷ (codes "{\"withdraw\":null}", Err (fault_at nowhere fault.Shape))
     ∷ (codes "{\"withdraw\":7}", Err (fault_at nowhere fault.Shape))
     ∷ (codes "{\"withdraw\":\"\"}", Err (fault_at nowhere fault.Shape))
     ∷ (codes "{\"fallback\":7}", Err (fault_at nowhere fault.Shape))
+    ∷ (codes "{\"fallback\":\"x\"}", Err (fault_at nowhere fault.Shape))
+    ∷ (codes "{\"fallback\":false}", Err (fault_at nowhere fault.Shape))
+    ∷ (codes "{\"fallback\":{}}", Err (fault_at nowhere fault.Shape))
+    ∷ (codes "{\"fallback\":{\"ads\":null}}", Err (fault_at nowhere fault.Shape))
     ∷ (codes "{\"fallback\":{\"ads\":[]}}", Err (fault_at nowhere fault.EmptyPod))
+    ∷ (codes "{\"fallback\":{\"ads\":[{\"segments\":[{\"uri\":\"http://a\",\"duration\":\"1\"}]},{\"segments\":[]}]}}", Err (fault_at (record { pod = None; ad = Some 1; segment = None }) fault.EmptyPod))
     ∷ (codes "{\"fallback\":{\"ads\":[{\"segments\":[]}]}}", Err (fault_at (record { pod = None; ad = Some 0; segment = None }) fault.EmptyPod)) ∷ [])
 
 -- their first faults, with their places
@@ -227,17 +265,27 @@ BreaksAreChecked = Gives decisions_of (
     ∷ (codes "{\"breaks\":[{\"id\":\"b\",\"ads\":[]}]}", Err (fault_at (in_break 0) fault.EmptyPod))
     ∷ (codes "{\"breaks\":[{\"id\":\"b\",\"ads\":[{\"segments\":[{\"uri\":\"http://a\",\"duration\":\"1\"}]}]},{\"id\":\"b\",\"ads\":[]}]}", Err (fault_at (in_break 1) fault.Shape))
     ∷ (codes "{\"breaks\":[{\"id\":\"b\",\"ads\":[{}]}]}", Err (fault_at (in_ad 0 0) fault.Shape))
+    ∷ (codes "{\"breaks\":[{\"id\":\"b\",\"ads\":[{\"segments\":[]}]},{\"id\":\"\"}]}", Err (fault_at (in_ad 0 0) fault.EmptyPod))
     ∷ (codes "{\"breaks\":[{\"id\":\"b\",\"ads\":[{\"segments\":[]}]}]}", Err (fault_at (in_ad 0 0) fault.EmptyPod)) ∷ [])
 
 -- a file of one ad
 abbrev pub with_ad : List ℕ → List ℕ
 with_ad text = codes "{\"breaks\":[{\"id\":\"b\",\"ads\":[" ++ (text ++ codes "]}]}")
 
+-- of two faults that in the map is told before that in the key, and this before those in the segments
 abbrev pub AdsAreChecked : Type 0
 AdsAreChecked = Gives (λ (text : List ℕ). decisions_of (with_ad text)) (
     (codes "{\"map\":7}", Err (fault_at (in_ad 0 0) fault.Shape))
+    ∷ (codes "{\"map\":null}", Err (fault_at (in_ad 0 0) fault.Shape))
+    ∷ (codes "{\"segments\":[]}", Err (fault_at (in_ad 0 0) fault.EmptyPod))
     ∷ (codes "{\"map\":{\"uri\":\"i\"}}", Err (fault_at (in_ad 0 0) fault.BadUri))
+    ∷ (codes "{\"map\":{\"uri\":\"i\",\"offset\":1}}", Err (fault_at (in_ad 0 0) fault.BadUri))
+    ∷ (codes "{\"map\":{\"uri\":\"http://a/i\",\"offset\":1}}", Err (fault_at (in_ad 0 0) fault.Shape))
+    ∷ (codes "{\"map\":{\"uri\":\"i\"},\"key\":7}", Err (fault_at (in_ad 0 0) fault.BadUri))
     ∷ (codes "{\"key\":7}", Err (fault_at (in_ad 0 0) fault.Shape))
+    ∷ (codes "{\"key\":7,\"segments\":[]}", Err (fault_at (in_ad 0 0) fault.Shape))
+    ∷ (codes "{\"key\":{\"method\":\"none\",\"uri\":\"k\",\"iv\":\"0x1\"}}", Err (fault_at (in_ad 0 0) fault.BadKey))
+    ∷ (codes "{\"key\":{\"method\":\"AES-128\",\"uri\":\"k\",\"iv\":\"1\"}}", Err (fault_at (in_ad 0 0) fault.BadUri))
     ∷ (codes "{\"key\":{\"uri\":\"http://a/k\",\"iv\":\"0x1\"}}", Err (fault_at (in_ad 0 0) fault.BadKey))
     ∷ (codes "{\"key\":{\"method\":\"NONE\",\"uri\":\"http://a/k\",\"iv\":\"0x1\"}}", Err (fault_at (in_ad 0 0) fault.BadKey))
     ∷ (codes "{\"key\":{\"method\":\"AES-128\",\"iv\":\"0x1\"}}", Err (fault_at (in_ad 0 0) fault.BadKey))
@@ -245,14 +293,20 @@ AdsAreChecked = Gives (λ (text : List ℕ). decisions_of (with_ad text)) (
     ∷ (codes "{\"key\":{\"method\":\"AES-128\",\"uri\":\"http://a/k\"}}", Err (fault_at (in_ad 0 0) fault.BadKey))
     ∷ (codes "{\"key\":{\"method\":\"AES-128\",\"uri\":\"http://a/k\",\"iv\":\"1\"}}", Err (fault_at (in_ad 0 0) fault.BadKey))
     ∷ (codes "{\"key\":{\"method\":\"AES-128\",\"uri\":\"http://a/k\",\"iv\":\"0x1\",\"format\":\"\"}}", Err (fault_at (in_ad 0 0) fault.BadKey))
+    ∷ (codes "{\"key\":{\"method\":\"AES-128\",\"uri\":\"http://a/k\",\"iv\":\"0x1\",\"format\":null}}", Err (fault_at (in_ad 0 0) fault.BadKey))
     ∷ (codes "{\"segments\":[{\"duration\":\"1\"}]}", refused 0 0 0 fault.Shape)
     ∷ (codes "{\"segments\":[{\"uri\":\"http://a\"}]}", refused 0 0 0 fault.Shape)
     ∷ (codes "{\"segments\":[{\"uri\":\"http://a\",\"duration\":1}]}", refused 0 0 0 fault.Shape)
+    ∷ (codes "{\"segments\":[{\"uri\":\"a\"}]}", refused 0 0 0 fault.Shape)
     ∷ (codes "{\"segments\":[{\"uri\":\"a\",\"duration\":\"x\"}]}", refused 0 0 0 fault.BadUri)
+    ∷ (codes "{\"segments\":[{\"uri\":\"a\",\"duration\":\"1\",\"offset\":1}]}", refused 0 0 0 fault.BadUri)
+    ∷ (codes "{\"segments\":[{\"uri\":\"http://a\",\"duration\":\"x\",\"offset\":1}]}", refused 0 0 0 fault.Shape)
     ∷ (codes "{\"segments\":[{\"uri\":\"http://a\",\"duration\":\"1\"},{\"uri\":\"http://a\",\"duration\":\"x\"}]}", refused 0 0 1 fault.BadDuration)
     ∷ (codes "{\"segments\":[{\"uri\":\"http://a\",\"duration\":\"1\",\"offset\":1}]}", refused 0 0 0 fault.Shape)
     ∷ (codes "{\"segments\":[{\"uri\":\"http://a\",\"duration\":\"1\",\"length\":1}]}", refused 0 0 0 fault.Shape)
     ∷ (codes "{\"segments\":[{\"uri\":\"http://a\",\"duration\":\"1\",\"offset\":1.0,\"length\":1}]}", refused 0 0 0 fault.Shape)
+    ∷ (codes "{\"segments\":[{\"uri\":\"http://a\",\"duration\":\"1\",\"offset\":-0,\"length\":1}]}", refused 0 0 0 fault.Shape)
+    ∷ (codes "{\"segments\":[{\"uri\":\"http://\",\"duration\":\"x\"}]}", refused 0 0 0 fault.BadUri)
     ∷ (codes "{\"segments\":[{\"uri\":\"http://a\",\"duration\":\"1\",\"offset\":18446744073709551615,\"length\":1}]}", refused 0 0 0 fault.Shape) ∷ [])
 
 -- the segments of an ad, if so many stand in the ads before: 500 at most in a break (J7)

@@ -6,7 +6,7 @@ use Rattle.stitcher.specs.Stitched.{Item}
 use Rattle.stitcher.specs.StitchedSegments.{meant, rest_in}
 use Rattle.channel_spec.specs.Live as live
 use Rattle.channel_spec.specs.Live.{refreshed, told, last_playlist}
-use Rattle.channel_spec.specs.Kept.{kept_of}
+use Rattle.channel_spec.specs.Kept.{listed, kept_of}
 use Rattle.channel_spec.specs.LastWindow.{last_items}
 use Rattle.channel_spec.specs.BreakLaws.{is_of_pod, lasts}
 use Rattle.channel_spec.specs.OwedLaws.{is_played, is_unmarked, origin_of, piece_of, segment_of, states_time}
@@ -61,6 +61,11 @@ RestsAreMeant = Gives (rest_in pods.ab) (
     (None, None)
     ∷ (Some (record { id = codes "a"; place = 2 }), Some (record { mark = record { id = codes "a"; pod = pods.short 1 }; place = 2 }))
     ∷ (Some (record { id = codes "z"; place = 2 }), None) ∷ [])
+
+-- a playlist lists the oldest segment first
+abbrev pub SegmentsAreListed : Type 0
+SegmentsAreListed = Gives listed (
+    ([], []) ∷ (marked stitched.b (stepped 6 3 0) ∷ unmarked (stepped 5 3 1) ∷ [], stepped 5 3 1 ∷ stepped 6 3 0 ∷ []) ∷ [])
 
 -- ---- windows
 

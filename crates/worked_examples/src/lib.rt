@@ -11,8 +11,9 @@ ghost use Rattle.worked_examples.specs.Breaks.{SignalsAreRead, TicksAreCounted, 
 ghost use Rattle.worked_examples.specs.Pods.{IdsAreChecked, UrisAreChecked, MethodsAreChecked, FormatsAreChecked, PodsAreSummed, PodsFit, PodsWithInitSectionsFit, RulesAreKept, DecisionsAreTaken, StoreIsLimited, PodsAreFound, OwnPodsFit, UsedPodsStay, FilesAreRead, BreaksAreChecked, AdsAreChecked, SegmentsAreCounted, FaultsOfFilesAreTold, LackOfMemoryHasNoPlace};
 ghost use Rattle.worked_examples.specs.Stitched.{PodsStandInOrder, RestsAreLeft, RunsAreReplaced, PodsKeepPace, NumbersFit, ItemsAreWritten, MarksAreFound, KeysChange};
 ghost use Rattle.worked_examples.specs.Written.{LinesAreSpelled, PlaylistsAreWritten, WrittenLinesAreInForce, WrittenTextsTellWhatIsInForce};
-ghost use Rattle.worked_examples.specs.Windows.{ItemsAreOfPods, ItemsHavePieces, PiecesHaveSegments, PiecesLast, MarkedAreTheOrigins, UnmarkedAreSeen, TimesAreStated, MarksAreMeant, RestsAreMeant, LastWindowsStand, BreaksArePlayed};
-ghost use Rattle.worked_examples.specs.Channels.{PlaylistsFollow, TypesStay, SegmentsStay, DiscontinuitiesFollow, EndedStays, TolerancesAreStated, BreaksAreFilled, WindowsGoOn, HeadersAreOwed, PodsAreKept, StatesAreKept, LastNumbersAreRefused};
+ghost use Rattle.worked_examples.specs.Windows.{ItemsAreOfPods, ItemsHavePieces, PiecesHaveSegments, PiecesLast, MarkedAreTheOrigins, UnmarkedAreSeen, TimesAreStated, MarksAreMeant, RestsAreMeant, SegmentsAreListed, LastWindowsStand, BreaksArePlayed};
+ghost use Rattle.worked_examples.specs.Channels.{PlaylistsFollow, TypesStay, SegmentsStay, DiscontinuitiesFollow, EndedStays, TolerancesAreStated, BreaksAreFilled, TolerancesCount, SeveralAreFilled, WindowsGoOn, HeadersAreOwed, TypesAreOwed, PodsAreKept, StatesAreKept, RefreshFaultsAreTold, LastNumbersAreRefused};
+ghost use Rattle.worked_examples.specs.Paced.{BreaksGoThrough, PodsGoOnWithRuns, NothingIsShownAtOnce, InstantsCount, TimesAreReckoned, RestsAreWritten, DateRangesComeBack, PodsGo, FallbacksStay, FallbacksFillEach, OwnPodsComeFirst, UsedPodsStand};
 
 /// Durations, attribute lists, numbers and times.
 pub fn texts_have_their_values()
@@ -135,10 +136,14 @@ pub fn channels_have_their_values()
     ensures ended_stays { EndedStays }
     ensures tolerances_are_stated { TolerancesAreStated }
     ensures breaks_are_filled { BreaksAreFilled }
+    ensures tolerances_count { TolerancesCount }
+    ensures several_are_filled { SeveralAreFilled }
     ensures windows_go_on { WindowsGoOn }
     ensures headers_are_owed { HeadersAreOwed }
+    ensures types_are_owed { TypesAreOwed }
     ensures pods_are_kept { PodsAreKept }
     ensures states_are_kept { StatesAreKept }
+    ensures refresh_faults_are_told { RefreshFaultsAreTold }
     ensures last_numbers_are_refused { LastNumbersAreRefused }
 {}
 
@@ -153,6 +158,23 @@ pub fn windows_have_their_values()
     ensures times_are_stated { TimesAreStated }
     ensures marks_are_meant { MarksAreMeant }
     ensures rests_are_meant { RestsAreMeant }
+    ensures segments_are_listed { SegmentsAreListed }
     ensures last_windows_stand { LastWindowsStand }
     ensures breaks_are_played { BreaksArePlayed }
+{}
+
+/// Pods at the pace of their runs, and fallbacks.
+pub fn paced_have_their_values()
+    ensures breaks_go_through { BreaksGoThrough }
+    ensures pods_go_on_with_runs { PodsGoOnWithRuns }
+    ensures nothing_is_shown_at_once { NothingIsShownAtOnce }
+    ensures instants_count { InstantsCount }
+    ensures times_are_reckoned { TimesAreReckoned }
+    ensures rests_are_written { RestsAreWritten }
+    ensures date_ranges_come_back { DateRangesComeBack }
+    ensures pods_go { PodsGo }
+    ensures fallbacks_stay { FallbacksStay }
+    ensures fallbacks_fill_each { FallbacksFillEach }
+    ensures own_pods_come_first { OwnPodsComeFirst }
+    ensures used_pods_stand { UsedPodsStand }
 {}

@@ -1,6 +1,6 @@
 -- What proofs and inner functions say with the definitions of `Entrances`.
-use Rattle.break_finder.specs.Entrances.{Entrance, but}
-use Rattle.std.specs.Prelude.{ℕ, Bool, ◌&&◌, List, ℤ, Option, Some, None}
+use Rattle.break_finder.specs.Entrances.{Entrance, but, is_entered}
+use Rattle.std.specs.Prelude.{ℕ, Bool, false, ◌&&◌, List, ℤ, Option, Some, None}
 use Rattle.std.specs.Option.{option_or}
 use Rattle.break_finder.specs.Breaks.{is_not_past, is_near}
 
@@ -14,3 +14,10 @@ is_enterable tolerance instant e = is_near instant tolerance (Some e.start) && i
 abbrev pub second_of : Option (List ℕ) → Option (List ℕ) → Option (List ℕ) → Option (List ℕ) → Option (List ℕ)
 second_of None second later_first later_second = later_second
 second_of (Some id) second later_first later_second = option_or second (but later_first later_second (Some id))
+
+-- ---- a break that may be none to enter
+
+-- it can be entered, and a segment at this instant enters it, after this last one entered
+abbrev pub is_entered_if : ℕ → Option (List ℕ) → ℤ → Option Entrance → Bool
+is_entered_if tolerance last instant None = false
+is_entered_if tolerance last instant (Some e) = is_entered tolerance last instant e

@@ -1,6 +1,6 @@
 -- What proofs and inner functions say with the definitions of `Known`.
 use Rattle.break_finder.specs.Known.{Accepted, stands_in, break_said}
-use Rattle.std.specs.Prelude.{ℕ, Bool, List, [], ◌∷◌, filter, fold, Option, bytes_eq, if◌then◌else◌}
+use Rattle.std.specs.Prelude.{◌≡◌, ℕ, Bool, List, [], ◌∷◌, filter, fold, Option, bytes_eq, if◌then◌else◌}
 use Rattle.playlist_model.specs.declared.DateRange.{DateRange}
 use Rattle.break_finder.specs.Breaks.{Break, and_tag}
 
@@ -17,3 +17,12 @@ with_tag (b ∷ later) tag =
 
 abbrev pub walked : Accepted → List Break → List Break
 walked refresh breaks = fold with_tag (filter (break_stands refresh.playlist.date_ranges refresh.carried) breaks) refresh.playlist.date_ranges
+
+-- ---- tags that say nothing new
+
+-- there is one tag for each break, in their order, which says nothing of it that isn't said already
+abbrev pub AreSaid : List Break → List DateRange → Type 0
+AreSaid [] [] = Unit {0}
+AreSaid [] (tag ∷ tags) = ⊥
+AreSaid (b ∷ breaks) [] = ⊥
+AreSaid (b ∷ breaks) (tag ∷ tags) = (b.id ≡ tag.id) × (and_tag b.said tag ≡ b.said) × AreSaid breaks tags

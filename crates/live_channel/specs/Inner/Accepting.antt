@@ -2,6 +2,7 @@
 use Rattle.std.specs.Prelude.{◌≡◌, ◌≢◌, ℕ, List, true, map, Option, Some, None, Ok, Err}
 use Rattle.std.specs.List.{list_all, list_any}
 use Rattle.playlist_model.specs.declared.Playlist.{Playlist}
+use Rattle.channel_spec.specs.declared.heading.Heading.{Heading}
 use Rattle.playlist_model.specs.LookBack.{or_earlier}
 use Rattle.pod_store.specs.Marks.{Marked}
 use Rattle.stitcher.specs.Stitched.{Item, fits}
@@ -20,12 +21,13 @@ use Rattle.playlist_model.specs.Reading.{reading, limited}
 use Rattle.read_is_writable.specs.Read.{uris_are_text}
 use Rattle.url.specs.Parts.{Parts}
 use Rattle.channel_spec.specs.Live.{date_range_text}
-use Rattle.channel_spec.specs.Live.{succession_fault, states_instant, in_use_with, date_ranges_left}
-use Rattle.channel_spec.specs.Successor.{first_number}
+use Rattle.channel_spec.specs.Live.{states_instant, in_use_with, date_ranges_left}
+use Rattle.channel_spec.specs.Successor.{heading_of, first_number}
 use Rattle.channel_spec.specs.Marking.{last_entered}
-use Rattle.channel_spec.specs.Kept.{Kept, shown_from, head_numbers, items_on, window_on, rest_after, kept_acceptance, kept_list, kept_length}
+use Rattle.channel_spec.specs.Kept.{Kept, kept_succession, shown_from, head_numbers, items_on, window_on, rest_after, kept_acceptance, kept_list, kept_length}
 use Rattle.live_channel.specs.declared.next.NextState.{NextState}
 use Rattle.channel_window.specs.Marking.{so_far}
+use Rattle.channel_window.specs.Showing.{kept_in}
 use Rattle.channel_window.specs.Listed.{IsRestDecided, RisesOn}
 use Rattle.channel_window.specs.Checked.{AreContiguous}
 use Rattle.live_channel.specs.Channel.{refreshed_with, fresh_after, channel_with, Steps}
@@ -65,12 +67,12 @@ IsAccepted tolerance kept p next =
 
 -- the playlist may follow the last one, and no number passes its range
 pub record Follows (tolerance : ℕ) (kept : Kept) (p : Playlist) (next : NextState) : Type 0 where
-  pub succeeds : succession_fault kept.last p ≡ None
+  pub succeeds : kept_succession kept p ≡ None
   pub accepted : IsAccepted tolerance kept p next
 
 -- its numbers go on those that are shown, if it may follow
 abbrev pub RisesNext : ChannelState → Playlist → Type 0
-RisesNext state p = succession_fault state.last p ≡ None → RisesOn state.shown.list p.segments
+RisesNext state p = kept_succession (kept_in state) p ≡ None → RisesOn state.shown.list p.segments
 
 -- the bytes are read as this playlist
 pub record IsRead (base : Parts) (bytes : List ℕ) (p : Playlist) : Type 0 where
@@ -93,5 +95,8 @@ Refused base tolerance state bytes fault =
     (text : Option (List ℕ)) → Steps (channel_with base tolerance state text) bytes (Err fault) (channel_with base tolerance state text)
 
 -- what is kept then: a break that is in use keeps its pod, or a copy of the fallback
+abbrev pub state_with : ChannelState → Heading → NextState → ChannelState
+state_with state last next = record { store = kept_in_use next.in_use.items state.store; last = Some last; shown = next.shown }
+
 abbrev pub accepted_state : ChannelState → Playlist → NextState → ChannelState
-accepted_state state p next = record { store = kept_in_use next.in_use.items state.store; last = Some p; shown = next.shown }
+accepted_state state p next = state_with state (heading_of p) next

@@ -4,8 +4,7 @@ use Rattle.playlist_model.specs.declared.Playlist.{Playlist}
 use Rattle.stitcher.specs.Stitched.{Item}
 use Rattle.stitcher.specs.Written.{written_item}
 use Rattle.stitcher.specs.declared.OutSegment.{OutSegment}
-use Rattle.channel_spec.specs.Live.{succession_fault}
-use Rattle.channel_spec.specs.Kept.{Kept, kept_items}
+use Rattle.channel_spec.specs.Kept.{Kept, kept_succession, kept_items}
 use Rattle.channel_spec.specs.LastWindow.{last_pieces}
 use Rattle.playlist_write.specs.declared.resumed.WrittenText.{WrittenText}
 use Rattle.playlist_write.specs.Laid.{IsLaid, StandsAgain}
@@ -28,7 +27,7 @@ pub record StoodIn (kept : Kept) (items : List Item) (written : Option WrittenTe
 
 -- the same of a refresh, if it may follow the last one
 abbrev pub StoodBefore : ℕ → Kept → Playlist → Option WrittenText → Type 0
-StoodBefore tolerance kept p written = succession_fault kept.last p ≡ None → StoodIn kept (kept_items tolerance kept p) written
+StoodBefore tolerance kept p written = kept_succession kept p ≡ None → StoodIn kept (kept_items tolerance kept p) written
 
 -- some of the first of these segments stand in a text
 abbrev pub StandIn : List OutSegment → Option Again → Type 0

@@ -16,6 +16,6 @@ progress_of a = record {
     has_media = a.has_media;
   };
   standing = a.state.standing;
-  date_ranges = a.date_ranges.items;
+  date_ranges = a.date_ranges;
   segments = a.segments.items;
 }

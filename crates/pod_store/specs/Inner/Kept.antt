@@ -1,5 +1,5 @@
 -- What proofs and inner functions say with the definitions of `Kept`.
-use Rattle.std.specs.Prelude.{ℕ, Bool, true, not, ◌||◌, List, map, filter, String, Option, Some, None, string_bytes, bytes_eq}
+use Rattle.std.specs.Prelude.{ℕ, Bool, true, not, ◌||◌, List, [], ◌∷◌, map, filter, String, Option, Some, None, string_bytes, bytes_eq, if◌then◌else◌}
 use Rattle.std.specs.Map.{lookup, remove_entry, set_value}
 use Rattle.std.specs.declared.alloc.Global.{Global}
 use Rattle.pod_store.specs.declared.kept.StoredPod.{StoredPod}
@@ -32,3 +32,8 @@ used_if ids key kept = record kept { used = is_one_of ids (string_bytes key) }
 
 abbrev pub pairs_in_use : List (List ℕ) → Pairs → Pairs
 pairs_in_use ids pairs = map (λ (pair : String Global × StoredPod). (pair.0, used_if ids pair.0 pair.1)) (filter (is_pair_held ids) pairs)
+
+-- the breaks that are used, in their order
+abbrev pub used_ids : Pairs → List (List ℕ)
+used_ids [] = []
+used_ids (pair ∷ later) = if pair.1.used then string_bytes pair.0 ∷ used_ids later else used_ids later

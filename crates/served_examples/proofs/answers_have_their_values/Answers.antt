@@ -41,3 +41,15 @@ returns-clause-requests_were_asked c = refl
 pub returns-clause-requests_were_answered : goal.returns-clause-requests_were_answered
 unfolding on_literals
 returns-clause-requests_were_answered c = refl
+
+pub returns-clause-decision_faults_are_answered : goal.returns-clause-decision_faults_are_answered
+unfolding on_literals
+returns-clause-decision_faults_are_answered c = refl
+
+pub returns-clause-refresh_faults_are_answered : goal.returns-clause-refresh_faults_are_answered
+unfolding on_literals
+returns-clause-refresh_faults_are_answered c = refl
+
+pub returns-clause-words_of_why_are_told : goal.returns-clause-words_of_why_are_told
+unfolding on_literals
+returns-clause-words_of_why_are_told c = refl

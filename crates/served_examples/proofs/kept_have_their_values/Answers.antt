@@ -25,3 +25,7 @@ returns-clause-lack_of_memory_is_seen c = refl
 pub returns-clause-decisions_are_stored : goal.returns-clause-decisions_are_stored
 unfolding on_literals
 returns-clause-decisions_are_stored c = refl
+
+pub returns-clause-segments_are_held : goal.returns-clause-segments_are_held
+unfolding on_literals
+returns-clause-segments_are_held c = refl

@@ -49,3 +49,19 @@ returns-clause-states_are_kept c = refl
 pub returns-clause-last_numbers_are_refused : goal.returns-clause-last_numbers_are_refused
 unfolding on_literals
 returns-clause-last_numbers_are_refused c = refl
+
+pub returns-clause-tolerances_count : goal.returns-clause-tolerances_count
+unfolding on_literals
+returns-clause-tolerances_count c = refl
+
+pub returns-clause-several_are_filled : goal.returns-clause-several_are_filled
+unfolding on_literals
+returns-clause-several_are_filled c = refl
+
+pub returns-clause-types_are_owed : goal.returns-clause-types_are_owed
+unfolding on_literals
+returns-clause-types_are_owed c = refl
+
+pub returns-clause-refresh_faults_are_told : goal.returns-clause-refresh_faults_are_told
+unfolding on_literals
+returns-clause-refresh_faults_are_told c = refl

@@ -45,3 +45,7 @@ returns-clause-last_windows_stand c = refl
 pub returns-clause-breaks_are_played : goal.returns-clause-breaks_are_played
 unfolding on_literals
 returns-clause-breaks_are_played c = refl
+
+pub returns-clause-segments_are_listed : goal.returns-clause-segments_are_listed
+unfolding on_literals
+returns-clause-segments_are_listed c = refl

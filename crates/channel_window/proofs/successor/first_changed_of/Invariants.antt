@@ -1,9 +1,10 @@
 use Rattle.std.proofs.Common.{◌≡◌, length}
 use Rattle.channel_spec.specs.Successor.{first_changed}
+use Rattle.channel_window.specs.Listed.{segments_in}
 use Rattle.channel_window.proofs.successor.first_changed_of.Given as goal
 
 abbrev pub invariant-loop-segment : goal.invariant-loop-segment
-invariant-loop-segment l = first_changed l.old l.new ≡ first_changed l.old l.rest
+invariant-loop-segment l = first_changed (segments_in l.shown) l.new ≡ first_changed (segments_in l.shown) l.rest
 
 abbrev pub decreases-loop-segment : goal.decreases-loop-segment
 decreases-loop-segment l = length l.rest

@@ -189,3 +189,6 @@ returns-in-Err-read_tail-clause-light c = λ front later e is light said.
     let told = told_at base old tail (lines c.args.body.now) whole c.reading_of-reading.ensures.number c.reading_of-reading.ensures.light front later e is light said in
     let left_told = told_after tail c.read_front.new.reading c.in-Ok.ensures.none_left (c.in-Ok.ensures.light tail e told) in
     ap Err (same_fault (c.in-Err-read_tail.ensures.light base e left_told))
+
+pub known_of-known-requires : goal.known_of-known-requires
+known_of-known-requires c = c.requires.kept

@@ -40,3 +40,6 @@ returns-in-None-clause-plain c = λ h. h
 
 pub returns-in-None-clause-taken : goal.returns-in-None-clause-taken
 returns-in-None-clause-taken c = none_taken _ _
+
+pub known_in-known-requires : goal.known_in-known-requires
+known_in-known-requires c = c.requires

@@ -3,6 +3,8 @@ use Rattle.std.specs.Prelude.{IfErr}
 use Rattle.live_channel.specs.Channel.{Channel, Refreshes, text_in}
 use Rattle.live_channel.specs.Inner.Accepting.{Refused}
 use Rattle.live_channel.proofs.Refreshing.{stays}
+use Rattle.channel_spec.specs.Kept.{listed}
+use Rattle.live_channel.proofs.Listing.{nothing_taken}
 use Rattle.live_channel.proofs.channel.Channel.refresh_owned.Goals as goal
 
 pub returns-in_err-read : goal.returns-in_err-read
@@ -11,3 +13,8 @@ returns-in_err-read c =
     let bytes = c.args.bytes.items in
     let refused : IfErr c.from_residual.result (λ e. Refused i.base i.tolerance i.state bytes e) = search rules in
     subst (λ (x : Channel). Refreshes x bytes c.from_residual.result x) c.self.view_is (stays i.base i.tolerance i.state (text_in i.written) bytes c.from_residual.result c.from_residual.ensures.0 refused)
+
+pub take-requires-clause-taken : goal.take-requires-clause-taken
+take-requires-clause-taken c =
+    let read = c.in_ok-read.read in
+    nothing_taken (listed c.args.self.now.kept.shown) read.playlist.segments read.taken.start read.taken.end c.in_ok-read.ensures.taken.0 c.in_ok-read.ensures.taken.1

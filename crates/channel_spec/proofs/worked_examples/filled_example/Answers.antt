@@ -1,7 +1,0 @@
-use Rattle.std.proofs.Common.{refl}
-use Rattle.break_finder.proofs.OnLiterals.{sections_on_literals}
-use Rattle.channel_spec.proofs.worked_examples.filled_example.Goals as goal
-
-pub returns : goal.returns
-unfolding sections_on_literals
-returns c = refl

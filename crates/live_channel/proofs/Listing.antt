@@ -1,0 +1,115 @@
+-- The segments that are held, and those of the playlist that was read last.
+use Rattle.std.proofs.Common.{◌≡◌, ℕ, ◌+◌, zero, suc, List, [], ◌∷◌, map, take, drop, refl, ap, sym, ◌∙◌, subst, arith}
+use Rattle.std.specs.Prelude.{Option, Some, None, Ok, option_map}
+use Rattle.std.specs.List.{AllByRecursion}
+use Rattle.url.specs.Parts.{Parts}
+use Rattle.playlist_model.specs.declared.Playlist.{Playlist}
+use Rattle.playlist_model.specs.declared.Segment.{Segment}
+use Rattle.playlist_model.specs.Same.{kept_parts}
+use Rattle.playlist_model.specs.Reading.{reading, limited}
+use Rattle.pod_store.specs.Store.{Store}
+use Rattle.stitcher.specs.declared.marked.MarkedSegment.{MarkedSegment as Held}
+use Rattle.channel_spec.specs.Live.{Told, last_playlist, after_refresh, owed, owed_for}
+use Rattle.channel_spec.specs.Sound.{RiseFrom}
+use Rattle.channel_spec.specs.Successor.{first_number}
+use Rattle.channel_spec.specs.Kept.{Kept, listed, kept_of, kept_refusal, shown_by}
+use Rattle.channel_spec.proofs.Listed.{shown_are_listed}
+use Rattle.channel_spec.proofs.SameFault.{same_first}
+use Rattle.channel_window.specs.declared.state.ChannelState.{ChannelState}
+use Rattle.channel_window.specs.Checked.{AreContiguous, AreTaken}
+use Rattle.channel_window.specs.Marking.{so_far}
+use Rattle.channel_window.specs.Showing.{kept_in}
+use Rattle.channel_window.specs.Listed.{segments_in}
+use Rattle.channel_window.proofs.Found.{held_listed}
+use Rattle.playlist_parse.specs.Kept.{last_segments}
+use Rattle.playlist_parse.specs.Kept.{AreTaken as AreReadAgain}
+use Rattle.live_channel.specs.Channel.{Given, refreshed, events_of, told_by, IsAsTyped, IsListed}
+use Rattle.live_channel.proofs.Steps.{all_given}
+use Rattle.live_channel.proofs.LastText.{told_next}
+
+-- ---- parts of a list
+
+map_take : (n : ℕ) (xs : List Segment) → map kept_parts (take n xs) ≡ take n (map kept_parts xs)
+map_take zero xs = refl
+map_take (suc n) [] = refl
+map_take (suc n) (x ∷ xs) = ap (λ ys. kept_parts x ∷ ys) (map_take n xs)
+
+map_drop : (n : ℕ) (xs : List Segment) → map kept_parts (drop n xs) ≡ drop n (map kept_parts xs)
+map_drop zero xs = refl
+map_drop (suc n) [] = refl
+map_drop (suc n) (x ∷ xs) = map_drop n xs
+
+between : (from till : ℕ) (xs : List Segment) → map kept_parts (drop from (take till xs)) ≡ drop from (take till (map kept_parts xs))
+between from till xs = map_drop from (take till xs) ∙ ap (drop from) (map_take till xs)
+
+-- ---- what is taken over from the text that was read last is as it is shown
+
+take_none : (n : ℕ) → ◌≡◌ {A = List Segment} (take n []) []
+take_none zero = refl
+take_none (suc n) = refl
+
+drop_none : (n : ℕ) → ◌≡◌ {A = List Segment} (drop n []) []
+drop_none zero = refl
+drop_none (suc n) = refl
+
+pub taken_over : (last : Option Playlist) (state : ChannelState) (new : List Segment) (start end : ℕ) → IsListed last state.shown.list → AreReadAgain (last_segments last) new start end
+    → AreTaken (segments_in state.shown.list) new start end
+taken_over None state new start end h t = record {
+  from = 0;
+  till = 0;
+  ordered = t.ordered;
+  within = t.within;
+  same = ap (map kept_parts) (t.same ∙ (ap (drop t.from) (take_none t.till) ∙ drop_none t.from));
+}
+taken_over (Some p) state new start end h t =
+    let held = segments_in state.shown.list in
+    record {
+      from = t.from;
+      till = t.till;
+      ordered = t.ordered;
+      within = t.within;
+      same = ap (map kept_parts) t.same ∙ (between t.from t.till p.segments ∙ (ap (λ xs. drop t.from (take t.till xs)) (sym h) ∙ sym (between t.from t.till held)));
+    }
+
+pub nothing_taken : (old new : List Segment) (start end : ℕ) → start ≡ 0 → end ≡ 0 → AreTaken old new start end
+nothing_taken old new start end e f = record {
+  from = 0;
+  till = 0;
+  ordered = omega (arith, e, f);
+  within = omega (arith, f);
+  same = ap (λ n. map kept_parts (drop start (take n new))) f ∙ ap (map kept_parts) (drop_none start);
+}
+
+pub as_listed : (store : Store) (held : List Held) (new : List Segment) (start end : ℕ) → AreTaken (segments_in held) new start end → AreTaken (listed (so_far store held)) new start end
+as_listed store held new start end t = subst (λ xs. AreTaken xs new start end) (sym (held_listed store held)) t
+
+pub as_held : (store : Store) (held : List Held) (new : List Segment) (start end : ℕ) → AreTaken (listed (so_far store held)) new start end → AreTaken (segments_in held) new start end
+as_held store held new start end t = subst (λ xs. AreTaken xs new start end) (held_listed store held) t
+
+-- ---- after an accepted refresh they are those of its playlist
+
+pub listed_next : (base : Parts) (tolerance : ℕ) (given : List Given) (bytes : List ℕ) (p : Playlist) (state : ChannelState) → AllByRecursion (IsAsTyped base) (refreshed bytes ∷ given) → reading limited base bytes ≡ Ok p
+    → kept_refusal tolerance (kept_of (told_by base tolerance given)) p ≡ None → kept_in state ≡ kept_of (told_by base tolerance (refreshed bytes ∷ given)) → IsListed (Some p) state.shown.list
+listed_next base tolerance given bytes p state typed read unrefused stands =
+    let t = told_by base tolerance (refreshed bytes ∷ given) in
+    let next : t ≡ after_refresh tolerance (told_by base tolerance given) p = told_next base tolerance given bytes p typed read unrefused in
+    let last : last_playlist t.accepted ≡ Some p = ap (λ (u : Told). last_playlist u.accepted) next in
+    let shown : listed (kept_in state).shown ≡ listed (shown_by (Some p) t.history) = ap (λ (k : Kept). listed k.shown) stands ∙ ap (λ o. listed (shown_by o t.history)) last in
+    let law = shown_are_listed tolerance (events_of base (refreshed bytes ∷ given)) p (owed_for t p)
+    (record { sound = all_given base (refreshed bytes ∷ given) typed; accepted = last; owed = ap (option_map (owed_for t)) last }) in
+    ap (map kept_parts) (sym (held_listed state.store state.shown.list) ∙ shown) ∙ law
+
+-- ---- so their numbers rise by one
+
+rise_of : (n : ℕ) (xs : List Segment) → RiseFrom n xs → RiseFrom n (map kept_parts xs)
+rise_of n [] r = tt
+rise_of n (x ∷ xs) r = (r.0, rise_of (n + 1) xs r.1)
+
+rise_from : (n : ℕ) (xs : List Segment) → RiseFrom n (map kept_parts xs) → RiseFrom n xs
+rise_from n [] r = tt
+rise_from n (x ∷ xs) r = (r.0, rise_from (n + 1) xs r.1)
+
+pub contiguous_too : (xs ys : List Segment) → map kept_parts xs ≡ map kept_parts ys → AreContiguous ys → AreContiguous xs
+contiguous_too xs ys e r =
+    rise_from (first_number xs) xs
+    (subst (λ n. RiseFrom n (map kept_parts xs)) (sym (same_first xs ys e)) (subst (RiseFrom (first_number ys)) (sym e) (rise_of (first_number ys) ys r)))

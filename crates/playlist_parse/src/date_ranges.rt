@@ -1,0 +1,221 @@
+//! The date ranges of a text, as far as it is read. One that stands word for word in the last text too isn't read again.
+ghost use Rattle.std.specs.Prelude.{◌≡◌, ◌++◌, ◌∷◌, [], true, false, length, take, List, MatchResult, IfOk, OnOk};
+ghost use Rattle.playlist_model.specs.Reading.{limited};
+ghost use Rattle.playlist_model.specs.Refusals.{Refuses};
+ghost use Rattle.playlist_model.specs.Said.{date_range_said};
+ghost use Rattle.playlist_parse.specs.Inner.DateRanges.{Adds, AreSaid, StandsAt};
+
+use crate::date_range::date_range_of;
+use crate::source::up_to;
+use playlist_model::{DateRange, FaultKind, Items, Text};
+use std::alloc::{AllocError, Global};
+use std::marker::Model;
+
+// So many known date ranges are looked at, at most, for the first one that stands again.
+const FEW: usize = 8;
+
+/// Date ranges that were read: each is what its attributes say.
+#[derive(Drop)]
+pub struct Known<'a> {
+    list: &'a [DateRange],
+}
+
+impl<'a> Model for Known<'a> {
+    ghost use Rattle.std.specs.Prelude.{List};
+    ghost use Rattle.playlist_model.specs.declared.DateRange.{DateRange};
+    ghost use Rattle.playlist_parse.specs.Inner.DateRanges.{AreSaid};
+
+    ghost Value = { List DateRange };
+
+    ghost view = { λ a. a.list.now };
+
+    ghost invariant = { λ a. AreSaid a.list.now };
+}
+
+impl<'a> Known<'a> {
+    /// The date ranges of `list`.
+    pub fn of(list: &'a [DateRange]) -> Known<'a>
+        requires { AreSaid list.now }
+    {
+        Known { list }
+    }
+
+    /// No date range.
+    pub fn none() -> Known<'a> {
+        Known { list: &[] }
+    }
+}
+
+fn copied_text(text: &Option<Text>) -> Result<Option<Text>, AllocError>
+    ensures { IfOk result (λ copy. copy ≡ text.now) }
+{
+    match text {
+        Some(text) => Ok(Some(text.clone()?)),
+        None => Ok(None),
+    }
+}
+
+fn copied_date_range(date_range: &DateRange) -> Result<DateRange, AllocError>
+    ensures { IfOk result (λ copy. copy ≡ date_range.now) }
+{
+    Ok(DateRange {
+        id: date_range.id.clone()?,
+        start: date_range.start,
+        end: date_range.end,
+        duration: date_range.duration,
+        planned_duration: date_range.planned_duration,
+        scte35_out: copied_text(&date_range.scte35_out)?,
+        scte35_in: copied_text(&date_range.scte35_in)?,
+        attributes: date_range.attributes.clone()?,
+    })
+}
+
+// Puts copies of these after a list.
+fn copy_date_ranges(list: &mut Vec<DateRange>, more: &[DateRange]) -> Result<(), AllocError>
+    ensures { OnOk result (list.new.items ≡ list.old.items ++ more.now) }
+{
+    let mut rest = more;
+    while let Some((date_range, later)) = rest.split_first() {
+        list.push(copied_date_range(date_range)?)?;
+        rest = later;
+    }
+    Ok(())
+}
+
+// Whether the date range at a place has these attributes, word for word.
+fn stands_at(known: &[DateRange], place: usize, rest: &str) -> bool
+    ensures { result ≡ true → StandsAt known.now place rest.now }
+{
+    match known.get(place) {
+        Some(one) => one.attributes.as_str() == rest,
+        None => false,
+    }
+}
+
+#[tactic(auto, using(crate::proofs::DateRanges::said_later))]
+// The known date ranges from the first of the next few that has these attributes, or all of them.
+fn from_next<'a>(known: &'a [DateRange], rest: &str) -> &'a [DateRange]
+    requires { AreSaid known.now }
+    ensures { AreSaid result.now }
+{
+    let mut left = known;
+    for _ in 0..FEW {
+        let Some((one, later)) = left.split_first() else {
+            return known;
+        };
+        if one.attributes.as_str() == rest {
+            return left;
+        }
+        left = later;
+    }
+    known
+}
+
+// The known date ranges, so many of which are met: before one is, some that don't stand again may be passed over.
+fn to_meet<'a>(known: &'a [DateRange], met: usize, rest: &str) -> &'a [DateRange]
+    requires { AreSaid known.now }
+    ensures said { AreSaid result.now }
+    ensures met { take met result.now ≡ take met known.now }
+{
+    if met > 0 {
+        return known;
+    }
+    from_next(known, rest)
+}
+
+/// The date ranges of a text as far as it is read.
+#[derive(Drop)]
+pub struct DateRanges<'a> {
+    // Known ones, the first of which are met in the text: they aren't copied before the text is read.
+    known: &'a [DateRange],
+    met: usize,
+    // Those that were read after them.
+    list: Vec<DateRange>,
+}
+
+impl<'a> Model for DateRanges<'a> {
+    ghost use Rattle.std.specs.Prelude.{List, ◌++◌, take};
+    ghost use Rattle.playlist_model.specs.declared.DateRange.{DateRange};
+
+    ghost Value = { List DateRange };
+
+    ghost use Rattle.playlist_parse.specs.Inner.DateRanges.{AreSaid};
+
+    ghost view = { λ a. take a.met a.known.now ++ a.list.items };
+
+    ghost invariant = { λ a. AreSaid a.known.now };
+}
+
+impl<'a> DateRanges<'a> {
+    /// None yet. Those that are `known` may come.
+    pub fn new(alloc: Global, known: Known<'a>) -> DateRanges<'a>
+        ensures { result ≡ [] }
+    {
+        let Known { list } = known;
+        DateRanges {
+            known: list,
+            met: 0,
+            list: Vec::new(alloc),
+        }
+    }
+
+    /// How many they are.
+    pub fn len(&self) -> usize
+        ensures { result ≡ length self.now }
+    {
+        up_to(self.known, self.met).len() + self.list.len()
+    }
+
+    // Takes the known date range that has these attributes, if it comes next.
+    fn meets(&mut self, rest: &str) -> bool
+        ensures met { result ≡ true → Adds rest.now self.old self.new }
+        ensures kept { result ≡ false → self.new ≡ self.old }
+    {
+        if self.list.len() > 0 {
+            return false;
+        }
+        let known = to_meet(self.known, self.met, rest);
+        if !stands_at(known, self.met, rest) {
+            return false;
+        }
+        self.known = known;
+        self.met += 1;
+        true
+    }
+
+    /// Takes the date range that `rest` states, which comes after `#EXT-X-DATERANGE:` (RFC 8216, section 4.3.2.7). The
+    /// faults are those of `date_range_of`.
+    pub fn push(&mut self, alloc: Global, rest: &str) -> Result<(), FaultKind>
+        ensures { MatchResult result (λ _. Adds rest.now self.old self.new)
+            (λ e. Refuses e (date_range_said limited rest.now)) }
+    {
+        if self.meets(rest) {
+            return Ok(());
+        }
+        let date_range = date_range_of(alloc, rest)?;
+        self.list.push(date_range)?;
+        Ok(())
+    }
+
+    /// Puts copies of `more` after them. Fails only if an allocation fails.
+    pub fn append_copies(&mut self, more: &[DateRange]) -> Result<(), AllocError>
+        ensures { OnOk result (self.new ≡ self.old ++ more.now) }
+    {
+        copy_date_ranges(&mut self.list, more)
+    }
+
+    /// A list of them. Fails only if an allocation fails.
+    pub fn into_items(self, alloc: Global) -> Result<Items<DateRange>, AllocError>
+        ensures { IfOk result (λ items. items ≡ self.entry) }
+    {
+        let DateRanges { known, met, list } = self;
+        if met == 0 {
+            return Ok(Items::from_vec(list));
+        }
+        let mut list = list;
+        let mut all = Vec::with_capacity(alloc, met.saturating_add(list.len()))?;
+        copy_date_ranges(&mut all, up_to(known, met))?;
+        all.append(&mut list)?;
+        Ok(Items::from_vec(all))
+    }
+}
