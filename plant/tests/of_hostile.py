@@ -3,6 +3,7 @@ import json
 import os
 import re
 import resource
+import shutil
 import signal
 import subprocess
 import sys
@@ -165,6 +166,39 @@ def test_a_full_disk_costs_lines_and_nothing_else(room):
     origin.status = 503
     text = until(lambda: (found := Path(room.path, "out").read_text(encoding="utf-8")).count("couldn't") and found, 20)
     assert re.search(r"\n\S+ \d+ lines couldn't be written\n", text), text
+
+
+def test_what_a_user_may_not_read_or_write_is_told(room):
+    # (as root the feed runs as nobody, with a copy of its sources, since root may read and write all)
+    controller, folder, kept, plant = room.server(FakeController()), Path(room.path, "decisions"), Path(room.path, "kept"), Path(room.path, "plant")
+    for name in ("adsplice_plant", "adsplice_rules"):
+        shutil.copytree(f"{PLANT}/{name}", plant / name)
+    shutil.copy(f"{PLANT}/adsplice-feed", plant)
+    playlist = room.write("index.m3u8", listed(0, 5))
+    room.write("decisions/b1.json", decided(("b1", 2)))
+    room.write("decisions/b2.json", decided(("b2", 2)))
+    os.chmod(folder / "b1.json", 0)
+    for path, mode in ((Path(room.path), 0o755), (folder, 0o555), (kept, 0o555)):
+        path.mkdir(exist_ok=True)
+        os.chmod(path, mode)
+    user = {"user": "nobody", "group": "nogroup", "extra_groups": []} if os.geteuid() == 0 else {}
+    it = subprocess.Popen([PYTHON, plant / "adsplice-feed", "--channel", "news", "--origin", playlist, "--base", "http://origin.example/ch/index.m3u8",
+                           "--at", controller.url, "--decisions", folder, "--keep", kept, "--timeout", "2"],
+                          stdin=subprocess.DEVNULL, stdout=subprocess.PIPE, stderr=subprocess.STDOUT, text=True, **user)
+    room.running.append(it)
+    try:
+        until(lambda: controller.puts("origin") and controller.puts("decisions"), 20, "the list and the decision that may be read")
+        room.write("index.m3u8", listed(1, 6))
+        until(lambda: len(controller.puts("origin")) > 1, 20, "the next list")
+        it.send_signal(signal.SIGTERM)
+        assert it.wait(10) == 0
+    finally:
+        for path in (folder, kept):
+            os.chmod(path, 0o755)
+    said = it.stdout.read()
+    for text in ("b1.json.*can't be read: Permission denied", "journal - -: .*/news.events: Permission denied", "numbers - Unkept: .*/news.numbers: Permission denied"):
+        assert len(re.findall(text, said)) == 1, (text, said)
+    assert controller.puts("decisions") == [decided(("b2", 2)).encode()], controller.puts("decisions")
 
 
 def test_a_fault_that_nobody_foresaw_begins_the_channel_anew(room):
