@@ -1,4 +1,6 @@
 """Chromium without a window, driven through its debugging pipe (Chrome DevTools Protocol, JSON texts that end in a zero byte)."""
+from __future__ import annotations
+
 import atexit
 import base64
 import json
@@ -6,6 +8,7 @@ import os
 import shutil
 import subprocess
 import tempfile
+from typing import Any
 
 from tools import held_signals
 
@@ -13,18 +16,19 @@ from tools import held_signals
 class Browser:
     """A page in a Chromium of its own, which ends with its block."""
 
-    def __init__(self, address, size=(1280, 580)):
+    def __init__(self, address: str, size: tuple[int, int] = (1280, 580)) -> None:
         with held_signals():
             self.room = tempfile.mkdtemp(prefix="adsplice-browser-")
             self.begin(size)
             atexit.register(self.close)  # (if a signal ends the script)
-        self.held, self.count, self.session = b"", 0, None
+        self.held, self.count = b"", 0
+        self.session: str | None = None
         target = next(it for it in self.ask("Target.getTargets")["targetInfos"] if it["type"] == "page")
         self.session = self.ask("Target.attachToTarget", targetId=target["targetId"], flatten=True)["sessionId"]
         self.ask("Emulation.setDeviceMetricsOverride", width=size[0], height=size[1], deviceScaleFactor=1, mobile=False)
         self.ask("Page.navigate", url=address)
 
-    def begin(self, size):
+    def begin(self, size: tuple[int, int]) -> None:
         """Starts the browser with a window of a size."""
         to_browser, self.requests = os.pipe()
         self.replies, from_browser = os.pipe()
@@ -38,13 +42,13 @@ class Browser:
         os.close(to_browser)
         os.close(from_browser)
 
-    def __enter__(self):
+    def __enter__(self) -> Browser:
         return self
 
-    def __exit__(self, *_):
+    def __exit__(self, *_: object) -> None:
         self.close()
 
-    def close(self):
+    def close(self) -> None:
         """Ends the browser, and takes its folder away."""
         atexit.unregister(self.close)
         try:
@@ -61,7 +65,7 @@ class Browser:
             self.process.wait()
         shutil.rmtree(self.room, ignore_errors=True)
 
-    def next_text(self):
+    def next_text(self) -> dict[str, Any]:
         """The next text that the browser sends."""
         while b"\0" not in self.held:
             piece = os.read(self.replies, 1 << 20)
@@ -69,12 +73,13 @@ class Browser:
                 raise OSError("the browser has ended")
             self.held += piece
         text, self.held = self.held.split(b"\0", 1)
-        return json.loads(text)
+        found: dict[str, Any] = json.loads(text)
+        return found
 
-    def ask(self, method, **words):
+    def ask(self, method: str, **words: object) -> dict[str, Any]:
         """What a method of the protocol answers."""
         self.count += 1
-        asked = {"id": self.count, "method": method, "params": words}
+        asked: dict[str, object] = {"id": self.count, "method": method, "params": words}
         if self.session:
             asked["sessionId"] = self.session
         os.write(self.requests, json.dumps(asked).encode() + b"\0")
@@ -83,13 +88,14 @@ class Browser:
             if text.get("id") == self.count:
                 if "error" in text:
                     raise OSError(f"{method}: {text['error']['message']}")
-                return text["result"]
+                result: dict[str, Any] = text["result"]
+                return result
 
-    def value(self, expression):
+    def value(self, expression: str) -> Any:
         """The value of an expression of the page."""
         return self.ask("Runtime.evaluate", expression=expression, returnByValue=True)["result"].get("value")
 
-    def take_picture(self, path):
+    def take_picture(self, path: str) -> None:
         """Writes a picture of the page as PNG."""
         with open(path, "wb") as it:
             it.write(base64.b64decode(self.ask("Page.captureScreenshot", format="png")["data"]))

@@ -1,14 +1,17 @@
 """The first channel's plant: a packager, two processes of adsplice behind nginx, relays, an ad server, a site for page and media."""
+from __future__ import annotations
+
 import json
 import os
 import shutil
 import subprocess
 import threading
 import time
+from collections.abc import Callable, Sequence
 
 import media
-from relay import Relay, listen
-from tools import HERE, ROOT, configure_nginx, free_ports, request, wait_for, write_aside
+from relay import Plan, Relay, listen
+from tools import HERE, ROOT, Processes, configure_nginx, free_ports, request, wait_for, write_aside
 
 # What the page may do (Content Security Policy): run its own script alone, and read from its own host alone, whatever its address says.
 POLICY = "; ".join(("default-src 'none'", "script-src 'self'", "style-src 'self'", "connect-src http://$host:*", "media-src http://$host:* blob:",
@@ -22,7 +25,7 @@ SITE = """
         add_header Access-Control-Allow-Origin "*";
         add_header Content-Security-Policy "POLICY";
         add_header X-Content-Type-Options nosniff;
-        location ~ "^/channels/[a-z0-9-]+/why$" { proxy_pass http://adsplice; }
+        location ~ "^/channels/[a-z0-9-]+/why$" { proxy_pass http://$adsplice_read; }
         location = /asked { proxy_pass http://127.0.0.1:ASKED; }
     }
 """
@@ -31,13 +34,14 @@ SITE = """
 class Plant:
     """A programme in so many renditions, two processes of adsplice, nginx in front of them, and the page to watch it by."""
 
-    def __init__(self, processes, program, room, host, port, viewers, operator, renditions=1, tell=lambda text: None):
+    def __init__(self, processes: Processes, program: str, room: str, host: str, port: int, viewers: int, operator: int, renditions: int = 1,
+                 tell: Callable[[str], object] = lambda text: None) -> None:
         """`port`, `viewers`, `operator`: of the page, of viewers' playlists, and for PUTs; `tell` prints what is done next."""
         self.processes, self.room, self.renditions = processes, room, renditions
         self.site, self.viewers = f"http://{host}:{port}", f"http://{host}:{viewers}"
         *self.ports, self.decider = free_ports(3)
         self.operator = f"http://127.0.0.1:{operator}"
-        self.relays = []
+        self.relays: list[Relay] = []
         processes.stops.append(self.stop)
         os.makedirs(f"{room}/site/media/programme")
         for name, copy in (("watch.html", "index.html"), ("watch.css", "watch.css"), ("watch.js", "watch.js")):
@@ -53,21 +57,21 @@ class Plant:
         wait_for(operator)
         self.packager = processes.start(media.programme_words(f"{room}/site/media/programme", renditions), stderr=None)
 
-    def relay(self, name, plan, rendition=1, kind=Relay):
+    def relay(self, name: str, plan: Plan, rendition: int = 1, kind: type[Relay] = Relay) -> Relay:
         """A relay of a kind between a rendition of the programme and the channel's feed."""
         playlist = f"{self.room}/site/media/programme/{rendition}/index.m3u8"
         self.relays.append(kind(name, plan, playlist, self.operator, self.site, f"{self.room}/feed", rendition))
         return self.relays[-1]
 
-    def channel(self, name, plan, kind=Relay):
+    def channel(self, name: str, plan: Plan, kind: type[Relay] = Relay) -> Relay:
         """Starts a channel with a plan of breaks, by a kind of relay; answers that."""
         return self.relay(name, plan, kind=kind).start(self.processes)
 
-    def names(self, name):
+    def names(self, name: str) -> list[str]:
         """The channels of a programme, one for each rendition."""
         return [f"{name}-{n}" for n in range(1, self.renditions + 1)]
 
-    def decide(self, plan):
+    def decide(self, plan: Plan) -> str:
         """Starts an ad decision server with a rotation of pods for a plan's breaks: ads a and b, b and a, and none; answers the address
         at which it is asked."""
         pods = [media.pod(media.pod_kinds(kinds, plan.length), f"{self.site}/media/ads/{{}}", plan.cut) for kinds in (("ad a", "ad b"), ("ad b", "ad a"))]
@@ -76,7 +80,7 @@ class Plant:
         wait_for(self.decider)
         return f"http://127.0.0.1:{self.decider}/decide"
 
-    def programme(self, name, plan, words=(), kind=Relay, ask=None):
+    def programme(self, name: str, plan: Plan, words: Sequence[str] = (), kind: type[Relay] = Relay, ask: str | None = None) -> list[Relay]:
         """Starts a programme as a ladder with a plan of breaks: a channel for each rendition with a kind of relay, one feed for all,
         with these words more, and the master playlist. `ask`: the address of its ad server. Answers the relays, which share their list
         of faults."""
@@ -92,7 +96,7 @@ class Plant:
             it.thread.start()
         return relays
 
-    def start_feed(self, name, relays, words=()):
+    def start_feed(self, name: str, relays: list[Relay], words: Sequence[str] = ()) -> None:
         """Starts the feed of a programme's relays; one that was there is no more."""
         feed = self.processes.start([f"{ROOT}/plant/adsplice-feed", "--config", f"{self.room}/feed/{name}.ini", *words],
                                     stdout=subprocess.PIPE, stderr=None, text=True)
@@ -100,25 +104,26 @@ class Plant:
             it.faults, it.feed = relays[0].faults, feed
         threading.Thread(target=listen, args=(feed.stdout, relays[0].faults), daemon=True).start()
 
-    def end_relay(self, relay):
+    def end_relay(self, relay: Relay) -> None:
         """Ends a channel's relay and its feed."""
         relay.going = False
         relay.thread.join(5)
-        self.processes.end(relay.feed)
+        if relay.feed is not None:
+            self.processes.end(relay.feed)
 
-    def page(self, name, is_ladder=False):
+    def page(self, name: str, is_ladder: bool = False) -> str:
         """The address at which a channel, or a programme's ladder, is watched."""
         return f"{self.site}/?{'programme' if is_ladder else 'channel'}={name}&playlists={self.viewers}"
 
-    def master(self, name):
+    def master(self, name: str) -> str:
         """The address of a programme's master playlist."""
         return f"{self.site}/{name}.m3u8"
 
-    def playlist(self, name):
+    def playlist(self, name: str) -> str:
         """The address that viewers read."""
         return f"{self.viewers}/channels/{name}/live.m3u8"
 
-    def is_shown(self, name, seconds=60):
+    def is_shown(self, name: str, seconds: int = 60) -> bool:
         """Whether a channel's playlist has six segments within that time: a player that comes earlier stays close to the end."""
         for _ in range(seconds * 2):
             if request("GET", self.playlist(name))[2].count("#EXTINF") >= 6:
@@ -126,7 +131,7 @@ class Plant:
             time.sleep(0.5)
         return False
 
-    def stop(self):
+    def stop(self) -> None:
         """Ends the relays; the processes end with their block."""
         for it in self.relays:
             it.going = False

@@ -1,4 +1,6 @@
 """Players of several kinds, each of which tells what frames it shows and when: (kind, number, seconds since it began)."""
+from __future__ import annotations
+
 import atexit
 import os
 import shutil
@@ -6,9 +8,11 @@ import subprocess
 import tempfile
 import threading
 import time
+from typing import IO, Any
 
 import media
 from browser import Browser
+from stories import Frame
 from tools import held_signals
 
 # ffmpeg's filter that makes one gray byte of each of a frame's blocks
@@ -18,19 +22,21 @@ BLOCKS = (f"scale={media.WIDTH}:{media.HEIGHT}:flags=area,crop={media.WIDTH}:{me
 class Pipe:
     """A player that hands its frames out as gray bytes: the blocks alone, or whole pictures."""
 
-    def __init__(self, name, words, is_whole=False, user=None):
-        self.name, self.frames, self.began = name, [], time.monotonic()
+    def __init__(self, name: str, words: list[str], is_whole: bool = False, user: int | None = None) -> None:
+        self.name, self.began = name, time.monotonic()
+        self.frames: list[Frame] = []
         self.size = media.WIDTH * media.HEIGHT if is_whole else media.BITS
         self.is_whole = is_whole
         with held_signals():
             self.process = subprocess.Popen(words, stdin=subprocess.DEVNULL, stdout=subprocess.PIPE, stderr=subprocess.DEVNULL, user=user,
                                             start_new_session=True)
             atexit.register(self.end)  # (if a signal ends the script)
-        self.source = self.process.stdout
+        assert self.process.stdout is not None
+        self.source: IO[bytes] = self.process.stdout
         self.thread = threading.Thread(target=self.run, daemon=True)
         self.thread.start()
 
-    def run(self):
+    def run(self) -> None:
         """Reads frames until there are no more."""
         while True:
             frame = self.source.read(self.size)
@@ -40,12 +46,12 @@ class Pipe:
             self.frames.append((*shown, time.monotonic() - self.began))
 
     @staticmethod
-    def of_picture(picture):
+    def of_picture(picture: bytes) -> tuple[str, int]:
         """What the blocks of a whole gray picture say."""
         line = (media.HEIGHT - media.BLOCK // 2) * media.WIDTH
         return media.said(picture[line + media.BLOCK // 2 : line + media.WIDTH : media.BLOCK])
 
-    def end(self):
+    def end(self) -> list[Frame]:
         """Ends the player, and answers what it showed."""
         atexit.unregister(self.end)
         if self.process.poll() is None:
@@ -62,7 +68,7 @@ class Pipe:
 class Vlc(Pipe):
     """VLC, which writes its pictures to a file that is read as it grows; it shows each frame twice, and doesn't run as root."""
 
-    def __init__(self, name, url):
+    def __init__(self, name: str, url: str) -> None:
         self.room = tempfile.mkdtemp(prefix="adsplice-vlc-")
         os.chmod(self.room, 0o777)
         self.is_going = True
@@ -71,7 +77,7 @@ class Vlc(Pipe):
         # (VLC makes the folder of its sound, too, which it doesn't play)
         super().__init__(name, ["env", f"HOME={self.room}", f"PULSE_RUNTIME_PATH={self.room}/pulse", *words], True, 65534 if os.getuid() == 0 else None)
 
-    def read(self, size):
+    def read(self, size: int) -> bytes:
         """So many bytes of the file, once they are there; none at the end, and if VLC has begun the file anew."""
         piece = b""
         while len(piece) < size:
@@ -84,7 +90,7 @@ class Vlc(Pipe):
                 time.sleep(0.02)
         return piece
 
-    def run(self):
+    def run(self) -> None:
         """Reads the file's first line, and then frames, each with a line of its own before it (YUV4MPEG)."""
         while self.is_going and not os.path.exists(f"{self.room}/frames"):
             time.sleep(0.05)
@@ -100,7 +106,7 @@ class Vlc(Pipe):
                     if not self.frames or self.frames[-1][:2] != shown:
                         self.frames.append((*shown, time.monotonic() - self.began))
 
-    def end(self):
+    def end(self) -> list[Frame]:
         """Also takes the file away."""
         self.is_going = False
         frames = super().end()
@@ -111,14 +117,15 @@ class Vlc(Pipe):
 class Page:
     """Chromium with the page of first_channel."""
 
-    def __init__(self, name, address):
+    def __init__(self, name: str, address: str) -> None:
         self.name, self.browser = name, Browser(address)
+        self.missed, self.seen = 0, list[list[Any]]()
 
-    def take_picture(self, path):
+    def take_picture(self, path: str) -> None:
         """Writes a picture of the page."""
         self.browser.take_picture(path)
 
-    def end(self):
+    def end(self) -> list[Frame]:
         """Ends the browser, and answers what it showed; `missed` is how many frames it says that it dropped, or didn't tell of, and
         `seen` is what the page tells of each frame."""
         with self.browser as it:
@@ -129,18 +136,18 @@ class Page:
             return frames[:1] + [b for a, b in zip(frames, frames[1:]) if b[:2] != a[:2]]
 
 
-def ffmpeg(name, url):
+def ffmpeg(name: str, url: str) -> Pipe:
     """ffmpeg, which shows each frame as soon as it has it."""
     return Pipe(name, ["ffmpeg", "-v", "error", "-i", url, "-map", "0:v:0", "-vf", BLOCKS, "-vsync", "passthrough", "-f", "rawvideo", "-"])
 
 
-def mpv(name, url):
+def mpv(name: str, url: str) -> Pipe:
     """mpv, which shows each frame as soon as it has it if it writes them out."""
     words = ["mpv", "--no-config", "--really-quiet", "--no-audio", "--o=-", "--of=rawvideo", "--ovc=rawvideo", f"--vf=lavfi=[{BLOCKS}]", url]
     return Pipe(name, words)
 
 
-def gstreamer(name, url):
+def gstreamer(name: str, url: str) -> Pipe:
     """GStreamer, which plays by its clock."""
     return Pipe(name, ["gst-launch-1.0", "-q", "uridecodebin", f"uri={url}", "!", "videoconvert", "!", "video/x-raw,format=GRAY8", "!",
                        "fdsink", "sync=true"], True)
@@ -150,7 +157,7 @@ def gstreamer(name, url):
 KINDS = {"ffmpeg": ffmpeg, "mpv": mpv, "gst-launch-1.0": gstreamer, "vlc": Vlc}
 
 
-def is_there(kind):
+def is_there(kind: str) -> bool:
     """Whether a player is installed; GStreamer with what it plays HLS by (gstreamer1.0-plugins-bad, gstreamer1.0-libav)."""
     if kind == "gst-launch-1.0" and shutil.which("gst-inspect-1.0"):
         return all(subprocess.run(["gst-inspect-1.0", "--exists", it], check=False).returncode == 0 for it in ("hlsdemux", "tsdemux", "avdec_h264"))

@@ -8,6 +8,7 @@ const playlists = serverOf("playlists");
 const address = programme ? `${location.origin}/${programme}.m3u8` : addressOf(channel);
 const SECOND = 22; // pixels of a second
 const RATE = 10, KINDS = ["programme", "ad a", "ad b", "fallback"]; // (media.py)
+const SETTLED = 5000; // milliseconds for which words of renditions may differ: they are asked one after the other
 const STANDS = 500, AGAIN = 12000; // milliseconds after which a picture stands still, and after which the playlist is loaded again
 const at = (id) => document.getElementById(id);
 const video = at("video");
@@ -196,23 +197,35 @@ function tell() {
   tellStill();
 }
 
-// Breaks that `why` no longer names stay on the page for a while. A word that isn't the same in all renditions is told for each.
+// The word of a break in a rendition. One that was filled stays so on the page: `why` says other words once its pod has left the list.
+function wordIn(rendition, id) {
+  const word = rendition.why?.get(id);
+  if (word && rendition.breaks.get(id) !== "Filled") rendition.breaks.set(id, word);
+  return rendition.breaks.get(id);
+}
+
+// Breaks that `why` no longer names stay on the page for a while. Renditions are asked one after the other, so words that differ are
+// told only once they have done so for SETTLED milliseconds: for each rendition its own.
 const breaks = new Map();
-function tellWhy() {
+function tellWhy(now = Date.now()) {
   const known = new Set(renditions.flatMap((it) => [...(it.why?.keys() ?? [])]));
   for (const id of known) {
-    const words = renditions.map((it) => it.why?.get(id) ?? "–");
-    const isOne = new Set(words).size === 1;
-    breaks.set(id, isOne ? [words[0], words[0]] : ["mixed", renditions.map((it, n) => `${it.name} ${words[n]}`).join(", ")]);
+    const words = renditions.map((it) => [it, wordIn(it, id)]).filter(([, word]) => word);
+    const before = breaks.get(id), isOne = new Set(words.map(([, word]) => word)).size === 1;
+    const since = isOne ? null : before?.since ?? now;
+    if (isOne) breaks.set(id, { look: words[0][1], text: words[0][1], since });
+    else if (before && now - since < SETTLED) before.since = since;
+    else breaks.set(id, now - since < SETTLED ? { look: "", text: words[0][1], since } : { look: "mixed", text: words.map(([it, word]) => `${it.name} ${word}`).join(", "), since });
   }
   while (breaks.size > 6) breaks.delete(breaks.keys().next().value);
   const faults = renditions.map((it) => it.faults.why && `${it.name}: ${faultOf(it, "why")}`).filter(Boolean);
   if (faults.length) at("whyFault").textContent = `${faults.join("; ")}. What stands here is from before.`;
   else if (!wrong.length) at("whyFault").textContent = "";
   at("why").className = faults.length ? "old" : "";
-  at("why").replaceChildren(...[...breaks].reverse().map(([id, [look, word]]) => {
+  for (const it of renditions) for (const id of it.breaks.keys()) if (!known.has(id) && !breaks.has(id)) it.breaks.delete(id);
+  at("why").replaceChildren(...[...breaks].reverse().map(([id, { look, text }]) => {
     const row = document.createElement("tr");
-    row.append(made("td", id), made("td", `${word}${known.has(id) ? "" : " (gone)"}`, faults.length || ![...WORDS, "mixed"].includes(look) ? "" : look),
+    row.append(made("td", id), made("td", `${text}${known.has(id) ? "" : " (gone)"}`, faults.length || ![...WORDS, "mixed"].includes(look) ? "" : look),
       made("td", questionOf(id), "asked"));
     return row;
   }));

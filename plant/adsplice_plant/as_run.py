@@ -9,17 +9,24 @@ from datetime import datetime, timezone
 from pathlib import Path
 from typing import Any
 
-from . import playlist
+from . import playlist, unfinished
 from .journal import append, is_torn
 from .kept import Kept, Pod
-from .playlist import DateRange, Listed, instant_text
+from .playlist import Listed, instant_text
+from .records import Record
+from .unfinished import Seen
 from .words import now_text, time_text
 
 NEAR = 10 * playlist.SECOND  # how far a pod may begin from its break: the greatest tolerance
 MOST = 5000  # places at which a pod may begin that are looked at
 REMEMBERED_BYTES = 1 << 20  # of a file that were written before: no break of these lines is written again
 UNWRITTEN = 1000  # lines that wait until they can be written
-BEAT = 10.0  # seconds between two signs that a monitor runs
+BEAT = 5.0  # seconds between two signs that a monitor runs
+SETTLED = 2  # target durations after a break's begin, after which it is filled or stays empty
+OLD = 120  # seconds after its begin, after which a break isn't news
+USUAL = "Usual"  # in place of the word of a fallback where nobody decides
+PODS = {"own": ("Filled",), "fallback": ("Filled", USUAL), "none": ("NotDecided", "DoesNotFit", "Waiting", "NotSignalled", "NoStart")}
+KEYS = [(pod, why) for pod, words in PODS.items() for why in words]
 
 
 class Log:
@@ -28,6 +35,8 @@ class Log:
     def __init__(self, path: Path) -> None:
         """Takes in the breaks of the newest lines, of which none is written again."""
         self.path, self.lock, self.written = path, threading.Lock(), set[tuple[str, str, str]]()
+        self.seen = path.with_name(f"{path.name}.seen")
+        self.record, self.state = Record(self.seen), unfinished.read(self.seen)
         self.end = "\n" if is_torn(path) else ""  # of a line that was left unfinished
         for said in lines_of(path, REMEMBERED_BYTES):
             if "id" in said:
@@ -47,15 +56,15 @@ class Log:
 
     def begin(self) -> None:
         """A monitor begins: what there was since one ran last isn't recorded, which is a line. Raises OSError."""
-        seen = self.path.with_name(f"{self.path.name}.seen")
-        if seen.exists() and time.time() - seen.stat().st_mtime > 2 * BEAT:
-            before = time_text(datetime.fromtimestamp(seen.stat().st_mtime, timezone.utc))
+        if self.seen.exists() and time.time() - self.seen.stat().st_mtime > 2 * BEAT:
+            before = time_text(datetime.fromtimestamp(self.seen.stat().st_mtime, timezone.utc))
             self.add({"at": now_text(), "gap": {"from": before, "to": now_text()}, "why": "no monitor ran"})
-        self.beat()
+        self.beat(self.state)
 
-    def beat(self) -> None:
-        """A monitor runs: keeps when it did. Raises OSError."""
-        self.path.with_name(f"{self.path.name}.seen").touch()
+    def beat(self, state: dict[str, object]) -> None:
+        """A monitor runs: keeps when it did, and the `state` of each channel's breaks that aren't over, by which a later one goes on.
+        Raises OSError."""
+        self.record.write(json.dumps(state), {})
 
 
 def lines_of(path: Path, most: int) -> list[dict[str, Any]]:
@@ -77,24 +86,11 @@ def lines_of(path: Path, most: int) -> list[dict[str, Any]]:
 
 
 @dataclass
-class Seen:
-    """What was seen of a break: its date range, the last word of `why`, and the pod in its place: `own` or not, the number of
-    its first segment in the written list, when it began there, and the numbers of its segments that were shown."""
-
-    range: DateRange
-    word: str = ""
-    pod: Pod | None = None
-    is_own: bool = False
-    first: int | None = None
-    begins: int | None = None
-    shown: set[int] = field(default_factory=set)
-
-
-@dataclass
 class AsRun:
     """What is seen of the breaks of `channel`, and written to `log` once they have left the window. `last` is the newest media
     number that was seen, and `seen_at` when; `waiting` are lines that can't be written yet, of which `lost` ones had no room since
-    `lost_since`; `counts` are lines by the pod (own, fallback or none) and the word of why."""
+    `lost_since`; `counts` are lines by the pod (own, fallback or none) and the word of why, and `begun` are breaks that have begun, likewise.
+    `is_decided`: whether somebody decides its breaks; if not, a fallback has the word USUAL there."""
 
     channel: str
     log: Log
@@ -106,6 +102,21 @@ class AsRun:
     lost: int = 0
     lost_since: str = ""
     counts: Counter[tuple[str, str]] = field(default_factory=Counter)
+    begun: Counter[tuple[str, str]] = field(default_factory=Counter)
+    is_decided: bool = True
+
+    def __post_init__(self) -> None:
+        """Goes on from where an earlier monitor ended."""
+        self.resume(self.log.state.get(self.channel))
+
+    def resume(self, said: object) -> None:
+        """Goes on from what an earlier monitor has `said` of the channel."""
+        if (found := unfinished.load(said)) is not None:
+            self.breaks, self.first, self.last, self.seen_at, self.waiting = found
+
+    def state(self) -> object:
+        """What a later monitor has to know of the channel."""
+        return unfinished.pack(self.breaks, self.first, self.last, self.seen_at, self.waiting)
 
     def look(self, listed: Listed, words: dict[str, str], kept: Kept) -> None:
         """Takes in the written list `listed`, the words of `why` and what the feed kept, and writes what is over. Raises OSError if
@@ -113,8 +124,11 @@ class AsRun:
         if listed.first < self.first:  # (the channel was made anew: its numbers begin again, and what was shown was shown)
             self.last = None
             for it in self.breaks.values():
-                it.first = None
+                it.first, it.counted = None, -1
         now = now_text()
+        for since, until in kept.gaps:
+            self.put({"at": now, "channel": self.channel, "gap": {"from": since, "to": until}, "why": "the feed could keep nothing"})
+        kept.gaps = []
         if self.last is not None and listed.first > self.last + 1:
             self.put({"at": now, "channel": self.channel, "gap": {"from": self.seen_at, "to": now}, "why": f"segments {self.last + 1} to {listed.first - 1} weren't seen"})
         self.first, self.last, self.seen_at = listed.first, listed.first + len(listed.segments) - 1, now
@@ -126,6 +140,7 @@ class AsRun:
             if it.word == "Filled":
                 self.place(name, it, listed, kept)
                 self.count(it, listed)
+            self.tell_begun(it, listed)
         for name, it in list(self.breaks.items()):
             if self.has_left(name, it, listed, words, kept):
                 self.over(name, it, kept)
@@ -144,7 +159,7 @@ class AsRun:
         while self.waiting:
             line = self.waiting[0]
             if self.log.add(line) and "id" in line:
-                self.counts[str(line["pod"] or "none"), str(line["why"])] += 1
+                self.counts[self.key(str(line["pod"] or "none"), str(line["why"]))] += 1
             self.waiting.pop(0)
         if self.lost:
             self.log.add({"at": now_text(), "channel": self.channel, "gap": {"from": self.lost_since, "to": now_text()}, "why": f"{self.lost} lines couldn't be written"})
@@ -174,10 +189,27 @@ class AsRun:
         """Counts the segments of the pod of `seen` that `listed` has."""
         if seen.first is None or seen.pod is None:
             return
-        for it in listed.segments:
-            place = it.number - seen.first
+        for it in listed.segments[max(0, max(seen.first, seen.counted + 1) - listed.first):]:
+            seen.counted, place = it.number, it.number - seen.first
             if 0 <= place < len(seen.pod.segments) and seen.pod.segments[place][0] == it.uri:
                 seen.shown.add(place)
+
+    def key(self, pod: str, why: str) -> tuple[str, str]:
+        """The labels of a figure of a break with this `pod`, whose word is `why`."""
+        return pod, why if self.is_decided or pod != "fallback" else USUAL
+
+    def tell_begun(self, seen: Seen, listed: Listed) -> None:
+        """Counts the break `seen` once it has begun in `listed` for SETTLED target durations: by then it is filled or stays empty. One that
+        began long before a monitor saw it isn't counted: an earlier one did that."""
+        start, end = seen.range.start(), listed.end()
+        if seen.is_told or start is None or end is None or end - start < SETTLED * (listed.target or 1) * playlist.SECOND:
+            return
+        if seen.word == "Filled" and seen.pod is None:
+            return
+        seen.is_told = True
+        if end - start < OLD * playlist.SECOND:
+            pod = "none" if seen.word != "Filled" else "own" if seen.is_own else "fallback"
+            self.begun[self.key(pod, seen.word)] += 1
 
     @staticmethod
     def has_left(name: str, seen: Seen, listed: Listed, words: dict[str, str], kept: Kept) -> bool:
@@ -201,7 +233,8 @@ class AsRun:
         self.put({
             "at": now_text(), "channel": self.channel, "id": name, "start": "" if start is None else instant_text(start),
             "begin": "" if begins is None else instant_text(begins), "pod": pod, "why": seen.word,
-            "shown": len(seen.shown), "of": len(segments), "segments": [segments[place][0] for place in sorted(seen.shown)]})
+            "shown": len(seen.shown), "of": len(segments), "segments": [segments[place][0] for place in sorted(seen.shown)]}
+            | ({"reason": kept.reasons[name]} if pod != "own" and name in kept.reasons else {}))
 
 
 def starts_of(listed: Listed, pod: Pod, start: int) -> list[tuple[int, int]]:

@@ -13,6 +13,7 @@ from adsplice_rules.times import duration_text, instant_text, rounded_seconds
 from . import faults, judge, splice
 from .decisions import said_by
 from .history import Life, Run, Step
+from .kept import ids_in
 from .playlist import seconds_text
 from .seen import strange_in
 
@@ -37,6 +38,8 @@ class Explainer:
         found = []
         for step in self.run.steps:
             name, said, owed = step.given.name, answer_text(step.given.status, step.given.fault), answer_text(step.status, step.fault)
+            if step.given.what == "note":
+                continue
             if step.given.what == "hole":
                 found.append(f"{name}: nothing is kept from there on ({step.given.fault})")
             elif step.differs() and step.is_taken() and step.fault.startswith("N"):
@@ -108,6 +111,11 @@ class Explainer:
         """The steps of the decision files that name the break `name`, each with its kind."""
         return [(kind, it) for it in self.run.steps if it.given.what == "decisions" for kind, ids in (said_by(it.given.body),) if name in ids]
 
+    def noted(self, name: str) -> str:
+        """Why the feed gave no rendition the decision of the break `name`; empty if it kept nothing of that."""
+        found = [it.given.fault for it in self.run.steps if it.given.what == "note" and name in ids_in(it.given.text())]
+        return found[-1] if found else ""
+
     def why_fallback(self, name: str, life: Life, place: int) -> str:
         """If the fallback fills the break `name`, whose first segment is at `place` of the history: why no pod of its own does."""
         channel, first = life.channel, life.shown_by(place)
@@ -118,14 +126,15 @@ class Explainer:
         after = [it for kind, it in named if kind == "breaks" and self.run.steps.index(it) > at]
         before = [(kind, it) for kind, it in named if self.run.steps.index(it) < at]
         taken = [kind for kind, it in before if it.is_taken()]
+        noted = self.noted(name)
         if taken and taken[-1] == "withdraw":
-            return "; its own pod was withdrawn"
+            return "; its own pod was withdrawn" + (f" from all renditions, since {noted}" if noted else "")
         refused = next((it for kind, it in reversed(before) if kind == "breaks" and not it.is_taken()), None)
         if refused is not None:
             return f"; {refused.given.name}, which names it, is refused ({refused.given.fault})"
         if after:
             return f"; {after[0].given.name} came{late_by(first, after[0])} after {first.given.name}, which was the first to list {segment_text(channel, place)}"
-        return "; no decision file gives it a pod"
+        return f"; no rendition has its decision, since {noted}" if noted else "; no decision file gives it a pod"
 
     def no_start(self, one: Break, _life: Life, _channel: Channel) -> str:
         """The break `one` has no START-DATE."""
@@ -144,11 +153,14 @@ class Explainer:
         """Who decided what in the place of the break `one`."""
         named = self.named(one.id)
         taken = [kind for kind, it in named if it.is_taken()]
+        noted = self.noted(one.id)
         if taken and taken[-1] == "withdraw":
-            return "its pod was withdrawn, and there is no fallback"
+            return "its pod was withdrawn" + (f" from all renditions, since {noted}" if noted else "") + ", and there is no fallback"
         refused = next((it for kind, it in named if kind == "breaks" and not it.is_taken()), None)
         if refused is not None:
             return f"the decision file that names it is refused ({refused.given.fault}), and there is no fallback"
+        if noted:
+            return f"no rendition has its decision, since {noted}, and there is no fallback"
         decided = [id_ for it in self.taken_decisions() for id_ in said_by(it.given.body)[1]]
         like = self.like(one.id, [it for it in decided if it not in self.listed])
         return "no decision file gives it a pod, and there is no fallback" + (f"; decided is {like}, which is like it" if like else "")

@@ -1,19 +1,21 @@
 """A channel's feed: reads its list, makes the channel in adsplice if it isn't there, and gives it decisions and lists."""
 from __future__ import annotations
 
+import json
 import threading
 import time
 import traceback
 from collections.abc import Callable
 from pathlib import Path
 
-from . import decisions, faults, finding, packaged
+from . import decisions, faults, finding, packaged, playlist
 from .decisions import Decision, Folder
-from .journal import Event, Journal
+from .journal import BEAT, Event, Journal
 from .lists import Lists
 from .origin import CUT_OFF, Origin, Read, origin_of, read_whole
 from .origins import NAMES, Place, TwoOrigins
 from .pauses import Pauses
+from .playlist import SECOND
 from .settings import Settings
 from .signalling import Signalling
 from .web import Answer, Client
@@ -21,9 +23,12 @@ from .words import now_text, without_user
 
 OFTEN = 0.25  # seconds between two looks at a file, and the least between two at a URL
 SOON = 1.0  # seconds to the next look if the target duration isn't known
+BETWEEN = 1.0  # seconds between two signs that the feed goes on
 MOST = 10.0  # seconds between two looks or trials, whatever the target duration is
 STAYS = "if that stays, only a new channel takes it, which a person makes by a DELETE of this one"
 UNFIT = 2  # refusals in a row of lists that don't follow the last one, after which the feed finds out what adsplice holds
+TOLERANCE = SECOND // 10  # adsplice's own
+NO_PUT = {403, 404, 405}  # statuses by which no adsplice answers the making of a channel
 JUDGED = {409, 413, 422}  # statuses by which adsplice refuses what it was given; after others the same is tried again with pauses
 
 READ = ("200", "")  # the state of an origin that is read
@@ -49,6 +54,12 @@ class Channel:
         self.away, self.missing = Pauses(0.5, longest_pause), Pauses(0.5, longest_pause)
         self.fallback_stamp: tuple[int, int, int] | None = None  # of the file that was given
         self.is_made = False
+        self.tolerance = playlist.read_duration(settings.tolerance) if settings.tolerance else TOLERANCE
+        self.reached = 0  # the instant at which the last segment that was taken begins; 0 if the channel was made since
+        self.beat_at = settings.keep / f"{settings.name}{BEAT}" if settings.keep else None
+        self.beaten = float("-inf")  # when it was shown last that the feed goes on
+        self.waits = False  # for its turn, while another rendition has its own
+        self.is_apart = False  # whether its numbers aren't those of the programme's other renditions
         self.states: dict[str, tuple[str, str]] = {}
         self.signalling = signalling or Signalling(settings.programme or settings.name, settings, client, say, self.answered)
         self.signalling.join(settings.rendition(), self.folder)
@@ -98,14 +109,27 @@ class Channel:
         found = [Event(now_text(), "channel", 201, "", self.settings.body().decode())]
         if isinstance(self.origin, TwoOrigins):
             found.append(Event(now_text(), "place", self.origin.place + 1, ""))
+        if self.is_apart:
+            found.append(Event(now_text(), "apart", 1, ""))
         bodies = [self.fallback()] + [it.body for it in self.folder.open()]
         return found + [Event(now_text(), "decisions", 204, "", it.decode("utf-8", "replace")) for it in bodies if it]
+
+    def beat(self) -> None:
+        """Shows that the feed goes on: a file has the time of its last step as its own, once in a second at the most."""
+        if self.beat_at is None or time.monotonic() - self.beaten < BETWEEN:
+            return
+        self.beaten = time.monotonic()
+        try:
+            self.beat_at.touch()
+        except OSError:
+            pass  # (the monitor then tells that the feed hangs)
 
     # ---- requests
 
     def put(self, what: str, body: bytes) -> Answer:
         """PUTs `body` to the channel (`what` is ``), or to its `origin` or `decisions`."""
         answer = self.client.ask("PUT", f"{self.url}/{what}" if what else self.url, body)
+        self.beat()
         self.note(what or "channel", answer, body)
         return answer
 
@@ -131,12 +155,12 @@ class Channel:
         """Makes the channel if it isn't there, and gives it the fallback and the open decisions; whether it is there."""
         answer = self.put("", self.settings.body())
         if answer.status not in (201, 409):
-            self.failed(answer, "makes the channel as soon as it can")
+            self.unmade(answer, "makes the channel as soon as it can")
             return False
         self.is_made = True
         self.compare(answer.status)
         if self.is_new(answer):
-            self.knows = True
+            self.knows, self.reached = True, 0
             self.lists.begin_anew()
             self.folder.start_anew()
         self.folder.look()
@@ -177,6 +201,14 @@ class Channel:
             self.tell("fallback", answer.status, answer.line(), f"{faults.meaning(answer.status, answer.line())}; goes on without it")
         return True
 
+    def unmade(self, answer: Answer, does: str) -> None:
+        """Tells that the channel couldn't be made, by this `answer`, and what the feed `does`."""
+        if answer.status in NO_PUT:
+            text = f"{self.settings.at} takes no PUT of a channel: perhaps it is the viewers' address, and `at` is to be adsplice's for PUT; {does}"
+            self.tell("adsplice", answer.status, "", text)
+        else:
+            self.failed(answer, does)
+
     def failed(self, answer: Answer, does: str) -> None:
         """Tells that adsplice, or a server in front of it, didn't do what it was asked, and what the feed `does`."""
         what = answer.why or faults.meaning(answer.status, answer.line())
@@ -185,7 +217,10 @@ class Channel:
     # ---- decisions
 
     def decide(self) -> bool:
-        """Gives the decision files that wait; whether the feed may go on. A list that enters a break comes after them."""
+        """Takes back the decisions whose files were removed, and gives those that wait; whether the feed may go on. A list that enters a
+        break comes after them."""
+        if not all(self.take_back(it) for it in list(self.folder.removed.values())):
+            return False
         self.is_full = False
         for it in self.folder.next_up(self.lists.listed or ()):
             if not self.give(it):
@@ -213,7 +248,11 @@ class Channel:
             return False
         if answer.status == 204:
             self.folder.given(decision)
-            self.tell(who, 204, "", self.taken_text(decision))
+            late = self.begun(decision.ids) if decision.kind == "breaks" else []
+            if late:
+                self.came_late(decision, late, who)
+            else:
+                self.tell(who, 204, "", self.taken_text(decision))
         elif faults.code_of(line) == "J9":
             self.give_rest(decision, who)
         elif faults.code_of(line) == "J10":
@@ -224,6 +263,47 @@ class Channel:
             self.tell(who, answer.status, line, f"{faults.meaning(answer.status, line)}; leaves it, and takes it once it is written anew "
                                                 f"(adsplice-pod --check {decision.path})")
         return True
+
+    def take_back(self, decision: Decision) -> bool:
+        """Takes back the `decision`, which adsplice holds though its file was removed; whether the feed may go on. A break that has begun
+        keeps its pod."""
+        ids = self.folder.held_by(decision)
+        begun = self.begun(ids)
+        bodies = {it: decisions.withdrawal(it) for it in ids if it not in begun}
+        for name, body in bodies.items() if decision.kind == "breaks" else [("", self.fallback() or decisions.NO_FALLBACK)]:
+            answer = self.put("decisions", body)
+            if answer.status != 204 and answer.status not in JUDGED:
+                self.gone(answer)
+                return False
+            if faults.code_of(answer.line()) == "J9":
+                begun.append(name)
+        who = f"decisions/{decision.path.name}"
+        self.folder.removed.pop(decision.path.name)
+        self.tell(who, 204, "Removed", f"the file was removed; {decisions.taken_back_text(decision, ids, begun)}")
+        self.states.pop(who)
+        return True
+
+    def starts(self) -> dict[str, int]:
+        """When each break of its newest list begins, in nanoseconds from 1970."""
+        found = [packaged.attributes_of(line.partition(":")[2]) for line in self.lists.newest.date_ranges()]
+        said = [(it.get("ID"), packaged.instant_of(it.get("START-DATE", ""))) for it in found]
+        return {name: start for name, start in said if name and start is not None}
+
+    def begun(self, ids: list[str]) -> list[str]:
+        """Those of the breaks `ids` that have begun in a list that was taken since the channel was made."""
+        starts = self.starts() if self.reached else {}
+        return [it for it in dict.fromkeys(ids) if it in starts and self.reached >= starts[it] - (self.tolerance or 0)]
+
+    def came_late(self, decision: Decision, late: list[str], who: str) -> None:
+        """The breaks `late` of the `decision`, which adsplice took, had begun with no pod: they stay as they are."""
+        decision.late |= set(late)
+        rest = [it for it in decision.ids if it not in late]
+        self.note_late(late)
+        self.tell(who, 204, "Late", f"{', '.join(late)} has begun, and stays as it is" + (f"; decides {', '.join(rest)}" if rest else ""))
+
+    def note_late(self, ids: list[str]) -> None:
+        """Keeps that a decision came after its breaks `ids` had begun."""
+        self.note("late", Answer(0, why=", ".join(ids)), json.dumps(ids).encode())
 
     @staticmethod
     def taken_text(decision: Decision) -> str:
@@ -243,6 +323,7 @@ class Channel:
             begun = decision.ids
         if self.knows:
             decision.late |= set(begun)  # (else it may be the pod that an earlier feed gave)
+            self.note_late(begun)
         self.folder.given(decision)
         rest = [it for it in decision.ids if it not in begun]
         self.tell(who, 409, "J9 Used", f"{', '.join(begun)} has begun, and keeps its pod" + (f"; decides {', '.join(rest)}" if rest else ""))
@@ -314,6 +395,8 @@ class Channel:
     def taken(self) -> None:
         """A list was taken: learns its numbers, and tells of it."""
         self.unfit = 0
+        last = self.lists.stands.repairer.last or self.lists.newest.segments
+        self.reached = (last[-1].begins or 0) if last else 0  # (earlier ones may be of a clock that went back since)
         if self.lists.taken():
             answer = self.client.ask("GET", f"{self.url}/live.m3u8")
             if answer.status == 200:
@@ -357,8 +440,12 @@ class Channel:
     def turn(self) -> float:
         """One turn: looks at the origin and the folder, gives adsplice what is new, and answers the seconds to the next one."""
         begun = time.monotonic()
+        self.beat()
         found = read_whole(self.origin, self.settings.unended, self.settings.line)
+        self.beat()
+        self.waits = True
         with self.together:
+            self.waits = False
             return self.take_turn(found, begun)
 
     def take_turn(self, found: Read, begun: float) -> float:
@@ -376,7 +463,7 @@ class Channel:
             self.tell(f"decisions/{it.path.name}", 0, "", f"{', '.join(it.ids)} is no longer listed; moves the file to done")
             self.states.pop(f"decisions/{it.path.name}", None)
         if found.why:
-            return min(self.missing.next(), self.longest())
+            return min(self.missing.next(), self.longest(), self.origin.patience() if isinstance(self.origin, TwoOrigins) else MOST)
         self.missing.reset()
         return max(0.05, self.interval() - (time.monotonic() - begun))
 

@@ -17,6 +17,7 @@ DONE = "done"  # the folder in the folder
 MOST_TOLD = 100  # names of what isn't taken
 MAX_BYTES = 4_194_304  # adsplice takes no longer file
 ROOM = 200  # decided breaks that aren't listed yet: adsplice holds 256, and the others are for those that are listed
+NO_FALLBACK = b'{"fallback":null}'  # the decision file that takes the fallback away
 
 
 @dataclass
@@ -70,6 +71,21 @@ def without(decision: Decision, ids: Collection[str]) -> Decision:
     return replace(decision, body=json.dumps({"breaks": rest}).encode(), ids=[it["id"] for it in rest])
 
 
+def withdrawal(name: str) -> bytes:
+    """The decision file that takes the pod of the break `name` back."""
+    return json.dumps({"withdraw": name}).encode()
+
+
+def taken_back_text(decision: Decision, ids: list[str], begun: list[str]) -> str:
+    """What is told of the `decision` that is taken back: adsplice held it for the breaks `ids`, of which `begun` keep their pods."""
+    if decision.kind == "fallback":
+        return "takes its fallback back"
+    withdrawn = [it for it in ids if it not in begun]
+    said = [f"withdraws {', '.join(withdrawn)}"] if withdrawn else []
+    said += [f"{', '.join(begun)} has begun, and keeps its pod"] if begun else []
+    return "; ".join(said) or "other files decide its breaks"
+
+
 class Folder:
     """The decision files of the folder `path`; none if there is no folder for a channel. Those in `done` are taken away
     after `keep_days` days."""
@@ -77,23 +93,32 @@ class Folder:
     def __init__(self, path: Path | None, keep_days: float) -> None:
         self.path, self.keep_days = path, keep_days
         self.decisions: dict[Path, Decision] = {}
+        self.removed: dict[str, Decision] = {}  # what adsplice holds though its file was taken away, by the files' names
         self.passed_over: dict[str, str] = {}  # what of the folder isn't taken, by its name, and why
         self.before: dict[str, list[Any]] = {}  # what an earlier feed knew of files, by their names
 
     def look(self) -> None:
-        """Finds new and changed files, and forgets those that somebody took away."""
+        """Finds new and changed files, and forgets those that somebody took away: of these, adsplice holds those that are `removed`.
+        While the folder can't be read, all stays as it is."""
         if self.path is None:
             return
         self.passed_over = {}
-        found = dict(self.files(self.path))
-        self.decisions = {path: it for path, it in self.decisions.items() if path in found}
+        files = self.files(self.path)
+        if files is None:
+            return
+        found = dict(files)
+        for path in [it for it in self.decisions if it not in found and not os.path.lexists(it)]:  # (a file that is replaced may be missed)
+            decision = self.decisions.pop(path)
+            if decision.state == "given":
+                self.removed[path.name] = decision
         for path, stamp in found.items():
             known = self.decisions.get(path)
             if known is None or known.stamp != stamp:
                 self.take(path, stamp)
 
-    def files(self, folder: Path) -> Iterable[tuple[Path, tuple[int, int, int]]]:
-        """The decision files in `folder`, each with what shows that it changed, in the order in which they were written."""
+    def files(self, folder: Path) -> Iterable[tuple[Path, tuple[int, int, int]]] | None:
+        """The decision files in `folder`, each with what shows that it changed, in the order in which they were written; none if it can't
+        be read."""
         found = []
         try:
             for it in os.scandir(folder):
@@ -105,7 +130,7 @@ class Folder:
                     found.append((Path(it.path), stamp))
         except OSError as fault:
             self.pass_over("", f"the folder {folder} can't be read: {fault.strerror}")
-            return []
+            return None
         return sorted(found, key=lambda it: (it[1][0], it[0]))
 
     def take(self, path: Path, stamp: tuple[int, int, int]) -> None:
@@ -117,6 +142,11 @@ class Folder:
                 body = it.read(MAX_BYTES + 1)
         except OSError as fault:
             return self.pass_over(path.name, f"can't be read: {fault.strerror}")
+        held = self.decisions.get(path) or self.removed.get(path.name)
+        if held is not None and held.state == "given" and held.body == body:
+            held.stamp, self.decisions[path] = stamp, held  # (the same again, which adsplice has)
+            self.removed.pop(path.name, None)
+            return None
         self.decisions.pop(path, None)  # (a changed one comes last)
         self.decisions[path] = found = Decision(path, stamp, body, *said_by(body))
         if (known := self.before.pop(path.name, None)) is not None and known[0] == list(stamp):
@@ -156,8 +186,14 @@ class Folder:
         """Those that the controller holds: they are given to it again if its channel is made anew."""
         return [it for it in self.decisions.values() if it.state == "given"]
 
+    def held_by(self, decision: Decision) -> list[str]:
+        """The breaks of the removed `decision` that no other file decides which adsplice holds."""
+        others = {name for it in self.open() for name in it.ids}
+        return [it for it in dict.fromkeys(decision.ids) if it not in others]
+
     def start_anew(self) -> None:
-        """The channel was made anew: what it held is to be given to it again."""
+        """The channel was made anew: what it held is to be given to it again, except what was `removed`."""
+        self.removed.clear()
         for it in self.open():
             it.state = "new"
 

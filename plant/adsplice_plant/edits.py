@@ -15,16 +15,19 @@ def lines_of(text: str) -> list[str]:
 
 
 def edit_of(old: list[str], new: list[str]) -> list[Piece]:
-    """The edit that makes the lines `new` of the lines `old`. It takes lines over in their order, and looks at each a few times."""
+    """The edit that makes the lines `new` of the lines `old`. It takes lines over in their order, and looks at each a few times. Lines are
+    passed for two that follow one another in both, so that none that is often there (EXTINF) leads far ahead."""
     there, left = set(old), LOOKS * len(old)
     pieces: list[Piece] = []
     fresh: list[str] = []
     upto = 0  # of the old lines, those before it are passed
-    for line in new:
+    for place, line in enumerate(new):
         at = upto if upto < len(old) and old[upto] == line else -1
         if at < 0 and line in there and left > 0:
             at = place_of(old, line, upto)
             left -= (at if at >= 0 else len(old)) - upto
+            if at >= 0 and old[at + 1:at + 2] != new[place + 1:place + 2]:
+                at = -1
         if at < 0:
             fresh.append(line)
             continue
@@ -45,6 +48,23 @@ def place_of(lines: list[str], line: str, upto: int) -> int:
         return lines.index(line, upto)
     except ValueError:
         return -1
+
+
+def places_after(edit: list[Piece], before: dict[int, str], front: str) -> tuple[dict[int, str], int]:
+    """Where the lines are that begin with `front`, by their places in the text that `edit` makes of one which has those `before`; and
+    how many lines that text has."""
+    found: dict[int, str] = {}
+    count = 0
+    for piece in edit:
+        if isinstance(piece, str):
+            if front in piece:
+                found |= {count + at: line for at, line in enumerate(lines_of(piece)) if line.startswith(front)}
+            count += piece.count("\n")
+        else:
+            first, past = piece
+            found |= {count + at - first: line for at, line in before.items() if first <= at < past}
+            count += past - first
+    return found, count
 
 
 def edited(old: list[str], edit: list[Piece]) -> list[str]:

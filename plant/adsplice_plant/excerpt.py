@@ -8,7 +8,7 @@ from __future__ import annotations
 
 import json
 from collections.abc import Iterator
-from dataclasses import dataclass
+from dataclasses import dataclass, replace
 from pathlib import Path
 from typing import Any
 
@@ -19,7 +19,7 @@ from adsplice_rules.values import DateRange
 from adsplice_rules.values import Fault as RulesFault
 
 from . import journal
-from .edits import edited, lines_of
+from .edits import edited, lines_of, places_after
 from .history import TAKEN, Given, Run, Step
 from .words import Fault
 
@@ -28,7 +28,7 @@ LEAST, BEFORE, AFTER = 4, 20, 1  # lists: at least; before what matters, and aft
 OVERLAP = 8  # lines of a list, for each of which a list may be left out: what follows still lists what came before
 FAR = 2000  # lists before the date range came, in which its first segment is looked for
 UNREACHED = (0, 404, 502, 503, 504)  # statuses of what never came to the channel
-NAMES = {"origin": "the list of", "decisions": "the decision of", "channel": "the channel of", "delete": "its end at", "hole": "the time from"}
+NAMES = {"origin": "the list of", "decisions": "the decision of", "channel": "the channel of", "delete": "its end at", "hole": "the time from", "note": "the note of"}
 RANGE = "#EXT-X-DATERANGE:"
 
 
@@ -92,17 +92,8 @@ def look(events: list[Kept]) -> None:
     """Finds for each list of `events`, from one whole list on, what Kept says of it."""
     ranges: dict[int, str] = {}  # of the list before: the places of its date ranges, with their lines
     for it in [it for it in events if it.said["what"] == "origin"]:
-        now: dict[int, str] = {}
-        for piece in it.pieces():
-            if isinstance(piece, str):
-                if RANGE in piece:
-                    now |= {it.count + at: line for at, line in enumerate(lines_of(piece)) if line.startswith(RANGE)}
-                it.count += piece.count("\n")
-            else:
-                if ranges:
-                    now |= {it.count + at - piece[0]: line for at, line in ranges.items() if piece[0] <= at < piece[1]}
-                it.count += piece[1] - piece[0]
-        ranges, it.ranges = now, tuple(now.values())
+        ranges, it.count = places_after(it.pieces(), ranges, RANGE)
+        it.ranges = tuple(ranges.values())
 
 
 def put_together(events: list[Kept], first: int, past: int) -> Iterator[tuple[int, list[str]]]:
@@ -227,16 +218,27 @@ class Excerpt:
         made = max((n for n, said in enumerate(held) if said["what"] == "channel"), default=len(held))
         for said in held[made:]:
             yield given_of(said, said.get("body", "")), True
+        for said in self.told_before(first):
+            yield replace(given_of(said, said.get("body", "")), is_past=True), True
         past, is_at = max(chosen[-1], last) + 1, False  # whether the rules have the list that the channel has
         lists = dict(put_together(self.events, first, min(len(self.events), past + AFTER)))
         for place in range(first, min(len(self.events), past + AFTER)):
             said = self.events[place].said
-            is_reached = said["status"] not in UNREACHED or said["what"] == "hole"
+            is_reached = said["status"] not in UNREACHED or said["what"] in ("hole", "note")
             is_at = place in chosen if self.events[place].is_list() else is_at
             if said["what"] == "origin" and place in lists and is_at and is_reached:
                 yield given_of(said, "".join(lists[place])), False
             elif said["what"] in NAMES and said["what"] != "origin" and is_reached and (place <= chosen[-1] or said["what"] == "decisions") and place < past:
                 yield given_of(said, said.get("body", "")), bool(said.get("again"))
+
+    def told_before(self, first: int) -> Iterator[dict[str, Any]]:
+        """The events before the place `first` that say why the break has no pod: refused decisions, withdrawals, and notes of the feed."""
+        needle = json.dumps(self.name)
+        for it in self.events[:first]:
+            said, body = it.said, it.said.get("body", "")
+            is_refused = said["what"] == "decisions" and said["status"] not in (*TAKEN, *UNREACHED)
+            if needle in body and (said["what"] == "note" or is_refused or (said["what"] == "decisions" and '"withdraw"' in body)):
+                yield said
 
     def run(self) -> Run:
         """The run of the rules over these events."""

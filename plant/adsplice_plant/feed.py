@@ -37,6 +37,7 @@ each break's decision is asked for once, of an ad server or in the folder of dec
 
 Decision files (*.json) that are renamed into DIR are given to adsplice, stay there while their breaks are listed, are given
 again after a new start, and are then moved to DIR/done. One that is refused stays, and is taken once it is written anew.
+One that is removed before its break begins is taken back.
 
 --door 127.0.0.1:9084, or the path of a Unix socket, takes PUT /decisions/CHANNEL/NAME.json: the file is judged, and is in the channel's
 folder and on disk before it is answered (201; 200 if it took another's place). DELETE takes one away that waits.
@@ -94,7 +95,7 @@ def read_words(arguments: list[str]) -> argparse.Namespace:
     it.add_argument("--tolerance", metavar="SECONDS", help="the channel's tolerance (adsplice's own is 0.1)")
     it.add_argument("--decisions", metavar="DIR")
     it.add_argument("--fallback", metavar="FILE", help="a decision file with a fallback, given whenever the channel is made")
-    it.add_argument("--keep", metavar="DIR", help="keeps NAME.events there, for adsplice-monitor and adsplice-explain, and NAME.numbers and NAME.signals for itself")
+    it.add_argument("--keep", metavar="DIR", help="keeps NAME.events and NAME.beat there, for adsplice-monitor and adsplice-explain, and NAME.numbers and NAME.signals for itself")
     it.add_argument("--renditions", metavar="NAMES", help="a ladder: a channel NAME-R for each rendition R of NAMES, such as '1080 720 360'")
     it.add_argument("--master", metavar="FILE", help="the origin is a master playlist: its renditions are channels, and FILE is the one that viewers load")
     it.add_argument("--viewers", metavar="URL", help="with --master: where viewers read channels, such as http://viewers.example (the host of FILE's URL)")

@@ -17,9 +17,10 @@ PATHS = {"channel": "", "delete": "", "origin": "/origin", "decisions": "/decisi
 
 @dataclass(frozen=True)
 class Given:
-    """Something that a channel is given: `what` is `channel`, `delete`, `decisions`, `origin`, or `hole` for a time of which
-    nothing is known; `name` says where it is from. `status` and `fault` are what adsplice answered, and `at` when (a text in UTC),
-    if that is known."""
+    """Something that a channel is given: `what` is `channel`, `delete`, `decisions`, `origin`, `hole` for a time of which
+    nothing is known, or `note` for why (`fault`) the feed gave no rendition a decision of the breaks in `body`; `name` says where it is
+    from. `status` and `fault` are what adsplice answered, and `at` when (a text in UTC), if that is known. What `is_past` came before
+    all that the rules are given, and is only told."""
 
     what: str
     name: str
@@ -27,6 +28,7 @@ class Given:
     status: int = 0
     fault: str = ""
     at: str = ""
+    is_past: bool = False
 
     def text(self) -> str:
         """The body, with `\\xE9` in place of a byte that isn't UTF-8."""
@@ -108,7 +110,10 @@ class Run:
         return step
 
     def hold(self, given: Given) -> None:
-        """The channel was made by `given`, or holds this decision, before anything else is known of it."""
+        """The channel was made by `given`, or holds this decision, before anything else is known of it; or `given` is only told."""
+        if given.is_past:
+            self.steps.append(Step(given, given.status, given.fault))
+            return
         if given.what == "channel":
             self.edge.channels.pop(NAME, None)
         self.answer(given)

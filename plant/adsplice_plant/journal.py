@@ -1,12 +1,14 @@
 """What a feed keeps of a channel, a JSON line for each event: for the monitor and the explainer.
 
 An event has `at` (the time of day, UTC), `what` (`channel`, `delete`, `decisions`, `origin` for the four requests, `read`
-for a playlist that couldn't be read from its origin, `hole` for a time of which nothing could be kept), `status`, `fault` (the
+for a playlist that couldn't be read from its origin, `hole` for a time of which nothing could be kept, `late` for a decision whose
+break had begun, `note` for why no rendition has the decision of the breaks in `body`, `apart` for renditions whose numbers come apart
+(1) or are equal again (0), `place` for the origin that is read, `restart` for a feed that began anew), `status`, `fault` (the
 answer's first line, or why there is none), and `body`, what was sent. In place of a list's `body` there may be its `edit`: what
 it takes over from the list before it in the file, and what is new (edits.py). A file begins with the channel's body, its open
 decisions (events with `again`: they were sent before) and a whole list, so that it can be given again by itself.
 
-NAME.events is the newest file; NAME.events.1, .2 .. are those before it.
+NAME.events is the newest file; NAME.events.1, .2 .. are those before it. The file NAME.beat has the time of the feed's last step.
 """
 import errno
 import json
@@ -15,12 +17,13 @@ from collections.abc import Callable, Iterator
 from dataclasses import dataclass, replace
 from pathlib import Path
 
-from .edits import edit_of, edited, lines_of
+from .edits import Piece, edit_of, edited, lines_of
 from .words import now_text
 
 MAX_BYTES = 4 << 20  # of a file, after which a new one is begun
 ROOM = 32 << 20  # bytes of all files of a channel
 FILES = 16  # at most
+BEAT = ".beat"  # the end of the name of the file whose time is that of a feed's last step
 WHOLE = 8  # times a list's length, after so much of differences it is kept as a whole again
 
 
@@ -71,12 +74,14 @@ class Reader:
         try:
             found = json.loads(line)
             event = Event(str(found["at"]), str(found["what"]), int(found["status"]), str(found["fault"]), str(found.get("body", "")), bool(found.get("again")))
-            if event.what != "origin":
-                return event
-            self.lines = lines_of(event.body) if "edit" not in found else edited(self.lines or [], found["edit"])
-        except (ValueError, KeyError, TypeError, RecursionError):
+            return replace(event, body="", lines=self.list_of(event, found.get("edit"))) if event.what == "origin" else event
+        except (ValueError, KeyError, TypeError, AttributeError, RecursionError):
             return None
-        return replace(event, body="", lines=self.lines)
+
+    def list_of(self, event: Event, edit: list[Piece] | None) -> list[str]:
+        """The lines of the list of `event`, by its `edit` if it isn't kept as a whole."""
+        self.lines = lines_of(event.body) if edit is None else edited(self.lines or [], edit)
+        return self.lines
 
 
 class Journal:
@@ -133,12 +138,13 @@ class Journal:
 
 
 def append(path: Path, data: bytes, is_synced: bool = False) -> None:
-    """Adds `data` to the file `path`: all of it, or nothing. It is on disk after that if `is_synced`."""
+    """Adds `data` to the file `path`: all of it, or nothing, by which the file's time stays, too. It is on disk after that if `is_synced`."""
     handle = os.open(path, os.O_WRONLY | os.O_APPEND | os.O_CREAT, 0o644)
     try:
-        size = os.fstat(handle).st_size
+        before = os.fstat(handle)
         if os.write(handle, data) < len(data):
-            os.ftruncate(handle, size)
+            os.ftruncate(handle, before.st_size)
+            os.utime(handle, ns=(before.st_atime_ns, before.st_mtime_ns))
             raise OSError(errno.ENOSPC, os.strerror(errno.ENOSPC))
         if is_synced:
             os.fsync(handle)

@@ -10,9 +10,10 @@ import threading
 import time
 from dataclasses import replace
 
-from . import faults, packaged, playlist
+from . import faults
 from .channel import JUDGED, MOST, Channel, Say
-from .decisions import Decision, without
+from .decisions import NO_FALLBACK, Decision, said_by, taken_back_text, withdrawal, without
+from .numbers import Numbers
 from .origins import Choice, TwoOrigins
 from .playlist import SECOND
 from .settings import Settings
@@ -24,7 +25,6 @@ from .words import now_text
 STEP = 3.0  # target durations that the renditions' lists have to come into step before the channels are made without
 LATE = 2.0  # seconds after which a file that isn't there in all renditions is told
 HELD = 2.0  # target durations that a rendition whose process is away holds up a decision of the others
-TOLERANCE = SECOND // 10  # adsplice's own
 
 Group = list[tuple["Rendition", Decision]]
 
@@ -35,8 +35,6 @@ class Rendition(Channel):
     def __init__(self, settings: Settings, client: Client, say: Say, longest_pause: float, keep_days: float, ladder: Ladder) -> None:
         super().__init__(settings, client, say, longest_pause, keep_days, ladder.signalling)
         self.ladder, self.together, ladder.signalling = ladder, ladder.lock, self.signalling
-        self.tolerance = playlist.read_duration(settings.tolerance) if settings.tolerance else TOLERANCE
-        self.reached = 0  # the instant at which the last segment that was taken begins
         self.debts: list[bytes] = []  # withdrawals that come before its next list
         ladder.members.append(self)
         self.lists.join(Siblings(lambda: [
@@ -44,6 +42,14 @@ class Rendition(Channel):
             for it in ladder.members if it is not self]))
         if isinstance(self.origin, TwoOrigins):
             self.origin.join(ladder.choice)
+
+    def put(self, what: str, body: bytes) -> Answer:
+        """PUTs `body` to the channel (`what` is ``), or to its `origin` or `decisions`; those who wait for that go on."""
+        answer = super().put(what, body)
+        for it in self.ladder.members:
+            if it.waits:
+                it.beat()
+        return answer
 
     def answered(self) -> None:
         """The answer to a question is in the renditions' folders: gives it at once."""
@@ -59,6 +65,10 @@ class Rendition(Channel):
         """Its channel isn't there any more: all of the ladder's are made anew; whether all was answered."""
         return self.ladder.again(self)
 
+    def decide(self) -> bool:
+        """Gives the decision files that wait to all renditions, and never to this one alone; whether the feed may go on."""
+        return self.ladder.decide()
+
     def push(self) -> bool:
         """PUTs each list that is to be pushed, once what has to be withdrawn is; whether that is over."""
         while self.debts:
@@ -69,21 +79,15 @@ class Rendition(Channel):
             self.debts.pop(0)
         return super().push()
 
-    def taken(self) -> None:
-        """A list was taken."""
-        super().taken()
-        last = self.lists.stands.repairer.last
-        self.reached = (last[-1].begins or 0) if last else 0  # (earlier ones may be of a clock that went back since)
-
     def is_answered(self) -> bool:
         """Whether its last list was taken."""
         return self.states.get("adsplice", ("", ""))[0] == "204"
 
-    def starts(self) -> dict[str, int]:
-        """When each break of its newest list begins, in nanoseconds from 1970."""
-        found = [packaged.attributes_of(line.partition(":")[2]) for line in self.lists.newest.date_ranges()]
-        said = [(it.get("ID"), packaged.instant_of(it.get("START-DATE", ""))) for it in found]
-        return {name: start for name, start in said if name and start is not None}
+    def stands_apart(self, is_apart: bool) -> None:
+        """Keeps whether its numbers aren't those of the others, once that has changed."""
+        if is_apart != self.is_apart:
+            self.is_apart = is_apart
+            self.note("apart", Answer(int(is_apart)))
 
     def anew(self, is_new: bool) -> None:
         """Its channel is there, and all is to be given to it again; `is_new`: it was made."""
@@ -165,7 +169,7 @@ class Ladder:
         answers = {it: it.put("", it.settings.body()) for it in self.members}
         for it, answer in answers.items():
             if answer.status not in (201, 409):
-                one.failed(answer, f"makes {it.settings.name} with the other renditions as soon as it can")
+                one.unmade(answer, f"makes {it.settings.name} with the other renditions as soon as it can")
                 return False
         if all(it.status == 201 for it in answers.values()):
             self.level()
@@ -190,13 +194,15 @@ class Ladder:
     # ---- decisions
 
     def decide(self, is_anew: bool = False) -> bool:
-        """Gives the fallback if it changed or `is_anew`, and each decision file that waits, to all renditions or to none;
-        whether the feed may go on. A list that enters a break comes after them."""
+        """Takes back the decisions whose files were removed, and gives the fallback if it changed or `is_anew`, and each decision file that
+        waits, to all renditions or to none; whether the feed may go on. A list that enters a break comes after them."""
+        for it in self.members:
+            it.folder.look()
+        for name in dict.fromkeys(name for it in self.members for name in it.folder.removed):
+            self.take_removed_back(name)
         if is_anew or any(it.stamp() not in (None, it.fallback_stamp) for it in self.members):
             if not self.give_fallbacks():
                 return False
-        for it in self.members:
-            it.folder.look()
         names = dict.fromkeys(found.path.name for it in self.members for found in it.folder.next_up(it.lists.listed or ()))
         return all(self.give_file(it) for it in names)
 
@@ -217,7 +223,7 @@ class Ladder:
         it, answer = refused
         self.tell("fallback", faults.name_of(answer.line()), f"{it.settings.name}: {faults.meaning(answer.status, answer.line())} ({answer.line()}); "
                                                              "no rendition has a fallback until its file is mended")
-        return self.are_judged([(it, it.put("decisions", b'{"fallback":null}')) for it in self.members])
+        return self.are_judged([(it, it.put("decisions", NO_FALLBACK)) for it in self.members])
 
     @staticmethod
     def are_judged(answers: list[tuple[Rendition, Answer]]) -> bool:
@@ -242,7 +248,7 @@ class Ladder:
             return True
         if late:
             found = [(it, without(decision, late)) for it, decision in found]
-            self.tell(f"decisions/{name}", "Late", f"{', '.join(late)} has begun in a rendition, and stays in all as it is")
+            self.came_late(name, late, "has begun in a rendition, and stays in all as it is")
             if not found[0][1].ids:
                 return self.finish(name)
         return self.give(name, found)
@@ -254,10 +260,23 @@ class Ladder:
             return True
         if late and all(set(decision.ids) <= set(late) for _, decision in found):
             self.seen.pop(name)
-            self.tell(f"decisions/{name}", "Late", f"{', '.join(late)} has begun, and {', '.join(absent)} has no such file; no rendition is given it")
+            self.came_late(name, late, f"has begun, and {', '.join(absent)} has no such file; no rendition is given it")
             return self.finish(name)
         self.tell(f"decisions/{name}", "Waits", f"{', '.join(absent)} has no such file; it is given once all renditions have it")
         return True
+
+    def came_late(self, name: str, late: list[str], text: str) -> None:
+        """The breaks `late` of the files `name` had begun in a rendition, or in all: tells so once (`text`), and keeps it for each."""
+        what, ids = f"decisions/{name}", ", ".join(late)
+        if not self.states.get(what, "").startswith("Late"):
+            for it in self.members:
+                it.note_late(late)
+        self.tell(what, "Late", f"{ids} {text}")
+
+    def keep_why(self, ids: list[str], text: str) -> None:
+        """Keeps for each rendition why (`text`) no rendition has a decision of the breaks `ids`: adsplice-explain tells it."""
+        for it in self.members:
+            it.note("note", Answer(0, why=text), json.dumps(ids).encode())
 
     def finish(self, name: str) -> bool:
         """The decision in the files `name` is over; the feed may go on."""
@@ -271,14 +290,13 @@ class Ladder:
         for it, _ in group:
             if (decision := it.folder.named(name)) is not None:
                 decision.state = "refused"
+        self.keep_why(group[0][1].ids, text)
         self.tell(f"decisions/{name}", fault, f"{text}; no rendition has it until its files are written anew")
 
     def begun(self, ids: list[str]) -> list[str]:
         """Those of the breaks `ids` that have begun in a list that a rendition has taken."""
-        starts: dict[str, int] = {}
-        for it in self.members:
-            starts |= it.starts()
-        return [id_ for id_ in ids if id_ in starts and any(it.reached >= starts[id_] - (it.tolerance or 0) for it in self.members)]
+        begun = {id_ for it in self.members for id_ in it.begun(ids)}
+        return [id_ for id_ in ids if id_ in begun]
 
     def give(self, name: str, group: Group) -> bool:
         """Gives the decision `name` of `group` to all renditions, or to none; whether the feed may go on."""
@@ -295,6 +313,7 @@ class Ladder:
             return self.hold(name, group, away)
         for it, decision in group:
             it.folder.given(it.folder.named(name) or decision)
+            it.debts = [body for body in it.debts if not is_of(decision, body)]  # (of an older pod)
         self.held.pop(name, None)
         self.given_up.discard(name)
         text = Channel.taken_text(group[0][1])
@@ -311,6 +330,7 @@ class Ladder:
         if faults.code_of(line) == "J9":
             for it, found in group:
                 it.folder.given(it.folder.named(name) or found)
+                it.note_late(decision.ids)
             self.tell(f"decisions/{name}", "J9", f"{', '.join(decision.ids)} has begun in {refuser.settings.name}, and keeps its pod; no rendition is given another one")
         elif faults.code_of(line) == "J10":
             self.tell(f"decisions/{name}", "J10", f"{refuser.settings.name}: {faults.meaning(answer.status, line)}; tries it again")
@@ -318,15 +338,45 @@ class Ladder:
             self.refuse(name, group, faults.name_of(line), f"{refuser.settings.name}: {faults.meaning(answer.status, line)} ({line})")
         return True
 
-    def withdraw(self, group: Group) -> None:
-        """Takes the decision of `group` back from all renditions; one that doesn't answer is told before its next list."""
-        decision = group[0][1]
-        bodies = [json.dumps({"withdraw": it}).encode() for it in decision.ids] if decision.kind == "breaks" else [b'{"fallback":null}']
+    def withdraw(self, group: Group) -> list[str]:
+        """Takes the decision of `group` back from all renditions; one that doesn't answer is told before its next list. The breaks that
+        have begun in one."""
+        decision, begun = group[0][1], []
+        bodies = {name: withdrawal(name) for name in decision.ids} if decision.kind == "breaks" else {"": NO_FALLBACK}
         for it, _ in group if decision.kind != "withdraw" else []:
-            for body in bodies:
-                answer = it.put("decisions", body)
+            for name, body in bodies.items():
+                answer = Answer(0) if it.debts else it.put("decisions", body)  # (what it owes comes first)
                 if answer.status != 204 and answer.status not in JUDGED:
                     it.debts.append(body)
+                elif faults.code_of(answer.line()) == "J9":
+                    begun.append(name)
+        return begun
+
+    def take_removed_back(self, name: str) -> None:
+        """The file `name` was removed from a rendition's folder after it was given: takes its decision back from all. The others' files
+        wait until all have one again. A break that has begun in one rendition keeps its pod in all."""
+        removed = {it: decision for it in self.members if (decision := it.folder.removed.pop(name, None)) is not None}
+        where, first = ", ".join(it.settings.name for it in removed), next(iter(removed.values()))
+        ids = [one for one in first.ids if all(one in it.folder.held_by(decision) for it, decision in removed.items())]
+        begun = self.begun(ids)
+        group = [(it, replace(removed.get(it) or it.folder.named(name) or first, ids=[one for one in ids if one not in begun])) for it in self.members]
+        entered = self.withdraw(group)
+        self.give_back(group, entered)
+        if first.kind == "fallback":
+            for it in self.members:
+                it.fallback_stamp = None
+        for it in self.members if not begun and not entered else []:
+            if (decision := it.folder.named(name)) is not None and decision.state == "given":
+                decision.state = "new"
+        self.held.pop(name, None)
+        self.given_up.discard(name)
+        self.tell(f"decisions/{name}", "Removed", f"the file was removed from {where}; {taken_back_text(first, ids, [*begun, *entered])} in all renditions")
+        self.states.pop(f"decisions/{name}")
+
+    def give_back(self, group: Group, ids: list[str]) -> None:
+        """The breaks `ids` of `group` were withdrawn, but have begun in a rendition: all have their pods again."""
+        for it, decision in group if ids else []:
+            it.put("decisions", without(decision, set(said_by(decision.body)[1]) - set(ids)).body)
 
     def hold(self, name: str, group: Group, away: list[tuple[Rendition, Answer]]) -> bool:
         """Some renditions (`away`) didn't answer. If none did, or for a while, all lists wait; then the others go on without
@@ -339,14 +389,16 @@ class Ladder:
             return False
         self.withdraw(group)
         self.given_up.add(name)
-        self.tell(f"decisions/{name}", "Away", f"{', '.join(it.settings.name for it, _ in away)} doesn't answer; no rendition is given it until all answer")
+        text = f"{', '.join(it.settings.name for it, _ in away)} doesn't answer"
+        self.keep_why(group[0][1].ids, text)
+        self.tell(f"decisions/{name}", "Away", f"{text}; no rendition is given it until all answer")
         return True
 
     # ---- numbers
 
     def compare(self) -> None:
         """Compares the numbers that viewers have of the newest segment that all renditions have shown. If they come apart, it is told,
-        and the discontinuities that a rendition lacks are added once no break is listed: within one they might be replaced."""
+        and the discontinuities that a rendition lacks are added where no break may begin: within one they might be replaced."""
         common = set.intersection(*({one.number for one in it.lists.stands.repairer.last} for it in self.members))
         known = [number for number in common if number > self.equal_after and all(number in it.lists.stands.viewed.begins for it in self.members)]
         if not known or any(it.lists.is_open or it.lists.stands.viewed.is_replaced for it in self.members):
@@ -354,24 +406,34 @@ class Ladder:
         found = {it.settings.name: it.lists.stands.viewed.begins[max(known)] for it in self.members}
         usual = max(found.values(), key=list(found.values()).count)
         odd = {name: it for name, it in found.items() if it != usual}
+        for it in self.members:
+            it.stands_apart(it.settings.name in odd)
         if not odd:
-            if self.states.pop("ladder", ""):
+            if self.states.pop("numbers", ""):
                 self.say(f"{now_text()} {self.name} ladder - -: the renditions' numbers are equal")
             return
-        text = "; ".join(f"{name} ends with media number {it[0]} and discontinuity number {it[1]}" for name, it in odd.items())
-        does = "the discontinuities are added once no break is listed" if all(it[0] == usual[0] for it in odd.values()) else \
-            "media numbers stay so: DELETE all of them while no break is listed"
-        self.tell_apart(f"the renditions' numbers come apart: {text}, and the others with {usual[0]} and {usual[1]}; {does}")
-        if not any(it.lists.is_signalled() for it in self.members):
+        self.tell_apart(odd, usual)
+        if not any(it.lists.may_enter(it.tolerance or 0) for it in self.members):
             most = max(discontinuity for _, discontinuity in found.values())
             for it in self.members:
                 it.lists.owe(most - found[it.settings.name][1])
             self.equal_after = max(it.lists.stands.repairer.last[-1].number for it in self.members) + 1
 
-    def tell_apart(self, text: str) -> None:
-        """Tells that numbers come apart, once until they are equal again."""
-        if not self.states.get("ladder"):
-            self.tell("ladder", "Apart", text)
+    def tell_apart(self, odd: dict[str, Numbers], usual: Numbers) -> None:
+        """Tells which renditions are `odd`, with their numbers, beside the `usual` ones: once until all are equal again."""
+        if self.states.get("numbers"):
+            return
+        text = "; ".join(f"{name} ends with media number {it[0]} and discontinuity number {it[1]}" for name, it in odd.items())
+        does = "the discontinuities are added as soon as no break may begin" if all(it[0] == usual[0] for it in odd.values()) else \
+            "media numbers stay so: DELETE all of them while no break is listed"
+        self.states["numbers"] = "Apart"
+        self.say(f"{now_text()} {self.name} ladder - Apart: the renditions' numbers come apart: {text}, and the others with {usual[0]} and {usual[1]}; {does}")
+
+
+def is_of(decision: Decision, body: bytes) -> bool:
+    """Whether the withdrawal `body` is of a break of `decision`, or of the fallback that it sets."""
+    kind, ids = said_by(body)
+    return kind == decision.kind == "fallback" or bool(set(ids) & set(decision.ids))
 
 
 def shape_of(body: bytes) -> str:

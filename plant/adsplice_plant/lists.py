@@ -11,11 +11,11 @@ from pathlib import Path
 from . import numbers, packaged, repairs, spelling
 from .numbers import Standing, Viewed
 from .packaged import PackagedList, PackagedSegment
+from .records import Record
 from .repair import Choices, Head, Repaired, Repairer, count_on
 from .settings import Settings
 from .siblings import Siblings
 from .signalling import Signalling, as_listed
-from .whole_files import write_aside
 
 Tell = Callable[[str, int, str, str], None]  # who, status, fault, text: told unless the state of who is as it was
 SIGNAL = "SCTE35-OUT"
@@ -32,6 +32,7 @@ class Lists:
                  clock: Callable[[], int] = time.time_ns) -> None:
         self.settings, self.tell, self.say, self.signalling, self.now, self.clock = settings, tell, say, signalling, now, clock
         self.path: Path | None = settings.keep / f"{settings.name}.numbers" if settings.keep and settings.repair else None
+        self.record = Record(self.path) if self.path else None
         choices = Choices(settings.target, settings.endless, settings.times)
         self.stands = Standing(Repairer(choices), Viewed(), b"", Counter())
         self.came: bytes | None = None  # the newest whole list
@@ -87,10 +88,10 @@ class Lists:
 
     def save(self) -> None:
         """Keeps where the channel stands."""
-        if self.path is None or not self.stands.repairer.last:
+        if self.record is None or not self.stands.repairer.last:
             return
         try:
-            write_aside(self.path, numbers.pack(self.stands))
+            self.record.write(numbers.pack(self.stands), {"repairs": self.stands.repairs})
             self.tell("numbers", 0, "", "")
         except OSError as fault:
             self.tell("numbers", 0, "Unkept", f"{self.path}: {fault.strerror}; after a new start of the feed numbers may go back")
@@ -192,6 +193,17 @@ class Lists:
         self.is_open, self.before, self.pending = False, None, None
         last = self.stands.repairer.last
         return bool(last) and (self.is_signalled() or not self.stands.viewed.reckon(last))
+
+    def may_enter(self, tolerance: int) -> bool:
+        """Whether a break may begin with the next segment: one is listed whose start is within `tolerance` of the newest segment's end,
+        or somewhat after it. A break that began before isn't entered any more."""
+        if not self.newest.segments:
+            return True
+        last = self.newest.segments[-1]
+        end = (last.begins or 0) + last.duration
+        found = [packaged.attributes_of(line.partition(":")[2]) for line in self.newest.date_ranges() if SIGNAL in line]
+        starts = [packaged.instant_of(it.get("START-DATE", "")) for it in found]
+        return any(it is not None and -tolerance <= it - end <= tolerance + last.duration for it in starts)
 
     def is_signalled(self) -> bool:
         """Whether the list that was pushed last has a break."""

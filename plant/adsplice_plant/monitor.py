@@ -11,8 +11,9 @@ from prometheus_client.registry import Collector
 
 from . import settings as told
 from . import words
-from .as_run import BEAT, AsRun, Log
-from .kept import Kept
+from .as_run import BEAT, KEYS, AsRun, Log
+from .journal import BEAT as BEAT_FILE
+from .kept import EVENTS, Kept
 from .masters import written_names
 from .numbers import repairs_kept
 from .origins import NAMES
@@ -41,6 +42,7 @@ Refused pushes and the as-run log need what adsplice-feed --keep has kept (--kep
 Exit status with --reconcile: 0 if all that was sold was shown whole; 2 if not. With --once: 0 all is well; 2 a channel is late, stands still or doesn't answer, or a process doesn't answer;
 1 a fault. Wrong words are 2, too. Without --once: 0 after SIGTERM, SIGINT or SIGHUP."""
 CRITICAL = 2
+LAST = 2.0  # seconds for which what is known is still written at the end
 AGAIN = 3.0  # seconds for which a channel without a list is looked at again
 AWAY = (0, 502, 504)  # statuses that say that a process doesn't answer
 
@@ -75,19 +77,19 @@ def read_words(arguments: list[str]) -> argparse.Namespace:
 
 def watches_of(said: argparse.Namespace) -> list[Watch]:
     """A watch for each channel that the words `said` name; raises Fault."""
-    channels = [(it, said.at, said.kept) for it in said.channel]
+    channels = [(it, said.at, said.kept, True) for it in said.channel]
     if said.config is not None:
-        known = {name: (name, said.at or it.at, said.kept or it.keep) for it in told.read_file(said.config)
+        known = {name: (name, said.at or it.at, said.kept or it.keep, bool(it.decisions or it.texts.get("decisions"))) for it in told.read_file(said.config)
                  for name in (written_names(it) if it.master else [it.name])}
         channels = [known[it] for it in said.channel or known if it in known]
         if missing := set(said.channel) - set(known):
             raise Fault(f"{said.config}: there is no channel {min(missing)}")
     log = Log(said.as_run) if said.as_run else None
     found = []
-    for name, at, folder in channels:
+    for name, at, folder, is_decided in channels:
         kept = Kept(folder / f"{name}.events") if folder else None
         found.append(Watch(name, f"{said.viewers or at}/channels/{name}/live.m3u8", f"{at}/channels/{name}/why", Client(5), kept,
-                           AsRun(name, log) if log and kept else None, said.late, said.still))
+                           AsRun(name, log, is_decided=is_decided) if log and kept else None, said.late, said.still))
     return found
 
 
@@ -127,6 +129,7 @@ class Figures(Collector):
         ended = GaugeMetricFamily("adsplice_ended", "Whether the playlist has ended (EXT-X-ENDLIST)", labels=["channel"])
         breaks = GaugeMetricFamily("adsplice_breaks", "Known breaks by the word of why", labels=["channel", "why"])
         lines = CounterMetricFamily("adsplice_as_run", "Breaks that were written to the as-run log, by the pod that was shown", labels=["channel", "pod", "why"])
+        begun = CounterMetricFamily("adsplice_breaks_begun", "Breaks that have begun, by the pod in their place", labels=["channel", "pod", "why"])
         waiting = GaugeMetricFamily("adsplice_as_run_waiting", "Lines of the as-run log that can't be written", labels=["channel"])
         for it in self.watches:
             with it.lock:
@@ -141,10 +144,11 @@ class Figures(Collector):
                 for word in WORDS:
                     breaks.add_metric([it.name, word], it.words[word])
                 if it.as_run:
-                    for (pod, why), count in sorted(it.as_run.counts.items()):
-                        lines.add_metric([it.name, pod, why], count)
+                    for pod, why in dict.fromkeys([*KEYS, *it.as_run.counts, *it.as_run.begun]):  # (each from 0 on, so that its first one is seen to come)
+                        lines.add_metric([it.name, pod, why], it.as_run.counts[pod, why])
+                        begun.add_metric([it.name, pod, why], it.as_run.begun[pod, why])
                     waiting.add_metric([it.name], len(it.as_run.waiting) + it.as_run.lost)
-        yield from (answers, behind, still, target, ended, breaks, lines, waiting)
+        yield from (answers, behind, still, target, ended, breaks, lines, begun, waiting)
 
     def pushes(self) -> Iterator[Metric]:
         """The figures of what the feeds kept."""
@@ -154,9 +158,17 @@ class Figures(Collector):
         restarts = CounterMetricFamily("adsplice_feed_restarts", "Times that a channel's feed began anew after a fault that nobody foresaw", labels=["channel"])
         repairs = CounterMetricFamily("adsplice_feed_repairs", "Lists that the feed put right, by the kind of repair", labels=["channel", "kind"])
         origins = GaugeMetricFamily("adsplice_feed_origin", "Whether a channel's list is read from this one of its two origins", labels=["channel", "place"])
+        late = CounterMetricFamily("adsplice_feed_late_decisions", "Decisions that came after their break had begun", labels=["channel"])
+        refused = GaugeMetricFamily("adsplice_feed_refused_time_seconds", "When a decision was refused last, or came late, since 1970", labels=["channel", "what", "status", "fault"])
+        apart = GaugeMetricFamily("adsplice_feed_apart", "Whether a rendition's numbers aren't those of the programme's others", labels=["channel"])
+        steps = GaugeMetricFamily("adsplice_feed_step_age_seconds", "Seconds since a channel's feed showed that it goes on", labels=["channel"])
+        ages = GaugeMetricFamily("adsplice_feed_kept_age_seconds", "Seconds since a channel's feed kept an event", labels=["channel"])
         for it in self.watches:
             if it.kept is None:
                 continue
+            for age, end in ((steps, BEAT_FILE), (ages, EVENTS)):
+                if (seconds := it.kept.age(end)) is not None:
+                    age.add_metric([it.name], seconds)
             for kind, lists in sorted(repairs_kept(it.kept.path.with_suffix(".numbers")).items()):
                 repairs.add_metric([it.name, kind], lists)
             with it.lock:
@@ -165,9 +177,13 @@ class Figures(Collector):
                 unread.add_metric([it.name], it.kept.unread)
                 restarts.add_metric([it.name], it.kept.restarts)
                 holes.add_metric([it.name], it.kept.holes)
+                late.add_metric([it.name], it.kept.late)
+                apart.add_metric([it.name], float(it.kept.is_apart))
+                for key, at in sorted(it.kept.refused.items()):
+                    refused.add_metric([it.name, *key], at)
                 for place, name in enumerate(NAMES if it.kept.origin else (), 1):
                     origins.add_metric([it.name, name], float(it.kept.origin == place))
-        yield from (answers, unread, restarts, holes, repairs, origins)
+        yield from (answers, unread, restarts, holes, repairs, origins, late, refused, apart, steps, ages)
 
 
 def is_open(watch: Watch, begun: bytes, until: float) -> bool:
@@ -183,12 +199,12 @@ def once(watches: list[Watch], processes: Processes, registry: CollectorRegistry
     of `registry`, and answers the exit status."""
     processes.look()
     for it in watches:
-        it.look()
+        it.judge()
     begun, until = {it.name: it.body for it in watches}, time.monotonic() + AGAIN
     while waiting := [it for it in watches if is_open(it, begun[it.name], until)]:
         time.sleep(interval)
         for it in waiting:
-            it.look()
+            it.judge()
     troubles = [text for it in watches for text in it.troubles()]
     troubles += [f"the process at {url} doesn't answer" for url, is_up in processes.up.items() if not is_up]
     first = f"CRITICAL: {', and '.join(troubles)}" if troubles else f"OK: {len(watches)} channels go on"
@@ -199,7 +215,7 @@ def once(watches: list[Watch], processes: Processes, registry: CollectorRegistry
 def follow(watch: Watch, ending: threading.Event, interval: float) -> None:
     """Looks at `watch` every `interval` seconds until `ending` is set."""
     say = words.Teller(words.ERROR, lambda line: words.Level.ERROR).say
-    while not ending.wait(interval):
+    while not ending.wait(watch.pause(interval)):
         try:
             watch.look()
         except Exception as fault:  # noqa: BLE001  (one channel's fault isn't to end the figures of the others)
@@ -218,22 +234,41 @@ def serve(watches: list[Watch], processes: Processes, registry: CollectorRegistr
         threading.Thread(target=follow, args=(it, ending, said.interval), daemon=True).start()
     threading.Thread(target=look_on, args=(processes, ending, max(said.interval, 1)), daemon=True).start()
     if log := next((it.as_run.log for it in watches if it.as_run), None):
-        threading.Thread(target=beat_on, args=(log, ending), daemon=True).start()
+        beating = threading.Thread(target=beat_on, args=(log, watches, ending), daemon=True)
+        beating.start()
     while not ending.wait(3600):
         pass
+    if log:
+        beating.join(LAST)
     return 0
 
 
-def beat_on(log: Log, ending: threading.Event) -> None:
-    """Keeps that a monitor runs beside its as-run log `log`, until `ending` is set."""
-    say, beat = words.Teller(words.ERROR, lambda line: words.Level.ERROR).say, log.begin
-    while not ending.is_set():
+def beat_on(log: Log, watches: list[Watch], ending: threading.Event) -> None:
+    """Keeps that a monitor runs beside its as-run log `log`, and what it knows of the breaks of `watches`, until `ending` is set."""
+    say, has_begun = words.Teller(words.ERROR, lambda line: words.Level.ERROR).say, False
+    is_last = False
+    while not is_last:
+        is_last = ending.is_set()
         try:
-            beat()
-            beat = log.beat
+            if not has_begun:
+                log.begin()
+            has_begun = True
+            log.beat(state_of(watches))
         except OSError as fault:
             say(f"{words.now_text()} {log.path}: {fault.strerror}")
+        except Exception as fault:  # noqa: BLE001  (the sign that a monitor runs isn't to end in silence)
+            say(f"{words.now_text()} {log.path}: {type(fault).__name__}: {str(fault)[:200]}")
         ending.wait(BEAT)
+
+
+def state_of(watches: list[Watch]) -> dict[str, object]:
+    """What a later monitor has to know of `watches`, by their names."""
+    found: dict[str, object] = {}
+    for it in watches:
+        if it.as_run:
+            with it.lock:
+                found[it.name] = it.as_run.state()
+    return found
 
 
 def look_on(processes: Processes, ending: threading.Event, interval: float) -> None:

@@ -13,7 +13,7 @@ from dataclasses import dataclass, field
 from pathlib import Path
 from typing import Any
 
-from . import packaged, spelling
+from . import packaged, records, spelling
 from .packaged import Key, PackagedList, PackagedSegment
 from .repair import Choices, Head, Repairer
 
@@ -132,7 +132,7 @@ class Standing:
     files: dict[str, list[Any]] = field(default_factory=dict)
 
 
-def pack(it: Standing) -> bytes:
+def pack(it: Standing) -> str:
     """What a feed keeps on disk of where a channel stands."""
     head, last = it.repairer.head, it.repairer.last
     assert head is not None
@@ -146,7 +146,7 @@ def pack(it: Standing) -> bytes:
         "own": [one.own for one in history], "bare": sorted({key.text for one in history for key in one.keys if key.takes_number()}),
         "begins": [[number, *found] for number, found in it.viewed.begins.items() if number >= history[0].number],
         "end": it.viewed.end, "is_replaced": it.viewed.is_replaced, "ranges": [[*found] for found in it.viewed.ranges.values()],
-    }).encode()
+    })
 
 
 def unpack(body: bytes, choices: Choices) -> Standing:
@@ -191,7 +191,7 @@ def history_of(text: bytes, own: list[int], bare: set[str]) -> list[PackagedSegm
 def load(path: Path, choices: Choices) -> Standing | None:
     """Where the channel stands by the file `path`; none if there is none. Raises ValueError if it doesn't read."""
     try:
-        return unpack(path.read_bytes(), choices)
+        return unpack(records.read(path), choices)
     except FileNotFoundError:
         return None
     except OSError as fault:
@@ -200,8 +200,9 @@ def load(path: Path, choices: Choices) -> Standing | None:
 
 def repairs_kept(path: Path) -> dict[str, int]:
     """How many lists had each kind of repair, by the file `path`; none if it isn't there or doesn't read."""
+    found = records.newest(path)
     try:
-        return {str(name): int(count) for name, count in json.loads(path.read_bytes())["repairs"].items()}
-    except (OSError, ValueError, KeyError, TypeError, AttributeError, RecursionError):
+        return {str(name): int(count) for name, count in found["repairs"].items()} if isinstance(found, dict) else {}
+    except (ValueError, KeyError, TypeError, AttributeError):
         return {}
 

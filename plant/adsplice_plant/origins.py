@@ -73,6 +73,11 @@ class Place:
             return f"fails ({self.why})"
         return f"stands still for {self.now() - self.changed:.1f} s" if self.is_still() else ""
 
+    def patience(self) -> float:
+        """The seconds to the next look at the latest: once it has failed for a target duration, and from then on half of one."""
+        left = 0.0 if self.failed is None else self.target - (self.now() - self.failed)
+        return left if left > 0 else self.target / 2
+
     def is_alive(self, shown: bytes | None) -> bool:
         """Whether its list goes on: it was seen to change, or it ends later than the list `shown`, or none was shown."""
         if self.failed is not None or self.body is None or self.is_still():
@@ -106,6 +111,7 @@ class TwoOrigins:
         self.handover: Handover | None = None
         self.since = now()  # when the place changed
         self.looking: threading.Thread | None = None
+        self.has_failed = False  # whether the last look at the chosen one left it in trouble: a look may take as long as a request
 
     def join(self, choice: Choice) -> None:
         """Chooses with the others of `choice`."""
@@ -114,9 +120,10 @@ class TwoOrigins:
 
     def read(self) -> Read:
         """The newest list of the origin that is chosen, if it is new."""
-        found = self.places[self.choice.place].look()
-        if self.choose():
-            found = Read()
+        found = Read()
+        if not (self.has_failed and self.choose()):
+            found = self.places[self.choice.place].look()
+            found = Read() if self.choose() else found
         if self.place != self.choice.place:
             self.change()
         it = self.places[self.place]
@@ -128,6 +135,10 @@ class TwoOrigins:
         self.given, self.shown = it.body, body
         return Read(body, found.status, moved=found.moved)
 
+    def patience(self) -> float:
+        """The seconds to the next look at the latest, while the origin that is read fails."""
+        return self.places[self.place].patience()
+
     def forget(self) -> None:
         """The list is read again, though it hasn't changed."""
         self.given = None
@@ -138,13 +149,14 @@ class TwoOrigins:
         place = self.choice.place
         current, other = self.places[place], self.places[SECOND - place]
         trouble, text = current.trouble(), ""
+        self.has_failed = bool(trouble) and current.failed is not None
         if self.now() - self.choice.since >= STILL * current.target and not (self.looking and self.looking.is_alive()):
             if trouble and other.is_alive(self.shown):
                 text = f"the {NAMES[place]} origin {trouble}; reads the {NAMES[SECOND - place]} one"
             elif place == SECOND and all(it.is_first_well() for it in self.choice.members):
                 text = f"the first origin has been well for {self.well:g} s; reads it again"
-        if not text and (place == SECOND or trouble):
-            self.look_at(other)  # (which is judged at the next turn)
+        if not text and (place == SECOND or trouble or current.failed is not None):
+            self.look_at(other)  # (which is judged at a later turn)
         if not text:
             return False
         self.choice.place, self.choice.text, self.choice.since = SECOND - place, text, self.now()

@@ -50,12 +50,12 @@ class Listed:
 
     def end(self) -> int | None:
         """The instant at which its last segment ends: the last known one and the durations from there on."""
-        found = None
-        for it in self.segments:
+        after = 0
+        for it in reversed(self.segments):
+            after += it.duration
             if it.is_stated and it.begins is not None:
-                found = it.begins
-            found = None if found is None else found + it.duration
-        return found
+                return it.begins + after
+        return None
 
 
 def seconds_text(duration: int) -> str:

@@ -62,7 +62,7 @@ def verdict(sold: Sold, lines: list[dict[str, Any]]) -> tuple[str, str]:
     if line.get("pod") == "own" and count:
         return "part", f"shown in part {when} ({count} of {len(sold.uris)} segments)"
     instead = "the fallback was in its place" if line.get("pod") == "fallback" else "another pod was in its place" if line.get("pod") == "own" else "nothing was in its place"
-    return "not", f"not shown {when}: {instead} ({line.get('why') or 'why is unknown'})"
+    return "not", f"not shown {when}: {instead} ({line.get('reason') or line.get('why') or 'why is unknown'})"
 
 
 def report(folder: Path, log: Path, channels: list[str]) -> tuple[list[str], bool]:

@@ -4,10 +4,15 @@ import os
 import re
 import signal
 import subprocess
+import sys
 import time
 import urllib.request
+from pathlib import Path
 
-from tools import FALLBACK, PLANT, PYTHON, FakeController, FakeOrigin, decided, free_port, get, listed, until
+from tools import FALLBACK, PLANT, PYTHON, FakeController, FakeOrigin, RulesController, decided, free_port, get, listed, until
+
+sys.path.insert(0, PLANT)
+from adsplice_plant.kept import Kept  # noqa: E402
 
 NEEDS = ("httpx",)
 PROGRAM = ("httpx", "program")
@@ -180,14 +185,31 @@ def test_404_makes_the_channel_with_what_is_open(room):
 def test_decision_file_stays_while_its_break_is_listed(room):
     path = f"{room.path}/decisions"
     os.makedirs(path)
-    origin, controller, feed = started(room, listed(0, 5, [("b1", 4, 4)]), "--decisions", path)
+    origin, controller, feed = started(room, listed(0, 5, [("b1", 14, 4)]), "--decisions", path)
     room.write("decisions/one.json", decided(("b1", 2)))
     feed.sees("news decisions/one.json 204 -: decides b1")
     time.sleep(1.2)
     assert os.listdir(path) == ["one.json"]
-    origin.text = listed(6, 11)
+    origin.text = listed(5, 10, [("b1", 14, 4)])
+    until(lambda: len(controller.puts("origin")) == 2, 5, "the list within the break")
+    assert os.listdir(path) == ["one.json"]
+    origin.text = listed(10, 15)
     feed.sees("news decisions/one.json - -: b1 is no longer listed; moves the file to done")
     assert os.listdir(path) == ["done"] and os.listdir(f"{path}/done") == ["one.json"]
+
+
+def test_decision_file_that_is_written_again_as_it_was_is_given_once(room):
+    path = f"{room.path}/decisions"
+    os.makedirs(path)
+    origin, controller, feed = started(room, listed(0, 5, [("b1", 14, 4)]), "--decisions", path)
+    room.write("decisions/one.json", decided(("b1", 2)))
+    feed.sees("news decisions/one.json 204 -: decides b1")
+    for _ in range(3):
+        room.write("decisions/one.json", decided(("b1", 2)))
+        time.sleep(0.6)
+    room.write("decisions/one.json", decided(("b1", 1)))
+    until(lambda: len(controller.puts("decisions")) == 2, 5, "the other decision")
+    assert [it.decode() for it in controller.puts("decisions")] == [decided(("b1", 2)), decided(("b1", 1))]
 
 
 def test_refused_decision_file_is_told_in_words_and_taken_once_mended(room):
@@ -255,6 +277,36 @@ def test_decision_that_came_too_late_stays_refused(room):
     assert [it["id"] for it in json.loads(controller.puts("decisions")[-1])["breaks"]] == ["b2"], controller.puts("decisions")[-1]
 
 
+def test_decision_that_came_late_without_a_fallback_is_told_so(room):
+    path = f"{room.path}/decisions"
+    os.makedirs(path)
+    controller = room.server(RulesController())
+    origin = room.server(FakeOrigin(listed(0, 5, [("b1", 4, 4), ("b2", 40, 4)])))
+    feed = room.feed("--channel", "news", "--origin", origin.url, "--at", controller.url, "--decisions", path, "--keep", f"{room.path}/kept")
+    feed.sees("news adsplice 204 -: the list is taken")
+    room.write("decisions/one.json", decided(("b1", 2), ("b2", 2)))
+    after = feed.sees("news decisions/one.json 204 Late: b1 has begun, and stays as it is; decides b2")
+    assert "b1-0.ts" not in controller.shown("news") and kept_of(room).late == 1
+    controller.edge.channels.clear()  # (adsplice is started anew, and the break is still listed)
+    origin.text = listed(1, 6, [("b1", 4, 4), ("b2", 40, 4)])
+    feed.sees("news adsplice 204 -: the list is taken", 20, after)
+    assert "b1-0.ts" not in controller.shown("news") and "s2.ts" in controller.shown("news"), controller.shown("news")
+
+
+def kept_of(room):
+    """What the feed of `news` has kept."""
+    found = Kept(Path(room.path, "kept", "news.events"))
+    found.follow()
+    return found
+
+
+def test_an_address_that_takes_no_put_is_told_as_such(room):
+    controller = room.server(FakeController())
+    controller.refusals[("PUT", "")] = [(404, "<html>")] * 100
+    feed = room.feed("--channel", "news", "--origin", room.write("index.m3u8", listed(0, 5)), "--at", controller.url, "--base", "http://h/")
+    feed.sees(f"news adsplice 404 -: {controller.url} takes no PUT of a channel: perhaps it is the viewers' address, and `at` is to be adsplice's for PUT; makes the channel as soon")
+
+
 def test_decisions_of_breaks_that_are_not_listed_wait_for_room(room):
     path = f"{room.path}/decisions"
     os.makedirs(path)
@@ -269,6 +321,95 @@ def test_decisions_of_breaks_that_are_not_listed_wait_for_room(room):
     assert b"b209-0" in controller.puts("decisions")[-1]
 
 
+def test_two_thousand_decisions_are_given_once_each_as_there_is_room(room):
+    from adsplice_plant.decisions import Folder
+    for it in range(2000):
+        room.write(f"d/{it:04}.json", decided((f"b{it:04}", 1)))
+    folder, given = Folder(Path(room.path, "d"), 7), []
+    for turn in range(60):
+        listed_now = {f"b{it:04}" for it in range(1500, 1500 + turn // 2)}  # (the newest files' breaks come first)
+        folder.look()
+        for it in folder.next_up(listed_now):
+            given.append(it.ids[0])
+            folder.given(it)
+        if turn == 10:
+            assert len(given) == 200 + 5, len(given)  # (whatever a channel can't use yet isn't given)
+    assert len(given) == len(set(given)) == 200 + 29 and len(os.listdir(f"{room.path}/d")) == 2000, len(given)
+
+
+def test_removed_files_leave_room_for_other_decisions(room):
+    controller, path = room.server(RulesController()), f"{room.path}/decisions"
+    names = [f"later-{it:03}" for it in range(400)]
+    for it in names:
+        room.write(f"decisions/{it}.json", decided((it, 1)))
+    feed = room.feed("--channel", "news", "--origin", room.write("index.m3u8", listed(0, 5)), "--at", controller.url, "--base", "http://h/i.m3u8", "--decisions", path)
+
+    def told(word):
+        return [line for line in feed.lines if f" {word} later-" in line]
+
+    until(lambda: len(told("decides")) == 200, 30, "200 decisions")
+    for it in names[:200]:
+        os.remove(f"{path}/{it}.json")
+    until(lambda: len(told("decides")) == 400, 30, "the 200 others")
+    assert len(told("withdraws")) == 200 and "later-000.json 204 Removed: the file was removed; withdraws later-000" in told("withdraws")[0], told("withdraws")[:2]
+    room.write("decisions/own.json", decided(("own", 2)))
+    room.write("index.m3u8", listed(1, 6, [("own", 14, 4)]))
+    feed.sees("news decisions/own.json 204 -: decides own")
+    assert not any("J10" in line for line in feed.lines)
+
+
+def test_removed_file_is_taken_back_before_the_list_that_enters_its_break(room):
+    origin, controller, feed = started(room, listed(0, 5, [("b1", 14, 4), ("b2", 16, 4)]), "--decisions", f"{room.path}/decisions")
+    room.write("decisions/two.json", decided(("b1", 1), ("b2", 1)))
+    feed.sees("news decisions/two.json 204 -: decides b1, b2")
+    origin.text = listed(0, 7, [("b1", 14, 4), ("b2", 16, 4)])
+    until(lambda: len(controller.puts("origin")) == 2, 5, "the list that enters b1")
+    os.remove(f"{room.path}/decisions/two.json")
+    feed.sees("news decisions/two.json 204 Removed: the file was removed; withdraws b2; b1 has begun, and keeps its pod")
+    assert controller.puts("decisions")[1:] == [b'{"withdraw": "b2"}']
+    room.write("decisions/two.json", decided(("b2", 1)))
+    feed.sees("news decisions/two.json 204 -: decides b2", 5)
+
+
+def test_removed_fallback_file_is_taken_back(room):
+    room.write("decisions/fallback.json", FALLBACK)
+    origin, controller, feed = started(room, listed(0, 5), "--decisions", f"{room.path}/decisions")
+    os.remove(f"{room.path}/decisions/fallback.json")
+    feed.sees("news decisions/fallback.json 204 Removed: the file was removed; takes its fallback back")
+    assert controller.puts("decisions") == [FALLBACK.encode(), b'{"fallback":null}']
+
+
+def test_removed_file_that_adsplice_says_has_begun_keeps_its_pod(room):
+    origin, controller, feed = started(room, listed(0, 5), "--decisions", f"{room.path}/decisions")
+    room.write("decisions/one.json", decided(("b1", 1)))
+    feed.sees("news decisions/one.json 204 -: decides b1")
+    controller.refusals[("PUT", "decisions")] = [(503, ""), (409, "J9 Used\n")]
+    os.remove(f"{room.path}/decisions/one.json")
+    feed.sees("news decisions/one.json 204 Removed: the file was removed; b1 has begun, and keeps its pod")
+    assert controller.puts("decisions")[1:] == [b'{"withdraw": "b1"}'] * 2
+
+
+def test_folder_that_cannot_be_read_takes_nothing_back(room):
+    from adsplice_plant.decisions import Folder
+    path = Path(room.path, "d")
+    for name, ids in (("one", ("b1", "b2")), ("two", ("b2", "b3"))):
+        room.write(f"d/{name}.json", decided(*((it, 1) for it in ids)))
+    folder = Folder(path, 7)
+    folder.look()
+    for it in folder.waiting():
+        folder.given(it)
+    path.rename(f"{room.path}/away")
+    folder.look()
+    assert "" in folder.passed_over and not folder.removed and len(folder.open()) == 2
+    Path(room.path, "away").rename(path)
+    path.joinpath("one.json").unlink()
+    folder.look()
+    assert {name: folder.held_by(it) for name, it in folder.removed.items()} == {"one.json": ["b1"]}, "b2 is of the other file, too"
+    room.write("d/one.json", decided(("b1", 1), ("b2", 1)))
+    folder.look()
+    assert not folder.removed and len(folder.open()) == 2, "the same again, which adsplice has"
+
+
 def test_feed_that_was_started_again_gives_no_decision_twice(room):
     path = f"{room.path}/decisions"
     os.makedirs(path)
@@ -281,6 +422,22 @@ def test_feed_that_was_started_again_gives_no_decision_twice(room):
     feed.end(signal.SIGKILL)
     room.feed("--channel", "news", "--origin", origin.url, "--at", controller.url, *words).sees("news adsplice 204 -: the list is taken")
     assert len(controller.puts("decisions")) == 1 and controller.puts("origin")[-1] == origin.text.encode()
+
+
+def test_a_feed_shows_that_it_goes_on(room):
+    origin, controller, feed = started(room, listed(0, 5), "--keep", f"{room.path}/kept")
+    path, kept = Path(room.path, "kept", "news.beat"), kept_of(room)
+    for _ in range(4):  # (its list doesn't change, and nothing is kept)
+        before = path.stat().st_mtime
+        until(lambda before=before: path.stat().st_mtime > before, 5, "a sign")
+    feed.process.send_signal(signal.SIGSTOP)  # (it hangs)
+    time.sleep(2.2)
+    age = kept.age(".beat")
+    feed.process.send_signal(signal.SIGCONT)
+    assert 2 < age < 10 and kept.age(".events") > age and kept.age(".nothing") is None
+    origin.mode = "silent"  # (an origin that doesn't answer isn't a feed that hangs)
+    before = time.time()
+    until(lambda: path.stat().st_mtime > before + 2, 10, "a sign")
 
 
 def test_signals_end_it_at_once_with_status_0(room):

@@ -13,7 +13,7 @@ from pathlib import Path
 
 import attacks
 from attacks import Hostile
-from tools import PLANT, PYTHON, FakeController, FakeOrigin, decided, free_port, listed, until
+from tools import PLANT, PYTHON, FakeController, FakeOrigin, apart, decided, free_port, listed, until
 
 sys.path.insert(0, PLANT)
 
@@ -263,6 +263,7 @@ def test_channels_that_harm_each_other_are_refused(room):
         assert (status, out, err.count("\n")) == (1, "", 1) and owed in err, (text, status, err)
 
 
+@apart  # (the clock is that of a whole process)
 def test_a_clock_that_jumps_retires_no_decision(room):
     from adsplice_plant import decisions
     path = room.write("d/b1.json", decided(("b1", 1)))

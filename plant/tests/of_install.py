@@ -30,6 +30,26 @@ def test_program_and_plant_in_a_folder(room):
     assert (done.returncode, done.stdout) == (0, f"{file}: right\n"), done  # (by the program beside it)
 
 
+def build_of(folder):
+    """What the adsplice.build in `folder` says."""
+    with open(f"{folder}/adsplice.build", encoding="ascii") as it:
+        return dict(line.rstrip("\n").split(" ", 1) for line in it)
+
+
+def test_build_is_the_programs_own(room):
+    first, second, third = (f"{room.path}/{it}" for it in ("first", "second", "third"))
+    assert install("--program", room.program, first)[0] == 0
+    said = build_of(first) | {"version": "7.0.0", "commit": "abc123 changed"}  # (as whoever built it wrote it)
+    with open(f"{first}/adsplice.build", "w", encoding="ascii") as it:
+        it.write("".join(f"{name} {value}\n" for name, value in said.items()))
+    assert install("--program", f"{first}/adsplice", second)[0] == 0
+    assert (build_of(second)["version"], build_of(second)["commit"]) == ("7.0.0", "abc123 changed"), build_of(second)
+    with open(f"{second}/adsplice", "ab") as it:
+        it.write(b"\n")  # (another program, beside which the file stands)
+    assert install("--program", f"{second}/adsplice", third)[0] == 0
+    assert (build_of(third)["version"], build_of(third)["commit"]) == ("unknown", "unknown") and build_of(third)["sha256"] != build_of(second)["sha256"]
+
+
 def test_package(room):
     if not shutil.which("dpkg-deb"):
         return
@@ -53,6 +73,74 @@ def test_package_has_no_fault_by_lintian(room):
     path = install("--deb", "--program", room.program, f"{room.path}/deb")[1].rstrip()
     said = subprocess.run(["lintian", "--tag-display-limit", "0", path], capture_output=True, text=True, check=False, env={**os.environ, "TMPDIR": room.path}).stdout
     assert not [line for line in said.split("\n") if line.startswith("E:") or "systemctl" in line], said
+
+
+class Machine:
+    """A machine in a folder of the test, on which the package's scripts run with Debian's own helpers; `systemctl` is a stand-in."""
+
+    def __init__(self, room):
+        self.room, self.root, self.units = room, f"{room.path}/root", ("adsplice-feed.service", "adsplice-monitor.service", "adsplice.target")
+        os.makedirs(f"{self.root}/lib/systemd/system")
+        os.makedirs(f"{room.path}/run")
+        for it in self.units:
+            shutil.copy(f"{PLANT}/systemd/{it}", f"{self.root}/lib/systemd/system/{it}")
+        self.running = set()
+        for name in ("adduser", "install"):
+            self.stand_in(name, "exit 0")
+        self.stand_in("systemctl", f"""for it; do last=$it; done
+echo "$@" >>{room.path}/asked
+case "$*" in
+*is-enabled*) [ -L {self.root}/etc/systemd/system/multi-user.target.wants/$last ] && echo enabled || echo disabled ;;
+*is-active*) grep -qx "$last" {room.path}/running ;;
+esac""")
+
+    def stand_in(self, name, text):
+        """A program of the name `name` that does what `text` says."""
+        os.makedirs(f"{self.room.path}/bin", exist_ok=True)
+        path = self.room.write(f"bin/{name}", f"#!/bin/sh\n{text}\n")
+        os.chmod(path, 0o755)
+
+    def enable(self, unit, is_on=True):
+        """What an admin does by `systemctl enable` and `disable`."""
+        path = f"{self.root}/etc/systemd/system/multi-user.target.wants/{unit}"
+        os.makedirs(os.path.dirname(path), exist_ok=True)
+        if is_on:
+            os.symlink(f"/lib/systemd/system/{unit}", path)
+        else:
+            os.unlink(path)
+
+    def configure(self, before="", running=()):
+        """Runs postinst over the version `before` while the units `running` run; answers which are enabled, and what systemctl was told to do."""
+        with open(f"{PLANT}/debian/postinst", encoding="utf-8") as it:
+            text = it.read().replace("/run/systemd/system", f"{self.room.path}/run").replace("/var/lib/adsplice", f"{self.room.path}/state")
+        self.room.write("running", "".join(f"{it}\n" for it in running))
+        self.room.write("asked", "")
+        done = subprocess.run(["sh", self.room.write("postinst", text), "configure", before], capture_output=True, text=True, check=False, env={
+            "PATH": f"{self.room.path}/bin:/usr/bin:/bin", "DPKG_ROOT": self.root, "DPKG_MAINTSCRIPT_PACKAGE": "adsplice", "DPKG_MAINTSCRIPT_NAME": "postinst"})
+        assert done.returncode == 0, done
+        with open(f"{self.room.path}/asked", encoding="utf-8") as it:
+            asked = [line.split() for line in it]
+        enabled = {it for it in self.units if os.path.lexists(f"{self.root}/etc/systemd/system/multi-user.target.wants/{it}")}
+        return enabled, [" ".join(it for it in line if not it.startswith("-")) for line in asked if {"start", "restart", "try-restart"} & set(line)]
+
+
+def test_what_an_admin_disabled_or_stopped_stays_so_at_an_upgrade(room):
+    if not shutil.which("deb-systemd-helper"):
+        return
+    machine = Machine(room)
+    first = machine.configure()
+    assert first == ({"adsplice.target"}, ["start adsplice.target"]), first
+    tried = ["try-restart adsplice@8081.service", "try-restart adsplice@8082.service", "try-restart adsplice-feed.service adsplice-monitor.service"]
+    assert machine.configure("0.1") == ({"adsplice.target"}, tried)
+    machine.enable("adsplice-feed.service")
+    assert machine.configure("0.1") == ({"adsplice.target", "adsplice-feed.service"}, tried)  # (systemctl starts none that doesn't run by these)
+    machine.enable("adsplice-feed.service", False)
+    machine.enable("adsplice.target", False)
+    assert machine.configure("0.1") == (set(), tried)
+    assert machine.configure("0.2", ["adsplice@8081.service"]) == (set(), tried)
+
+
+test_what_an_admin_disabled_or_stopped_stays_so_at_an_upgrade.needs = ()
 
 
 def test_maintainer_scripts_read(room):

@@ -6,7 +6,7 @@ import subprocess
 import sys
 from pathlib import Path
 
-from tools import FALLBACK, OUT, PLANT, PYTHON, decided, instant, listed
+from tools import FALLBACK, OUT, PLANT, PYTHON, apart, decided, instant, listed
 
 sys.path.insert(0, PLANT)
 from adsplice_plant import journal  # noqa: E402
@@ -82,6 +82,7 @@ def test_bytes_come_back_as_they_were(room):
     assert [event.sent() for event in journal.events(path) if event.what == "origin"] == [body, body + b"\xff"]
 
 
+@apart  # (it changes what all journals of a process go by)
 def test_files_have_their_room(room, monkey=(("MAX_BYTES", 20_000), ("ROOM", 100_000))):
     before = {name: getattr(journal, name) for name, _ in monkey}
     try:
@@ -126,6 +127,17 @@ def test_a_full_disk_is_a_hole_and_spoils_no_line(room):
     assert [it.text() for it in journal.events(path)][-1] == listed(39, 68)
 
 
+def test_a_line_that_has_no_room_leaves_the_file_and_its_time(room):
+    # (in a process whose files may have 6,000 bytes: the first ten of the line have room)
+    code = ("import resource, signal, sys; sys.path.insert(0, sys.argv[1])\nfrom pathlib import Path; from adsplice_plant.journal import append\n"
+            "signal.signal(signal.SIGXFSZ, signal.SIG_IGN); resource.setrlimit(resource.RLIMIT_FSIZE, (6000, -1))\n"
+            "try:\n    append(Path(sys.argv[2]), b'y' * 99 + b'\\n')\nexcept OSError:\n    print('refused')\n")
+    path = Path(room.write("news.events", "x" * 5989 + "\n"))
+    os.utime(path, (1, 1))
+    done = subprocess.run([PYTHON, "-c", code, PLANT, str(path)], capture_output=True, text=True, timeout=60, check=False)
+    assert done.stdout == "refused\n" and path.read_text() == "x" * 5989 + "\n" and path.stat().st_mtime == 1, done
+
+
 def test_old_files_and_new_ones_are_explained(room):
     old = [("channel", 201, MADE, ""), ("origin", 204, listed(0, 5), ""), ("decisions", 204, decided(("b1", 2)), ""), ("origin", 502, listed(0, 6), "x"),
            ("origin", 204, listed(1, 7, [("b1", 12, 4)]), ""), ("read", 0, "", "no answer")]
@@ -147,6 +159,21 @@ def test_how_late_a_decision_was_is_told(room):
     out = explain(room, "--kept", room.write("news.events", "".join(events)), "--break", "b1")[1]
     assert out == (f"b1: it is filled by the fallback (1 segment, 2 s), and lasts 4 s itself (by DURATION); the decision of {at(10.4)} came 0.4 s after the list of {at(10)}, "
                    "which was the first to list segment 2 (s2.ts), which begins at 2024-05-01T12:00:04.000Z\n"), out
+
+
+def test_why_no_rendition_has_a_decision_is_told(room):
+    note = event(5, "note", 0, '["b1"]', "news-2 doesn't answer")
+    made, fallback, pod, gone = (event(0, "channel", 201, MADE), event(1, "decisions", 204, FALLBACK), event(2, "decisions", 204, decided(("b1", 2))),
+                                 event(4, "decisions", 204, '{"withdraw": "b1"}'))
+    lists = [event(10 + 2 * n, "origin", 204, listed(n, n + 5, [("b1", 94, 4)] if n > 39 else [])) for n in range(46)]  # (b1 came long after its decision)
+    filled = "b1: it is filled by the fallback (1 segment, 2 s), and lasts 4 s itself (by DURATION); "
+    for n, (before, owed) in enumerate((([fallback, pod, gone, note], filled + "its own pod was withdrawn from all renditions, since news-2 doesn't answer"),
+                                        ([fallback, event(3, "decisions", 502, decided(("b1", 2))), note], filled + "no rendition has its decision, since news-2 doesn't answer"),
+                                        ([note], "b1: no rendition has its decision, since news-2 doesn't answer, and there is no fallback (NotDecided)"),
+                                        ([fallback, event(3, "decisions", 422, decided(("b1", 2), seconds="x"), "J4 BadDuration break 0 ad 0 segment 0")],
+                                         filled + f"the decision of {at(3)}, which names it, is refused (J4 BadDuration break 0 ad 0 segment 0)"))):
+        path = room.write(f"{n}.events", "".join([made, *before, *lists]))
+        assert explain(room, "--kept", path, "--break", "b1")[1] == f"{owed}\n", (explain(room, "--kept", path, "--break", "b1"), owed)
 
 
 def test_a_time_says_which_of_two_breaks_of_one_id(room):
@@ -192,6 +219,22 @@ def test_a_hole_and_what_came_in_it_are_told_first(room):
     assert out == [f"the time from {at(3)}: nothing is kept from there on (No space left on device)",
                    f"the list of {at(60)} was taken, and by the rules it doesn't follow what is known (N6 Gap): something before it isn't kept, or it is a fault of adsplice",
                    "b1: it is filled by its own pod (2 segments, 4 s)"], out
+
+
+def test_lists_after_a_full_disk_are_told_as_they_were_answered(room):
+    events = [event(0, "channel", 201, MADE), event(1, "decisions", 204, decided(("b1", 2), ("b2", 2)))]
+    for n in range(120):  # (nothing is kept of the lists 30 to 49; b1 begins in that time, and b2 later)
+        body = listed(n, n + 9, [("b1", 100, 4)] * (20 <= n <= 53) + [("b2", 200, 4)] * (60 <= n <= 103))
+        if n == 30:
+            events.append(event(2 * n + 20, "hole", 0, "", "No space left on device"))
+        if not 30 <= n < 50:
+            events.append(event(2 * n + 20, "origin", 204, body))
+    path = room.write("news.events", "".join(events))
+    status, out, err = explain(room, "--kept", path)
+    hole = f"the time from {at(80)}: nothing is kept from there on (No space left on device)"
+    assert err == "" and "refused" not in out and "fault of adsplice, which" not in out, out
+    assert hole in out.splitlines() and "b2: it is filled by its own pod (2 segments, 4 s)" in out.splitlines(), out
+    assert "b1: it is filled by its own pod (2 segments, 4 s)" in out.splitlines(), out
 
 
 def test_an_answer_that_is_not_the_rules_is_told_first(room):

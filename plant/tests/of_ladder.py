@@ -4,7 +4,7 @@ import os
 import re
 import urllib.request
 
-from tools import FALLBACK, FakeController, FakeOrigin, decided, free_port, get, listed, until
+from tools import FALLBACK, FakeController, FakeOrigin, RulesController, decided, free_port, get, instant, listed, put, until
 
 NEEDS = ("httpx",)
 NAMES = ("1", "2", "3")
@@ -109,6 +109,72 @@ def test_ladder_file_that_one_never_gets_is_given_up_once_its_break_has_begun(ro
     ladder.feed.sees("news decisions/one.json - Late: b1 has begun, and news-3 has no such file; no rendition is given it")
     until(lambda: os.listdir(f"{room.path}/1/decisions") == os.listdir(f"{room.path}/2/decisions") == ["done"], 5, "the files' move")
     assert not controller.puts("decisions")
+
+
+def removed_from(ladder, controller, name, breaks, begun=()):
+    """A decision of b1 is given to all renditions of `ladder`, the renditions `begun` enter it by the `controller`, and the file of the
+    rendition `name` is removed; answers the line's place."""
+    ladder.taken()
+    ladder.decide("one", decided(("b1", 2)))
+    ladder.feed.sees("news decisions/one.json - -: decides b1 in all renditions")
+    if begun:
+        ladder.push(listed(0, 7, breaks), begun)
+        until(lambda: all(len(asked(controller, it, "origin")) == 2 for it in begun), 10, "their lists")
+    os.remove(f"{ladder.room.path}/{name}/decisions/one.json")
+    return ladder.feed.sees("news decisions/one.json - Removed: ")
+
+
+def test_ladder_file_that_is_removed_from_one_is_withdrawn_from_all(room):
+    controller, breaks = room.server(FakeController()), [("b1", 14, 4)]
+    ladder = Ladder(room, controller.url, listed(0, 5, breaks))
+    after = removed_from(ladder, controller, "2", breaks)
+    ladder.feed.sees("Removed: the file was removed from news-2; withdraws b1 in all renditions")
+    assert [asked(controller, it, "decisions") for it in NAMES] == [[decided(("b1", 2)), '{"withdraw": "b1"}']] * 3
+    ladder.feed.sees("news decisions/one.json - Waits: news-2 has no such file", 10, after)
+    ladder.decide("one", decided(("b1", 2)), ("2",))
+    ladder.feed.sees("news decisions/one.json - -: decides b1 in all renditions", 10, after)
+
+
+def test_ladder_file_that_is_removed_once_its_break_has_begun_in_one_stays_in_all(room):
+    controller, breaks = room.server(FakeController()), [("b1", 14, 4)]
+    ladder = Ladder(room, controller.url, listed(0, 5, breaks))
+    after = removed_from(ladder, controller, "2", breaks, ("1",))
+    ladder.feed.sees("Removed: the file was removed from news-2; b1 has begun, and keeps its pod in all renditions")
+    ladder.push(listed(0, 7, breaks))
+    until(lambda: len(controller.puts("origin")) == 6, 10, "the lists")
+    assert [asked(controller, it, "decisions") for it in NAMES] == [[decided(("b1", 2))]] * 3
+    assert not any("Late" in line or "Waits" in line for line in ladder.feed.lines[after:])
+
+
+def test_ladder_removed_file_of_a_break_in_use_is_given_back_to_all(room):
+    controller, breaks = room.server(FakeController()), [("b1", 14, 4)]
+    ladder = Ladder(room, controller.url, listed(0, 5, breaks))
+    controller.refusals[("PUT", "decisions")] = [(204, "")] * 4 + [(409, "J9 Used\n")]
+    removed_from(ladder, controller, "2", breaks)
+    ladder.feed.sees("Removed: the file was removed from news-2; b1 has begun, and keeps its pod in all renditions")
+    said = [[json.loads(it) for it in asked(controller, name, "decisions")] for name in NAMES]
+    pod = json.loads(decided(("b1", 2)))
+    assert said == [[pod, {"withdraw": "b1"}, pod]] * 3, said
+
+
+def test_ladder_removed_file_is_withdrawn_from_one_that_was_away_before_its_next_list(room):
+    controller, breaks = room.server(RulesController()), [("b1", 40, 4)]
+    ladder = Ladder(room, controller.url, listed(0, 5, breaks))
+    ladder.taken()
+    ladder.decide("one", decided(("b1", 2)))
+    ladder.feed.sees("news decisions/one.json - -: decides b1 in all renditions")
+    controller.away.add("news-2")
+    for name in NAMES:
+        os.remove(f"{room.path}/{name}/decisions/one.json")
+    ladder.feed.sees("Removed: the file was removed from news-.*; withdraws b1 in all renditions")
+    ladder.push(listed(1, 6, breaks))
+    until(lambda: all(len(asked(controller, it, "origin")) == 2 for it in ("1", "3")), 10, "the others' lists")
+    before = len(controller.asked)
+    controller.away.clear()
+    until(lambda: len(asked(controller, "2", "origin")) == 2, 10, "its list")
+    with controller.lock:
+        found = [(path, body) for method, path, body in controller.asked[before:] if path.startswith("/channels/news-2/") and method == "PUT"]
+    assert found[0] == ("/channels/news-2/decisions", b'{"withdraw": "b1"}') and found[1][0] == "/channels/news-2/origin", found
 
 
 def test_ladder_pods_of_unequal_cuts_are_given_to_none(room):
@@ -237,6 +303,70 @@ def test_ladder_tells_where_numbers_come_apart(room):
         ladder.push(listed(newest - 7, newest, breaks if newest < 12 else ()))
         until(lambda newest=newest: all(f"s{newest}.ts" in get(f"http://127.0.0.1:{port}/channels/news-{name}/live.m3u8")[1] for name in NAMES), 10, "the lists")
     ladder.feed.sees("news ladder - -: the renditions' numbers are equal", 10, after)
+
+
+def at_newest(controller):
+    """The numbers of each rendition's newest segment: Media Sequence Number and Discontinuity Sequence Number (RFC 8216, 6.2.1)."""
+    found = []
+    for name in NAMES:
+        text = controller.shown(f"news-{name}")
+        media, steps = (int((re.search(rf"#EXT-X-{it}-SEQUENCE:(\d+)", text) or (0, 0))[1]) for it in ("MEDIA", "DISCONTINUITY"))
+        found.append((media + text.count("#EXTINF") - 1, steps + text.count("#EXT-X-DISCONTINUITY\n")))
+    return found
+
+
+def push_on(ladder, controller, numbers, breaks, names=NAMES):
+    """Writes lists of eight segments that end with each of `numbers`, for the renditions `names`, one after the other."""
+    for newest in numbers:
+        ladder.push(listed(max(0, newest - 7), newest, breaks), names)
+        until(lambda newest=newest: all(f"s{newest}.ts" in controller.shown(f"news-{name}") for name in names), 10, f"segment {newest}")
+
+
+def test_ladder_that_came_apart_comes_together_though_a_break_is_always_listed(room):
+    controller = room.server(RulesController())
+    breaks = [("b1", 8, 4), ("b2", 900, 4)]  # (b2 is announced a quarter of an hour ahead, and b1 stays listed)
+    ladder = Ladder(room, controller.url, listed(0, 3, breaks), "--keep", f"{room.path}/kept")
+    ladder.taken()
+    assert put(f"{controller.url}/channels/news-1/decisions", decided(("b1", 2)).encode()) == 204  # (that somebody gives to one rendition alone)
+    push_on(ladder, controller, [7], breaks)
+    after = ladder.feed.sees("news ladder - Apart: .* news-1 ends with media number 7 and discontinuity number 2, and the others with 7 and 0; the discontinuities are added")
+    push_on(ladder, controller, range(8, 13), breaks)
+    ladder.feed.sees("news ladder - -: the renditions' numbers are equal", 10, after)
+    assert at_newest(controller) == [(12, 2)] * 3 and sum(" Apart: " in line for line in ladder.feed.lines) == 1, (at_newest(controller), ladder.feed.lines)
+    with open(f"{room.path}/kept/news-1.events", encoding="utf-8") as it:
+        assert [said["status"] for said in map(json.loads, it) if said["what"] == "apart"] == [1, 0]
+
+
+def test_ladder_whose_way_to_one_is_cut_within_a_decision_has_equal_numbers(room):
+    controller = room.server(RulesController())
+    breaks = [("b1", 16, 4)]
+    ladder = Ladder(room, controller.url, listed(0, 3, breaks), "--keep", f"{room.path}/kept")
+    ladder.taken()
+    controller.away = {"news-2"}
+    ladder.decide("one", decided(("b1", 2)))
+    ladder.push(listed(0, 4, breaks))
+    after = ladder.feed.sees("news decisions/one.json - Away: news-2 doesn't answer; no rendition is given it until all answer")
+    push_on(ladder, controller, range(5, 10), breaks, ("1", "3"))
+    ladder.push(listed(2, 9, breaks), ("2",))
+    controller.away = set()
+    ladder.feed.sees("news decisions/one.json - Late: b1 has begun in a rendition, and stays in all as it is", 15, after)
+    push_on(ladder, controller, range(10, 13), breaks)
+    assert at_newest(controller) == [(12, 0)] * 3 and not controller.count("DELETE", "/channels/news-2"), at_newest(controller)
+    said = [room.run("adsplice-explain", "--kept", f"{room.path}/kept/news-{name}.events", "--break", "b1")[1] for name in NAMES]
+    withdrawn = "b1: its pod was withdrawn from all renditions, since news-2 doesn't answer, and there is no fallback (NotDecided)\n"
+    assert said[0] == said[2] == withdrawn and "since news-2 doesn't answer" in said[1], said
+
+
+def test_ladder_whose_packagers_clock_goes_back_is_given_its_decisions(room):
+    controller = room.server(FakeController())
+    times = f"#EXT-X-PROGRAM-DATE-TIME:{instant(500)}"
+    ladder = Ladder(room, controller.url, listed(0, 5).replace(f"#EXT-X-PROGRAM-DATE-TIME:{instant(0)}", times))
+    ladder.taken()
+    text = listed(0, 5, [("b1", 324, 4)]).replace(f"#EXT-X-PROGRAM-DATE-TIME:{instant(0)}", times)
+    ladder.push(text + f"#EXT-X-DISCONTINUITY\n#EXT-X-PROGRAM-DATE-TIME:{instant(320)}\n#EXTINF:2,\ns6.ts\n")  # (three minutes back)
+    until(lambda: all("s6.ts" in asked(controller, name, "origin")[-1] for name in NAMES), 10, "the lists")
+    ladder.decide("one", decided(("b1", 2)))
+    ladder.feed.sees("news decisions/one.json - -: decides b1 in all renditions")
 
 
 def test_ladder_whose_packagers_count_from_other_numbers_has_equal_ones(room):

@@ -224,6 +224,183 @@ def test_what_is_not_recorded_is_a_line(room):
     assert [it["why"] for it in said] == ["segments 9 to 19 weren't seen", "no monitor ran"] and all(it["gap"]["from"] <= it["gap"]["to"] for it in said), said
 
 
+def made_run(path):
+    """A monitor's as-run log of `news`, in the file `path`, and what its feed kept: b4's pod, and the fallback."""
+    from pathlib import Path
+    from adsplice_plant.as_run import AsRun, Log
+    from adsplice_plant.kept import pod_of
+    run, kept = AsRun("news", Log(path)), Kept(Path("none"))
+    kept.pods = {"b4": pod_of([{"segments": [{"uri": f"p{n}", "duration": "2"} for n in range(5)]}])}
+    kept.fallback = pod_of([{"segments": [{"uri": f"f{n}", "duration": "2"} for n in range(5)]}])
+    return run, kept
+
+
+def shown_to(run, kept, first, numbers, words, starts):
+    """Has `run` look at a list of `numbers`, the programme's segments or URIs of pods, from the media number `first` on."""
+    from adsplice_plant import playlist
+    kept.ranges = {it: playlist.DateRange(it, {"START-DATE": instant(starts[it]), "DURATION": "10"}) for it in words}
+    parts = [f"#EXTINF:2,\n{it}\n" if isinstance(it, str) else f"#EXT-X-PROGRAM-DATE-TIME:{instant(2 * it)}\n#EXTINF:2,\ns{it}\n" for it in numbers]
+    run.look(playlist.read(f"#EXTM3U\n#EXT-X-TARGETDURATION:2\n#EXT-X-MEDIA-SEQUENCE:{first}\n{''.join(parts)}".encode()), words, kept)
+
+
+def test_monitor_that_is_started_anew_goes_on_with_the_breaks_that_are_not_over(room):
+    # (a window of four segments: the first two of the pod have left it when the second monitor begins)
+    from pathlib import Path
+    path, shown = Path(room.path) / "as-run.jsonl", [*range(6, 10), *(f"p{n}" for n in range(5)), *range(15, 20)]
+    run, kept = made_run(path)
+    for last in range(4, 8):
+        shown_to(run, kept, last, shown[last - 4:last], {"b4": "Filled"}, {"b4": 20})
+    run.log.beat({"news": run.state()})
+    run, kept = made_run(path)
+    for last in range(8, 14):
+        shown_to(run, kept, last, shown[last - 4:last], {"b4": "Filled"} if last < 10 else {}, {"b4": 20})
+    with open(path, encoding="utf-8") as it:
+        lines = [json.loads(line) for line in it]
+    assert [(it["id"], it["shown"], it["segments"]) for it in lines] == [("b4", 5, [f"p{n}" for n in range(5)])], lines
+    assert run.begun == {}, run.begun  # (the first monitor had counted it)
+    for text in ("", "{", "[]", '{"news": 1}', '{"news": {"breaks": {"b": []}, "first": 0, "last": 0, "at": "", "waiting": []}}', '{}\n{"edit": [[0, 9]]}\n'):
+        Path(f"{path}.seen").write_text(text, encoding="utf-8")
+        assert made_run(path)[0].breaks == {}, text
+
+
+def test_breaks_are_counted_once_they_have_begun(room):
+    from pathlib import Path
+    run, kept = made_run(Path(room.path) / "as-run.jsonl")
+    starts, words = {"b4": 20, "b5": 40, "b6": 60}, {"b4": "Filled", "b5": "Waiting", "b6": "NotDecided"}
+    shown_to(run, kept, 6, [*range(6, 10), "p0"], words, starts)
+    assert run.begun == {}
+    shown_to(run, kept, 6, [*range(6, 10), "p0", "p1"], words, starts)
+    assert run.begun == {("own", "Filled"): 1}, run.begun
+    shown_to(run, kept, 10, [f"p{n}" for n in range(5)] + [*range(15, 20), "f0", "f1"], words | {"b5": "Filled"}, starts)
+    assert run.begun == {("own", "Filled"): 1, ("fallback", "Filled"): 1}, run.begun
+    run.is_decided = False
+    shown_to(run, kept, 20, [f"f{n}" for n in range(5)] + [*range(25, 33)], words | {"b5": "Filled"}, starts)
+    assert run.begun == {("own", "Filled"): 1, ("fallback", "Filled"): 1, ("none", "NotDecided"): 1}, run.begun
+    assert run.key("fallback", "Filled") == ("fallback", "Usual")
+    late, kept = made_run(Path(room.path) / "other.jsonl")
+    shown_to(late, kept, 90, range(90, 95), {"b4": "NotDecided"}, {"b4": 20})  # (it began 170 s before a monitor saw it)
+    assert late.begun == {}, late.begun
+
+
+def test_as_run_line_says_why_a_break_has_no_pod_of_its_own(room):
+    from pathlib import Path
+    path = Path(room.path) / "kept" / "news.events"
+    journal, kept = Journal(path, lambda: []), Kept(path)
+    journal.add("decisions", 204, "", FALLBACK.encode())
+    journal.add("late", 0, "b1", b'["b1"]')
+    journal.add("note", 0, "news-2 doesn't answer", b'["b2", "b3"]')
+    journal.add("decisions", 422, "J2 Shape break 0 ad 0 segment 0", decided(("b4", 1)).encode())
+    journal.add("decisions", 204, "", decided(("b3", 1), ("b5", 1)).encode())
+    journal.add("decisions", 204, "", b'{"withdraw":"b5"}')
+    kept.follow()
+    run, _ = made_run(Path(room.path) / "as-run.jsonl")
+    starts = {f"b{n}": 20 + n for n in range(1, 7)}
+    shown_to(run, kept, 6, range(6, 16), dict.fromkeys(starts, "NotDecided"), starts)
+    shown_to(run, kept, 36, range(36, 46), {}, starts)
+    with open(f"{room.path}/as-run.jsonl", encoding="utf-8") as it:
+        said = {line["id"]: line.get("reason") for line in map(json.loads, it) if "id" in line}
+    assert said == {"b1": "its decision came too late", "b2": "news-2 doesn't answer", "b3": None, "b4": "its decision was refused: J2 Shape",
+                    "b5": "its pod was withdrawn", "b6": None}, said
+    room.write("d/1.json", decided(("b1", 1)))
+    out = room.run("adsplice-monitor", "--reconcile", f"{room.path}/d", "--as-run", f"{room.path}/as-run.jsonl", "--channel", "news")[1]
+    assert f"b1 (1.json): not shown at {instant(21)}: nothing was in its place (its decision came too late)" in out.splitlines(), out
+
+
+def test_a_fallback_where_nobody_decides_is_usual(room):
+    from adsplice_plant import monitor
+    text = (f"[DEFAULT]\nat = http://127.0.0.1:1\nkeep = {room.path}\n[plain]\norigin = /i.m3u8\nbase = http://h/\n[decided]\norigin = /i.m3u8\nbase = http://h/\ndecisions = {room.path}/d\n"
+            f"[ladder]\nrenditions = 1 2\norigin = /{{}}.m3u8\nbase = http://h/\ndecisions = {room.path}/{{}}\n")
+    watches = monitor.watches_of(monitor.read_words(["--config", room.write("feed.ini", text), "--as-run", f"{room.path}/as-run.jsonl"]))
+    assert {it.name: it.as_run.is_decided for it in watches} == {"plain": False, "decided": True, "ladder-1": True, "ladder-2": True}
+
+
+def test_state_of_the_feed_has_figures(room):
+    from pathlib import Path
+    server = room.server(FakeChannels())
+    server.lists = {"news-1": fresh(1) + "#EXT-X-ENDLIST\n", "news-2": fresh(1) + "#EXT-X-ENDLIST\n"}
+    for name, apart in (("news-1", 0), ("news-2", 1)):
+        journal = Journal(Path(room.path) / "kept" / f"{name}.events", lambda: [])
+        journal.add("late", 0, "b1")
+        journal.add("decisions", 409, "J9 Used", b"{}")
+        journal.add("decisions", 422, "J2 Shape break 0", b"{}")
+        journal.add("apart", apart, "")
+        Path(room.path, "kept", f"{name}.beat").touch()
+    out = room.run("adsplice-monitor", "--at", f"http://127.0.0.1:{server.port}", "--channel", "news-1", "--channel", "news-2", "--once", "--kept", f"{room.path}/kept",
+                   "--as-run", f"{room.path}/as-run.jsonl")[1]
+    found = figures(out)
+    assert [found[("adsplice_feed_apart", f'channel="news-{it}"')] for it in (1, 2)] == [0, 1] and found[("adsplice_feed_late_decisions_total", 'channel="news-1"')] == 1, out
+    times = {labels: time.time() - value for (name, labels), value in found.items() if name == "adsplice_feed_refused_time_seconds" and "news-1" in labels}
+    assert set(times) == {'channel="news-1",fault="Late",status="-",what="decisions"', 'channel="news-1",fault="J2 Shape",status="422",what="decisions"'}, times
+    assert all(-1 < it < 30 for it in times.values()) and 0 <= found[("adsplice_feed_step_age_seconds", 'channel="news-1"')] < 30, times
+    assert found[("adsplice_breaks_begun_total", 'channel="news-1",pod="none",why="NotDecided"')] == 0 == found[("adsplice_as_run_total", 'channel="news-1",pod="own",why="Filled"')]
+
+
+def test_time_of_which_the_feed_kept_nothing_is_a_gap(room):
+    from pathlib import Path
+    path = Path(room.path) / "news.events"
+    hole = {"at": instant(3), "what": "hole", "status": 0, "fault": "No space left on device", "body": ""}
+    path.write_text(json.dumps(hole) + "\n", encoding="utf-8")
+    kept = Kept(path)
+    kept.follow()
+    run, _ = made_run(Path(room.path) / "as-run.jsonl")
+    shown_to(run, kept, 0, range(5), {}, {})
+    assert not os.path.exists(f"{room.path}/as-run.jsonl")
+    with open(path, "a", encoding="utf-8") as it:
+        it.write(json.dumps(hole | {"at": instant(60), "what": "read"}) + "\n")
+    kept.follow()
+    shown_to(run, kept, 0, range(5), {}, {})
+    shown_to(run, kept, 0, range(5), {}, {})
+    with open(f"{room.path}/as-run.jsonl", encoding="utf-8") as it:
+        said = [json.loads(line) for line in it]
+    assert [(it["gap"], it["why"]) for it in said] == [({"from": instant(3), "to": instant(60)}, "the feed could keep nothing")], said
+
+
+def test_once_judges_each_channel_when_it_was_looked_at(room):
+    class Slow(FakeChannels):
+        def answer(self, method, path, body, fields):
+            if "/slow/" in path:
+                time.sleep(2)
+            elif not self.lists["news"]:
+                self.lists["news"] = fresh(3)  # (as it is asked for first)
+            return super().answer(method, path, body, fields)
+    server = room.server(Slow())
+    server.lists = {"news": "", "slow": fresh(1) + "#EXT-X-ENDLIST\n"}
+    it = subprocess.Popen([PYTHON, f"{PLANT}/adsplice-monitor", "--at", f"http://127.0.0.1:{server.port}", "--channel", "news", "--channel", "slow", "--once", "--interval", "0.1"],
+                          stdout=subprocess.PIPE, text=True)
+    room.running.append(it)
+    until(lambda: server.count("GET", "/channels/slow/why"))
+    server.lists["news"] = fresh(0.5, 6)
+    out = it.communicate(timeout=20)[0]
+    assert it.returncode == 0 and out.startswith("# OK: 2 channels go on\n"), out  # (by its first list it would be 7 s late)
+    assert figures(out)[("adsplice_end_behind_seconds", 'channel="news"')] < 3, out
+
+
+def test_written_list_is_read_by_what_is_new_in_it(room):
+    import random
+    from adsplice_plant import playlist, written
+    rng, seen, read = random.Random(7), written.Written(), []
+    parts = [f"#EXT-X-PROGRAM-DATE-TIME:{instant(2 * n)}\n#EXTINF:2,\nhttp://origin.example/s{n}.ts\n" if n % 7 else f"#EXT-X-DISCONTINUITY\n#EXTINF:2,\nhttp://ads.example/{n % 14}.ts\n"
+             for n in range(400)]
+    first, past = 0, 10
+    right = playlist.read
+    playlist.read = lambda body: (read.append(len(body)), right(body))[1]
+    try:
+        for turn in range(300):
+            head = f"#EXTM3U\n#EXT-X-TARGETDURATION:2\n#EXT-X-MEDIA-SEQUENCE:{first}\n" + (f'#EXT-X-DATERANGE:ID="b{turn}",START-DATE="{instant(turn)}"\n' if turn % 3 else "")
+            body = (head + "".join(parts[first:past]) + ("#EXT-X-ENDLIST\n" if turn == 150 else "")).encode()
+            assert seen.take(body) and not seen.take(body)
+            assert seen.listed == right(body), turn
+            if rng.random() < 0.05:
+                first, past = rng.choice([(0, 10), (first + 2, past), (past, past + 5), (first, past - 1)])  # (begun anew, cut, jumped, shrunk)
+            else:
+                first, past = first + rng.randrange(3), past + rng.randrange(3)
+            first = min(first, past - 3, 380)
+            past = max(min(past, 400), first + 2)
+    finally:
+        playlist.read = right
+    assert sum(it < 300 for it in read) > 150, read  # (heads alone)
+
+
 def test_what_was_sold_is_held_against_what_was_shown(room):
     room.write("orders/1.json", decided(("b1", 3), ("b2", 3), ("b3", 3)))
     room.write("orders/done/2.json", decided(("b4", 3), ("b5", 3), ("b6", 3)))
@@ -250,7 +427,7 @@ def test_alerts_and_dashboard_name_figures_that_there_are(room):
     os.makedirs(f"{room.path}/kept")
     out = room.run("adsplice-monitor", "--at", f"http://127.0.0.1:{server.port}", "--channel", "news", "--once", "--kept", f"{room.path}/kept",
                    "--process", f"http://127.0.0.1:{server.port}")[1]
-    there = set(re.findall(r"^# TYPE (\w+)", out, re.M)) | {f"{it}_total" for it in ("adsplice_feed_requests", "adsplice_feed_unread", "adsplice_as_run")}
+    there = set(re.findall(r"^# TYPE (\w+)", out, re.M)) | {f"{it}_total" for it in ("adsplice_feed_requests", "adsplice_feed_unread", "adsplice_as_run", "adsplice_breaks_begun")}
     for name in ("alerts.yml", "dashboard.json"):
         with open(f"{PLANT}/monitor/{name}", encoding="utf-8") as it:
             text = it.read()

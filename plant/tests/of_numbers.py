@@ -9,7 +9,7 @@ from of_lists import BASE, CLOCK, URL, Rules
 from tools import OUT, PLANT, apart, instant
 
 sys.path.insert(0, PLANT)
-from adsplice_plant import numbers  # noqa: E402
+from adsplice_plant import numbers, records  # noqa: E402
 from adsplice_plant.lists import Lists  # noqa: E402
 from adsplice_plant.repair import Choices, Repairer  # noqa: E402
 from adsplice_plant.settings import Settings  # noqa: E402
@@ -149,6 +149,50 @@ def test_broken_file_of_numbers_is_told_and_passed_over(room):
             assert all(it[:3] == ("numbers", 0, "Broken") for it in told), told
             found.came_in(with_breaks(4, 9, []))
             found.next()
+
+
+def test_a_list_that_lags_for_eight_seconds_leaves_the_numbers(room):
+    for window, behind in ((8, 4), (12, 9), (30, 4)):
+        seconds, settings = [0.0], Settings("news", "x", "http://h", URL)
+        it = Lists(settings, quiet, quiet, signalling(settings), lambda seconds=seconds: seconds[0], lambda seconds=seconds: CLOCK + int(seconds[0] * 10**9))
+        channel, pushed = Channel(BASE), []
+        for newest in range(30, 60):
+            seconds[0] += 2.0
+            listed_last = newest - behind if 40 <= newest < 44 else newest
+            it.came_in(with_breaks(listed_last - window + 1, listed_last, []))
+            while (body := it.next()) is not None:
+                it.sending()
+                channel = refreshed(channel, body)  # (raises Fault if adsplice would refuse it)
+                pushed.append(newest)
+                if it.taken():
+                    it.see(written(channel).encode())
+        assert pushed == [*range(30, 40), *range(44, 60)], (window, behind, pushed)
+        assert numbers.items_of(written(channel).encode())[-1].number == 59 and "DISCONTINUITY\n" not in written(channel), written(channel)
+
+
+def test_a_text_is_kept_by_what_changed_in_it(room):
+    path = Path(room.path, "news.numbers")
+    record, texts = records.Record(path), []
+    for n in range(400):
+        texts.append(json.dumps({"text": "".join(f"#EXTINF:2,\ns{it}, {it}.ts\n" for it in range(n, n + 50)), "own": list(range(n, n + 50)), "repairs": {"times": n}}))
+        record.write(texts[-1], {"repairs": {"times": n}})
+        assert records.read(path) == texts[-1].encode() and records.newest(path)["repairs"] == {"times": n}
+    assert path.stat().st_size < 4 * len(texts[-1])
+    with open(path, "ab") as it:
+        it.write(b'{"edit": [[0,')  # (a machine fell while it was written)
+    assert records.read(path) == texts[-1].encode()
+    with open(path, "ab") as it:
+        it.write(b' 9999]]}\n')
+    try:
+        records.read(path)
+        raise AssertionError("it was read")
+    except ValueError:
+        pass
+    os.remove(path)
+    record.write(texts[0], {})
+    assert records.read(path) == texts[0].encode()
+    path.write_bytes(texts[1].encode())  # (as an earlier feed wrote it)
+    assert records.read(path) == texts[1].encode() and records.newest(path)["repairs"] == {"times": 1}
 
 
 # ---- renditions of a programme

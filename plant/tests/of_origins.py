@@ -75,6 +75,44 @@ def test_first_that_fails_for_a_target_duration(room):
     assert found[0].index("#EXT-X-DISCONTINUITY\n") < found[0].index("t6.ts") and "#EXT-X-MEDIA-SEQUENCE:6\n" in found[0]
 
 
+def test_second_is_taken_a_target_duration_after_the_first_failure(room):
+    two = Two(listed(0, 5), listed(0, 5, name="t"))
+    two.turn()
+    two.fakes[0].why, begun = "the origin answers 503", two.clock + 1
+    two.turn(second=listed(0, 6, name="t"))
+    assert (two.origins.patience(), two.said) == (2, []), "a target duration after the first failure"
+    two.turn(second=listed(1, 7, name="t"))
+    assert (two.origins.patience(), two.said) == (1, [])
+    two.turn()
+    assert [it[0] for it in two.said] == [1] and two.clock == begun + 2
+
+
+def test_feed_takes_the_second_a_target_duration_after_the_first_failure(room):
+    first, second, controller = room.server(FakeOrigin(listed(0, 5))), room.server(FakeOrigin(listed(0, 9, name="t"))), room.server(FakeController())
+    feed = room.feed("--channel", "news", "--origin", f"{first.url} {second.url}", "--at", controller.url)
+    feed.sees("news adsplice 204 -: the list is taken")
+    first.status = 503
+    lines = [feed.lines[feed.sees(text) - 1] for text in ("news origin 503 -: the origin answers 503", "news origins - Second: the first origin fails")]
+    failed, taken = (read_instant(it.split(" ")[0]) / 1e9 for it in lines)
+    assert 1.9 < taken - failed < 3.5, taken - failed  # (the lines' times are taken after the looks)
+
+
+def test_first_that_does_not_answer_is_waited_for_once(room):
+    two = Two(listed(0, 5), listed(0, 9, name="t"))
+    two.turn()
+
+    def hang():
+        two.clock += 5
+        two.fakes[0].asked += 1
+        return Read(why="no answer within 5 s")
+
+    two.fakes[0].read, before = hang, two.fakes[0].asked
+    two.turn()
+    assert two.said == []
+    two.turn()
+    assert two.fakes[0].asked == before + 1 and two.said == [(1, "the first origin fails (no answer within 5 s); reads the second one")], two.said
+
+
 def test_first_that_stands_still_for_three(room):
     two = Two(listed(0, 5), listed(0, 5))
     two.turn()

@@ -5,6 +5,7 @@ import re
 import shutil
 import socket
 import subprocess
+import sys
 import tempfile
 import threading
 import time
@@ -200,6 +201,33 @@ class FakeController(FakeServer):
         """The bodies of the PUTs to the channel's `what`."""
         with self.lock:
             return [body for method, path, body in self.asked if method == "PUT" and path.endswith(f"/{what}")]
+
+
+class RulesController(FakeServer):
+    """A controller that answers by the rules (adsplice_rules). The channels of the names `away` have no way to it: 502."""
+
+    def __init__(self, port=0):
+        sys.path.insert(0, PLANT)
+        from adsplice_rules.edge import Edge
+        self.edge, self.away, self.one_by_one = Edge(), set(), threading.Lock()
+        super().__init__(port)
+
+    @property
+    def url(self):
+        return f"http://127.0.0.1:{self.port}"
+
+    def answer(self, method, path, body, fields):
+        from adsplice_rules.edge import Request
+        if path.split("/")[2] in self.away:
+            return 502, {}, b"<html>"
+        with self.one_by_one:
+            reply = self.edge.answer(Request(method, path, body))
+        return reply.status, {}, reply.body.encode()
+
+    def shown(self, name):
+        """The written playlist of a channel; empty if it has none."""
+        status, _, body = self.answer("GET", f"/channels/{name}/live.m3u8", b"", {})
+        return body.decode() if status == 200 else ""
 
 
 def free_port():

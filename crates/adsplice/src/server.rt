@@ -4,11 +4,11 @@
 ghost use Rattle.std.specs.Prelude.{◌<◌, length};
 ghost use Rattle.connections.specs.Runs.{HasRun};
 
-use crate::client::{Client, Socket, fault_at, was_granted};
+use crate::client::{fault_at, was_granted};
 use crate::faults::Faults;
 use connections::{
-    Admission, Arrivals, Connections, PLACES, Phase, Seat, Turn, ending_deadline, has_come,
-    serving_deadline,
+    Admission, Arrivals, Client, Connections, NonBlocking, PLACES, Phase, Seat, Socket, Turn,
+    ending_deadline, has_come, serving_deadline,
 };
 use http_edge::EdgeFault;
 use mio::net::{TcpListener, TcpStream};
@@ -49,7 +49,7 @@ enum Door {
 /// The clients by place, with the order in which they came. Its memory is taken once.
 #[derive(Drop)]
 pub struct Clients {
-    at: Vec<Option<Client>>,
+    at: Vec<Option<Client<Socket>>>,
     vacant: Vec<Seat<Socket>>,
     // Those that ask or are answered, and those whose reply is gone.
     served: Arrivals,
@@ -104,7 +104,7 @@ pub struct Server {
     next_tick: Instant,
 }
 
-fn nobody(alloc: Global) -> Result<Vec<Option<Client>>, AllocError> {
+fn nobody(alloc: Global) -> Result<Vec<Option<Client<Socket>>>, AllocError> {
     let mut clients = Vec::with_capacity(alloc, PLACES)?;
     for _ in 0..PLACES {
         clients.push(None)?;
@@ -413,7 +413,7 @@ impl Server {
         }
         let client = self.clients.at.get_mut(place)?;
         connections.insert(&seat);
-        *client = Some(Client::new(stream, seat));
+        *client = Some(Client::new(NonBlocking::new(stream), seat));
         if self
             .clients
             .served

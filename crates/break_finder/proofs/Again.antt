@@ -1,9 +1,8 @@
 -- Tags that say nothing new leave the known breaks as they are.
-use Rattle.std.proofs.Common.{◌≡◌, ℕ, Bool, true, false, cond, not, ◌&&◌, ◌||◌, List, [], ◌∷◌, map, filter, refl, sym, ap, ◌∙◌, true≢false, subst, String, string_bytes}
+use Rattle.std.proofs.Common.{◌≡◌, ℕ, Bool, true, false, cond, not, ◌&&◌, ◌||◌, List, [], ◌∷◌, map, filter, refl, sym, ap, ◌∙◌, true≢false, subst}
 use Rattle.std.specs.Prelude.{Option, bytes_eq, string_eq, fold}
-use Rattle.std.specs.List.{list_any, AllZip, IsDistinct}
+use Rattle.std.specs.List.{list_any, IsDistinct}
 use Rattle.std.specs.Map.{keys_of}
-use Rattle.std.specs.declared.alloc.Global.{Global}
 use Rattle.std.proofs.lemmas.Slice.Eq.{bytes_eq-Decides}
 use Rattle.playlist_model.specs.declared.DateRange.{DateRange}
 use Rattle.break_finder.specs.declared.described.Described.{Described}
@@ -13,7 +12,7 @@ use Rattle.break_finder.specs.Kept.{break_at}
 use Rattle.break_finder.specs.Inner.Kept.{Pairs}
 use Rattle.break_finder.specs.Inner.Known.{break_stands, with_tag, AreSaid, walked}
 use Rattle.break_finder.proofs.Walked.{Fits, walk_front, walked_is_carried}
-use Rattle.break_finder.proofs.KeptLaws.{cloned, fits_kept}
+use Rattle.break_finder.proofs.KeptLaws.{fits_kept}
 
 -- ---- all of them
 
@@ -82,16 +81,15 @@ unchanged p (b ∷ breaks) (t ∷ tags) f h =
 -- ---- a refresh
 
 -- nothing new is said: what is known stays
-pub nothing_said_anew : (r : Accepted) (breaks new : List Break) (tags : List DateRange) (es copies : Pairs) → map break_at es ≡ breaks → tags ≡ r.playlist.date_ranges → IsDistinct string_eq (keys_of es)
-    → AreSaid (map break_at es) tags → AllZip (λ (p q : String Global × Described). (string_bytes q.0 ≡ string_bytes p.0) × (q.1 ≡ p.1)) es copies → new ≡ map break_at copies → new ≡ carry r breaks
-nothing_said_anew r breaks new tags es copies view_is tags_are distinct said copied new_is =
+pub nothing_said_anew : (r : Accepted) (breaks : List Break) (tags : List DateRange) (es : Pairs) → map break_at es ≡ breaks → tags ≡ r.playlist.date_ranges → IsDistinct string_eq (keys_of es)
+    → AreSaid (map break_at es) tags → breaks ≡ carry r breaks
+nothing_said_anew r breaks tags es view_is tags_are distinct said =
     let known = map break_at es in
     let fits = fits_kept es distinct in
     let stand : filter (break_stands tags r.carried) known ≡ known = all_stand tags r.carried known tags (λ id e. e) said in
     let same : known ≡ fold with_tag (filter (break_stands tags r.carried) known) tags = sym (ap (λ bs. fold with_tag bs tags) stand ∙ unchanged (λ id. true) known tags fits said) in
     let here : known ≡ walked r known = same ∙ ap (λ ts. fold with_tag (filter (break_stands ts r.carried) known) ts) tags_are in
     let all : filter (break_stands r.playlist.date_ranges r.carried) known ≡ known = ap (λ ts. filter (break_stands ts r.carried) known) (sym tags_are) ∙ stand in
-    new_is
-    ∙ (cloned es copies copied
+    sym view_is
     ∙ (here
-    ∙ (walked_is_carried r known (subst (Fits (λ id. true)) (sym all) fits) ∙ ap (carry r) view_is)))
+    ∙ (walked_is_carried r known (subst (Fits (λ id. true)) (sym all) fits) ∙ ap (carry r) view_is))

@@ -18,7 +18,7 @@ use crate::kept::{Breaks, kept_for};
 use crate::why::Why;
 use fixed_duration::Nanos;
 use indexmap::IndexMap;
-use playlist_model::{Instant, Playlist};
+use playlist_model::{Instant, Playlist, Shared};
 use pod_store::{Pod, PodStore};
 use std::alloc::{AllocError, Global};
 use std::hash::RandomState;
@@ -85,10 +85,11 @@ fn why_said(
     Why::Waiting
 }
 
-/// The known breaks, in the order in which they became known.
+/// The known breaks, in the order in which they became known. What stays from refresh to refresh is one table with several
+/// owners.
 #[derive(Drop)]
 pub struct Knowledge {
-    breaks: Breaks,
+    breaks: Shared<Breaks>,
 }
 
 impl Model for Knowledge {
@@ -102,14 +103,16 @@ impl Model for Knowledge {
 }
 
 impl Knowledge {
-    /// Nothing is known: no refresh was accepted. `hashing`: the keys of its table's hash.
-    pub fn new(alloc: Global, hashing: RandomState) -> Knowledge
-        ensures empty { result ≡ [] }
-        ensures known { result ≡ known [] }
+    /// Nothing is known: no refresh was accepted. `hashing`: the keys of its table's hash. Fails only if an allocation
+    /// fails.
+    pub fn new(alloc: Global, hashing: RandomState) -> Result<Knowledge, AllocError>
+        ensures empty { IfOk result (λ knowledge. knowledge ≡ []) }
+        ensures known { IfOk result (λ knowledge. knowledge ≡ known []) }
     {
-        Knowledge {
-            breaks: IndexMap::with_hasher(alloc, hashing),
-        }
+        let breaks: Breaks = IndexMap::with_hasher(alloc, hashing);
+        Ok(Knowledge {
+            breaks: Shared::new(alloc, breaks)?,
+        })
     }
 
     fn said(&self, id: &str) -> Option<Described>
@@ -216,11 +219,14 @@ impl Knowledge {
     {
         let date_ranges = playlist.date_ranges.as_slice();
         if are_said(&self.breaks, date_ranges) {
-            let copies = self.breaks.clone()?;
-            return Ok(Knowledge { breaks: copies });
+            return Ok(Knowledge {
+                breaks: self.breaks.clone()?,
+            });
         }
         let mut breaks = standing(alloc, &self.breaks, date_ranges, newest)?;
         add_tags(alloc, &mut breaks, date_ranges)?;
-        Ok(Knowledge { breaks })
+        Ok(Knowledge {
+            breaks: Shared::new(alloc, breaks)?,
+        })
     }
 }

@@ -1,8 +1,8 @@
 //! Devices that count their calls, and how many of them failed.
-ghost use Rattle.std.specs.Prelude.{◌≡◌, ℕ, ◌<◌, ◌≤◌, length};
+ghost use Rattle.std.specs.Prelude.{◌≡◌, ℕ, ◌<◌, ◌≤◌, if◌then◌else◌, length};
 ghost use Rattle.std.specs.Io.{ReadsAtMost, WritesAtMost};
 ghost use Rattle.std.specs.Io.KnownBytes.{ReadConsumes, WriteAppends};
-ghost use Rattle.byte_streams.specs.Devices.{no_failures, next_count, failures_after_read, failures_after_write};
+ghost use Rattle.byte_streams.specs.Devices.{no_failures, next_count, one_more, as_many, failures_after_read, failures_after_write};
 ghost use Rattle.byte_streams.specs.Stands.{SourceStand, SinkStand};
 
 use std::io;
@@ -91,19 +91,47 @@ impl<T> Counted<T> {
             calls: 0,
         }
     }
+
+    // Notes whether a call failed.
+    fn note_failure(&mut self, failed: bool)
+        ensures failures { self.new.1 ≡ (if failed then one_more self.old.1 else as_many self.old.1) }
+        ensures rest { (self.new.0 ≡ self.old.0) × (self.new.2 ≡ self.old.2) }
+    {
+        self.failed_last = failed;
+        if failed {
+            self.failures = self.failures.saturating_add(1);
+        }
+    }
+
+    // Notes what a read was answered, and hands that on. Nothing else counts a read.
+    fn note_read(&mut self, answer: io::Result<usize>) -> io::Result<usize>
+        ensures answer { result ≡ answer }
+        ensures failures { self.new.1 ≡ failures_after_read answer self.old.1 }
+        ensures calls { self.new.2 ≡ next_count self.old.2 }
+        ensures inner { self.new.0 ≡ self.old.0 }
+    {
+        self.calls = self.calls.saturating_add(1);
+        self.note_failure(answer.is_err());
+        answer
+    }
+
+    // Notes what a write was answered, and hands that on.
+    fn note_write(&mut self, answer: io::Result<usize>) -> io::Result<usize>
+        ensures answer { result ≡ answer }
+        ensures failures { self.new.1 ≡ failures_after_write answer self.old.1 }
+        ensures inner { self.new.0 ≡ self.old.0 }
+    {
+        self.note_failure(!matches!(&answer, Ok(n) if *n != 0));
+        answer
+    }
 }
 
 impl<R: Read> Source for Counted<R> {
     ghost stand = { λ c. record { remaining = R.remaining c.0; called = c.2; failed = c.1 } };
 
     fn read(&mut self, buf: &mut [u8]) -> io::Result<usize> {
-        self.calls = self.calls.saturating_add(1);
         let answer = self.inner.read(buf);
-        self.failed_last = answer.is_err();
-        if self.failed_last {
-            self.failures = self.failures.saturating_add(1);
-        }
-        answer
+        self.note_read(answer)
     }
 
     fn failures(&self) -> u64 {
@@ -120,11 +148,7 @@ impl<W: Write> Sink for Counted<W> {
 
     fn write(&mut self, buf: &[u8]) -> io::Result<usize> {
         let answer = self.inner.write(buf);
-        self.failed_last = !matches!(&answer, Ok(n) if *n != 0);
-        if self.failed_last {
-            self.failures = self.failures.saturating_add(1);
-        }
-        answer
+        self.note_write(answer)
     }
 
     fn failures(&self) -> u64 {

@@ -27,8 +27,8 @@ use Rattle.channel_spec.proofs.Windows.{length-reverse}
 use Rattle.channel_spec.proofs.SoundPods.{kept_is_sound}
 use Rattle.channel_window.specs.Marking.{so_far, place_on}
 use Rattle.channel_window.specs.Inner.Placing.{rest_count}
-use Rattle.channel_window.specs.Listed.{IsFront, RefusesList}
-use Rattle.channel_window.specs.Inner.Listed.{first_alone, first_numbers_of, pod_keeps}
+use Rattle.channel_window.specs.Listed.{RefusesList}
+use Rattle.channel_window.specs.Inner.Listed.{IsFront, first_alone, first_numbers_of, pod_keeps}
 use Rattle.channel_window.proofs.Listed.{all_after}
 
 and_false : (a b : Bool) → ((a && false) && b) ≡ false

@@ -59,12 +59,12 @@ last_onto store (m ∷ later) before last e d h =
 
 -- the known breaks, and the segments that were shown with the new ones, if the shown segments are handed on as a list
 module _ (tolerance : ℕ) (state : ChannelState) (p : Playlist) (shown : List Held) (newest : Option (List ℕ)) (fresh : List Segment) (ended : Option ℤ) (begun : List (Option ℤ)) (marked : List Held) (a : Showing)
-    (before : AreDecided state.store state.shown.list) (last_is : IsLastEntered (kept_in state)) (same : shown ≡ state.shown.list)
+    (before : AreDecided state.store state.list) (last_is : IsLastEntered (kept_in state)) (same : shown ≡ state.list)
     (mark_is : newest_mark (so_far state.store shown) ≡ mark_in state.store newest) (newest_is : AreDecided state.store shown → IsDecided state.store newest)
     (breaks_are : a.knowledge ≡ carry (record { playlist = p; carried = newest }) state.shown.knowledge) (fresh_is : fresh ≡ filter (is_new (so_far state.store shown)) p.segments)
     (ended_is : ended ≡ newest_end (so_far state.store shown)) (begun_is : begun ≡ instants_after ended fresh)
     (marked_is : marked ≡ mark_on (record { tolerance = tolerance; target_duration = p.target_duration; with_init_sections = has_init_sections p.segments; breaks = a.knowledge; store = state.store }) newest state.shown.entered fresh begun)
-    (list_is : a.list.items ≡ shown ++ marked) (contiguous : AreContiguous p.segments) (rises : RisesOn state.shown.list p.segments) (entered_is : a.entered ≡ entered_after state.shown.entered marked) where
+    (held : List Held) (list_is : held ≡ shown ++ marked) (contiguous : AreContiguous p.segments) (rises : RisesOn state.list p.segments) (entered_is : a.entered ≡ entered_after state.shown.entered marked) where
   abbrev store : Store
   store = state.store
 
@@ -83,10 +83,10 @@ module _ (tolerance : ℕ) (state : ChannelState) (p : Playlist) (shown : List H
       ∙ ap (λ o. carry (record { playlist = p; carried = o }) state.shown.knowledge)
       (sym (ap (λ (xs : List Held). option_map mark_id (newest_mark (so_far store xs))) (sym same) ∙ ap (option_map mark_id) mark_is ∙ mark_named store newest (newest_is decided)))
 
-  list_decided : AreDecided store a.list.items
-  list_decided = is_decided (moment a.knowledge) shown newest state.shown.entered p.segments fresh ended begun marked a.list.items mark_is (newest_is decided) decided ended_is fresh_is begun_is marked_is list_is
+  list_decided : AreDecided store held
+  list_decided = is_decided (moment a.knowledge) shown newest state.shown.entered p.segments fresh ended begun marked held mark_is (newest_is decided) decided ended_is fresh_is begun_is marked_is list_is
 
-  last_entered_is : a.entered ≡ or_earlier (last_entered (so_far store a.list.items)) state.shown.entered
+  last_entered_is : a.entered ≡ or_earlier (last_entered (so_far store held)) state.shown.entered
   last_entered_is =
       let before_is : or_earlier (last_entered (so_far store shown)) state.shown.entered ≡ state.shown.entered =
       ap (λ (xs : List Held). or_earlier (last_entered (so_far store xs)) state.shown.entered) same ∙ last_is in
@@ -95,26 +95,25 @@ module _ (tolerance : ℕ) (state : ChannelState) (p : Playlist) (shown : List H
       ∙ sym (ap (λ (seen : List Marked). or_earlier (last_entered seen) state.shown.entered) (ap (so_far store) list_is ∙ seen_after store shown marked)
       ∙ last_onto store marked (so_far store shown) state.shown.entered state.shown.entered marked_decided before_is)
 
-  pub shown_is : (a.fresh ≡ length fresh) → a.so_far ≡ length_after store newest state.shown.so_far marked → IsShown tolerance state p a
+  pub shown_is : (a.fresh ≡ length fresh) → a.so_far ≡ length_after store newest state.shown.so_far marked → IsShown tolerance state p held a
   shown_is count long = record {
     breaks = breaks_kept;
     list =
-        is_listed (moment a.knowledge) shown newest state.shown.entered p.segments fresh ended begun marked a.list.items mark_is (newest_is decided) decided ended_is fresh_is begun_is marked_is list_is
+        is_listed (moment a.knowledge) shown newest state.shown.entered p.segments fresh ended begun marked held mark_is (newest_is decided) decided ended_is fresh_is begun_is marked_is list_is
         ∙ (ap (λ (xs : List Held). show_on (moment a.knowledge) (so_far store xs) state.shown.entered (filter (is_new (so_far store xs)) p.segments)) same
-        ∙ ap (λ b. show_on (moment b) (so_far store state.shown.list) state.shown.entered (filter (is_new (so_far store state.shown.list)) p.segments)) breaks_kept);
+        ∙ ap (λ b. show_on (moment b) (so_far store state.list) state.shown.entered (filter (is_new (so_far store state.list)) p.segments)) breaks_kept);
     fresh = count ∙ (ap length fresh_is ∙ ap (λ (xs : List Held). length (filter (is_new (so_far store xs)) p.segments)) same);
     entered = last_entered_is;
     length =
-        is_long (moment a.knowledge) shown newest state.shown.entered p.segments fresh ended begun marked a.list.items mark_is (newest_is decided) decided ended_is fresh_is begun_is marked_is list_is state.shown.so_far a.so_far long
+        is_long (moment a.knowledge) shown newest state.shown.entered p.segments fresh ended begun marked held mark_is (newest_is decided) decided ended_is fresh_is begun_is marked_is list_is state.shown.so_far a.so_far long
         ∙ (ap (λ (xs : List Held). length_on (moment a.knowledge) (so_far store xs) state.shown.entered state.shown.so_far (filter (is_new (so_far store xs)) p.segments)) same
-        ∙ ap (λ b. length_on (moment b) (so_far store state.shown.list) state.shown.entered state.shown.so_far (filter (is_new (so_far store state.shown.list)) p.segments)) breaks_kept);
-    front = (marked, list_is ∙ ap (λ xs. xs ++ marked) same);
+        ∙ ap (λ b. length_on (moment b) (so_far store state.list) state.shown.entered state.shown.so_far (filter (is_new (so_far store state.list)) p.segments)) breaks_kept);
     decided = list_decided;
-    rising = rises_on (moment a.knowledge) shown newest state.shown.entered p.segments fresh begun marked a.list.items shown_rises contiguous fresh_is marked_is list_is;
+    rising = rises_on (moment a.knowledge) shown newest state.shown.entered p.segments fresh begun marked held shown_rises contiguous fresh_is marked_is list_is;
   }
 
 -- the newest mark, if any, is that of the last break entered
-pub newest_entered : (state : ChannelState) (shown : List Held) (newest : Option (List ℕ)) → shown ≡ state.shown.list → AreDecided state.store state.shown.list → IsLastEntered (kept_in state)
+pub newest_entered : (state : ChannelState) (shown : List Held) (newest : Option (List ℕ)) → shown ≡ state.list → AreDecided state.store state.list → IsLastEntered (kept_in state)
     → newest_mark (so_far state.store shown) ≡ mark_in state.store newest → (AreDecided state.store shown → IsDecided state.store newest) → or_earlier newest state.shown.entered ≡ state.shown.entered
 newest_entered state shown newest same d last mark_is newest_is =
     let decided = newest_is (subst (AreDecided state.store) (sym same) d) in

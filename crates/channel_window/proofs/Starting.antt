@@ -25,7 +25,8 @@ use Rattle.channel_spec.specs.LastWindow.{last_pieces}
 use Rattle.channel_spec.proofs.EndsLaws.{between_ends}
 use Rattle.channel_window.specs.declared.state.ChannelState.{ChannelState}
 use Rattle.channel_window.specs.Marking.{so_far, place_on}
-use Rattle.channel_window.specs.Listed.{IsFront, RefusesList}
+use Rattle.channel_window.specs.Listed.{RefusesList}
+use Rattle.channel_window.specs.Inner.Listed.{IsFront}
 use Rattle.channel_window.specs.Inner.Placing.{rest_count}
 use Rattle.channel_window.specs.Inner.Placing.{HasRoom, rest_of}
 use Rattle.channel_window.specs.Showing.{kept_in}

@@ -1,5 +1,5 @@
 -- What is kept, as the segments stand that a channel holds, the oldest first.
-use Rattle.std.specs.Prelude.{◌≡◌, ◌≤◌, ◌+◌, ℕ, length, map, Some, None, Bool, List, ◌∷◌, ◌++◌, [], Option, is_some}
+use Rattle.std.specs.Prelude.{◌≡◌, ◌≤◌, ◌+◌, ℕ, length, map, Some, None, Bool, List, ◌∷◌, [], Option, is_some}
 use Rattle.playlist_model.specs.declared.Segment.{Segment}
 use Rattle.stitcher.specs.Stitched.{Numbers}
 use Rattle.stitcher.specs.declared.OutSegment.{OutSegment}
@@ -36,10 +36,6 @@ held_segment m = m.segment
 
 abbrev pub segments_in : List Held → List Segment
 segments_in held = map held_segment held
-
--- these stand in front of the others
-abbrev pub IsFront : List Held → List Held → Type 0
-IsFront front list = (tail : List Held) × (list ≡ front ++ tail)
 
 -- their numbers rise by one, from this number on
 abbrev pub RiseByOne : ℕ → List Held → Type 0

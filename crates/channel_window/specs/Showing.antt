@@ -1,16 +1,18 @@
 -- What is kept in a channel's state, and what it shows with a playlist.
-use Rattle.std.specs.Prelude.{◌≡◌, ℕ, filter, length}
+use Rattle.std.specs.Prelude.{◌≡◌, ℕ, List, filter, length}
 use Rattle.playlist_model.specs.declared.Playlist.{Playlist}
 use Rattle.playlist_model.specs.LookBack.{or_earlier}
 use Rattle.pod_store.specs.Store.{Store}
 use Rattle.stitcher.specs.StitchedSegments.{AreDecided, rest_in}
+use Rattle.stitcher.specs.declared.marked.MarkedSegment.{MarkedSegment as Held}
 use Rattle.break_finder.specs.Known.{carry}
 use Rattle.channel_spec.specs.Marking.{is_new, last_entered}
 use Rattle.channel_spec.specs.Kept.{Kept, kept_acceptance, kept_list, kept_length}
+use Rattle.channel_window.specs.declared.state.Before.{Before}
 use Rattle.channel_window.specs.declared.state.ChannelState.{ChannelState}
 use Rattle.channel_window.specs.declared.showing.Showing.{Showing}
 use Rattle.channel_window.specs.Marking.{so_far}
-use Rattle.channel_window.specs.Listed.{AreRising, IsFront, IsRestDecided}
+use Rattle.channel_window.specs.Listed.{AreRising, IsRestDecided}
 
 -- what is kept in a channel's state, whose shown segments stand with the oldest first
 abbrev pub kept_in : ChannelState → Kept
@@ -18,29 +20,32 @@ kept_in state = record {
   store = state.store;
   breaks = state.shown.knowledge;
   last = state.last;
-  shown = so_far state.store state.shown.list;
+  shown = so_far state.store state.list;
   entered = state.shown.entered;
   numbers = state.shown.numbers;
   so_far = state.shown.so_far;
   rest = rest_in state.store state.shown.rest;
 }
 
+-- what was kept before the last of these segments came
+abbrev pub kept_before : Before → ChannelState
+kept_before before = record before.state.now { list = before.list.now }
+
 -- this store has the pod of each mark of a shown segment, and of the rest
 abbrev pub AreKept : Store → ChannelState → Type 0
-AreKept store state = AreDecided store state.shown.list × IsRestDecided store state.shown.rest
+AreKept store state = AreDecided store state.list × IsRestDecided store state.shown.rest
 
 -- the break that the newest marked segment is marked with is the last one entered
 abbrev pub IsLastEntered : Kept → Type 0
 IsLastEntered kept = or_earlier (last_entered kept.shown) kept.entered ≡ kept.entered
 
--- the breaks that are known after the refresh, the segments that are shown then, those that were shown before in front, how many
--- weren't shown before, the last break entered, and how long the newest run has lasted; their numbers rise by one
-pub record IsShown (tolerance : ℕ) (state : ChannelState) (p : Playlist) (a : Showing) : Type 0 where
+-- the breaks that are known after the refresh, how many segments are shown for the first time, the last break entered, and how
+-- long the newest run has lasted, if these segments are shown then; their numbers rise by one
+pub record IsShown (tolerance : ℕ) (state : ChannelState) (p : Playlist) (held : List Held) (a : Showing) : Type 0 where
   pub breaks : a.knowledge ≡ carry (kept_acceptance (kept_in state) p) state.shown.knowledge
-  pub list : so_far state.store a.list.items ≡ kept_list tolerance (kept_in state) p
+  pub list : so_far state.store held ≡ kept_list tolerance (kept_in state) p
   pub fresh : a.fresh ≡ length (filter (is_new (kept_in state).shown) p.segments)
-  pub entered : a.entered ≡ or_earlier (last_entered (so_far state.store a.list.items)) state.shown.entered
+  pub entered : a.entered ≡ or_earlier (last_entered (so_far state.store held)) state.shown.entered
   pub length : a.so_far ≡ kept_length tolerance (kept_in state) p
-  pub front : IsFront state.shown.list a.list.items
-  pub decided : AreDecided state.store a.list.items
-  pub rising : AreRising a.list.items
+  pub decided : AreDecided state.store held
+  pub rising : AreRising held

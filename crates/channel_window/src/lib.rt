@@ -6,16 +6,18 @@ pub mod laws;
 mod listing;
 mod marking;
 mod placing;
+mod row;
 mod showing;
 mod state;
 mod successor;
 mod writing;
 
-pub use listing::{from_place, place_of_number};
+pub use listing::place_of_number;
 pub use marking::text_in;
 pub use placing::place_of;
+pub use row::Row;
 pub use showing::{Showing, shown_with};
-pub use state::{ChannelState, Shown};
+pub use state::{Before, ChannelState, Shown};
 pub use successor::{
     check_successor, first_number, first_shown, has_init_sections, have_init_sections,
 };

@@ -1,5 +1,5 @@
 //! The segments that a channel holds, the oldest first: the newest of them, those of a playlist that come after it, and parts of them.
-ghost use Rattle.std.specs.Prelude.{◌≡◌, ◌≤◌, ◌-◌, ◌++◌, ℕ, IfOk, length, filter, drop, take, min};
+ghost use Rattle.std.specs.Prelude.{◌≡◌, ◌≤◌, ◌-◌, ℕ, IfOk, length, filter, drop, take, min};
 ghost use Rattle.pod_store.specs.Marks.{newest_mark};
 ghost use Rattle.stitcher.specs.Stitched.{up_to};
 ghost use Rattle.pod_store.specs.Store.{Store};
@@ -9,8 +9,8 @@ ghost use Rattle.channel_spec.specs.Live.{gone_before};
 ghost use Rattle.channel_spec.specs.Kept.{shown_from};
 ghost use Rattle.channel_window.specs.Checked.{AreContiguous};
 ghost use Rattle.channel_window.specs.Marking.{so_far};
-ghost use Rattle.channel_window.specs.Listed.{AreRising, IsFront, RiseByOne};
-ghost use Rattle.channel_window.specs.Inner.Listed.{IsTail, is_after};
+ghost use Rattle.channel_window.specs.Listed.{AreRising, RiseByOne};
+ghost use Rattle.channel_window.specs.Inner.Listed.{IsFront, IsTail, is_after};
 
 use crate::successor::first_number;
 use playlist_model::{Items, Members, Segment, Shared};
@@ -112,50 +112,6 @@ pub fn last_members<'a>(list: &'a Shared<Items<Segment>>, fresh: &[Segment]) -> 
     Members::from_place(list, list.len().saturating_sub(fresh.len()))
 }
 
-fn copied(marked: &MarkedSegment) -> Result<MarkedSegment, AllocError>
-    ensures { IfOk result (λ m. m ≡ marked.now) }
-{
-    Ok(MarkedSegment {
-        segment: marked.segment.clone()?,
-        instant: marked.instant,
-        mark: marked.mark.clone()?,
-    })
-}
-
-// Copies of these segments, with room for so many more.
-fn copies(
-    alloc: Global,
-    shown: &[MarkedSegment],
-    more: usize,
-) -> Result<Vec<MarkedSegment>, AllocError>
-    ensures { IfOk result (λ v. v.items ≡ shown.now) }
-{
-    let mut done = Vec::with_capacity(alloc, shown.len().saturating_add(more))?;
-    let mut rest = shown;
-    while let Some((marked, later)) = rest.split_first() {
-        done.push(copied(marked)?)?;
-        rest = later;
-    }
-    Ok(done)
-}
-
-/// The `shown` segments, and `fresh` after them. Fails only if an allocation fails.
-pub fn joined(
-    alloc: Global,
-    shown: &[MarkedSegment],
-    fresh: Vec<MarkedSegment>,
-) -> Result<Vec<MarkedSegment>, AllocError>
-    ensures { IfOk result (λ v. v.items ≡ shown.now ++ fresh.items) }
-{
-    if shown.is_empty() {
-        return Ok(fresh);
-    }
-    let mut list = copies(alloc, shown, fresh.len())?;
-    let mut fresh = fresh;
-    list.append(&mut fresh)?;
-    Ok(list)
-}
-
 /// How many segments of `list`, whose numbers rise by one, come before the media sequence number `number`: it begins at
 /// that place, from 0.
 pub fn place_of_number(number: u64, list: &[MarkedSegment]) -> usize
@@ -201,16 +157,4 @@ pub fn front_before(number: u64, list: &[MarkedSegment]) -> &[MarkedSegment]
     ensures front { IsFront result.now list.now }
 {
     list.split_at(place_of_number(number, list)).0
-}
-
-/// The values of `list` from `place` on, from 0. Fails only if an allocation fails.
-pub fn from_place<T: Drop>(list: Vec<T>, place: usize) -> Result<Vec<T>, AllocError>
-    requires { place ≤ length list.items }
-    ensures { IfOk result (λ v. v.items ≡ drop place list.items) }
-{
-    if place == 0 {
-        return Ok(list);
-    }
-    let mut list = list;
-    list.split_off(place)
 }

@@ -1,11 +1,11 @@
 //! The breaks that are known after a refresh, and the segments that are shown then.
-ghost use Rattle.std.specs.Prelude.{IfOk};
+ghost use Rattle.std.specs.Prelude.{IfOk, ◌++◌};
 ghost use Rattle.stitcher.specs.StitchedSegments.{AreDecided};
 ghost use Rattle.channel_window.specs.Checked.{AreContiguous};
 ghost use Rattle.channel_window.specs.Listed.{RisesOn};
 ghost use Rattle.channel_window.specs.Showing.{IsLastEntered, IsShown, kept_in};
 
-use crate::listing::{fresh_of, joined, last_members, list_with, newest_end, newest_mark};
+use crate::listing::{fresh_of, last_members, list_with, newest_end, newest_mark};
 use crate::marking::{Marker, text_in};
 use crate::state::ChannelState;
 use break_finder::Knowledge;
@@ -15,23 +15,23 @@ use std::alloc::{AllocError, Global};
 use stitcher::MarkedSegment;
 use timeline::Beginnings;
 
-/// What a channel knows and shows with a playlist.
+/// What a channel knows with a playlist, and what it shows for the first time.
 #[derive(Drop)]
 pub struct Showing {
     /// The breaks that are known.
     pub knowledge: Knowledge,
-    /// The segments that are shown, the oldest first.
-    pub list: Vec<MarkedSegment>,
-    /// How many of them are shown for the first time.
+    /// The segments that are shown for the first time, the oldest first.
+    pub come: Vec<MarkedSegment>,
+    /// How many they are.
     pub fresh: usize,
     /// The last break entered.
     pub entered: Option<Shared<Text>>,
-    /// How long their newest run has lasted.
+    /// How long the newest run has lasted with them.
     pub so_far: Nanos,
 }
 
-/// What the channel of `state` knows and shows with the segments of `playlist`, of which new ones enter breaks by
-/// `tolerance`. Those that it showed before are among them. Fails only if an allocation fails.
+/// What the channel of `state` knows with the segments of `playlist`, and those of them that it shows for the first
+/// time, which enter breaks by `tolerance`. Fails only if an allocation fails.
 pub fn shown_with(
     alloc: Global,
     tolerance: Nanos,
@@ -39,12 +39,13 @@ pub fn shown_with(
     playlist: &Playlist,
 ) -> Result<Showing, AllocError>
     requires contiguous { AreContiguous playlist.now.segments }
-    requires decided { AreDecided state.now.store state.now.shown.list }
+    requires decided { AreDecided state.now.store state.now.list }
     requires entered { IsLastEntered (kept_in state.now) }
-    requires rising { RisesOn state.now.shown.list playlist.now.segments }
-    ensures { IfOk result (λ a. IsShown tolerance state.now playlist.now a) }
+    requires rising { RisesOn state.now.list playlist.now.segments }
+    ensures { IfOk result
+        (λ a. IsShown tolerance state.now playlist.now (state.now.list ++ a.come.items) a) }
 {
-    let shown = state.shown.list.as_slice();
+    let shown = state.list.as_slice();
     let newest = newest_mark(alloc, shown)?;
     let known = &state.shown.knowledge;
     let knowledge = known.carry(alloc, playlist, text_in(&newest))?;
@@ -61,7 +62,7 @@ pub fn shown_with(
     )?;
     Ok(Showing {
         knowledge,
-        list: joined(alloc, shown, marks.list)?,
+        come: marks.list,
         fresh: fresh.len(),
         entered: marks.entered,
         so_far: marks.so_far,

@@ -17,11 +17,11 @@ ghost use Rattle.channel_window.specs.Inner.Listed.{first_alone, first_numbers_o
 ghost use Rattle.pod_store.specs.Store.{is_one_of};
 ghost use Rattle.channel_window.specs.Inner.Placing.{rest_count};
 ghost use Rattle.channel_window.specs.Inner.Placing.{HasRoom, IsWithin, rest_of};
-ghost use Rattle.channel_window.specs.Showing.{kept_in};
+ghost use Rattle.channel_window.specs.Showing.{kept_before, kept_in};
 
 use crate::listing::{front_before, front_to};
 use crate::placing::{place_of, rest_count};
-use crate::state::ChannelState;
+use crate::state::Before;
 use crate::successor::{first_number, first_shown};
 use channel_spec::{Heading, RefreshFault};
 use fixed_duration::Nanos;
@@ -81,31 +81,31 @@ fn ends_of(rest: &Option<Rest>, ended: bool, so_far: Nanos) -> Result<Ends, Allo
 }
 
 // The place, from 0, of the item of the segment `number` of `list`, the rest before the first one apart.
-fn item_place(state: &ChannelState, number: u64, list: &[MarkedSegment]) -> usize
-    requires room { HasRoom state.now.store state.now.shown.rest list.now }
-    requires decided { AreDecided state.now.store list.now }
+fn item_place(store: &PodStore, rest: &Option<Rest>, number: u64, list: &[MarkedSegment]) -> usize
+    requires room { HasRoom store.now rest.now list.now }
+    requires decided { AreDecided store.now list.now }
     requires rising { AreRising list.now }
-    ensures value { result ≡ place_of number (so_far state.now.store list.now) }
-    ensures room { result + rest_count state.now.store state.now.shown.rest < 2 ^ 64 }
-    ensures within { (most : ℕ) → IsWithin state.now.store state.now.shown.rest list.now most
-        → result + rest_count state.now.store state.now.shown.rest ≤ most }
+    ensures value { result ≡ place_of number (so_far store.now list.now) }
+    ensures room { result + rest_count store.now rest.now < 2 ^ 64 }
+    ensures within { (most : ℕ) → IsWithin store.now rest.now list.now most
+        → result + rest_count store.now rest.now ≤ most }
 {
-    place_of(&state.store, front_to(number, list))
+    place_of(store, front_to(number, list))
 }
 
-// What a window that starts at `start` has of the pod of the newest run of `gone`, the segments before it, after `before` items
-// of a rest.
+// What a window that starts at `start` has of the pod of the newest run of `gone`, the segments before it, after `rest_items`
+// items of a rest.
 fn rest_of(
     store: &PodStore,
     gone: &[MarkedSegment],
-    before: usize,
+    rest_items: usize,
     start: usize,
 ) -> Result<Option<Rest>, AllocError>
-    requires room { place_on store.now None 0 0 gone.now + before < 2 ^ 64 }
+    requires room { place_on store.now None 0 0 gone.now + rest_items < 2 ^ 64 }
     requires decided { AreDecided store.now gone.now }
     ensures decided { IfOk result (λ rest. IsRestDecided store.now rest) }
     ensures value { IfOk result
-        (λ rest. rest_in store.now rest ≡ rest_of before start (so_far store.now gone.now)) }
+        (λ rest. rest_in store.now rest ≡ rest_of rest_items start (so_far store.now gone.now)) }
 {
     let Some((newest, _)) = gone.split_last() else {
         return Ok(None);
@@ -115,7 +115,7 @@ fn rest_of(
     };
     Ok(Some(Rest {
         id: id.clone()?,
-        place: start.saturating_sub(place_of(store, gone) + before),
+        place: start.saturating_sub(place_of(store, gone) + rest_items),
     }))
 }
 
@@ -129,73 +129,75 @@ struct Start {
 // The start of a window whose first segment has the number `number`, if the last window, of `stood` items, began with
 // another one: at the item of that segment, but no later than one past the last window.
 fn later_start(
-    state: &ChannelState,
+    store: &PodStore,
+    rest: &Option<Rest>,
     number: u64,
     list: &[MarkedSegment],
     stood: usize,
 ) -> Result<Start, AllocError>
-    requires room { HasRoom state.now.store state.now.shown.rest list.now }
-    requires decided { AreDecided state.now.store list.now }
+    requires room { HasRoom store.now rest.now list.now }
+    requires decided { AreDecided store.now list.now }
     requires rising { AreRising list.now }
     ensures place { IfOk result
         (λ s. s.place ≡ min (place_of number
-        (so_far state.now.store list.now) + rest_count state.now.store state.now.shown.rest) stood) }
+        (so_far store.now list.now) + rest_count store.now rest.now) stood) }
     ensures within { IfOk result
-        (λ s. (most : ℕ) → IsWithin state.now.store state.now.shown.rest list.now most
+        (λ s. (most : ℕ) → IsWithin store.now rest.now list.now most
         → s.place ≤ most) }
-    ensures decided { IfOk result (λ s. IsRestDecided state.now.store s.rest) }
+    ensures decided { IfOk result (λ s. IsRestDecided store.now s.rest) }
     ensures rest { IfOk result
-        (λ s. rest_in state.now.store s.rest
-        ≡ rest_over (rest_count state.now.store state.now.shown.rest) s.place number
-        (so_far state.now.store list.now)) }
+        (λ s. rest_in store.now s.rest
+        ≡ rest_over (rest_count store.now rest.now) s.place number
+        (so_far store.now list.now)) }
 {
-    let before = rest_count(&state.store, &state.shown.rest);
-    let item = item_place(state, number, list) + before;
+    let rest_items = rest_count(store, rest);
+    let item = item_place(store, rest, number, list) + rest_items;
     let place = item.min(stood);
     if item <= place {
         return Ok(Start { place, rest: None });
     }
     let gone = front_before(number, list);
-    let rest = rest_of(&state.store, gone, before, place)?;
+    let rest = rest_of(store, gone, rest_items, place)?;
     Ok(Start { place, rest })
 }
 
 // The start of the window of `playlist` in the stitched list of `list`, after the rest (RFC 8216, section 6.2.2). The last
 // window had `stood` items.
 fn start_of(
-    state: &ChannelState,
+    before: &Before<'_>,
     playlist: &Playlist,
     list: &[MarkedSegment],
     stood: usize,
 ) -> Result<Start, AllocError>
-    requires room { HasRoom state.now.store state.now.shown.rest list.now }
-    requires decided { AreDecided state.now.store list.now }
+    requires room { HasRoom (kept_before before.now).store (kept_before before.now).shown.rest list.now }
+    requires decided { AreDecided (kept_before before.now).store list.now }
     requires rising { AreRising list.now }
-    requires rest { IsRestDecided state.now.store state.now.shown.rest }
-    requires stood { stood ≡ length (last_pieces state.now.last (kept_in state.now)) }
+    requires rest { IsRestDecided (kept_before before.now).store (kept_before before.now).shown.rest }
+    requires stood { stood ≡ length (last_pieces (kept_before before.now).last (kept_in (kept_before before.now))) }
     ensures place { IfOk result
-        (λ s. s.place ≡ start_on state.now.last (first_number playlist.now.segments)
-        (kept_in state.now) (so_far state.now.store list.now)) }
+        (λ s. s.place ≡ start_on (kept_before before.now).last (first_number playlist.now.segments)
+        (kept_in (kept_before before.now)) (so_far (kept_before before.now).store list.now)) }
     ensures within { IfOk result
-        (λ s. (most : ℕ) → IsWithin state.now.store state.now.shown.rest list.now most
+        (λ s. (most : ℕ) → IsWithin (kept_before before.now).store (kept_before before.now).shown.rest list.now most
         → s.place ≤ most) }
-    ensures decided { IfOk result (λ s. IsRestDecided state.now.store s.rest) }
+    ensures decided { IfOk result (λ s. IsRestDecided (kept_before before.now).store s.rest) }
     ensures rest { IfOk result
-        (λ s. rest_in state.now.store s.rest
-        ≡ rest_on state.now.last (first_number (listed (kept_in state.now).shown))
+        (λ s. rest_in (kept_before before.now).store s.rest
+        ≡ rest_on (kept_before before.now).last (first_number (listed (kept_in (kept_before before.now)).shown))
         (first_number playlist.now.segments) s.place
-        (so_far state.now.store list.now) (rest_in state.now.store state.now.shown.rest)) }
+        (so_far (kept_before before.now).store list.now) (rest_in (kept_before before.now).store (kept_before before.now).shown.rest)) }
 {
+    let (store, shown) = (&before.state.store, &before.state.shown);
     let number = first_number(playlist.segments.as_slice());
-    let Some(_) = &state.last else {
-        let place = item_place(state, number, list);
+    let Some(_) = &before.state.last else {
+        let place = item_place(store, &shown.rest, number, list);
         return Ok(Start { place, rest: None });
     };
-    if number == first_shown(state.shown.list.as_slice()) {
-        let rest = copied_rest(&state.shown.rest)?;
+    if number == first_shown(before.list) {
+        let rest = copied_rest(&shown.rest)?;
         return Ok(Start { place: 0, rest });
     }
-    Ok(later_start(state, number, list, stood)?)
+    Ok(later_start(store, &shown.rest, number, list, stood)?)
 }
 
 /// The stitched list from the first item of the last window on.
@@ -209,48 +211,49 @@ pub struct PlacedList<'a> {
     pub rest: Option<Rest>,
 }
 
-/// The stitched list of the segments `list`, which the channel of `state` shows with `playlist`, and the place in it
-/// where the window starts (RFC 8216, section 6.2.2). The newest run of a break has lasted for `lasted`. The last window had
-/// `stood` items.
+/// The stitched list of the segments `list`, which a channel that kept `before` shows with `playlist`, and the place in
+/// it where the window starts (RFC 8216, section 6.2.2). The newest run of a break has lasted for `lasted`. The last
+/// window had `stood` items.
 /// `NumberRange` if a number would pass 2^64 - 1 (RFC 8216, sections 4.3.3.2 and 4.3.3.3); `OutOfMemory` only if an
 /// allocation fails.
 pub fn placed_of<'a>(
     alloc: Global,
-    state: &ChannelState,
+    before: &Before<'_>,
     playlist: &Playlist,
     list: &'a [MarkedSegment],
     lasted: Nanos,
     stood: usize,
 ) -> Result<PlacedList<'a>, RefreshFault>
-    requires decided { AreDecided state.now.store list.now }
+    requires decided { AreDecided (kept_before before.now).store list.now }
     requires rising { AreRising list.now }
-    requires rest { IsRestDecided state.now.store state.now.shown.rest }
-    requires stood { stood ≡ length (last_pieces state.now.last (kept_in state.now)) }
+    requires rest { IsRestDecided (kept_before before.now).store (kept_before before.now).shown.rest }
+    requires stood { stood ≡ length (last_pieces (kept_before before.now).last (kept_in (kept_before before.now))) }
     ensures whole { IfOk result
         (λ w. w.whole ≡ map written_item
-        (reverse (items_on (kept_in state.now) playlist.now
-        (so_far state.now.store list.now) lasted))) }
+        (reverse (items_on (kept_in (kept_before before.now)) playlist.now
+        (so_far (kept_before before.now).store list.now) lasted))) }
     ensures window { IfOk result
         (λ w. drop w.start w.whole
-        ≡ map written_item (window_on (kept_in state.now) playlist.now
-        (so_far state.now.store list.now) lasted)) }
-    ensures left { IfOk result (λ w. IsRestDecided state.now.store w.rest) }
+        ≡ map written_item (window_on (kept_in (kept_before before.now)) playlist.now
+        (so_far (kept_before before.now).store list.now) lasted)) }
+    ensures left { IfOk result (λ w. IsRestDecided (kept_before before.now).store w.rest) }
     ensures rest { IfOk result
-        (λ w. rest_in state.now.store w.rest
-        ≡ rest_after (kept_in state.now) playlist.now (so_far state.now.store list.now)) }
+        (λ w. rest_in (kept_before before.now).store w.rest
+        ≡ rest_after (kept_in (kept_before before.now)) playlist.now (so_far (kept_before before.now).store list.now)) }
     ensures fit { IfOk result
-        (λ w. list_all fits (items_on (kept_in state.now) playlist.now
-        (so_far state.now.store list.now) lasted) ≡ true) }
+        (λ w. list_all fits (items_on (kept_in (kept_before before.now)) playlist.now
+        (so_far (kept_before before.now).store list.now) lasted) ≡ true) }
     ensures err { IfErr result
         (λ e. RefusesList e (list_all fits
-        (items_on (kept_in state.now) playlist.now (so_far state.now.store list.now) lasted)
+        (items_on (kept_in (kept_before before.now)) playlist.now (so_far (kept_before before.now).store list.now) lasted)
         ≡ false)) }
 {
-    let ends = ends_of(&state.shown.rest, playlist.end_list, lasted)?;
-    let first = numbers_on(&state.last, state.shown.numbers, list, &state.store, &ends)?;
-    let cut = state.shown.list.len();
-    let whole = stitched(alloc, list, cut, &state.store, first, &ends)?;
-    let start = start_of(state, playlist, list, stood)?;
+    let (store, shown) = (&before.state.store, &before.state.shown);
+    let ends = ends_of(&shown.rest, playlist.end_list, lasted)?;
+    let first = numbers_on(&before.state.last, shown.numbers, list, store, &ends)?;
+    let cut = before.list.len();
+    let whole = stitched(alloc, list, cut, store, first, &ends)?;
+    let start = start_of(before, playlist, list, stood)?;
     Ok(PlacedList {
         whole,
         start: start.place,

@@ -4,3 +4,4 @@ pub mod Leading
 pub mod Seated
 pub mod Turning
 mod Isolated
+mod Sent

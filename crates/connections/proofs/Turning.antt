@@ -1,13 +1,14 @@
 -- One call more in a client's turn.
-use Rattle.std.proofs.Common.{◌≡◌, ℕ, ◌+◌, ◌<◌, true, arith, List, [], ◌∷◌, take, drop, zero, suc, refl, sym, ap, subst, ◌∙◌}
+use Rattle.std.proofs.Common.{◌≡◌, ℕ, ◌+◌, ◌<◌, true, false, arith, List, [], ◌∷◌, take, drop, length, zero, suc, refl, sym, ap, subst, ◌∙◌}
 use Rattle.std.specs.Prelude.{Option, Some, None}
 use Rattle.std.specs.Io.KnownBytes.{Appends}
 use Rattle.std.proofs.KnownBytes.{Consumes-trans, Appends-trans}
 use Rattle.std.proofs.Math.Seq.{take-add}
-use Rattle.std.proofs.lemmas.List.{drop-drop}
+use Rattle.std.proofs.lemmas.List.{drop-drop, length-drop}
 use Rattle.connections.specs.declared.conversation.Conversation.{Conversation}
 use Rattle.connections.specs.declared.conversation.Conversation.TheVariants.{Asking, Answering}
 use Rattle.connections.specs.Arrivals.{is_asking}
+use Rattle.connections.specs.Clients.{AreSent}
 use Rattle.connections.specs.declared.devices.Passage.TheVariants.{Bytes}
 use Rattle.connections.specs.Devices.{DeviceStand, Calls, one_call}
 use Rattle.connections.specs.Table.{State, at, left_of, taken_of}
@@ -59,3 +60,25 @@ said_more first before after place old middle new spoken said =
       counts = said.count ∷ spoken.counts;
       run = (middle, spoken.run, said.happens);
     }
+
+-- ---- what is left of a reply
+
+pub sent_none : (place : ℕ) (now : State) → AreSent 0 place now now
+sent_none place now = omega arith
+
+pub sent_more : (n : ℕ) (before after : DeviceStand) (place : ℕ) (old middle new : State) → AreSent n place old middle → HasSaid before after place middle new → AreSent (n + 1) place old new
+sent_more n before after place old middle new sent said =
+    let left = ap length (ap left_of said.happens.1.here ∙ left_after said.count (at middle place)) in
+    let dropped = length-drop said.count (left_of (at middle place)) in
+    omega (arith, sent, left, dropped, said.took_it.some, said.happens.0)
+
+-- ---- who is answered asks no more
+
+still_answered : (count : ℕ) (c : Option Conversation) → is_asking (taken_of count c) ≡ is_asking c
+still_answered count None = refl
+still_answered count (Some (Asking bytes pieces)) = refl
+still_answered count (Some (Answering rest status)) = refl
+
+pub told_more : (before after : DeviceStand) (place : ℕ) (old middle new : State) → (is_asking (at old place) ≡ false → is_asking (at middle place) ≡ false) → HasSaid before after place middle new
+    → is_asking (at old place) ≡ false → is_asking (at new place) ≡ false
+told_more before after place old middle new earlier said h = ap is_asking said.happens.1.here ∙ (still_answered said.count (at middle place) ∙ earlier h)

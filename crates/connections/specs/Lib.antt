@@ -6,6 +6,7 @@ pub mod Table
 pub mod Runs
 pub mod Wires
 pub mod Turns
+pub mod Clients
 pub mod Arrivals
 pub mod Isolation
 pub mod Inner

@@ -4,9 +4,11 @@ ghost use Rattle.std.specs.IoError.{error_kind};
 ghost use Rattle.connections.specs.Devices.{DeviceStand, no_calls, one_call, PassesAtMost, ReadPasses, WritePasses};
 ghost use Rattle.connections.specs.Inner.Passages.{would_wait, passage_of};
 
+use mio::net::TcpStream;
 use std::io;
 use std::io::{ErrorKind, Read, Write};
 use std::marker::Model;
+use std::net::Shutdown;
 
 /// What one read, or one write, came to.
 #[derive(Clone, Copy, Debug, PartialEq, Eq)]
@@ -46,6 +48,13 @@ pub trait Outgoing {
         ensures bound { PassesAtMost result (length buf.now) }
         ensures bytes { WritePasses (stand self.old).bytes (stand self.new).bytes result buf.now }
         ensures calls { (stand self.new).calls ≡ one_call result (stand self.old).calls };
+}
+
+/// What tells a client that nothing more is written to it.
+pub trait Ending {
+    /// Tells the client so, as far as it can be told. No byte is read or written.
+    fn end_output(&mut self)
+        ensures { self.new ≡ self.old };
 }
 
 /// A reader or a writer of std that answers `WouldBlock` if it would wait, with its calls.
@@ -108,8 +117,10 @@ impl<T> NonBlocking<T> {
         passage
     }
 
-    /// The reader or writer itself: what is done to it this way is not counted.
-    pub fn inner(&mut self) -> &mut T {
+    // The reader or writer itself: what is done to it this way is not counted.
+    pub(crate) fn inner(&mut self) -> &mut T
+        ensures { result.now ≡ self.old.0 }
+    {
         &mut self.inner
     }
 }
@@ -129,5 +140,14 @@ impl<W: Write> Outgoing for NonBlocking<W> {
     fn write(&mut self, buf: &[u8]) -> Passage {
         let answer = self.inner.write(buf);
         self.note(answer)
+    }
+}
+
+/// A client's socket.
+pub type Socket = NonBlocking<TcpStream>;
+
+impl Ending for Socket {
+    fn end_output(&mut self) {
+        let _ = self.inner.shutdown(Shutdown::Write);
     }
 }

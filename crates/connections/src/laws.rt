@@ -1,4 +1,5 @@
 //! Laws on runs of many connections.
+ghost use Rattle.connections.specs.Clients.{RepliesAreSent};
 ghost use Rattle.connections.specs.Runs.{ConnectionsAreServed};
 ghost use Rattle.connections.specs.Isolation.{ClientsAreIsolated};
 
@@ -13,4 +14,11 @@ pub fn connections_are_served()
 /// counts for nothing.
 pub fn clients_are_isolated()
     ensures { ClientsAreIsolated }
+{}
+
+/// Whatever others do meanwhile, a turn in which a client that is answered goes on (`Turn::Goes`) leaves at least 4 bytes
+/// fewer of its reply: so after a fourth as many turns as the reply has bytes none of them goes on. The client then has its
+/// reply, waits for its own socket, or is gone.
+pub fn replies_are_sent()
+    ensures { RepliesAreSent }
 {}

@@ -4,6 +4,7 @@
 
 mod admission;
 mod arrivals;
+mod client;
 mod conversation;
 mod deadlines;
 mod devices;
@@ -15,9 +16,10 @@ mod wire;
 
 pub use admission::Admission;
 pub use arrivals::{Arrival, Arrivals, has_come};
+pub use client::Client;
 pub use conversation::Conversation;
 pub use deadlines::{ending_deadline, serving_deadline};
-pub use devices::{Incoming, NonBlocking, Outgoing, Passage};
+pub use devices::{Ending, Incoming, NonBlocking, Outgoing, Passage, Socket};
 pub use seats::Seat;
 pub use table::{Connections, MAX_HELD, Opened, PLACES, Phase};
 pub use turns::{Turn, drain, is_read_out, listen, speak};

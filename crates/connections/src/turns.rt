@@ -4,6 +4,7 @@ ghost use Rattle.connections.specs.declared.devices.Passage.TheVariants.{WouldWa
 ghost use Rattle.connections.specs.Table.{at, left_of, held_in};
 ghost use Rattle.connections.specs.Limits.{most_held, reads_in_turn, writes_in_turn, drains_in_turn};
 ghost use Rattle.connections.specs.Arrivals.{is_asking};
+ghost use Rattle.connections.specs.Clients.{AreSent};
 ghost use Rattle.connections.specs.Runs.{HasRun};
 ghost use Rattle.connections.specs.Turns.{HasListened, HasListenedUntil, HasSpoken, HasSpokenUntil, IfGone, Stays, HasNoMore, MovedEach, is_read_out};
 
@@ -93,9 +94,13 @@ pub fn speak<T: Outgoing>(device: &mut T, connections: &mut Connections, seat: &
     ensures gone { IfGone result (λ fault. HasSpokenUntil fault (T.stand device.old)
         (T.stand device.new)
         seat.now connections.old connections.new) }
+    ensures asked { is_asking (at connections.old seat.now) ≡ false →
+        Stays result (is_asking (at connections.new seat.now) ≡ false) }
     ensures done { result ≡ Turn.Done → left_of (at connections.new seat.now) ≡ [] }
     ensures written { result ≡ Turn.Goes →
         MovedEach writes_in_turn (T.stand device.old).calls (T.stand device.new).calls }
+    ensures sent { result ≡ Turn.Goes →
+        AreSent writes_in_turn seat.now connections.old connections.new }
     ensures waits { result ≡ Turn.Waits → (T.stand device.new).calls.last ≡ Some WouldWait }
     ensures room { result ≡ Turn.Full → ⊥ }
     ensures run { HasRun connections.old connections.new }

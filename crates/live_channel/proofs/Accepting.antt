@@ -1,11 +1,11 @@
 -- An accepted refresh, from the segments that a channel holds.
-use Rattle.std.proofs.Common.{zero, suc, drop, ◌≡◌, ℕ, ◌||◌, List, [], ◌∷◌, map, length, refl, ap, ◌∙◌, subst}
-use Rattle.std.specs.Prelude.{Bool, true, false, not, is_some}
+use Rattle.std.proofs.Common.{zero, suc, drop, take, ◌≡◌, ℕ, ◌||◌, ◌++◌, List, [], ◌∷◌, map, length, refl, ap, sym, ◌∙◌, subst}
+use Rattle.std.specs.Prelude.{Bool, true, false, not, is_some, Option, Some, Result, Ok, Err, IfOk, OnOk}
 use Rattle.playlist_model.specs.declared.DateRange.{DateRange}
 use Rattle.pod_store.specs.Inner.Store.{NameTheSame}
 use Rattle.break_finder.proofs.TagIds.{filter_same}
 use Rattle.std.specs.List.{list_any}
-use Rattle.std.proofs.lemmas.List.{length-map}
+use Rattle.std.proofs.lemmas.List.{length-map, take_at}
 use Rattle.playlist_model.specs.declared.Playlist.{Playlist}
 use Rattle.pod_store.specs.Marks.{Marked}
 use Rattle.stitcher.specs.Stitched.{Numbers, Item}
@@ -15,6 +15,10 @@ use Rattle.stitcher.specs.declared.OutSegment.{OutSegment}
 use Rattle.stitcher.specs.declared.marked.MarkedSegment.{MarkedSegment as Held}
 use Rattle.stitcher.specs.StitchedSegments.{AreDecided}
 use Rattle.stitcher.specs.Written.{written_item}
+use Rattle.channel_spec.specs.declared.fault.RefreshFault.{RefreshFault}
+use Rattle.channel_spec.specs.declared.heading.Heading.{Heading}
+use Rattle.channel_spec.specs.Successor.{heading_of}
+use Rattle.playlist_write.specs.declared.resumed.WrittenText.{WrittenText}
 use Rattle.channel_spec.specs.Live.{states_instant, date_ranges_left}
 use Rattle.channel_spec.specs.Kept.{Kept, head_numbers, window_on, items_on, kept_items, kept_list, kept_length}
 use Rattle.channel_spec.specs.Live.{date_range_text}
@@ -28,7 +32,7 @@ use Rattle.break_finder.specs.Breaks.{Break}
 use Rattle.live_channel.specs.declared.channel.Refreshed.{Refreshed}
 use Rattle.live_channel.specs.declared.next.NextState.{NextState}
 use Rattle.live_channel.specs.Channel.{refreshed_with, fresh_after}
-use Rattle.live_channel.specs.Inner.Accepting.{breaks_after, text_with_window, IsNext, IsAccepted}
+use Rattle.live_channel.specs.Inner.Accepting.{breaks_after, text_with_window, state_with, accepted_state, Accepts, Follows, HasGrown, IsNext, IsAccepted}
 
 -- ---- items
 
@@ -76,24 +80,52 @@ module _ (state : ChannelState) (p : Playlist) (held : List Held) (n : ℕ) wher
 
 -- ---- what is shown is what is to be shown
 
-module _ (tolerance : ℕ) (state : ChannelState) (p : Playlist) (showing : Showing) (next : NextState) (shown : IsShown tolerance state p showing) where
+module _ (tolerance : ℕ) (state : ChannelState) (p : Playlist) (held : List Held) (showing : Showing) (next : NextState) (shown : IsShown tolerance state p held showing) where
   abbrev kept : Kept
   kept = kept_in state
 
-  pub accepted : IsNext kept p showing.knowledge (so_far state.store showing.list.items) showing.so_far showing.fresh next → IsAccepted tolerance kept p next
+  pub accepted : IsNext kept p showing.knowledge held (so_far state.store held) showing.so_far showing.fresh next → IsAccepted tolerance kept p held next
   accepted n =
-      subst (λ (breaks : List Break). IsNext kept p breaks (kept_list tolerance kept p) (kept_length tolerance kept p) (fresh_after kept.shown p) next) shown.breaks
-      (subst (λ (list : List Marked). IsNext kept p showing.knowledge list (kept_length tolerance kept p) (fresh_after kept.shown p) next) shown.list
-      (subst (λ (so_long : ℕ). IsNext kept p showing.knowledge (so_far state.store showing.list.items) so_long (fresh_after kept.shown p) next) shown.length
-      (subst (λ (fresh : ℕ). IsNext kept p showing.knowledge (so_far state.store showing.list.items) showing.so_far fresh next) shown.fresh n)))
+      subst (λ (breaks : List Break). IsNext kept p breaks held (kept_list tolerance kept p) (kept_length tolerance kept p) (fresh_after kept.shown p) next) shown.breaks
+      (subst (λ (list : List Marked). IsNext kept p showing.knowledge held list (kept_length tolerance kept p) (fresh_after kept.shown p) next) shown.list
+      (subst (λ (so_long : ℕ). IsNext kept p showing.knowledge held (so_far state.store held) so_long (fresh_after kept.shown p) next) shown.length
+      (subst (λ (fresh : ℕ). IsNext kept p showing.knowledge held (so_far state.store held) showing.so_far fresh next) shown.fresh n)))
 
-pub items_kept : (tolerance : ℕ) (state : ChannelState) (p : Playlist) (showing : Showing) → IsShown tolerance state p showing
-    → items_on (kept_in state) p (so_far state.store showing.list.items) showing.so_far ≡ kept_items tolerance (kept_in state) p
-items_kept tolerance state p showing shown =
+pub items_kept : (tolerance : ℕ) (state : ChannelState) (p : Playlist) (held : List Held) (showing : Showing) → IsShown tolerance state p held showing
+    → items_on (kept_in state) p (so_far state.store held) showing.so_far ≡ kept_items tolerance (kept_in state) p
+items_kept tolerance state p held showing shown =
     ap (λ (list : List Marked). items_on (kept_in state) p list showing.so_far) shown.list ∙ ap (items_on (kept_in state) p (kept_list tolerance (kept_in state) p)) shown.length
+
+-- so it is whatever the segments were put behind
+pub accepted_as : (tolerance : ℕ) (state before : ChannelState) (p : Playlist) (held list : List Held) (showing : Showing) (result : Result NextState RefreshFault) → IsShown tolerance state p held showing → before ≡ state → list ≡ held
+    → IfOk result (λ next. IsNext (kept_in before) p showing.knowledge list (so_far before.store list) showing.so_far showing.fresh next) → IfOk result (λ next. IsAccepted tolerance (kept_in state) p held next)
+accepted_as tolerance state before p held list showing (Ok next) shown e f n =
+    accepted tolerance state p held showing next shown
+    (subst (λ (s : ChannelState). IsNext (kept_in s) p showing.knowledge held (so_far s.store held) showing.so_far showing.fresh next) e
+    (subst (λ xs. IsNext (kept_in before) p showing.knowledge xs (so_far before.store xs) showing.so_far showing.fresh next) f n))
+accepted_as tolerance state before p held list showing (Err fault) shown e f n = n
+
+-- the first of them alone are those that were shown before
+pub before_is : (state before : ChannelState) (come list : List Held) (stood : ℕ) → stood ≡ length state.list → list ≡ state.list ++ come → before ≡ record state { list = take stood list } → before ≡ state
+before_is state before come list stood long list_is is =
+    is ∙ ap (λ (xs : List Held). record state { list = xs }) (ap (take stood) list_is ∙ take_at state.list come stood (sym long))
 
 -- the later ones of decided segments
 pub later_decided : (store : Store) (n : ℕ) (held : List Held) → AreDecided store held → AreDecided store (drop n held)
 later_decided store zero held h = h
 later_decided store (suc n) [] h = tt
 later_decided store (suc n) (m ∷ later) h = later_decided store n later h.1
+
+-- ---- a refresh is accepted
+
+pub accepts : (tolerance : ℕ) (old grown new : ChannelState) (p : Playlist) (last : Heading) (next : NextState) (written : Option WrittenText) (result : Result Refreshed RefreshFault) → HasGrown old grown → Follows tolerance (kept_in old) p grown.list next → last ≡ heading_of p
+    → OnOk result (new ≡ state_with grown last next) → IfOk result (λ done. done ≡ next.refreshed) → OnOk result (written ≡ Some next.written) → IfOk result (λ done. Accepts tolerance old p new written done)
+accepts tolerance old grown new p last next written (Ok done) (come, is) follows same state answer text = record {
+  held = grown.list;
+  next = next;
+  follows = follows;
+  state_is = state ∙ (ap (λ h. state_with grown h next) same ∙ ap (λ (x : ChannelState). accepted_state x p next) (is ∙ sym (ap (λ (x : ChannelState). record old { list = x.list }) is)));
+  written_is = text;
+  done_is = answer;
+}
+accepts tolerance old grown new p last next written (Err fault) grows follows same state answer text = state

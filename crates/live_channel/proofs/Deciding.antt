@@ -24,7 +24,7 @@ use Rattle.live_channel.proofs.Stores.{Stay, all_stay}
 
 module _ (base : Parts) (tolerance : ℕ) (state : ChannelState) (text : Option (List ℕ)) where
   abbrev shown : List Held
-  shown = state.shown.list
+  shown = state.list
 
   abbrev kept_by : Store → Type 0
   kept_by store = AreKept store state

@@ -9,7 +9,7 @@ use Rattle.playlist_model.specs.Same.{kept_parts}
 use Rattle.playlist_model.specs.Reading.{reading, limited}
 use Rattle.pod_store.specs.Store.{Store}
 use Rattle.stitcher.specs.declared.marked.MarkedSegment.{MarkedSegment as Held}
-use Rattle.channel_spec.specs.Live.{Told, last_playlist, after_refresh, owed, owed_for}
+use Rattle.channel_spec.specs.Live.{Told, last_playlist, after_refresh, owed_for}
 use Rattle.channel_spec.specs.Sound.{RiseFrom}
 use Rattle.channel_spec.specs.Successor.{first_number}
 use Rattle.channel_spec.specs.Kept.{Kept, listed, kept_of, kept_refusal, shown_by}
@@ -52,8 +52,8 @@ drop_none : (n : ℕ) → ◌≡◌ {A = List Segment} (drop n []) []
 drop_none zero = refl
 drop_none (suc n) = refl
 
-pub taken_over : (last : Option Playlist) (state : ChannelState) (new : List Segment) (start end : ℕ) → IsListed last state.shown.list → AreReadAgain (last_segments last) new start end
-    → AreTaken (segments_in state.shown.list) new start end
+pub taken_over : (last : Option Playlist) (state : ChannelState) (new : List Segment) (start end : ℕ) → IsListed last state.list → AreReadAgain (last_segments last) new start end
+    → AreTaken (segments_in state.list) new start end
 taken_over None state new start end h t = record {
   from = 0;
   till = 0;
@@ -62,7 +62,7 @@ taken_over None state new start end h t = record {
   same = ap (map kept_parts) (t.same ∙ (ap (drop t.from) (take_none t.till) ∙ drop_none t.from));
 }
 taken_over (Some p) state new start end h t =
-    let held = segments_in state.shown.list in
+    let held = segments_in state.list in
     record {
       from = t.from;
       till = t.till;
@@ -89,7 +89,7 @@ as_held store held new start end t = subst (λ xs. AreTaken xs new start end) (h
 -- ---- after an accepted refresh they are those of its playlist
 
 pub listed_next : (base : Parts) (tolerance : ℕ) (given : List Given) (bytes : List ℕ) (p : Playlist) (state : ChannelState) → AllByRecursion (IsAsTyped base) (refreshed bytes ∷ given) → reading limited base bytes ≡ Ok p
-    → kept_refusal tolerance (kept_of (told_by base tolerance given)) p ≡ None → kept_in state ≡ kept_of (told_by base tolerance (refreshed bytes ∷ given)) → IsListed (Some p) state.shown.list
+    → kept_refusal tolerance (kept_of (told_by base tolerance given)) p ≡ None → kept_in state ≡ kept_of (told_by base tolerance (refreshed bytes ∷ given)) → IsListed (Some p) state.list
 listed_next base tolerance given bytes p state typed read unrefused stands =
     let t = told_by base tolerance (refreshed bytes ∷ given) in
     let next : t ≡ after_refresh tolerance (told_by base tolerance given) p = told_next base tolerance given bytes p typed read unrefused in
@@ -97,7 +97,7 @@ listed_next base tolerance given bytes p state typed read unrefused stands =
     let shown : listed (kept_in state).shown ≡ listed (shown_by (Some p) t.history) = ap (λ (k : Kept). listed k.shown) stands ∙ ap (λ o. listed (shown_by o t.history)) last in
     let law = shown_are_listed tolerance (events_of base (refreshed bytes ∷ given)) p (owed_for t p)
     (record { sound = all_given base (refreshed bytes ∷ given) typed; accepted = last; owed = ap (option_map (owed_for t)) last }) in
-    ap (map kept_parts) (sym (held_listed state.store state.shown.list) ∙ shown) ∙ law
+    ap (map kept_parts) (sym (held_listed state.store state.list) ∙ shown) ∙ law
 
 -- ---- so their numbers rise by one
 

@@ -1,5 +1,5 @@
 -- A channel after a refresh.
-use Rattle.std.proofs.Common.{◌≡◌, ◌≢◌, ℕ, Bool, true, false, not, cond, ◌&&◌, ◌||◌, List, [], ◌∷◌, map, refl, ap, sym, ◌∙◌, subst}
+use Rattle.std.proofs.Common.{◌≡◌, ◌≢◌, ℕ, Bool, true, false, not, cond, ◌&&◌, ◌||◌, List, [], ◌∷◌, map, drop, refl, ap, sym, ◌∙◌, subst}
 use Rattle.std.specs.Prelude.{Option, Some, None, IsSome, Result, Ok, Err, IsErr, IfErr, option_map, filter, find, nat_le, reverse}
 use Rattle.std.specs.List.{list_all, list_any, AllByRecursion}
 use Rattle.std.proofs.lemmas.Bool.{and_from}
@@ -158,15 +158,19 @@ module _ (base : Parts) (tolerance : ℕ) (state : ChannelState) (text : Option 
   typed : (p : Playlist) → reading limited base bytes ≡ Ok p → list_all uris_are_text p.segments ≡ true → IsAsTyped base (refreshed bytes)
   typed p e t q f = subst (λ (x : Playlist). list_all uris_are_text x.segments ≡ true) (same_read p q (sym e ∙ f)) t
 
-  module _ (p : Playlist) (a : NextState) (h : IsRead base bytes p) (f : Follows tolerance (kept_in state) p a) where
+  module _ (p : Playlist) (held : List Held) (a : NextState) (h : IsRead base bytes p) (f : Follows tolerance (kept_in state) p held a) where
     abbrev kept : Kept
     kept = kept_in state
 
-    abbrev accepted : IsAccepted tolerance kept p a
+    abbrev accepted : IsAccepted tolerance kept p held a
     accepted = f.accepted
 
+    -- before the refresh is accepted, with the segments that are shown then
+    abbrev grown : ChannelState
+    grown = record state { list = held }
+
     abbrev after : Channel
-    after = channel_with base tolerance (accepted_state state p a) (Some a.written.text)
+    after = channel_with base tolerance (accepted_state grown p a) (Some a.written.text)
 
     pub unrefused : kept_refusal tolerance kept p ≡ None
     unrefused = no_fault (kept_succession kept p) (fault_if (not (list_all fits (kept_items tolerance kept p))) NumberRange) f.succeeds (ap (λ b. fault_if (not b) NumberRange) accepted.fit)
@@ -175,7 +179,7 @@ module _ (base : Parts) (tolerance : ℕ) (state : ChannelState) (text : Option 
         → is_one_of a.in_use.items id ≡ true
     listed id k = accepted.in_use.ids id ∙ (in_use_with_is (first_number p.segments) (kept_list tolerance kept p) (or_earlier (last_entered (kept_list tolerance kept p)) kept.entered) (rest_after kept p (kept_list tolerance kept p)) id ∙ k)
 
-    in_use : AllByRecursion (λ (x : Marked). (id : List ℕ) → is_marked id x.mark ≡ true → is_one_of a.in_use.items id ≡ true) (so_far state.store a.shown.list)
+    in_use : AllByRecursion (λ (x : Marked). (id : List ℕ) → is_marked id x.mark ≡ true → is_one_of a.in_use.items id ≡ true) (so_far state.store (drop a.gone held))
     in_use =
         subst (λ (xs : List Marked). AllByRecursion (λ (x : Marked). (id : List ℕ) → is_marked id x.mark ≡ true → is_one_of a.in_use.items id ≡ true) xs) (sym accepted.shown)
         (used_from (first_number p.segments) (is_one_of a.in_use.items) (kept_list tolerance kept p) (λ id k. listed id (or_first _ _ (or_first _ _ k))))
@@ -183,17 +187,17 @@ module _ (base : Parts) (tolerance : ℕ) (state : ChannelState) (text : Option 
     rest_used : (id : List ℕ) → is_this id (rest_id (rest_in state.store a.shown.rest)) ≡ true → is_one_of a.in_use.items id ≡ true
     rest_used id k = listed id (or_second _ _ (ap (λ o. is_this id (rest_id o)) (sym accepted.rest) ∙ k))
 
-    stay : Stay state.store (kept_in_use a.in_use.items state.store) a.shown.list a.shown.rest
+    stay : Stay state.store (kept_in_use a.in_use.items state.store) (drop a.gone held) a.shown.rest
     stay = record {
       marks =
-          marks_stay a.in_use.items state.store a.shown.list accepted.decided
-          (unturned (λ (x : Marked). (id : List ℕ) → is_marked id x.mark ≡ true → is_one_of a.in_use.items id ≡ true) (map (meant state.store) a.shown.list) [] in_use).0;
+          marks_stay a.in_use.items state.store (drop a.gone held) accepted.decided
+          (unturned (λ (x : Marked). (id : List ℕ) → is_marked id x.mark ≡ true → is_one_of a.in_use.items id ≡ true) (map (meant state.store) (drop a.gone held)) [] in_use).0;
       rest = rest_stays a.in_use.items state.store a.shown.rest accepted.rest_decided rest_used;
     }
 
-    kept_is : kept_in (accepted_state state p a) ≡ kept_after tolerance kept p
+    kept_is : kept_in (accepted_state grown p a) ≡ kept_after tolerance kept p
     kept_is =
-        kept_ext (kept_in (accepted_state state p a)) (kept_after tolerance kept p) (kept_alike a.in_use.items (breaks_after kept p (kept_list tolerance kept p)) state.store accepted.in_use) accepted.breaks refl
+        kept_ext (kept_in (accepted_state grown p a)) (kept_after tolerance kept p) (kept_alike a.in_use.items (breaks_after kept p (kept_list tolerance kept p)) state.store accepted.in_use) accepted.breaks refl
         (ap (λ (xs : List Marked). reverse xs) stay.marks.same ∙ accepted.shown) accepted.entered accepted.numbers accepted.lasted (stay.rest.same ∙ accepted.rest)
 
     steps : Steps before bytes (Ok a.refreshed) after
@@ -214,13 +218,13 @@ module _ (base : Parts) (tolerance : ℕ) (state : ChannelState) (text : Option 
       pub decided : AreKept new.store new
       pub refreshes : Refreshes before bytes (Ok done) (channel_with base tolerance new (Some a.written.text))
 
-    goes_so : Stands before → Goes (accepted_state state p a) a.refreshed
+    goes_so : Stands before → Goes (accepted_state grown p a) a.refreshed
     goes_so s =
         let r = steps_refresh before bytes (Ok a.refreshed) after steps in
         record { stands = (refreshed bytes ∷ s.0, (r s.0 s.1).stands); decided = (stay.marks.decided, stay.rest.decided); refreshes = r }
 
-    pub goes : (new : ChannelState) (done : Refreshed) → new ≡ accepted_state state p a → done ≡ a.refreshed → Stands before → Goes new done
-    goes new done e k s = subst (λ (x : ChannelState). Goes x done) (sym e) (subst (Goes (accepted_state state p a)) (sym k) (goes_so s))
+    pub goes : (new : ChannelState) (done : Refreshed) → new ≡ accepted_state grown p a → done ≡ a.refreshed → Stands before → Goes new done
+    goes new done e k s = subst (λ (x : ChannelState). Goes x done) (sym e) (subst (Goes (accepted_state grown p a)) (sym k) (goes_so s))
 
   -- ---- a refused refresh
 
@@ -255,11 +259,6 @@ module _ (base : Parts) (tolerance : ℕ) (state : ChannelState) (text : Option 
   -- one that can't be read
   pub stays_unread : (fault : PlaylistFault) → (fault.kind ≢ NoMemory → reading limited base bytes ≡ Err fault) → Steps before bytes (Err (fault_of_reading fault)) before
   stays_unread fault h = unread_as fault h (is_out_of_memory_kind fault.kind) refl
-
-  -- one that finds no memory for its copies
-  pub stays_full : (result : Result Refreshed RefreshFault) → IsErr result → IfErr result (λ e. e ≡ OutOfMemory) → Refreshes before bytes result before
-  stays_full (Ok answer) h k = absurd (cc)
-  stays_full (Err e) h k = subst (λ (x : RefreshFault). Refreshes before bytes (Err x) before) (sym k) (steps_refresh before bytes (Err OutOfMemory) before refl)
 
 -- what is read has rising numbers
 pub read_rises : (base : Parts) (bytes : List ℕ) (p : Playlist) → reading limited base bytes ≡ Ok p → AreContiguous p.segments

@@ -96,4 +96,4 @@ rises_next base tolerance given bytes state p read e typed f =
     let standing = plain_standing t.accepted t.history t.start (holds tolerance (events_of base given) (all_given base given typed)).standing in
     let follows = kept_follows tolerance p (events_of base given) (is_read p (can_be_written limited base bytes p read), all_given base given typed) in
     let b = shown_falls t.accepted t.history p standing (sym follows.succeeds ∙ (ap (λ k. kept_succession k p) (sym e) ∙ f)) in
-    held_rises state.store state.shown.list p.segments (subst (λ seen. FallsBefore seen p.segments) (sym (ap (λ (k : Kept). k.shown) e)) b)
+    held_rises state.store state.list p.segments (subst (λ seen. FallsBefore seen p.segments) (sym (ap (λ (k : Kept). k.shown) e)) b)

@@ -14,11 +14,11 @@ ghost use Rattle.break_finder.specs.Entering.{id_of, why};
 ghost use Rattle.channel_spec.specs.Successor.{has_init_sections};
 ghost use Rattle.channel_spec.specs.Limits.{max_tolerance};
 
-use crate::refresh::{accept, next_after, playlist_after, playlist_of};
+use crate::refresh::{accept, playlist_after, playlist_of};
 use crate::type_facts::know_pods;
 use break_finder::Why;
-use channel_spec::{MAX_TOLERANCE, RefreshFault, heading_of};
-use channel_window::{ChannelState, Shown, have_init_sections};
+use channel_spec::{MAX_TOLERANCE, RefreshFault};
+use channel_window::{ChannelState, Row, Shown, have_init_sections};
 use decision_files::read_decisions;
 use fixed_duration::Nanos;
 use playlist_model::{Playlist, Shared, Text};
@@ -71,7 +71,7 @@ impl Model for Channel {
     ghost use Rattle.channel_window.specs.Showing.{kept_in};
     ghost use Rattle.live_channel.specs.LastText.{IsLaidOut};
 
-    ghost invariant = { λ a. Stands (channel_with a.base a.tolerance a.state (text_in a.written)) × AreKept a.state.store a.state × (IsListed a.last a.state.shown.list × AreContiguous (segments_in a.state.shown.list)) × IsLaidOut (kept_in a.state) a.written × IsKept a.base a.last a.source };
+    ghost invariant = { λ a. Stands (channel_with a.base a.tolerance a.state (text_in a.written)) × AreKept a.state.store a.state × (IsListed a.last a.state.list × AreContiguous (segments_in a.state.list)) × IsLaidOut (kept_in a.state) a.written × IsKept a.base a.last a.source };
 }
 
 /// Why a channel can't be made.
@@ -115,18 +115,15 @@ impl fmt::Display for ChannelFault {
 impl Error for ChannelFault {}
 
 // Why a break is filled or not, if a playlist of this target duration was accepted last.
-fn why_after(shown: &Shown, store: &PodStore, target_duration: u64, id: &str) -> Why
-    ensures { result ≡ why shown.now.knowledge id.now target_duration
-        (has_init_sections (segments_in shown.now.list)) store.now (is_used store.now id.now) }
+fn why_after(state: &ChannelState, target_duration: u64, id: &str) -> Why
+    ensures { result ≡ why state.now.shown.knowledge id.now target_duration
+        (has_init_sections (segments_in state.now.list)) state.now.store (is_used state.now.store id.now) }
 {
-    let with_init_sections = have_init_sections(shown.list.as_slice());
-    shown.knowledge.why(
-        id,
-        target_duration,
-        with_init_sections,
-        store,
-        store.is_used(id),
-    )
+    let with_init_sections = have_init_sections(state.list.as_slice());
+    let store = &state.store;
+    let is_used = store.is_used(id);
+    let known = &state.shown.knowledge;
+    known.why(id, target_duration, with_init_sections, store, is_used)
 }
 
 impl Channel {
@@ -155,13 +152,17 @@ impl Channel {
         if tolerance.0 > MAX_TOLERANCE {
             return Err(ChannelFault::BadTolerance);
         }
+        let Ok(shown) = Shown::new(alloc, hashing) else {
+            return Err(ChannelFault::OutOfMemory);
+        };
         Ok(Channel {
             base,
             tolerance,
             state: ChannelState {
                 store: PodStore::new(alloc, hashing),
                 last: None,
-                shown: Shown::new(alloc, hashing),
+                list: Row::new(alloc),
+                shown,
             },
             written: None,
             last: None,
@@ -178,9 +179,8 @@ impl Channel {
         ensures { (bytes : List ℕ) → IsRead self.old.base bytes read.playlist
             → Refreshes self.old bytes result self.new }
     {
-        let next = next_after(alloc, self.tolerance, &self.state, &self.written, &read)?;
-        let last = heading_of(&read.playlist);
-        let refreshed = accept(&mut self.state, &mut self.written, last, next)?;
+        let (state, written) = (&mut self.state, &mut self.written);
+        let refreshed = accept(alloc, self.tolerance, state, written, &read)?;
         self.last = Some(read.playlist);
         self.source = read.source;
         Ok(refreshed)
@@ -287,14 +287,7 @@ impl Channel {
         ensures owed { Explains self.now id.now result }
     {
         match &self.state.last {
-            Some(last) => {
-                why_after(
-                    &self.state.shown,
-                    &self.state.store,
-                    last.target_duration,
-                    id,
-                )
-            }
+            Some(last) => why_after(&self.state, last.target_duration, id),
             None => Why::NotKnown,
         }
     }

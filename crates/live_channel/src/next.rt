@@ -9,7 +9,7 @@ ghost use Rattle.channel_spec.specs.Marking.{last_entered};
 ghost use Rattle.channel_spec.specs.Kept.{items_on};
 ghost use Rattle.channel_spec.specs.Live.{date_range_text, date_ranges_left};
 ghost use Rattle.channel_window.specs.Marking.{so_far};
-ghost use Rattle.channel_window.specs.Showing.{kept_in};
+ghost use Rattle.channel_window.specs.Showing.{kept_before, kept_in};
 ghost use Rattle.channel_window.specs.Listed.{AreRising, IsRestDecided, RefusesList, states_time};
 ghost use Rattle.owed_is_denoted.specs.Owed.{out_playlist};
 ghost use Rattle.playlist_write.specs.Laid.{IsLaid};
@@ -20,20 +20,22 @@ use crate::channel::Refreshed;
 use crate::in_use::breaks_in_use;
 use channel_spec::RefreshFault;
 use channel_window::{
-    ChannelState, PlacedList, Showing, Shown, date_ranges_left, first_number, from_place, head_of,
-    place_of_number, placed_of,
+    Before, PlacedList, Showing, Shown, date_ranges_left, first_number, head_of, place_of_number,
+    placed_of,
 };
 use playlist_model::{Items, Playlist, Shared, Text};
 use playlist_write::OutPlaylist;
 use playlist_write::resumed::{WrittenText, front_length, laid_after, laid_out};
 use std::alloc::{AllocError, Global};
 use std::hash::RandomState;
-use stitcher::{StitchedList, TextRef};
+use stitcher::{MarkedSegment, StitchedList, TextRef};
 
 /// What a channel comes to by an accepted refresh.
 #[derive(Drop)]
 pub struct NextState {
-    /// What it shows.
+    /// How many of the segments that are shown go, the oldest first.
+    pub gone: usize,
+    /// What it knows beside those that stay.
     pub shown: Shown,
     /// The breaks in use.
     pub in_use: Vec<Shared<Text>>,
@@ -166,39 +168,38 @@ fn text_without(
     text_with(alloc, playlist, date_ranges, items, again)
 }
 
-/// What the channel of `state` comes to by the refresh `playlist` that shows `showing`. `written` is the text that it
-/// wrote last, of which lines are copied. `NumberRange` if a number would pass 2^64 - 1 (RFC 8216, sections 4.3.3.2
-/// and 4.3.3.3); `OutOfMemory` only if an allocation fails.
+/// What a channel that kept `before` comes to by the refresh `playlist`, if it shows the segments `list` then, of which
+/// those of `showing` came last. `written` is the text that it wrote last, of which lines are copied. `NumberRange` if a
+/// number would pass 2^64 - 1 (RFC 8216, sections 4.3.3.2 and 4.3.3.3); `OutOfMemory` only if an allocation fails.
 pub fn next_of(
     alloc: Global,
-    state: &ChannelState,
+    before: &Before<'_>,
     written: &Option<WrittenText>,
     playlist: &Playlist,
+    list: &[MarkedSegment],
     showing: Showing,
 ) -> Result<NextState, RefreshFault>
-    requires stood { StoodIn (kept_in state.now)
-        (items_on (kept_in state.now) playlist.now
-        (so_far state.now.store showing.list.items) showing.so_far) written.now }
-    requires decided { AreDecided state.now.store showing.list.items }
-    requires rising { AreRising showing.list.items }
+    requires stood { StoodIn (kept_in (kept_before before.now))
+        (items_on (kept_in (kept_before before.now)) playlist.now
+        (so_far (kept_before before.now).store list.now) showing.so_far) written.now }
+    requires decided { AreDecided (kept_before before.now).store list.now }
+    requires rising { AreRising list.now }
     requires entered { showing.entered
-        ≡ or_earlier (last_entered
-        (so_far state.now.store showing.list.items)) state.now.shown.entered }
-    requires rest { IsRestDecided state.now.store state.now.shown.rest }
+        ≡ or_earlier (last_entered (so_far (kept_before before.now).store list.now)) (kept_before before.now).shown.entered }
+    requires rest { IsRestDecided (kept_before before.now).store (kept_before before.now).shown.rest }
     ensures ok { IfOk result
-        (λ next. IsNext (kept_in state.now) playlist.now showing.knowledge
-        (so_far state.now.store showing.list.items) showing.so_far showing.fresh next) }
+        (λ next. IsNext (kept_in (kept_before before.now)) playlist.now showing.knowledge list.now
+        (so_far (kept_before before.now).store list.now) showing.so_far showing.fresh next) }
     ensures err { IfErr result
         (λ e. RefusesList e (list_all fits
-        (items_on (kept_in state.now) playlist.now
-        (so_far state.now.store showing.list.items) showing.so_far) ≡ false)) }
+        (items_on (kept_in (kept_before before.now)) playlist.now
+        (so_far (kept_before before.now).store list.now) showing.so_far) ≡ false)) }
 {
     let number = first_number(playlist.segments.as_slice());
-    let list = showing.list.as_slice();
     let stood = count_in(written);
     let PlacedList { whole, start, rest } = placed_of(
         alloc,
-        state,
+        before,
         playlist,
         list,
         showing.so_far,
@@ -214,18 +215,17 @@ pub fn next_of(
         segments: items.count(),
         fresh: showing.fresh,
     };
-    let hashing = state.store.hashing();
+    let hashing = before.state.store.hashing();
     let written = text_without(alloc, hashing, playlist, in_use.as_slice(), items, &again)?;
-    let gone = place_of_number(number, list);
     let shown = Shown {
         knowledge: showing.knowledge,
-        list: Items::from_vec(from_place(showing.list, gone)?),
         entered: showing.entered,
         numbers,
         so_far: showing.so_far,
         rest,
     };
     Ok(NextState {
+        gone: place_of_number(number, list),
         shown,
         in_use,
         refreshed,

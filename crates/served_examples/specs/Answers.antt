@@ -15,11 +15,13 @@ use Rattle.pod_store.specs.Store.{Store}
 use Rattle.playlist_model.specs.declared.FaultKind.TheVariants.{NoDuration}
 use Rattle.channel_spec.specs.declared.fault.RefreshFault.TheVariants as refusal
 use Rattle.break_finder.specs.declared.why.Why.TheVariants as reason
-use Rattle.channel_api.specs.Replies.{refused_refresh, decisions_reply}
-use Rattle.channel_api.specs.FaultTexts.{why_word}
+use Rattle.channel_api.specs.declared.channel_body.BodyFault.TheVariants as body
+use Rattle.channel_api.specs.Replies.{refused_refresh, decisions_reply, body_fault_reply}
+use Rattle.channel_api.specs.FaultTexts.{why_word, body_fault_text}
 use Rattle.http_edge.specs.Table.{Table, Turn, added, reply_to}
 use Rattle.http_edge.specs.Isolation.{Exchange, replies_on, is_served_on, asked_of, answered_of}
 use Rattle.worked_examples.specs.Playlists.{text}
+use Rattle.worked_examples.specs.Pods.{long}
 use Rattle.worked_examples.specs.Tables.{Gives}
 
 abbrev pub asks : List ℕ → List ℕ → List ℕ → Request
@@ -44,6 +46,10 @@ not_allowed methods = record (line 405 (codes "method not allowed")) { allow = S
 abbrev pub make : Request
 make = put (codes "/channels/a") (codes "{\"base\":\"http://h/\"}")
 
+-- a fallback of 10 s
+abbrev pub fallback : List ℕ
+fallback = codes "{\"fallback\":{\"ads\":[{\"segments\":[{\"uri\":\"http://a/s\",\"duration\":\"10\"}]}]}}"
+
 -- the answer to the last of these requests, the newest of which stands first
 abbrev pub answer : List Request → Option Reply
 answer [] = None
@@ -58,9 +64,12 @@ ChannelsAreMade = Gives answer (
     ∷ (put (codes "/channels/a") (codes "{\"base\":\"http://h/\",\"tolerance\":\"10.000000001\"}") ∷ [], Some (line 422 (codes "C2 BadTolerance")))
     ∷ (put (codes "/channels/a") (codes "{\"base\":\"http://h/\",\"tolerance\":\"x\"}") ∷ [], Some (line 422 (codes "C2 BadTolerance")))
     ∷ (put (codes "/channels/a") (codes "{\"base\":\"http://h/\",\"tolerance\":1}") ∷ [], Some (line 422 (codes "J2 Shape")))
+    ∷ (put (codes "/channels/a") (codes "{\"base\":\"http://h/\",\"tolerance\":\"" ++ (replicate 45 48 ++ codes "11\"}")) ∷ [], Some (line 422 (codes "C2 BadTolerance")))
+    ∷ (put (codes "/channels/a") (codes "{\"base\":\"http://h/\",\"x\":\"" ++ (255 ∷ codes "\"}")) ∷ [], Some (line 422 (codes "J1 NotJson")))
     ∷ (put (codes "/channels/a?x=1") (codes "{\"base\":\"http://h/\"}") ∷ [], Some (bare 201))
     ∷ (put (codes "/channels/a") (codes "{\"base\":\"http://h/" ++ (replicate 300 97 ++ codes "\"}")) ∷ [], Some (bare 201))
     ∷ (put (codes "/channels/a") (codes "{\"base\":\"ftp://h/\"}") ∷ [], Some (line 422 (codes "C1 BadBase")))
+    ∷ (put (codes "/channels/a") (codes "{\"base\":\"http://" ++ (replicate 45 97 ++ codes ":x/\"}")) ∷ [], Some (line 422 (codes "C1 BadBase")))
     ∷ (put (codes "/channels/a") (codes "{\"base\":\"ftp://h/\",\"tolerance\":\"x\"}") ∷ [], Some (line 422 (codes "C1 BadBase")))
     ∷ (put (codes "/channels/a") (codes "{}") ∷ [], Some (line 422 (codes "J2 Shape")))
     ∷ (put (codes "/channels/a") (codes "{") ∷ [], Some (line 422 (codes "J1 NotJson")))
@@ -109,9 +118,33 @@ owed = record {
   content = Some (record { media = Playlist; text = text (codes "#EXTM3U" ∷ codes "#EXT-X-VERSION:6" ∷ codes "#EXT-X-TARGETDURATION:10" ∷ codes "#EXT-X-MEDIA-SEQUENCE:0" ∷ codes "#EXT-X-DISCONTINUITY-SEQUENCE:0" ∷ codes "#EXTINF:10," ∷ codes "a:s" ∷ []) });
 }
 
+abbrev pub independent_text : List ℕ
+independent_text = text (codes "#EXTM3U" ∷ codes "#EXT-X-VERSION:6" ∷ codes "#EXT-X-TARGETDURATION:10" ∷ codes "#EXT-X-MEDIA-SEQUENCE:0" ∷ codes "#EXT-X-DISCONTINUITY-SEQUENCE:0" ∷ codes "#EXT-X-INDEPENDENT-SEGMENTS" ∷ codes "#EXTINF:10," ∷ codes "a:s" ∷ [])
+
+abbrev pub make_b : Request
+make_b = put (codes "/channels/b") (codes "{\"base\":\"http://h/\"}")
+
+abbrev pub remove : List ℕ → Request
+remove path = asks (codes "DELETE") path []
+
+-- what is done to one of two channels isn't done to the other
+abbrev pub OthersStay : Type 0
+OthersStay = Gives answer (
+    (remove (codes "/channels/a") ∷ make_b ∷ make ∷ [], Some (bare 204))
+    ∷ (remove (codes "/channels/b") ∷ make_b ∷ make ∷ [], Some (bare 204))
+    ∷ (remove (codes "/channels/a") ∷ remove (codes "/channels/b") ∷ make_b ∷ make ∷ [], Some (bare 204))
+    ∷ (remove (codes "/channels/b") ∷ remove (codes "/channels/a") ∷ make_b ∷ make ∷ [], Some (bare 204))
+    ∷ (remove (codes "/channels/b") ∷ remove (codes "/channels/b") ∷ make_b ∷ make ∷ [], Some not_found)
+    ∷ (remove (codes "/channels/a") ∷ put (codes "/channels/b/origin") first_refresh.body ∷ make_b ∷ make ∷ [], Some (bare 204))
+    ∷ (live ∷ put (codes "/channels/b/origin") first_refresh.body ∷ make_b ∷ make ∷ [], Some not_found)
+    ∷ (make_b ∷ make_b ∷ make ∷ [], Some (line 409 (codes "channel exists"))) ∷ [])
+
 abbrev pub PlaylistsAreRead : Type 0
 PlaylistsAreRead = Gives answer (
     (live ∷ first_refresh ∷ make ∷ [], Some owed)
+    ∷ (live ∷ refresh [] ∷ refresh [] ∷ refresh [] ∷ refresh [] ∷ first_refresh ∷ make ∷ [], Some owed)
+    ∷ (live ∷ refresh (codes "#EXT-X-INDEPENDENT-SEGMENTS" ∷ codes "#EXTINF:10," ∷ codes "a:s" ∷ []) ∷ make ∷ [], Some (record owed { content = Some (record { media = Playlist; text = independent_text }) }))
+    ∷ (get (codes "/channels/b/live.m3u8") ∷ put (codes "/channels/b/origin") first_refresh.body ∷ make_b ∷ make ∷ [], Some owed)
     ∷ (live ∷ refresh [] ∷ first_refresh ∷ make ∷ [], Some owed)
     ∷ (live ∷ live ∷ first_refresh ∷ make ∷ [], Some owed)
     ∷ (get (codes "/channels/a/live.m3u8?_HLS_msn=3") ∷ first_refresh ∷ make ∷ [], Some owed)
@@ -131,6 +164,7 @@ DecisionsAreAnswered = Gives answer (
     (decide (codes "{\"breaks\":[]}") ∷ make ∷ [], Some (bare 204))
     ∷ (decide (codes "{\"breaks\":[]}") ∷ [], Some not_found)
     ∷ (decide (codes "{") ∷ make ∷ [], Some (line 422 (codes "J1 NotJson")))
+    ∷ (decide fallback ∷ make ∷ [], Some (bare 204))
     ∷ (decide (codes "{\"breaks\":[{\"id\":\"b\",\"ads\":[]}]}") ∷ make ∷ [], Some (line 422 (codes "J6 EmptyPod break 0")))
     ∷ (decide (codes "{\"withdraw\":\"b\"}") ∷ make ∷ [], Some (line 409 (codes "J11 Unknown")))
     ∷ (get (codes "/channels/a/decisions") ∷ make ∷ [], Some (not_allowed allow.Put))
@@ -152,6 +186,13 @@ DecisionFaultsAreAnswered = Gives (λ (kind : DecisionKind). decisions_reply (re
     ∷ (decision.Used, line 409 (codes "J9 Used"))
     ∷ (decision.Full, line 409 (codes "J10 Full"))
     ∷ (decision.Unknown, line 409 (codes "J11 Unknown")) ∷ [])
+
+-- RFC 9110, 15.6.4: a lack of memory is 503
+abbrev pub BodyFaultsAreAnswered : Type 0
+BodyFaultsAreAnswered = Gives body_fault_reply ((body.NotJson, line 422 (codes "J1 NotJson")) ∷ (body.Shape, line 422 (codes "J2 Shape")) ∷ (body.OutOfMemory, bare 503) ∷ [])
+
+abbrev pub BodyFaultsAreTold : Type 0
+BodyFaultsAreTold = Gives body_fault_text ((body.NotJson, codes "J1 NotJson") ∷ (body.Shape, codes "J2 Shape") ∷ (body.OutOfMemory, codes "J8 OutOfMemory") ∷ [])
 
 -- the same of a refresh
 abbrev pub RefreshFaultsAreAnswered : Type 0
@@ -182,7 +223,23 @@ WordsOfWhyAreTold = Gives why_word (
 abbrev pub why : Request
 why = get (codes "/channels/a/why")
 
--- 9 is a tab, 10 a line feed
+abbrev pub long_tag : List ℕ
+long_tag = codes "#EXT-X-DATERANGE:ID=\"" ++ (long 98 ++ codes "\",START-DATE=\"2024-05-01T12:00:00Z\",DURATION=10,SCTE35-OUT=0xFC302000000000000000FFF00F05000000017FFFFE002932E000010000000000000000")
+
+-- a break of 10 s from noon on, one from a second after noon on, and one from 20 s after noon on
+abbrev pub tag_b : List ℕ
+tag_b = codes "#EXT-X-DATERANGE:ID=\"b\",START-DATE=\"2024-05-01T12:00:00Z\",DURATION=10,SCTE35-OUT=0xFC302000000000000000FFF00F05000000017FFFFE002932E000010000000000000000"
+
+abbrev pub later_tag : List ℕ
+later_tag = codes "#EXT-X-DATERANGE:ID=\"b\",START-DATE=\"2024-05-01T12:00:01Z\",DURATION=10,SCTE35-OUT=0xFC302000000000000000FFF00F05000000017FFFFE002932E000010000000000000000"
+
+abbrev pub tag_c : List ℕ
+tag_c = codes "#EXT-X-DATERANGE:ID=\"c\",START-DATE=\"2024-05-01T12:00:20Z\",DURATION=10,SCTE35-OUT=0xFC302000000000000000FFF00F05000000017FFFFE002932E000010000000000000000"
+
+abbrev pub five_ids : Request
+five_ids = refresh (codes "#EXT-X-DATERANGE:ID=\"b\"" ∷ codes "#EXT-X-DATERANGE:ID=\"c\"" ∷ codes "#EXT-X-DATERANGE:ID=\"d\"" ∷ codes "#EXT-X-DATERANGE:ID=\"e\"" ∷ codes "#EXTINF:10," ∷ codes "a:s" ∷ [])
+
+-- the known breaks with the first reason of each, in the order since when they are known; 9 is a tab, 10 a line feed
 abbrev pub ReasonsAreAnswered : Type 0
 ReasonsAreAnswered = Gives answer (
     (why ∷ make ∷ [], Some (bare 200))
@@ -190,6 +247,28 @@ ReasonsAreAnswered = Gives answer (
       why ∷ refresh (codes "#EXT-X-DATERANGE:ID=\"c\"" ∷ codes "#EXT-X-DATERANGE:ID=\"b\",START-DATE=\"2024-05-01T12:00:00Z\"" ∷ codes "#EXTINF:10," ∷ codes "a:s" ∷ []) ∷ make ∷ [],
       Some (plain 200 (codes "c" ++ (9 ∷ codes "NoStart" ++ (10 ∷ codes "b" ++ (9 ∷ codes "NotSignalled" ++ 10 ∷ []))))),
     )
+    ∷ (
+      why ∷ refresh (long_tag ∷ codes "#EXT-X-PROGRAM-DATE-TIME:2024-05-01T12:00:00Z" ∷ codes "#EXTINF:10," ∷ codes "a:s" ∷ codes "#EXTINF:10," ∷ codes "a:t" ∷ codes "#EXTINF:10," ∷ codes "a:u" ∷ codes "#EXTINF:10," ∷ codes "a:v" ∷ codes "#EXTINF:10," ∷ codes "a:w" ∷ []) ∷ decide fallback ∷ make ∷ [],
+      Some (plain 200 (long 98 ++ (9 ∷ codes "Filled" ++ 10 ∷ []))),
+    )
+    ∷ (
+      why ∷ refresh (later_tag ∷ codes "#EXT-X-PROGRAM-DATE-TIME:2024-05-01T12:00:00Z" ∷ codes "#EXTINF:10," ∷ codes "a:s" ∷ []) ∷ decide fallback ∷ put (codes "/channels/a") (codes "{\"base\":\"http://h/\",\"tolerance\":\"1\"}") ∷ [],
+      Some (plain 200 (codes "b" ++ (9 ∷ codes "Filled" ++ 10 ∷ []))),
+    )
+    ∷ (
+      why ∷ refresh (later_tag ∷ codes "#EXT-X-PROGRAM-DATE-TIME:2024-05-01T12:00:00Z" ∷ codes "#EXTINF:10," ∷ codes "a:s" ∷ []) ∷ decide fallback ∷ make ∷ [],
+      Some (plain 200 (codes "b" ++ (9 ∷ codes "Waiting" ++ 10 ∷ []))),
+    )
+    ∷ (
+      why ∷ refresh (tag_b ∷ tag_c ∷ codes "#EXT-X-MEDIA-SEQUENCE:102" ∷ codes "#EXTINF:10," ∷ codes "a:u" ∷ codes "#EXTINF:10," ∷ codes "a:v" ∷ [])
+          ∷ refresh (tag_b ∷ tag_c ∷ codes "#EXT-X-MEDIA-SEQUENCE:100" ∷ codes "#EXT-X-PROGRAM-DATE-TIME:2024-05-01T12:00:00Z" ∷ codes "#EXTINF:10," ∷ codes "a:s" ∷ codes "#EXTINF:10," ∷ codes "a:t" ∷ []) ∷ decide fallback ∷ make ∷ [],
+      Some (plain 200 (codes "b" ++ (9 ∷ codes "Waiting" ++ (10 ∷ codes "c" ++ (9 ∷ codes "Filled" ++ 10 ∷ []))))),
+    )
+    ∷ (
+      why ∷ five_ids ∷ five_ids ∷ five_ids ∷ five_ids ∷ refresh (codes "#EXT-X-DATERANGE:ID=\"e\"" ∷ codes "#EXTINF:10," ∷ codes "a:s" ∷ []) ∷ make ∷ [],
+      Some (plain 200 (codes "e" ++ (9 ∷ codes "NoStart" ++ (10 ∷ codes "b" ++ (9 ∷ codes "NoStart" ++ (10 ∷ codes "c" ++ (9 ∷ codes "NoStart" ++ (10 ∷ codes "d" ++ (9 ∷ codes "NoStart" ++ 10 ∷ []))))))))),
+    )
+    ∷ (why ∷ refresh (long_tag ∷ codes "#EXTINF:10," ∷ codes "a:s" ∷ []) ∷ make ∷ [], Some (plain 200 (long 98 ++ (9 ∷ codes "NotDecided" ++ 10 ∷ []))))
     ∷ (why ∷ [], Some not_found)
     ∷ (put (codes "/channels/a/why") [] ∷ make ∷ [], Some (not_allowed allow.Get)) ∷ [])
 
@@ -208,6 +287,13 @@ added_to count = option_map (λ (base : Parts). reply_of (added (entries count b
 abbrev pub TablesAreLimited : Type 0
 TablesAreLimited = Gives added_to ((0, Some (bare 201)) ∷ (63, Some (bare 201)) ∷ (64, Some (bare 503)) ∷ [])
 
+abbrev pub added_again : ℕ → Option Reply
+added_again count = option_map (λ (base : Parts). reply_of (added (entries count base) (0 ∷ []) base 0)) (base_of (codes "http://h/"))
+
+-- that a channel is there already is told first
+abbrev pub ChannelsAreOnce : Type 0
+ChannelsAreOnce = Gives added_again ((1, Some (line 409 (codes "channel exists"))) ∷ (64, Some (line 409 (codes "channel exists"))) ∷ [])
+
 -- what the requests on channel `a` were answered, the newest first
 abbrev pub on_a : List Request → List Reply
 on_a requests = replies_on (codes "a") requests
@@ -216,7 +302,9 @@ on_a requests = replies_on (codes "a") requests
 abbrev pub ChannelsAreApart : Type 0
 ChannelsAreApart = Gives on_a (
     (live ∷ put (codes "/channels/b") (codes "{\"base\":\"http://h/\"}") ∷ get (codes "/") ∷ make ∷ [], not_found ∷ bare 201 ∷ [])
-    ∷ (asks (codes "DELETE") (codes "/channels/b") [] ∷ make ∷ [], bare 201 ∷ []) ∷ [])
+    ∷ (asks (codes "DELETE") (codes "/channels/b") [] ∷ make ∷ [], bare 201 ∷ [])
+    ∷ (live ∷ get (codes "/") ∷ get (codes "/") ∷ get (codes "/") ∷ get (codes "/") ∷ live ∷ live ∷ live ∷ make ∷ [], not_found ∷ not_found ∷ not_found ∷ not_found ∷ bare 201 ∷ [])
+    ∷ (first_refresh ∷ get (codes "/") ∷ get (codes "/") ∷ get (codes "/") ∷ get (codes "/") ∷ make ∷ [], bare 204 ∷ bare 201 ∷ []) ∷ [])
 
 abbrev pub exchange : Request → Reply → Exchange
 exchange request reply = record { request = request; reply = reply }
@@ -233,7 +321,11 @@ RequestsAreServed = Gives (is_served_on (codes "a")) (
     ∷ (exchange (get (codes "/")) not_found, false) ∷ [])
 
 abbrev pub RequestsWereAsked : Type 0
-RequestsWereAsked = Gives asked_of ((exchange live not_found ∷ exchange make (bare 201) ∷ [], live ∷ make ∷ []) ∷ [])
+RequestsWereAsked = Gives asked_of (
+    (exchange live not_found ∷ exchange make (bare 201) ∷ [], live ∷ make ∷ [])
+    ∷ (exchange live not_found ∷ exchange live not_found ∷ exchange live not_found ∷ exchange live not_found ∷ exchange make (bare 201) ∷ [], live ∷ live ∷ live ∷ live ∷ make ∷ []) ∷ [])
 
 abbrev pub RequestsWereAnswered : Type 0
-RequestsWereAnswered = Gives answered_of ((exchange live not_found ∷ exchange make (bare 201) ∷ [], not_found ∷ bare 201 ∷ []) ∷ [])
+RequestsWereAnswered = Gives answered_of (
+    (exchange live not_found ∷ exchange make (bare 201) ∷ [], not_found ∷ bare 201 ∷ [])
+    ∷ (exchange live not_found ∷ exchange live not_found ∷ exchange live not_found ∷ exchange live not_found ∷ exchange make (bare 201) ∷ [], not_found ∷ not_found ∷ not_found ∷ not_found ∷ bare 201 ∷ []) ∷ [])

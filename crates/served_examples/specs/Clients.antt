@@ -41,7 +41,8 @@ RoomIsGiven = (until : Instant) → Gives (gives_room three) (
     (at_place until 0 ∷ at_place until 1 ∷ at_place until 2 ∷ [], Some 2) ∷ (at_place until 0 ∷ at_place until 1 ∷ [], None) ∷ [])
 
 abbrev pub BytesAreHeld : Type 0
-BytesAreHeld = Gives held_in ((three.places, 2) ∷ (Some (Asking (codes "GE") 1) ∷ Some (Asking (codes "PUT") 2) ∷ [], 5) ∷ ([], 0) ∷ [])
+BytesAreHeld = Gives held_in ((three.places, 2) ∷ (Some (Asking (codes "GE") 1) ∷ Some (Asking (codes "PUT") 2) ∷ [], 5)
+    ∷ (Some (Asking (codes "GET /") 1) ∷ None ∷ None ∷ None ∷ Some (Asking (codes "PUT") 2) ∷ [], 8) ∷ ([], 0) ∷ [])
 
 abbrev pub RepliesAreLeft : Type 0
 RepliesAreLeft = Gives left_of ((Some (Answering (codes "xyz") 200), codes "xyz") ∷ (Some (Asking (codes "GE") 1), []) ∷ (None, []) ∷ [])
@@ -66,7 +67,20 @@ abbrev pub TakenIsCounted : Type 0
 TakenIsCounted = Gives (λ (place : ℕ). taken place events) ((1, 5) ∷ (2, 0) ∷ [])
 
 abbrev pub PiecesAreJoined : Type 0
-PiecesAreJoined = Gives joined ((codes "T /" ∷ codes "GE" ∷ [], codes "GET /") ∷ ([], []) ∷ [])
+PiecesAreJoined = Gives joined (
+    (codes "T /" ∷ codes "GE" ∷ [], codes "GET /") ∷ ([], []) ∷ (codes "/" ∷ codes " " ∷ codes "T" ∷ codes "E" ∷ codes "G" ∷ [], codes "GET /") ∷ [])
+
+-- the same of more: a client at place 1 says five pieces, while others come and go before and after it
+abbrev pub many : List ClientEvent
+many =
+    reply_bytes 1 4 ∷ departure 2 ∷ arrival 0 ∷ reply_bytes 2 9 ∷ arrival 2 ∷ request_bytes 2 (codes "x") ∷ reply_bytes 0 2 ∷ request_bytes 1 (codes "/") ∷ request_bytes 1 (codes " ")
+    ∷ reply_bytes 1 3 ∷ request_bytes 1 (codes "T") ∷ request_bytes 1 (codes "E") ∷ request_bytes 1 (codes "G") ∷ arrival 1 ∷ []
+
+abbrev pub visits_said_and_taken : ℕ → ℕ × List ℕ × ℕ
+visits_said_and_taken place = (visits place many, said place many, taken place many)
+
+abbrev pub OthersAreApart : Type 0
+OthersAreApart = Gives visits_said_and_taken ((0, (1, [], 0)) ∷ (1, (1, codes "GET /", 7)) ∷ (2, (1, [], 9)) ∷ (3, (0, [], 0)) ∷ [])
 
 -- a device's calls, and those that failed: one more each time. A count stays at 2^64 - 1
 abbrev pub CallsAreCounted : Type 0

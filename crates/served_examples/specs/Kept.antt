@@ -19,6 +19,7 @@ use Rattle.worked_examples.specs.Channels.{five}
 use Rattle.worked_examples.specs.Pods.{ab, short}
 use Rattle.worked_examples.specs.Stitched.{stepped, unmarked, marked}
 use Rattle.worked_examples.specs.Tables.{Gives}
+use Rattle.http_messages.specs.declared.message.Request.{Request}
 use Rattle.served_examples.specs.Answers.{first_refresh, refresh}
 
 -- ---- what is kept
@@ -28,9 +29,9 @@ abbrev pub state : ChannelState
 state = record {
   store = ab;
   last = Some (heading_of five);
+  list = record { segment = stepped 5 3 1; instant = None; mark = None } ∷ record { segment = stepped 6 3 0; instant = None; mark = Some (codes "a") } ∷ [];
   shown = record {
     knowledge = record { id = codes "a"; said = nothing_said } ∷ [];
-    list = record { segment = stepped 5 3 1; instant = None; mark = None } ∷ record { segment = stepped 6 3 0; instant = None; mark = Some (codes "a") } ∷ [];
     entered = Some (codes "a");
     numbers = record { media_sequence = 8; discontinuity_sequence = 4; discontinuities = 2 };
     so_far = 7;
@@ -56,9 +57,21 @@ StatesAreMeant = (base : Parts) → Gives (channel_with base 5 state) (
     (None, record { base = base; tolerance = 5; kept = kept; text = None })
     ∷ (Some (codes "x"), record { base = base; tolerance = 5; kept = kept; text = Some (codes "x") }) ∷ [])
 
+-- the same with five segments
+abbrev pub five_shown : ChannelState
+five_shown = record state { list = record { segment = stepped 5 3 0; instant = None; mark = None } ∷ record { segment = stepped 6 3 0; instant = None; mark = None } ∷ record { segment = stepped 7 3 0; instant = None; mark = None } ∷ record { segment = stepped 8 3 0; instant = None; mark = None } ∷ record { segment = stepped 9 3 0; instant = None; mark = None } ∷ [] }
+
 -- the segments that it holds, the oldest first
 abbrev pub SegmentsAreHeld : Type 0
-SegmentsAreHeld = Gives segments_in ((state.shown.list, stepped 5 3 1 ∷ stepped 6 3 0 ∷ []) ∷ ([], []) ∷ [])
+SegmentsAreHeld = Gives segments_in (
+    (state.list, stepped 5 3 1 ∷ stepped 6 3 0 ∷ [])
+    ∷ ([], [])
+    ∷ (five_shown.list, stepped 5 3 0 ∷ stepped 6 3 0 ∷ stepped 7 3 0 ∷ stepped 8 3 0 ∷ stepped 9 3 0 ∷ []) ∷ [])
+
+-- five segments are meant with the newest first
+abbrev pub ShownAreMeant : Type 0
+ShownAreMeant = (base : Parts) → Gives (λ (state : ChannelState). (channel_with base 5 state None).kept.shown) (
+    (five_shown, unmarked (stepped 9 3 0) ∷ unmarked (stepped 8 3 0) ∷ unmarked (stepped 7 3 0) ∷ unmarked (stepped 6 3 0) ∷ unmarked (stepped 5 3 0) ∷ []) ∷ [])
 
 abbrev pub holding : Parts → Kept → Channel
 holding base kept = record { base = base; tolerance = 5; kept = kept; text = Some (codes "x") }
@@ -81,13 +94,18 @@ new_channel base = record { base = base; tolerance = 100000000; kept = kept_of (
 abbrev pub owed_to : List Given × List ℕ → Option (Result Refreshed RefreshFault)
 owed_to it = option_map (λ (base : Parts). owed_answer (new_channel base) it.0 it.1) (base_of (codes "http://h/"))
 
+abbrev pub five_from_7 : Request
+five_from_7 = refresh (codes "#EXT-X-MEDIA-SEQUENCE:7" ∷ codes "#EXTINF:10," ∷ codes "a:s" ∷ codes "#EXTINF:10," ∷ codes "a:s" ∷ codes "#EXTINF:10," ∷ codes "a:s" ∷ codes "#EXTINF:10," ∷ codes "a:s" ∷ codes "#EXTINF:10," ∷ codes "a:s" ∷ [])
+
 -- a playlist is taken, is taken again, may not follow, and can't be read
 abbrev pub RefreshesAreOwed : Type 0
 RefreshesAreOwed = Gives owed_to (
     (([], first_refresh.body), Some (Ok (record { media_sequence = 0; segments = 1; fresh = 1 })))
     ∷ ((refreshed first_refresh.body ∷ [], first_refresh.body), Some (Ok (record { media_sequence = 0; segments = 1; fresh = 0 })))
     ∷ ((refreshed first_refresh.body ∷ [], (refresh (codes "#EXTINF:10," ∷ codes "a:t" ∷ [])).body), Some (Err (Changed 0)))
-    ∷ (([], []), Some (Err (Unreadable (record { kind = NoHeader; line = 1 })))) ∷ [])
+    ∷ (([], []), Some (Err (Unreadable (record { kind = NoHeader; line = 1 }))))
+    ∷ (([], five_from_7.body), Some (Ok (record { media_sequence = 7; segments = 5; fresh = 5 })))
+    ∷ ((refreshed [] ∷ refreshed [] ∷ refreshed [] ∷ refreshed [] ∷ refreshed first_refresh.body ∷ [], (refresh (codes "#EXTINF:10," ∷ codes "a:t" ∷ [])).body), Some (Err (Changed 0))) ∷ [])
 
 abbrev pub LackOfMemoryIsSeen : Type 0
 LackOfMemoryIsSeen = Gives is_out_of_memory (
@@ -106,4 +124,6 @@ DecisionsAreStored = Gives stored_after (
     ∷ (decided decision ∷ [], Some (codes "b" ∷ []))
     ∷ (decided (codes "{") ∷ decided decision ∷ [], Some (codes "b" ∷ []))
     ∷ (withdrawn (codes "b") ∷ decided decision ∷ [], Some [])
+    ∷ (decided (codes "{") ∷ decided (codes "{") ∷ decided (codes "{") ∷ decided (codes "{") ∷ decided decision ∷ [], Some (codes "b" ∷ []))
+    ∷ (withdrawn (codes "1") ∷ withdrawn (codes "2") ∷ withdrawn (codes "3") ∷ withdrawn (codes "4") ∷ decided decision ∷ [], Some (codes "b" ∷ []))
     ∷ (decided decision ∷ withdrawn (codes "b") ∷ [], Some (codes "b" ∷ [])) ∷ [])

@@ -11,6 +11,7 @@ use Rattle.http_messages.specs.Requests.{Field, framing_of, framing_said}
 use Rattle.http_messages.specs.Replies.{bare, plain, refusal_reply, sends_body, text_sent}
 use Rattle.channel_api.specs.declared.routes.Resource.TheVariants.{Channel, Origin, Decisions, Live, Why}
 use Rattle.channel_api.specs.Routes.{is_channel_name, path_of, route_of}
+use Rattle.worked_examples.specs.Pods.{long}
 use Rattle.worked_examples.specs.Tables.{Gives}
 
 -- docs/OPERATING.md: a name is 1 to 32 of a to z, 0 to 9 and `-`
@@ -22,7 +23,8 @@ NamesAreChecked = Gives is_channel_name (
     ∷ ([], false)
     ∷ (codes "News", false)
     ∷ (codes "n_1", false)
-    ∷ (codes "n/1", false) ∷ [])
+    ∷ (codes "n/1", false)
+    ∷ (codes "n,1", false) ∷ [])
 
 -- RFC 3986, 3.4: a query begins at the first question mark, and is passed over
 abbrev pub QueriesArePassedOver : Type 0
@@ -35,7 +37,8 @@ RoutesAreFound = Gives route_of (
     ∷ (codes "/channels/a/origin", Some (codes "a", Origin))
     ∷ (codes "/channels/a/decisions", Some (codes "a", Decisions))
     ∷ (codes "/channels/a/live.m3u8", Some (codes "a", Live))
-    ∷ (codes "/channels/a/why", Some (codes "a", Why)) ∷ [])
+    ∷ (codes "/channels/a/why", Some (codes "a", Why))
+    ∷ (codes "/channels/news-1/live.m3u8", Some (codes "news-1", Live)) ∷ [])
 
 abbrev pub OtherPathsAreNone : Type 0
 OtherPathsAreNone = Gives route_of (
@@ -63,7 +66,9 @@ BodiesAreFramed = Gives framing (
     ∷ ((codes "PUT", (codes "Content-Length", codes "5") ∷ (codes "transfer-encoding", codes "chunked") ∷ []), Refused LengthRequired)
     ∷ ((codes "GET", (codes "Content-Length", codes "5") ∷ []), Body 0)
     ∷ ((codes "POST", (codes "Transfer-Encoding", codes "chunked") ∷ []), Body 0)
-    ∷ ((codes "put", []), Body 0) ∷ [])
+    ∷ ((codes "put", []), Body 0)
+    ∷ ((codes "PUT", (codes "A", []) ∷ (codes "B", []) ∷ (codes "C", []) ∷ (codes "D", []) ∷ (codes "Content-Length", codes "5") ∷ []), Body 5)
+    ∷ ((codes "PUT", (codes "Content-Length", codes "5") ∷ (codes "B", []) ∷ (codes "C", []) ∷ (codes "D", []) ∷ (codes "Transfer-Encoding", codes "chunked") ∷ []), Refused LengthRequired) ∷ [])
 
 -- docs/OPERATING.md: 16,384 bytes and 64 fields of a head, 4,194,304 bytes of a body, 65,536 reads
 abbrev pub MessagesAreLimited : Type 0
@@ -80,6 +85,7 @@ abbrev pub RepliesAreWritten : Type 0
 RepliesAreWritten = Gives (text_sent true) (
     (bare 204, lines (codes "HTTP/1.1 204 No Content" ∷ codes "Connection: close" ∷ [] ∷ []))
     ∷ (bare 201, lines (codes "HTTP/1.1 201 Created" ∷ codes "Content-Length: 0" ∷ codes "Connection: close" ∷ [] ∷ []))
+    ∷ (plain 200 (long 98), lines (codes "HTTP/1.1 200 OK" ∷ codes "Content-Type: text/plain; charset=utf-8" ∷ codes "Content-Length: 46" ∷ codes "Connection: close" ∷ [] ∷ []) ++ long 98)
     ∷ (bare 200, lines (codes "HTTP/1.1 200 OK" ∷ codes "Content-Length: 0" ∷ codes "Connection: close" ∷ [] ∷ []))
     ∷ (plain 404 (codes "not found\n"), lines (codes "HTTP/1.1 404 Not Found" ∷ codes "Content-Type: text/plain; charset=utf-8" ∷ codes "Content-Length: 10" ∷ codes "Connection: close" ∷ [] ∷ []) ++ codes "not found\n")
     ∷ (plain 409 (codes "N5 Back\n"), lines (codes "HTTP/1.1 409 Conflict" ∷ codes "Content-Type: text/plain; charset=utf-8" ∷ codes "Content-Length: 8" ∷ codes "Connection: close" ∷ [] ∷ []) ++ codes "N5 Back\n")
@@ -121,3 +127,8 @@ HeadsAreFramed = Gives head_of (
     ∷ ((codes "GET", codes " 5"), Body 0)
     ∷ ((codes "PUT", codes " 5x"), Refused BadRequest)
     ∷ ((codes "PUT", []), Refused BadRequest) ∷ [])
+
+-- a head of five fields, of which the last one states the length
+abbrev pub AllFieldsCount : Type 0
+AllFieldsCount = Gives (λ (h : RequestHead). framing_said (record h { fields = record { name = codes "A"; raw = []; end = crlf } ∷ record { name = codes "B"; raw = []; end = crlf } ∷ record { name = codes "C"; raw = []; end = crlf } ∷ record { name = codes "D"; raw = []; end = crlf } ∷ h.fields })) (
+    (head_with (codes "PUT") (codes "5"), Body 5) ∷ [])

@@ -1,5 +1,5 @@
 -- A run over one playlist, and what a channel was given.
-use Rattle.std.specs.Prelude.{ℕ, ◌-◌, ◌^◌, true, false, List, [], ◌∷◌, map, codes, pos, Option, Some, None, option_map, Result, Ok, Err}
+use Rattle.std.specs.Prelude.{ℕ, ◌-◌, ◌^◌, true, false, List, [], ◌∷◌, ◌++◌, map, codes, pos, Option, Some, None, option_map, Result, Ok, Err}
 use Rattle.url.specs.Parts.{Parts}
 use Rattle.byte_streams.specs.Devices.{next_count}
 use Rattle.pod_store.specs.declared.Decisions.TheVariants.{Breaks, Withdraw}
@@ -20,7 +20,7 @@ use Rattle.byte_streams.specs.Fair.{most_reads}
 use Rattle.vod_run.specs.Vod.{read_under, told_with}
 use Rattle.worked_examples.specs.Channels.{b, decide_b, plays, segments}
 use Rattle.worked_examples.specs.Playlists.{text}
-use Rattle.worked_examples.specs.Pods.{fault_at, nowhere}
+use Rattle.worked_examples.specs.Pods.{fault_at, long, nowhere}
 use Rattle.worked_examples.specs.Tables.{Gives}
 
 -- docs/OPERATING.md: 65,536 reads at most; a counter stays at 2^64 - 1
@@ -32,6 +32,7 @@ abbrev pub FilesAreTold : Type 0
 FilesAreTold = Gives vod.events_of (
     (None, Ok [])
     ∷ (Some (codes "{\"breaks\":[]}"), Ok (live.decided (Breaks []) ∷ []))
+    ∷ (Some (codes "{\"breaks\":[],\"x\":\"" ++ (long 98 ++ codes "\"}")), Ok (live.decided (Breaks []) ∷ []))
     ∷ (Some (codes "{"), Err (fault_at nowhere fault.NotJson))
     ∷ (Some (codes "{\"withdraw\":\"b\"}"), Err (fault_at nowhere fault.Unknown)) ∷ [])
 
@@ -62,7 +63,11 @@ UrisAreText = Gives uris_are_text (
     ∷ (record segment { keys = key (codes "a:k") ∷ [] }, true)
     ∷ (record segment { keys = key (codes "a:k") ∷ key (255 ∷ []) ∷ [] }, false)
     ∷ (record segment { init_section = Some (record { uri = 255 ∷ []; byte_range = None; keys = [] }) }, false)
-    ∷ (record segment { init_section = Some (record { uri = codes "a:i"; byte_range = None; keys = key (255 ∷ []) ∷ [] }) }, false) ∷ [])
+    ∷ (record segment { init_section = Some (record { uri = codes "a:i"; byte_range = None; keys = key (255 ∷ []) ∷ [] }) }, false)
+    ∷ (record segment { init_section = Some (record { uri = codes "a:i"; byte_range = None; keys = key (codes "a:k") ∷ [] }) }, true)
+    ∷ (record segment { init_section = Some (record { uri = codes "a:i"; byte_range = None; keys = key (codes "a:k") ∷ key (255 ∷ []) ∷ [] }) }, false)
+    ∷ (record segment { init_section = Some (record { uri = codes "a:i"; byte_range = None; keys = key (codes "a:k") ∷ key (codes "a:k") ∷ key (codes "a:k") ∷ key (codes "a:k") ∷ key (255 ∷ []) ∷ [] }) }, false)
+    ∷ (record segment { keys = key (codes "a:k") ∷ key (codes "a:k") ∷ key (codes "a:k") ∷ key (codes "a:k") ∷ key (255 ∷ []) ∷ [] }, false) ∷ [])
 
 abbrev pub uris_of : Result Playlist Fault → Option (List (List ℕ))
 uris_of (Ok p) = Some (map (λ (s : Segment). s.uri) p.segments)
@@ -79,6 +84,7 @@ one_segment = text (codes "#EXTM3U" ∷ codes "#EXT-X-TARGETDURATION:10" ∷ cod
 abbrev pub InputsAreReadUnderBases : Type 0
 InputsAreReadUnderBases = Gives uris_under (
     ((codes "http://h/a/b", one_segment), Some (Some (codes "http://h/a/s" ∷ [])))
+    ∷ ((codes "http://h/" ++ (long 98 ++ codes "/b"), one_segment), Some (Some ((codes "http://h/" ++ (long 98 ++ codes "/s")) ∷ [])))
     ∷ ((codes "ftp://h/", one_segment), None)
     ∷ ((codes "http://h/", []), Some None) ∷ [])
 

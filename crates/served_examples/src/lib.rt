@@ -3,10 +3,10 @@
 //! stands above it; no code is named. Each function's contract is its tables; calling it does nothing.
 #![tactic(auto)]
 
-ghost use Rattle.served_examples.specs.Requests.{NamesAreChecked, QueriesArePassedOver, RoutesAreFound, OtherPathsAreNone, BodiesAreFramed, HeadsAreFramed, MessagesAreLimited, RepliesAreWritten, HeadsAreSent, HeadRepliesAreWritten};
-ghost use Rattle.served_examples.specs.Answers.{ChannelsAreMade, RefreshesAreAnswered, PlaylistsAreRead, DecisionsAreAnswered, DecisionFaultsAreAnswered, RefreshFaultsAreAnswered, WordsOfWhyAreTold, ReasonsAreAnswered, TablesAreLimited, ChannelsAreApart, RequestsAreServed, RequestsWereAsked, RequestsWereAnswered};
-ghost use Rattle.served_examples.specs.Clients.{ClientsAreLimited, PlacesAreGiven, RepliesAreGivenUpLast, RoomIsGiven, BytesAreHeld, RepliesAreLeft, BytesAreTaken, VisitsAreCounted, WordsAreSaid, TakenIsCounted, PiecesAreJoined, CallsAreCounted, FailuresAreCounted};
-ghost use Rattle.served_examples.specs.Kept.{StatesAreMeant, SegmentsAreHeld, StoresAreReplaced, TextsAreKept, RefreshesAreOwed, LackOfMemoryIsSeen, DecisionsAreStored};
+ghost use Rattle.served_examples.specs.Requests.{NamesAreChecked, QueriesArePassedOver, RoutesAreFound, OtherPathsAreNone, BodiesAreFramed, HeadsAreFramed, MessagesAreLimited, RepliesAreWritten, HeadsAreSent, HeadRepliesAreWritten, AllFieldsCount};
+ghost use Rattle.served_examples.specs.Answers.{ChannelsAreMade, RefreshesAreAnswered, PlaylistsAreRead, DecisionsAreAnswered, DecisionFaultsAreAnswered, RefreshFaultsAreAnswered, WordsOfWhyAreTold, ReasonsAreAnswered, TablesAreLimited, ChannelsAreApart, RequestsAreServed, RequestsWereAsked, RequestsWereAnswered, OthersStay, BodyFaultsAreAnswered, BodyFaultsAreTold, ChannelsAreOnce};
+ghost use Rattle.served_examples.specs.Clients.{ClientsAreLimited, PlacesAreGiven, RepliesAreGivenUpLast, RoomIsGiven, BytesAreHeld, RepliesAreLeft, BytesAreTaken, VisitsAreCounted, WordsAreSaid, TakenIsCounted, PiecesAreJoined, CallsAreCounted, FailuresAreCounted, OthersAreApart};
+ghost use Rattle.served_examples.specs.Kept.{StatesAreMeant, SegmentsAreHeld, StoresAreReplaced, TextsAreKept, RefreshesAreOwed, LackOfMemoryIsSeen, DecisionsAreStored, ShownAreMeant};
 ghost use Rattle.served_examples.specs.Runs.{ReadsAreLimited, FilesAreTold, FilesAreGiven, BytesAreTold, UrisAreText, InputsAreReadUnderBases, RunsAreTold};
 
 /// What a request names, the length of its body, and how a reply is written.
@@ -21,6 +21,7 @@ pub fn requests_have_their_values()
     ensures replies_are_written { RepliesAreWritten }
     ensures heads_are_sent { HeadsAreSent }
     ensures head_replies_are_written { HeadRepliesAreWritten }
+    ensures all_fields_count { AllFieldsCount }
 {}
 
 /// What each request on channels is answered: the lines of the table "Answers" in docs/OPERATING.md.
@@ -38,6 +39,10 @@ pub fn answers_have_their_values()
     ensures requests_are_served { RequestsAreServed }
     ensures requests_were_asked { RequestsWereAsked }
     ensures requests_were_answered { RequestsWereAnswered }
+    ensures others_stay { OthersStay }
+    ensures body_faults_are_answered { BodyFaultsAreAnswered }
+    ensures body_faults_are_told { BodyFaultsAreTold }
+    ensures channels_are_once { ChannelsAreOnce }
 {}
 
 /// Many clients at once: who is given up for whom, what was said and taken, and the limits.
@@ -55,6 +60,7 @@ pub fn clients_have_their_values()
     ensures pieces_are_joined { PiecesAreJoined }
     ensures calls_are_counted { CallsAreCounted }
     ensures failures_are_counted { FailuresAreCounted }
+    ensures others_are_apart { OthersAreApart }
 {}
 
 /// A run over one playlist, and what a channel was given.
@@ -77,4 +83,5 @@ pub fn kept_have_their_values()
     ensures refreshes_are_owed { RefreshesAreOwed }
     ensures lack_of_memory_is_seen { LackOfMemoryIsSeen }
     ensures decisions_are_stored { DecisionsAreStored }
+    ensures shown_are_meant { ShownAreMeant }
 {}

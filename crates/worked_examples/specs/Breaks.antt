@@ -10,7 +10,8 @@ use Rattle.break_finder.specs.declared.why.Why.TheVariants.{Filled, NotKnown, No
 use Rattle.break_finder.specs.Signals.{signal_of, ticks_nanos}
 use Rattle.break_finder.specs.Breaks.{Break, End, at, closed, and_tag, end_of, is_before_end, is_not_past, is_near, is_signalled}
 use Rattle.break_finder.specs.Known.{Accepted, known}
-use Rattle.break_finder.specs.Entering.{EntryLimits, entered, is_inside, why}
+use Rattle.break_finder.specs.Entering.{EntryLimits, entered, is_inside, mark_of, why}
+use Rattle.worked_examples.specs.Pods.{long}
 use Rattle.worked_examples.specs.Tables.{Gives}
 
 -- SCTE 35, 9.7.3: an uncancelled splice_insert leaves the network or returns to it; no other command signals a break
@@ -45,6 +46,7 @@ abbrev pub FirstValuesStand : Type 0
 FirstValuesStand = Gives (λ said. and_tag said later_tag) (
     (said_first, said_first)
     ∷ (nothing_said, record { start = Some (pos 11); end = Some (pos 12); duration = Some 13; planned_duration = Some 14; scte35_out = Some Nothing; scte35_in = Some (Returns None) })
+    ∷ (record said_first { scte35_in = Some (Leaves None) }, record said_first { scte35_in = Some (Leaves None) })
     ∷ (record nothing_said { duration = Some 3 }, record { start = Some (pos 11); end = Some (pos 12); duration = Some 3; planned_duration = Some 14; scte35_out = Some Nothing; scte35_in = Some (Returns None) }) ∷ [])
 
 abbrev pub ends : Described → Option End
@@ -75,7 +77,8 @@ BreaksEnd = Gives ends (
     ∷ (record starting { duration = Some 20; end = Some (pos 110) }, Some (at (pos 110)))
     ∷ (record starting { start = None; duration = Some 20 }, None)
     ∷ (record starting { start = None; end = Some (pos 110) }, Some (at (pos 110)))
-    ∷ (record starting { start = None; scte35_in = Some (Returns None) }, Some closed) ∷ [])
+    ∷ (record starting { start = None; scte35_in = Some (Returns None) }, Some closed)
+    ∷ (record starting { scte35_out = Some (Returns (Some 90000)) }, Some (at (pos 1000000100))) ∷ [])
 
 -- a break is signalled if it has a start and an SCTE35-OUT that leaves the network
 abbrev pub BreaksAreSignalled : Type 0
@@ -90,6 +93,10 @@ BreaksAreSignalled = Gives is_signalled (
 abbrev pub StartsAreNear : Type 0
 StartsAreNear = Gives (λ instant. is_near instant 10 (Some (pos 100))) (
     (pos 89, false) ∷ (pos 90, true) ∷ (pos 100, true) ∷ (pos 110, true) ∷ (pos 111, false) ∷ [])
+
+-- nothing is near a start that isn't stated
+abbrev pub StartsAreStated : Type 0
+StartsAreStated = Gives (is_near (pos 0) 10) ((Some (pos 0), true) ∷ (None, false) ∷ [])
 
 -- and at an end: a segment that begins less than the tolerance before it is past it
 abbrev pub EndsAreNear : Type 0
@@ -124,6 +131,17 @@ known_briefly refreshes = map briefly (known refreshes)
 abbrev pub lasting : ℕ → DateRange → DateRange
 lasting nanos one = record one { duration = Some nanos }
 
+abbrev pub a_b_and_c : Accepted
+a_b_and_c = accepted (tag (codes "a") ∷ lasting 7 (tag (codes "b")) ∷ tag (codes "c") ∷ []) None
+
+-- four refreshes, of which the oldest lists c and b, the later ones a, b and c
+abbrev pub four_refreshes : List Accepted
+four_refreshes =
+    a_b_and_c
+    ∷ a_b_and_c
+    ∷ a_b_and_c
+    ∷ accepted (tag (codes "c") ∷ lasting 5 (tag (codes "b")) ∷ []) None ∷ []
+
 -- an ID is known while its tag stands in each refresh, or its break marks the newest segment; the first tag counts. A break
 -- that has gone and comes back is a new one. The newest refresh stands first
 abbrev pub BreaksAreKnown : Type 0
@@ -134,7 +152,13 @@ BreaksAreKnown = Gives known_briefly (
     ∷ (accepted (lasting 7 (tag (codes "a")) ∷ []) None ∷ accepted (lasting 5 (tag (codes "a")) ∷ []) None ∷ [], (codes "a", Some 5) ∷ [])
     ∷ (accepted [] None ∷ accepted (lasting 5 (tag (codes "a")) ∷ []) None ∷ [], [])
     ∷ (accepted [] (Some (codes "a")) ∷ accepted (lasting 5 (tag (codes "a")) ∷ []) None ∷ [], (codes "a", Some 5) ∷ [])
-    ∷ (accepted (lasting 7 (tag (codes "a")) ∷ []) None ∷ accepted [] None ∷ accepted (lasting 5 (tag (codes "a")) ∷ []) None ∷ [], (codes "a", Some 7) ∷ []) ∷ [])
+    ∷ (accepted (lasting 7 (tag (codes "a")) ∷ []) None ∷ accepted [] None ∷ accepted (lasting 5 (tag (codes "a")) ∷ []) None ∷ [], (codes "a", Some 7) ∷ [])
+    ∷ (a_b_and_c ∷ four_refreshes, (codes "c", None) ∷ (codes "b", Some 5) ∷ (codes "a", None) ∷ [])
+    ∷ (accepted (tag (codes "a") ∷ tag (codes "b") ∷ tag (codes "c") ∷ lasting 8 (tag (codes "d")) ∷ []) None ∷ four_refreshes, (codes "c", None) ∷ (codes "b", Some 5) ∷ (codes "a", None) ∷ (codes "d", Some 8) ∷ [])
+    ∷ (accepted (lasting 7 (tag (long 98)) ∷ lasting 8 (tag (long 99)) ∷ []) None ∷ accepted (lasting 6 (tag (long 99)) ∷ lasting 5 (tag (long 98)) ∷ []) None ∷ [], (long 99, Some 6) ∷ (long 98, Some 5) ∷ [])
+    ∷ (accepted [] (Some (long 98)) ∷ accepted (lasting 5 (tag (long 98)) ∷ lasting 6 (tag (long 99)) ∷ []) None ∷ [], (long 98, Some 5) ∷ [])
+    ∷ (accepted (tag (codes "a") ∷ tag (codes "a") ∷ tag (codes "a") ∷ tag (codes "a") ∷ lasting 5 (tag (codes "a")) ∷ []) None ∷ [], (codes "a", Some 5) ∷ [])
+    ∷ (accepted (tag (codes "a") ∷ tag (codes "b") ∷ tag (codes "c") ∷ tag (codes "d") ∷ tag (codes "e") ∷ []) None ∷ [], (codes "a", None) ∷ (codes "b", None) ∷ (codes "c", None) ∷ (codes "d", None) ∷ (codes "e", None) ∷ []) ∷ [])
 
 -- one ad of one segment that lasts 8 s
 abbrev pub pod : Pod
@@ -150,8 +174,19 @@ decided_b = record { entries = record { id = codes "b"; pod = pod; used = false;
 abbrev pub limits : ℕ → Bool → Option (List ℕ) → EntryLimits
 limits target with_init_sections last = record { tolerance = 10; target_duration = target; with_init_sections = with_init_sections; last = last }
 
+abbrev pub break_named : List ℕ → Break
+break_named id = record { id = id; said = starting }
+
 abbrev pub break : Described → Break
 break said = record { id = codes "b"; said = said }
+
+-- four breaks without a pod, and one whose ID differs in its last byte from that of the one before
+abbrev pub five_breaks : List Break
+five_breaks =
+    break_named (codes "c") ∷ break_named (codes "d") ∷ break_named (codes "e") ∷ break_named (long 99) ∷ break_named (long 98) ∷ []
+
+abbrev pub decided_long : Store
+decided_long = record { entries = record { id = long 98; pod = pod; used = false; copied = false } ∷ []; fallback = None }
 
 abbrev pub Entrance : Type 0
 Entrance = EntryLimits × Store × List Break × Option ℤ
@@ -176,7 +211,15 @@ BreaksAreEntered = Gives enters (
     ∷ ((limits 8 false None, decided_b, break (record starting { end = Some (pos 105) }) ∷ [], Some (pos 100)), None)
     ∷ ((limits 8 false None, record { entries = []; fallback = Some pod }, record { id = codes "c"; said = starting } ∷ break starting ∷ [], Some (pos 100)), Some (codes "c"))
     ∷ ((limits 8 true None, record decided_b { fallback = Some pod_with_init_section }, break starting ∷ [], Some (pos 100)), None)
-    ∷ ((limits 8 true None, record { entries = []; fallback = Some pod_with_init_section }, break starting ∷ [], Some (pos 100)), Some (codes "b")) ∷ [])
+    ∷ ((limits 8 true None, record { entries = []; fallback = Some pod_with_init_section }, break starting ∷ [], Some (pos 100)), Some (codes "b"))
+    ∷ ((limits 8 false None, decided_long, five_breaks, Some (pos 100)), Some (long 98))
+    ∷ ((limits 8 false (Some (long 98)), decided_long, five_breaks, Some (pos 100)), None)
+    ∷ ((limits 8 false (Some (long 99)), decided_long, five_breaks, Some (pos 100)), Some (long 98)) ∷ [])
+
+-- the mark of a break with a long ID
+abbrev pub MarksAreMade : Type 0
+MarksAreMade = Gives (mark_of decided_long) (
+    (None, None) ∷ (Some (long 98), Some (record { id = long 98; pod = pod })) ∷ (Some (long 99), None) ∷ [])
 
 -- a segment at 100 is inside the break of an ID, if its end allows it
 abbrev pub BreaksGoOn : Type 0
@@ -186,6 +229,14 @@ BreaksGoOn = Gives (λ (breaks : List Break). is_inside breaks (codes "b") (Some
     ∷ (break (record starting { duration = Some 11 }) ∷ [], true)
     ∷ (break (record starting { scte35_in = Some (Returns None) }) ∷ [], false)
     ∷ ([], false) ∷ [])
+
+-- the same of other breaks, and of a segment without an instant
+abbrev pub BreaksOfOthersGoOn : Type 0
+BreaksOfOthersGoOn = Gives (λ (it : List ℕ × Option ℤ). is_inside five_breaks it.0 it.1 10 pod) (
+    ((long 98, Some (pos 100)), true)
+    ∷ ((codes "d", Some (pos 100)), true)
+    ∷ ((long 100, Some (pos 100)), false)
+    ∷ ((long 98, None), false) ∷ [])
 
 abbrev pub Question : Type 0
 Question = List Break × ℕ × Bool × Store × Bool
@@ -206,3 +257,8 @@ ReasonsAreTold = Gives reason (
     ∷ ((break starting ∷ [], 8, true, record decided_b { fallback = Some pod_with_init_section }, false), DoesNotFit)
     ∷ ((break starting ∷ [], 8, true, record { entries = []; fallback = Some pod_with_init_section }, false), Waiting)
     ∷ ((break starting ∷ [], 8, false, decided_b, false), Waiting) ∷ [])
+
+-- the same of breaks with long IDs
+abbrev pub ReasonsOfOthersAreTold : Type 0
+ReasonsOfOthersAreTold = Gives (λ (id : List ℕ). why five_breaks id 8 false decided_long false) (
+    (long 98, Waiting) ∷ (long 99, NotDecided) ∷ (long 100, NotKnown) ∷ (codes "d", NotDecided) ∷ [])

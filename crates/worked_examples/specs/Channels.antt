@@ -56,7 +56,9 @@ PlaylistsFollow = Gives (λ (new : Playlist). successor_fault five new) (
     ∷ (record five { end_list = true }, None)
     ∷ (record five { independent_segments = true }, None)
     ∷ (record five { version = 4 }, Some VersionChanged)
+    ∷ (record five { version = 2 }, Some VersionChanged)
     ∷ (record five { target_duration = 11 }, Some TargetChanged)
+    ∷ (record five { target_duration = 9 }, Some TargetChanged)
     ∷ (record five { version = 4; target_duration = 11 }, Some VersionChanged)
     ∷ (record five { playlist_type = Some Event }, Some TypeChanged)
     ∷ (record five { target_duration = 11; playlist_type = Some Event }, Some TargetChanged)
@@ -77,7 +79,25 @@ TypesStay = Gives follows (
     ((record five { playlist_type = Some Event }, record five { playlist_type = Some Event }), None)
     ∷ ((record five { playlist_type = Some Vod }, record five { playlist_type = Some Vod }), None)
     ∷ ((record five { playlist_type = Some Event }, record five { playlist_type = Some Vod }), Some TypeChanged)
-    ∷ ((record five { playlist_type = Some Event }, five), Some TypeChanged) ∷ [])
+    ∷ ((record five { playlist_type = Some Event }, five), Some TypeChanged)
+    ∷ ((record five { segments = record (origin 10) { init_section = Some under_key_1 } ∷ segments 11 4 }, five), Some MapsChanged) ∷ [])
+
+-- the last of the five as this one
+abbrev pub with_14 : Segment → Playlist
+with_14 s = plays [] (segments 10 4 ++ s ∷ [])
+
+abbrev pub stepped_14 : Segment
+stepped_14 = record (origin 14) { discontinuity_sequence = 6; discontinuities = 1 }
+
+-- discontinuity numbers go on from the last segment's
+abbrev pub LastSegmentsCount : Type 0
+LastSegmentsCount = Gives follows (
+    ((five, with_14 (record (origin 14) { uri = codes "u" })), Some (Changed 14))
+    ∷ ((with_14 stepped_14, with_14 stepped_14), None)
+    ∷ ((plays [] (segments 10 2), plays [] (record (origin 12) { discontinuity_sequence = 4 } ∷ [])), Some (Changed 12))
+    ∷ ((with_14 stepped_14, plays [] (record (origin 15) { discontinuity_sequence = 5 } ∷ [])), Some (Changed 15))
+    ∷ ((with_14 stepped_14, plays [] (record (origin 15) { discontinuity_sequence = 1006 } ∷ [])), None)
+    ∷ ((with_14 stepped_14, plays [] (record (origin 15) { discontinuity_sequence = 1007 } ∷ [])), Some (Changed 15)) ∷ [])
 
 -- segment 11 of the five as this one
 abbrev pub with_11 : Segment → Playlist
@@ -112,7 +132,8 @@ EndedStays = Gives (λ (new : Playlist). successor_fault (record five { end_list
     ∷ (record (plays [] (segments 10 6)) { end_list = true }, Some Ended)
     ∷ (record (plays [] (segments 11 4)) { end_list = true }, Some Ended)
     ∷ (plays [] (segments 10 4), Some Shrunk)
-    ∷ (with_11 (record (origin 11) { uri = codes "u" }), Some (Changed 11)) ∷ [])
+    ∷ (with_11 (record (origin 11) { uri = codes "u" }), Some (Changed 11))
+    ∷ (plays [] (record (origin 15) { discontinuity_sequence = 1006 } ∷ []), Some (Changed 15)) ∷ [])
 
 -- docs/OPERATING.md: 100 ms if nothing else is asked, and 10 s at the most
 abbrev pub TolerancesAreStated : Type 0
@@ -163,8 +184,8 @@ decide_b = decide (codes "b") (1000 ∷ 1001 ∷ 1002 ∷ [])
 abbrev pub written_by : ℕ × List live.Event → Option (List (List ℕ))
 written_by it = option_map (λ (p : Playlist). map brief p.segments) (owed_by it.0 it.1)
 
--- docs/OPERATING.md: a pod goes through the window at the pace of its break; the rest of it at once if the break has ended;
--- what was written stays, also if a decision comes later; nothing is written before a refresh
+-- docs/OPERATING.md: a pod goes through the window at the pace of its break; the rest of it at once if the break has ended, and
+-- a break that is played is known although its tag has gone; what was written stays, also if a decision comes later; nothing is written before a refresh
 abbrev pub BreaksAreFilled : Type 0
 BreaksAreFilled = Gives written (
     (decide_b ∷ [], None)
@@ -177,7 +198,8 @@ BreaksAreFilled = Gives written (
     ∷ (window (lasting 10 b ∷ []) 2 3 ∷ window (lasting 10 b ∷ []) 2 2 ∷ window (lasting 10 b ∷ []) 0 2 ∷ decide_b ∷ [], Some ((1001 ∷ 2 ∷ 6 ∷ 0 ∷ []) ∷ (1002 ∷ 3 ∷ 6 ∷ 0 ∷ []) ∷ (2 ∷ 4 ∷ 7 ∷ 1 ∷ []) ∷ (3 ∷ 5 ∷ 7 ∷ 0 ∷ []) ∷ (4 ∷ 6 ∷ 7 ∷ 0 ∷ []) ∷ []))
     ∷ (window (lasting 10 b ∷ []) 3 2 ∷ window (lasting 10 b ∷ []) 2 2 ∷ window (lasting 10 b ∷ []) 0 2 ∷ decide_b ∷ [], Some ((3 ∷ 5 ∷ 7 ∷ 0 ∷ []) ∷ (4 ∷ 6 ∷ 7 ∷ 0 ∷ []) ∷ []))
     ∷ (decide_b ∷ window (b ∷ []) 0 2 ∷ [], Some ((0 ∷ 0 ∷ 5 ∷ 0 ∷ []) ∷ (1 ∷ 1 ∷ 5 ∷ 0 ∷ []) ∷ []))
-    ∷ (window (b ∷ []) 0 3 ∷ decide_b ∷ window (b ∷ []) 0 2 ∷ [], Some ((0 ∷ 0 ∷ 5 ∷ 0 ∷ []) ∷ (1 ∷ 1 ∷ 5 ∷ 0 ∷ []) ∷ (2 ∷ 2 ∷ 5 ∷ 0 ∷ []) ∷ [])) ∷ [])
+    ∷ (window (b ∷ []) 0 3 ∷ decide_b ∷ window (b ∷ []) 0 2 ∷ [], Some ((0 ∷ 0 ∷ 5 ∷ 0 ∷ []) ∷ (1 ∷ 1 ∷ 5 ∷ 0 ∷ []) ∷ (2 ∷ 2 ∷ 5 ∷ 0 ∷ []) ∷ []))
+    ∷ (window [] 0 5 ∷ window (lasting 30 b ∷ []) 0 3 ∷ decide_b ∷ [], Some ((0 ∷ 0 ∷ 5 ∷ 0 ∷ []) ∷ (1000 ∷ 1 ∷ 6 ∷ 1 ∷ []) ∷ (1001 ∷ 2 ∷ 6 ∷ 0 ∷ []) ∷ (1002 ∷ 3 ∷ 6 ∷ 0 ∷ []) ∷ (4 ∷ 4 ∷ 7 ∷ 1 ∷ []) ∷ [])) ∷ [])
 
 -- the break begins at 11 s, a second after segment 1: that enters it if the tolerance is a second
 abbrev pub TolerancesCount : Type 0
@@ -289,10 +311,19 @@ RefreshFaultsAreTold = Gives refresh_fault_text (
 abbrev pub refused : List live.Event × Playlist → Option RefreshFault
 refused it = refusal 100000000 (told 100000000 it.0) it.1
 
--- the newest segment has number 2^64 - 1, and a pod of two stands before it (N10)
+-- the last segment but two, and the last three: the last but one is in a break whose pod has two segments
+abbrev pub before_last : List live.Event
+before_last = refreshed (plays [] (record (origin 18446744073709551613) { program_date_time = Some (noon_and 0) } ∷ [])) ∷ decide (codes "b") (1000 ∷ 1001 ∷ []) ∷ []
+
+abbrev pub last_two : Playlist
+last_two = plays (lasting 10 b ∷ []) (record (origin 18446744073709551613) { program_date_time = Some (noon_and 0) } ∷ segments 18446744073709551614 2)
+
+-- a refresh that may not follow is refused for that first; the newest segment has number 2^64 - 1, and a pod of two stands before it (N10)
 abbrev pub LastNumbersAreRefused : Type 0
 LastNumbersAreRefused = Gives refused (
     (([], plays [] (segments 18446744073709551615 1)), None)
     ∷ ((decide (codes "b") (1000 ∷ 1001 ∷ []) ∷ [], plays (lasting 10 b ∷ []) (record (origin 18446744073709551614) { program_date_time = Some (noon_and 10) } ∷ origin 18446744073709551615 ∷ [])), Some NumberRange)
     ∷ ((decide (codes "b") (1000 ∷ []) ∷ [], plays (lasting 10 b ∷ []) (record (origin 18446744073709551614) { program_date_time = Some (noon_and 10) } ∷ origin 18446744073709551615 ∷ [])), None)
-    ∷ ((window [] 0 2 ∷ [], plays [] (segments 3 2)), Some Gap) ∷ [])
+    ∷ ((window [] 0 2 ∷ [], plays [] (segments 3 2)), Some Gap)
+    ∷ ((before_last, last_two), Some NumberRange)
+    ∷ ((before_last, record last_two { version = 4 }), Some VersionChanged) ∷ [])

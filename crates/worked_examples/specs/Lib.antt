@@ -10,3 +10,5 @@ pub mod Written
 pub mod Channels
 pub mod Windows
 pub mod Paced
+pub mod Long
+pub mod LargePlaylists

@@ -5,9 +5,10 @@ use Rattle.playlist_model.specs.declared.FaultKind.TheVariants.{BadVersion, Vers
 use Rattle.playlist_model.specs.declared.PlaylistKind.TheVariants.{Event, Vod}
 use Rattle.playlist_model.specs.declared.Key.{Key}
 use Rattle.playlist_model.specs.Lines.{ignored, uri, tag, kind_of}
-use Rattle.playlist_model.specs.Uri.{base_of, has_scheme, resolved}
+use Rattle.playlist_model.specs.Uri.{base_of, can_be_written, has_scheme, joined, resolved}
 use Rattle.playlist_model.specs.Said.{Name, version_tag, target_tag, sequence_tag, discontinuity_sequence_tag, type_tag, ended_tag, independent_tag, frames_tag, master_tag, duration_tag, byte_range_tag, discontinuity_tag, key_tag, init_section_tag, time_tag, date_range_tag, unknown_tag, duration, no_keys, key, init_section, date_range, version_of, playlist_type_of, duration_said, byte_range_of, key_said, init_section_said, date_range_said}
 use Rattle.playlist_model.specs.Reading.{name_of, limited}
+use Rattle.worked_examples.specs.Pods.{long}
 use Rattle.worked_examples.specs.Tables.{Gives}
 
 -- RFC 8216, 4.1: a line is a URI, is blank, or begins with `#`; a tag begins with `#EXT`, in that case
@@ -20,7 +21,10 @@ LinesHaveTheirKinds = Gives kind_of (
     ∷ (codes "#EXTM3U", tag (codes "EXTM3U") [] false)
     ∷ (codes "#EXTINF:10,a:b", tag (codes "EXTINF") (codes "10,a:b") true)
     ∷ (codes "s0.ts", uri (codes "s0.ts"))
-    ∷ (codes " s0.ts", uri (codes " s0.ts")) ∷ [])
+    ∷ (codes " s0.ts", uri (codes " s0.ts"))
+    ∷ (codes "#EXA", ignored)
+    ∷ (9 ∷ [], uri (9 ∷ []))
+    ∷ (replicate 45 32 ++ codes "a", uri (replicate 45 32 ++ codes "a")) ∷ [])
 
 abbrev pub named : List ℕ × Bool → Name
 named line = name_of line.0 line.1
@@ -49,12 +53,26 @@ TagsHaveTheirNames = Gives named (
     ∷ ((codes "EXT-X-SESSION-DATA", true), master_tag)
     ∷ ((codes "EXT-X-SESSION-KEY", true), master_tag)
     ∷ ((codes "EXT-X-START", true), unknown_tag)
+    ∷ ((codes "EXT-X-DISCONTINUITY", true), unknown_tag)
+    ∷ ((codes "EXT-X-INDEPENDENT-SEGMENTS", true), unknown_tag)
+    ∷ ((codes "EXT-X-I-FRAMES-ONLY", true), unknown_tag)
     ∷ ((codes "EXT-X-ENDLIST", true), unknown_tag) ∷ [])
 
 -- RFC 3986, 3.1: scheme = ALPHA *( ALPHA / DIGIT / "+" / "-" / "." )
 abbrev pub SchemesAreSeen : Type 0
 SchemesAreSeen = Gives has_scheme (
-    (codes "http://h/a", true) ∷ (codes "a+b-c.9:", true) ∷ (codes "a.ts", false) ∷ (codes "1http:", false) ∷ (codes "a/b:c", false) ∷ ([], false) ∷ [])
+    (codes "http://h/a", true) ∷ (codes "a+b-c.9:", true) ∷ (codes "a.ts", false) ∷ (codes "1http:", false) ∷ (codes "a/b:c", false) ∷ ([], false) ∷ (codes "a;b", false) ∷ (codes "a*b:", false) ∷ (codes "a,b:", false) ∷ (long 98 ++ codes ":a", true) ∷ [])
+
+-- what is joined may be written on a line and between quotes if it has a scheme, no control character and no quote
+abbrev pub JoinsCanBeWritten : Type 0
+JoinsCanBeWritten = Gives can_be_written (
+    (codes "http://h/a", true)
+    ∷ (codes "h/a", false)
+    ∷ (codes "http://h/\"", false)
+    ∷ (codes "http://h/" ++ (9 ∷ []), false)
+    ∷ (long 98 ++ codes ":a", true)
+    ∷ (codes "http://h/" ++ long 34, false)
+    ∷ (codes "http://h/" ++ long 9, false) ∷ [])
 
 -- 4.3.1.2, where versions 1 to 7 are described (7)
 abbrev pub VersionsAreRead : Type 0
@@ -75,6 +93,8 @@ abbrev pub ByteRangesAreRead : Type 0
 ByteRangesAreRead = Gives byte_range_of (
     (codes "100@5", Ok (100, Some 5))
     ∷ (codes "100", Ok (100, None))
+    ∷ (codes "00000000000000000025@00000000000000000001", Ok (25, Some 1))
+    ∷ (codes "100A5", Err BadRange)
     ∷ (codes "100@", Err BadRange)
     ∷ (codes "@5", Err BadRange)
     ∷ (codes "1@18446744073709551614", Ok (1, Some 18446744073709551614))
@@ -91,7 +111,15 @@ ReferencesAreResolved = Gives (λ reference. based (λ base. resolved base refer
     ∷ (codes "/s0.ts?a=b", Some (Some (codes "http://origin.example/s0.ts?a=b")))
     ∷ (codes "//cdn.example/s0.ts", Some (Some (codes "http://cdn.example/s0.ts")))
     ∷ (codes "skd://key", Some (Some (codes "skd://key")))
+    ∷ (codes "HTTP://H/a", Some (Some (codes "HTTP://H/a")))
+    ∷ (long 98 ++ codes ":a", Some (Some (long 98 ++ codes ":a")))
+    ∷ (long 98, Some (Some (codes "http://origin.example/ch/" ++ long 98)))
     ∷ (codes "//[/x", Some None) ∷ [])
+
+-- the base with another path
+abbrev pub PathsAreJoined : Type 0
+PathsAreJoined = Gives (λ (path : List ℕ). based (λ base. joined (Ok (record base { path = path })))) (
+    (codes "/a", Some (Some (codes "http://origin.example/a"))) ∷ (codes "/\"", Some None) ∷ [])
 
 -- a base is an absolute http or https URL
 abbrev pub BasesAreWebUrls : Type 0
@@ -113,6 +141,9 @@ KeysAreRead = Gives (λ text. based (λ base. key_said limited base text)) (
     ∷ (codes "METHOD=NONE,URI=a", Some (Ok no_keys))
     ∷ (codes "METHOD=AES-128,URI=\"k\"", Some (Ok (key (aes (codes "identity") (codes "http://origin.example/ch/k") None []))))
     ∷ (codes "METHOD=AES-128,URI=\"a:k\",IV=0x1F,KEYFORMAT=\"f\",KEYFORMATVERSIONS=\"1\"", Some (Ok (key (aes (codes "f") (codes "a:k") (Some 31) (codes ",KEYFORMATVERSIONS=\"1\"")))))
+    ∷ (codes "METHOD=AES-128,URI=\"a:k\",X-A=1,X-B=2,X-C=3,X-D=4,IV=0x1F,KEYFORMAT=\"f\"", Some (Ok (key (aes (codes "f") (codes "a:k") (Some 31) (codes ",X-A=1,X-B=2,X-C=3,X-D=4")))))
+    ∷ (codes "METHOD=AES-128,URI=\"a:" ++ (long 98 ++ (codes "\",KEYFORMAT=\"" ++ (long 99 ++ codes "\""))), Some (Ok (key (aes (long 99) (codes "a:" ++ long 98) None []))))
+    ∷ (codes "X-A=1,X-B=2,X-C=3,METHOD=AES-128,URI=\"a:k\"", Some (Ok (key (aes (codes "identity") (codes "a:k") None (codes ",X-A=1,X-B=2,X-C=3")))))
     ∷ (codes "URI=\"a:k\"", Some (Err MissingAttribute))
     ∷ (codes "METHOD=AES-128", Some (Err MissingAttribute))
     ∷ (codes "METHOD=\"AES-128\",URI=\"a:k\"", Some (Err BadAttributes))
@@ -134,6 +165,8 @@ InitSectionsAreRead = Gives (λ text. based (λ base. init_section_said limited 
     (codes "URI=\"a:i\"", Some (Ok (init_section (codes "a:i") None)))
     ∷ (codes "URI=\"a:i\",BYTERANGE=\"100@5\"", Some (Ok (init_section (codes "a:i") (Some (record { length = 100; offset = 5 })))))
     ∷ (codes "URI=\"a:i\",BYTERANGE=\"100\"", Some (Ok (init_section (codes "a:i") (Some (record { length = 100; offset = 0 })))))
+    ∷ (codes "URI=\"a:i\",BYTERANGE=\"18446744073709551615\"", Some (Ok (init_section (codes "a:i") (Some (record { length = 18446744073709551615; offset = 0 })))))
+    ∷ (codes "URI=\"a:" ++ (long 98 ++ codes "\""), Some (Ok (init_section (codes "a:" ++ long 98) None)))
     ∷ (codes "BYTERANGE=\"100@5\"", Some (Err MissingAttribute))
     ∷ (codes "URI=a", Some (Err BadAttributes))
     ∷ (codes "URI=\"a:i\",BYTERANGE=100", Some (Err BadAttributes))
@@ -176,6 +209,20 @@ DateRangesAreRead = Gives (date_range_said limited) ((
         attributes = codes "ID=\"b\",START-DATE=2024-05-01T12:00:00Z,DURATION=\"20\",SCTE35-OUT=\"0xA\",SCTE35-IN=\"0xB\"";
       })),
     )
+    ∷ (
+      codes "SCTE35-IN=0xB,SCTE35-OUT=0xA,PLANNED-DURATION=30,DURATION=\"000000000000000000000000000000000000000000020\",END-DATE=\"2024-05-01T12:00:10Z\",START-DATE=\"2024-05-01T12:00:00Z\",ID=\"b\"",
+      Ok (date_range (record {
+        id = codes "b";
+        start = Some (pos 1714564800000000000);
+        end = Some (pos 1714564810000000000);
+        duration = Some 20000000000;
+        planned_duration = Some 30000000000;
+        scte35_out = Some (codes "0xA");
+        scte35_in = Some (codes "0xB");
+        attributes = codes "SCTE35-IN=0xB,SCTE35-OUT=0xA,PLANNED-DURATION=30,DURATION=\"000000000000000000000000000000000000000000020\",END-DATE=\"2024-05-01T12:00:10Z\",START-DATE=\"2024-05-01T12:00:00Z\",ID=\"b\"";
+      })),
+    )
+    ∷ (codes "ID=\"b\",DURATION=x,END-DATE=\"x\"", Err BadTime)
     ∷ (codes "START-DATE=\"2024-05-01T12:00:00Z\"", Err MissingAttribute)
     ∷ (codes "START-DATE=\"x\"", Err MissingAttribute)
     ∷ (codes "ID=\"b\",DURATION=x,START-DATE=\"x\"", Err BadTime)

@@ -184,16 +184,29 @@ NothingIsShownAtOnce = Gives written (
     ∷ (some_from (b1 ∷ []) 0 3 ∷ two b1 0 ∷ decide_pod (codes "b1") x1 ∷ [], Some ((0 ∷ 0 ∷ 0 ∷ 0 ∷ []) ∷ (2000 ∷ 1 ∷ 1 ∷ 1 ∷ []) ∷ (2001 ∷ 2 ∷ 1 ∷ 0 ∷ []) ∷ (2002 ∷ 3 ∷ 1 ∷ 0 ∷ []) ∷ []))
     ∷ (two b1 2 ∷ some_from (b1 ∷ []) 0 3 ∷ two b1 0 ∷ decide_pod (codes "b1") x1 ∷ [], Some ((2000 ∷ 1 ∷ 1 ∷ 1 ∷ []) ∷ (2001 ∷ 2 ∷ 1 ∷ 0 ∷ []) ∷ (2002 ∷ 3 ∷ 1 ∷ 0 ∷ []) ∷ [])) ∷ [])
 
--- the first segment of a break begins 100 ms after its START-DATE, or a tenth of a second later
+-- the first segment of a break begins 100 ms after its START-DATE, or a tenth of a second later; an instant is reckoned back from
+-- the first one that is stated
 abbrev pub InstantsCount : Type 0
 InstantsCount = Gives written (
     (refreshed (plays true (b1 ∷ []) (origin 0 (Some (at_tenths 0)) ∷ origin 1 (Some (at_tenths 101)) ∷ [])) ∷ decide_b1 ∷ [], Some ((0 ∷ 0 ∷ 0 ∷ 0 ∷ []) ∷ (1000 ∷ 1 ∷ 1 ∷ 1 ∷ []) ∷ (1001 ∷ 2 ∷ 1 ∷ 0 ∷ []) ∷ []))
-    ∷ (refreshed (plays true (b1 ∷ []) (origin 0 (Some (at_tenths 0)) ∷ origin 1 (Some (at_tenths 102)) ∷ [])) ∷ decide_b1 ∷ [], Some ((0 ∷ 0 ∷ 0 ∷ 0 ∷ []) ∷ (1 ∷ 1 ∷ 0 ∷ 0 ∷ []) ∷ [])) ∷ [])
+    ∷ (refreshed (plays true (b1 ∷ []) (origin 0 (Some (at_tenths 0)) ∷ origin 1 (Some (at_tenths 102)) ∷ [])) ∷ decide_b1 ∷ [], Some ((0 ∷ 0 ∷ 0 ∷ 0 ∷ []) ∷ (1 ∷ 1 ∷ 0 ∷ 0 ∷ []) ∷ []))
+    ∷ (
+      refreshed (plays true (b1 ∷ []) (origin 0 None ∷ origin 1 None ∷ origin 2 None ∷ origin 3 None ∷ origin 4 None ∷ origin 5 (Some (at_tenths 500)) ∷ [])) ∷ decide_b1 ∷ [],
+      Some ((0 ∷ 0 ∷ 0 ∷ 0 ∷ []) ∷ (1000 ∷ 1 ∷ 1 ∷ 1 ∷ []) ∷ (1001 ∷ 2 ∷ 1 ∷ 0 ∷ []) ∷ (4 ∷ 3 ∷ 2 ∷ 1 ∷ []) ∷ (5 ∷ 4 ∷ 2 ∷ 0 ∷ []) ∷ []),
+    )
+    ∷ (
+      refreshed (plays true (lasting 10 (tag (codes "b1") 0) ∷ []) (origin 0 None ∷ origin 1 None ∷ origin 2 None ∷ origin 3 None ∷ origin 4 None ∷ origin 5 (Some (at_tenths 500)) ∷ [])) ∷ decide_b1 ∷ [],
+      Some ((1000 ∷ 0 ∷ 1 ∷ 1 ∷ []) ∷ (1001 ∷ 1 ∷ 1 ∷ 0 ∷ []) ∷ (1 ∷ 2 ∷ 2 ∷ 1 ∷ []) ∷ (2 ∷ 3 ∷ 2 ∷ 0 ∷ []) ∷ (3 ∷ 4 ∷ 2 ∷ 0 ∷ []) ∷ (4 ∷ 5 ∷ 2 ∷ 0 ∷ []) ∷ (5 ∷ 6 ∷ 2 ∷ 0 ∷ []) ∷ []),
+    ) ∷ [])
 
 -- 4.3.2.6: a segment before the first stated time has its own by durations; the segments of a pod state none
 abbrev pub TimesAreReckoned : Type 0
 TimesAreReckoned = Gives times (
-    (refreshed (plays true (b1 ∷ []) (origin 0 None ∷ origin 1 (Some (at_tenths 100)) ∷ [])) ∷ decide_b1 ∷ [], Some (Some (at_tenths 0) ∷ None ∷ None ∷ [])) ∷ [])
+    (refreshed (plays true (b1 ∷ []) (origin 0 None ∷ origin 1 (Some (at_tenths 100)) ∷ [])) ∷ decide_b1 ∷ [], Some (Some (at_tenths 0) ∷ None ∷ None ∷ []))
+    ∷ (
+      refreshed (plays true [] (origin 0 None ∷ origin 1 None ∷ origin 2 None ∷ origin 3 None ∷ origin 4 None ∷ origin 5 (Some (at_tenths 500)) ∷ [])) ∷ [],
+      Some (Some (at_tenths 0) ∷ Some (at_tenths 100) ∷ Some (at_tenths 200) ∷ Some (at_tenths 300) ∷ Some (at_tenths 400) ∷ Some (at_tenths 500) ∷ []),
+    ) ∷ [])
 
 -- the rest of a pod, and the pod of the break after it
 abbrev pub RestsAreWritten : Type 0
@@ -206,11 +219,17 @@ DateRangesComeBack = Gives dated (
     (some_from b1_then_b2 2 2 ∷ some_from b1_then_b2 0 2 ∷ both_decided, Some [])
     ∷ (some_from b1_then_b2 3 2 ∷ some_from b1_then_b2 2 2 ∷ some_from b1_then_b2 0 2 ∷ both_decided, Some (codes "b1" ∷ [])) ∷ [])
 
--- its pod is kept as long
+-- five breaks, one after the other
+abbrev pub five_in_a_row : List DateRange
+five_in_a_row = lasting 10 b1 ∷ lasting 10 (tag (codes "b2") 200) ∷ lasting 10 (tag (codes "b3") 300) ∷ lasting 10 (tag (codes "b4") 400) ∷ lasting 10 (tag (codes "b5") 500) ∷ []
+
+-- its pod is kept as long; copies of the fallback stand in the order in which their breaks were entered
 abbrev pub PodsGo : Type 0
 PodsGo = Gives stored (
     (some_from b1_then_b2 2 2 ∷ some_from b1_then_b2 0 2 ∷ both_decided, codes "b1" ∷ codes "b2" ∷ [])
-    ∷ (some_from b1_then_b2 3 2 ∷ some_from b1_then_b2 2 2 ∷ some_from b1_then_b2 0 2 ∷ both_decided, codes "b2" ∷ []) ∷ [])
+    ∷ (some_from b1_then_b2 3 2 ∷ some_from b1_then_b2 2 2 ∷ some_from b1_then_b2 0 2 ∷ both_decided, codes "b2" ∷ [])
+    ∷ (turns b1_and_b2 ∷ falls_to 2000 ∷ [], codes "b1" ∷ codes "b2" ∷ [])
+    ∷ (some_from five_in_a_row 0 7 ∷ falls_to 2000 ∷ [], codes "b1" ∷ codes "b2" ∷ codes "b3" ∷ codes "b4" ∷ codes "b5" ∷ []) ∷ [])
 
 -- docs/OPERATING.md: a run keeps the fallback that it was entered with, whatever the fallback becomes
 abbrev pub FallbacksStay : Type 0
@@ -229,6 +248,13 @@ FallbacksFillEach = Gives written (
     ∷ (turns b1_and_b2 ∷ falls_to 2000 ∷ [], Some ((0 ∷ 0 ∷ 0 ∷ 0 ∷ []) ∷ (2000 ∷ 1 ∷ 1 ∷ 1 ∷ []) ∷ (2 ∷ 2 ∷ 2 ∷ 1 ∷ []) ∷ (2000 ∷ 3 ∷ 3 ∷ 1 ∷ []) ∷ (4 ∷ 4 ∷ 4 ∷ 1 ∷ []) ∷ []))
     ∷ (turns b2_and_b1 ∷ falls_to 3000 ∷ turns b1_and_b2 ∷ falls_to 2000 ∷ [], Some ((2 ∷ 2 ∷ 2 ∷ 1 ∷ []) ∷ (2000 ∷ 3 ∷ 3 ∷ 1 ∷ []) ∷ (4 ∷ 4 ∷ 4 ∷ 1 ∷ []) ∷ (2000 ∷ 5 ∷ 5 ∷ 1 ∷ []) ∷ []))
     ∷ (turns b2_and_b1 ∷ falls_to 3000 ∷ turns b2_alone ∷ turns b1_and_b2 ∷ falls_to 2000 ∷ [], Some ((2 ∷ 2 ∷ 2 ∷ 1 ∷ []) ∷ (2000 ∷ 3 ∷ 3 ∷ 1 ∷ []) ∷ (4 ∷ 4 ∷ 4 ∷ 1 ∷ []) ∷ (3000 ∷ 5 ∷ 5 ∷ 1 ∷ []) ∷ [])) ∷ [])
+
+-- the break that was entered last isn't entered again, however long ago that was
+abbrev pub LastBreaksAreLeft : Type 0
+LastBreaksAreLeft = Gives written ((
+  refreshed (plays false (lasting 10 b1 ∷ []) (at 0 0 ∷ at 1 100 ∷ at 2 1000 ∷ at 3 2000 ∷ at 4 3000 ∷ at 5 4000 ∷ at 6 100 ∷ [])) ∷ falls_to 2000 ∷ [],
+  Some ((0 ∷ 0 ∷ 0 ∷ 0 ∷ []) ∷ (2000 ∷ 1 ∷ 1 ∷ 1 ∷ []) ∷ (2 ∷ 2 ∷ 2 ∷ 1 ∷ []) ∷ (3 ∷ 3 ∷ 2 ∷ 0 ∷ []) ∷ (4 ∷ 4 ∷ 2 ∷ 0 ∷ []) ∷ (5 ∷ 5 ∷ 2 ∷ 0 ∷ []) ∷ (6 ∷ 6 ∷ 2 ∷ 0 ∷ []) ∷ []),
+) ∷ [])
 
 -- a pod of the break's own comes first, also if it doesn't fit
 abbrev pub OwnPodsComeFirst : Type 0

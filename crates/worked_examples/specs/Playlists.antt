@@ -17,6 +17,7 @@ use Rattle.playlist_model.specs.LookBack.{keys_at, standing_at}
 use Rattle.playlist_model.specs.Reading.{reading, limited, unlimited}
 use Rattle.playlist_model.specs.Same.{same_segment, kept_parts}
 use Rattle.playlist_model.specs.Uri.{base_of}
+use Rattle.worked_examples.specs.Pods.{long}
 use Rattle.worked_examples.specs.Tables.{Gives}
 
 -- each line with a line feed
@@ -132,7 +133,31 @@ TagsArePlaced = Gives read_on (
     ∷ ((codes "#EXTINF:1," ++ 9 ∷ []) ∷ [], refused_at 3 fault.Control)
     ∷ ((codes "# " ++ 127 ∷ []) ∷ [], refused_at 3 fault.Control)
     ∷ ((codes "# " ++ 194 ∷ 133 ∷ []) ∷ [], refused_at 3 fault.Control)
-    ∷ ((codes "# " ++ 194 ∷ 160 ∷ []) ∷ [], refused_at 0 fault.NoSegments) ∷ [])
+    ∷ ((codes "# " ++ 194 ∷ 160 ∷ []) ∷ [], refused_at 0 fault.NoSegments)
+    ∷ ((codes "# " ++ long 7) ∷ [], refused_at 3 fault.Control)
+    ∷ (codes "#EXT-X-DISCONTINUITY-SEQUENCE:1" ∷ codes "#EXT-X-DISCONTINUITY" ∷ codes "#EXT-X-DISCONTINUITY-SEQUENCE:1" ∷ [], refused_at 5 fault.Repeated) ∷ [])
+
+-- the same with four lines between the two
+abbrev pub apart : List ℕ → List ℕ → List (List ℕ)
+apart line later = line ∷ codes "# 1" ∷ codes "# 2" ∷ codes "# 3" ∷ codes "# 4" ∷ later ∷ []
+
+abbrev pub TagsApartArePlaced : Type 0
+TagsApartArePlaced = Gives (λ (it : List ℕ × List ℕ). read_on (apart it.0 it.1)) (
+    ((codes "#EXT-X-VERSION:3", codes "#EXT-X-VERSION:3"), refused_at 8 fault.Repeated)
+    ∷ ((codes "#", codes "#EXT-X-TARGETDURATION:10"), refused_at 8 fault.Repeated)
+    ∷ ((codes "#EXT-X-MEDIA-SEQUENCE:1", codes "#EXT-X-MEDIA-SEQUENCE:1"), refused_at 8 fault.Repeated)
+    ∷ ((codes "#EXT-X-DISCONTINUITY-SEQUENCE:1", codes "#EXT-X-DISCONTINUITY-SEQUENCE:1"), refused_at 8 fault.Repeated)
+    ∷ ((codes "#EXT-X-DISCONTINUITY", codes "#EXT-X-DISCONTINUITY-SEQUENCE:1"), refused_at 8 fault.Misplaced)
+    ∷ ((codes "#EXT-X-PLAYLIST-TYPE:VOD", codes "#EXT-X-PLAYLIST-TYPE:VOD"), refused_at 8 fault.Repeated)
+    ∷ ((codes "#EXT-X-ENDLIST", codes "#EXT-X-ENDLIST"), refused_at 8 fault.Repeated)
+    ∷ ((codes "#EXT-X-DISCONTINUITY-SEQUENCE:18446744073709551615", codes "#EXT-X-DISCONTINUITY"), refused_at 8 fault.BadValue)
+    ∷ ((codes "#EXT-X-KEY:METHOD=AES-128,URI=\"a:k\"", codes "#EXT-X-MAP:URI=\"a:i\""), refused_at 8 fault.MapWithoutIv) ∷ [])
+
+-- after a segment, and four lines
+abbrev pub TagsAfterSegmentsArePlaced : Type 0
+TagsAfterSegmentsArePlaced = Gives (λ (line : List ℕ). read_on (codes "#EXTINF:1," ∷ apart (codes "a:s") line)) (
+    (codes "#EXT-X-MEDIA-SEQUENCE:1", refused_at 9 fault.Misplaced)
+    ∷ (codes "#EXT-X-DISCONTINUITY-SEQUENCE:1", refused_at 9 fault.Misplaced) ∷ [])
 
 -- a segment has an EXTINF of its own (4.3.2.1), numbers have 64 bits, a byte range without an offset follows one of the same
 -- resource (4.3.2.2), EXT-X-MAP under AES-128 needs an IV (4.3.2.5), and either all segments have an initialisation section or none has.
@@ -152,7 +177,20 @@ SegmentsAreChecked = Gives read_on (
     ∷ (codes "#EXT-X-KEY:METHOD=AES-128,URI=\"a:k\"" ∷ codes "#EXT-X-MAP:URI=\"a:i\"" ∷ [], refused_at 4 fault.MapWithoutIv)
     ∷ (codes "#EXT-X-KEY:METHOD=AES-128,URI=\"a:k\"" ∷ codes "#EXT-X-MAP:URI=\"//[/x\"" ∷ [], refused_at 4 fault.BadUri)
     ∷ (codes "#EXT-X-KEY:METHOD=SAMPLE-AES,URI=\"a:k\"" ∷ codes "#EXT-X-MAP:URI=\"a:i\"" ∷ [], refused_at 0 fault.NoSegments)
-    ∷ (codes "#EXTINF:1," ∷ codes "a:s" ∷ codes "#EXT-X-MAP:URI=\"a:i\"" ∷ codes "#EXTINF:1," ∷ codes "a:t" ∷ [], refused_at 0 fault.MixedMaps) ∷ [])
+    ∷ (codes "#EXTINF:1," ∷ codes "a:s" ∷ codes "#EXT-X-MAP:URI=\"a:i\"" ∷ codes "#EXTINF:1," ∷ codes "a:t" ∷ [], refused_at 0 fault.MixedMaps)
+    ∷ (
+      codes "#EXTINF:1," ∷ codes "a:s" ∷ codes "#EXTINF:1," ∷ codes "a:s" ∷ codes "#EXTINF:1," ∷ codes "a:s" ∷ codes "#EXTINF:1," ∷ codes "a:s" ∷ codes "#EXT-X-MAP:URI=\"a:i\"" ∷ codes "#EXTINF:1," ∷ codes "a:t" ∷ [],
+      refused_at 0 fault.MixedMaps,
+    )
+    ∷ (codes "#EXT-X-MEDIA-SEQUENCE:18446744073709551615" ∷ codes "#EXTINF:1," ∷ codes "a:s" ∷ codes "a:t" ∷ [], refused_at 6 fault.NoDuration)
+    ∷ (codes "#EXT-X-DISCONTINUITY-SEQUENCE:18446744073709551614" ∷ codes "#EXT-X-DISCONTINUITY" ∷ [], refused_at 0 fault.NoSegments)
+    ∷ (codes "#EXTINF:1," ∷ codes "#EXT-X-BYTERANGE:1@9223372036854775807" ∷ codes "a:s" ∷ codes "#EXTINF:1," ∷ codes "#EXT-X-BYTERANGE:1" ∷ codes "a:s" ∷ codes "a:t" ∷ [], refused_at 9 fault.NoDuration)
+    ∷ (
+      codes "#EXTINF:1," ∷ codes "#EXT-X-BYTERANGE:100@5" ∷ (codes "a:" ++ long 98)
+          ∷ codes "#EXTINF:1," ∷ codes "#EXT-X-BYTERANGE:50" ∷ codes "# 1" ∷ codes "# 2" ∷ codes "# 3" ∷ codes "# 4" ∷ (codes "a:" ++ long 98)
+          ∷ codes "#EXTINF:1," ∷ codes "#EXT-X-BYTERANGE:30" ∷ (codes "a:" ++ long 98) ∷ codes "a:t" ∷ [],
+      refused_at 16 fault.NoDuration,
+    ) ∷ [])
 
 -- 4.3.1.1 and 4.3.3.1: EXTM3U is the first line, and EXT-X-TARGETDURATION is required; 4.1: a playlist is UTF-8. What the whole
 -- playlist lacks is told after the faults of its lines, the target duration first
@@ -165,6 +203,7 @@ HeadersAreChecked = Gives (read_by limited) (
     ∷ (codes "#EXTM3U" ∷ codes "#EXT-X-TARGETDURATION:1" ∷ [], refused_at 0 fault.NoSegments)
     ∷ (codes "#EXTM3U" ∷ [], refused_at 0 fault.NoTarget)
     ∷ (codes "#EXTM3U" ∷ codes "#EXT-X-VERSION:x" ∷ [], refused_at 2 fault.BadVersion)
+    ∷ (codes "#EXTM3U" ∷ codes "#EXT-X-TARGETDURATION:x" ∷ [], refused_at 2 fault.BadValue)
     ∷ (codes "#EXTM3U" ∷ codes "#EXTINF:1," ∷ codes "a:s" ∷ codes "#EXT-X-MAP:URI=\"a:i\"" ∷ codes "#EXTINF:1," ∷ codes "a:t" ∷ [], refused_at 0 fault.NoTarget)
     ∷ (codes "#EXTM3U" ∷ (128 ∷ []) ∷ [], refused_at 0 fault.NotUtf8)
     ∷ ((128 ∷ []) ∷ [], refused_at 0 fault.NotUtf8) ∷ [])
@@ -180,7 +219,11 @@ ReadersAreLimited = Gives (read_by small) (
     ∷ (codes "#EXTM3U" ∷ codes "#EXT-X-KEY:METHOD=A,URI=\"a:k\"" ∷ codes "#EXT-X-KEY:METHOD=A,URI=\"a:l\"" ∷ [], refused_at 0 fault.NoTarget)
     ∷ (codes "#EXTM3U" ∷ codes "#EXT-X-KEY:METHOD=A,URI=\"a:k\"" ∷ codes "#EXT-X-KEY:METHOD=A,URI=\"a:l\",KEYFORMAT=\"f\"" ∷ [], refused_at 3 fault.TooMany)
     ∷ (codes "#EXTM3U" ∷ codes "#        10        20        30        40        50        60        70        80" ∷ [], refused_at 0 fault.NoTarget)
-    ∷ (codes "#EXTM3U" ∷ codes "#        10        20        30        40        50        60        70        80" ∷ codes "#" ∷ [], refused_at 0 fault.TooLong) ∷ [])
+    ∷ (codes "#EXTM3U" ∷ codes "#        10        20        30        40        50        60        70        80" ∷ codes "#" ∷ [], refused_at 0 fault.TooLong)
+    ∷ (codes "#EXTM3U" ∷ codes "#        10        20        30        40        50        60        70        80" ∷ (128 ∷ []) ∷ [], refused_at 0 fault.NotUtf8)
+    ∷ (codes "#EXTM3U" ∷ codes "#EXTINF:1," ∷ codes "a:s" ∷ codes "a:t" ∷ [], refused_at 4 fault.TooMany)
+    ∷ (codes "#EXTM3U" ∷ codes "#EXTINF:1," ∷ codes "a:s" ∷ codes "#" ∷ codes "#" ∷ codes "#" ∷ codes "#EXTINF:1," ∷ codes "a:t" ∷ [], refused_at 8 fault.TooMany)
+    ∷ (codes "#EXTM3U" ∷ codes "#EXT-X-KEY:METHOD=A,URI=\"a:k\"" ∷ codes "#" ∷ codes "#" ∷ codes "#" ∷ codes "#EXT-X-KEY:METHOD=A,URI=\"a:l\",KEYFORMAT=\"f\"" ∷ [], refused_at 6 fault.TooMany) ∷ [])
 
 abbrev pub limits_of : Reader → Option ℕ × Option ℕ × Option ℕ × Option ℕ
 limits_of r = (r.bytes, r.attributes, r.formats, r.segments)
@@ -200,7 +243,17 @@ KeysAreInForce = Gives keys_at ((
   of_format (codes "a") (codes "a:2") ∷ of_format (codes "b") (codes "a:3") ∷ [],
 )
     ∷ (nothing ∷ key (of_format (codes "a") (codes "a:2")) ∷ no_keys ∷ key (of_format (codes "b") (codes "a:1")) ∷ [], of_format (codes "a") (codes "a:2") ∷ [])
-    ∷ (no_keys ∷ key (of_format (codes "a") (codes "a:2")) ∷ [], []) ∷ [])
+    ∷ (no_keys ∷ key (of_format (codes "a") (codes "a:2")) ∷ [], [])
+    ∷ (
+      nothing ∷ nothing ∷ nothing ∷ nothing ∷ key (of_format (codes "e") (codes "a:6")) ∷ key (of_format (codes "a") (codes "a:5")) ∷ key (of_format (codes "b") (codes "a:4")) ∷ key (of_format (codes "c") (codes "a:3")) ∷ key (of_format (codes "d") (codes "a:2")) ∷ key (of_format (codes "e") (codes "a:1")) ∷ [],
+      of_format (codes "a") (codes "a:5") ∷ of_format (codes "b") (codes "a:4") ∷ of_format (codes "c") (codes "a:3") ∷ of_format (codes "d") (codes "a:2") ∷ of_format (codes "e") (codes "a:6") ∷ [],
+    )
+    ∷ (
+      key (of_format (codes "f") (codes "a:6")) ∷ key (of_format (codes "a") (codes "a:5")) ∷ key (of_format (codes "b") (codes "a:4")) ∷ key (of_format (codes "c") (codes "a:3")) ∷ key (of_format (codes "d") (codes "a:2")) ∷ key (of_format (codes "e") (codes "a:1")) ∷ [],
+      of_format (codes "a") (codes "a:5") ∷ of_format (codes "b") (codes "a:4") ∷ of_format (codes "c") (codes "a:3") ∷ of_format (codes "d") (codes "a:2") ∷ of_format (codes "e") (codes "a:1") ∷ of_format (codes "f") (codes "a:6") ∷ [],
+    )
+    ∷ (key (of_format (long 98) (codes "a:2")) ∷ key (of_format (long 99) (codes "a:1")) ∷ [], of_format (long 98) (codes "a:2") ∷ of_format (long 99) (codes "a:1") ∷ [])
+    ∷ (key (of_format (long 98) (codes "a:2")) ∷ key (of_format (long 98) (codes "a:1")) ∷ [], of_format (long 98) (codes "a:2") ∷ []) ∷ [])
 
 -- what stands at a line after these lines, the last of which stands first: the stated numbers and what was counted since, what
 -- the next segment has of its own, and what is in force (4.3.2, 4.3.3.2, 4.3.3.3)
@@ -225,6 +278,13 @@ LinesStand = Gives standing_at ((
         extent = Some (record { uri = codes "a:s"; byte_range = record { length = 100; offset = 5 } });
       },
     ) ∷ [])
+
+-- four lines of no meaning after the tags of a segment
+abbrev pub TagsStand : Type 0
+TagsStand = Gives standing_at ((
+  nothing ∷ nothing ∷ nothing ∷ nothing ∷ said.time (pos 9) ∷ said.byte_range 50 None ∷ said.duration 6 [] ∷ said.duration 5 [] ∷ [],
+  record { media_sequence = 0; discontinuity_sequence = 0; media_count = 0; discontinuity_count = 0; discontinuities = 0; duration = Some (6, []); byte_range = Some (50, None); program_date_time = Some (pos 9); keys = []; init_section = None; extent = None },
+) ∷ [])
 
 -- 5.2: the Media Sequence Number is the IV of a key that states none; of the format `identity` alone
 abbrev pub KeysHaveTheirIvs : Type 0
@@ -273,6 +333,11 @@ SegmentsAreCompared = Gives (same_segment sample) (
     ∷ (record sample { program_date_time = None }, true)
     ∷ (record sample { discontinuities = 1 }, true)
     ∷ (record sample { media_sequence = 8 }, false)
+    ∷ (record sample { media_sequence = 6 }, false)
+    ∷ (record sample { discontinuity_sequence = 2 }, false)
+    ∷ (record sample { byte_range = Some (record { length = 99; offset = 5 }) }, false)
+    ∷ (record sample { byte_range = Some (record { length = 100; offset = 4 }) }, false)
+    ∷ (record sample { duration = 9499999999 }, false)
     ∷ (record sample { discontinuity_sequence = 4 }, false)
     ∷ (record sample { uri = codes "a:t" }, false)
     ∷ (record sample { byte_range = None }, false)

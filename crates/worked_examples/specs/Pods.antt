@@ -14,7 +14,7 @@ use Rattle.pod_store.specs.Outcome.{Outcome, no_memory}
 use Rattle.pod_store.specs.Pods.{PodSegment, Ad, Pod, Decision, is_id, is_uri, is_method, is_format, pod_fits, total}
 use Rattle.pod_store.specs.Rules.{ads_keep}
 use Rattle.pod_store.specs.Store.{Entry, Store, nothing_decided, decided, pod_for, fits, kept_in_use}
-use Rattle.decision_files.specs.Decided.{decisions_of, json_of, segments_said}
+use Rattle.decision_files.specs.Decided.{decisions_of, json_of, next_ad, segments_said}
 use Rattle.worked_examples.specs.Tables.{Gives}
 
 -- ---- where a fault is
@@ -36,6 +36,10 @@ fault_at place kind = record { kind = kind; place = place }
 
 -- ---- pods
 
+-- 45 times `A`, and a byte more
+abbrev pub long : ℕ → List ℕ
+long byte = replicate 45 65 ++ byte ∷ []
+
 -- docs/DECISION_FILES.md: an ID has 1 to 255 bytes, and neither a quote nor a control character
 abbrev pub IdsAreChecked : Type 0
 IdsAreChecked = Gives is_id (
@@ -51,7 +55,10 @@ IdsAreChecked = Gives is_id (
     ∷ (127 ∷ [], false)
     ∷ (194 ∷ 128 ∷ [], false)
     ∷ (194 ∷ 160 ∷ [], true)
-    ∷ (255 ∷ [], false) ∷ [])
+    ∷ (255 ∷ [], false)
+    ∷ (long 34, false)
+    ∷ (long 7, false)
+    ∷ (long 98, true) ∷ [])
 
 -- a URI is absolute, of http or https, and of printable ASCII without spaces and quotes
 abbrev pub UrisAreChecked : Type 0
@@ -65,14 +72,17 @@ UrisAreChecked = Gives is_uri (
     ∷ (codes "a.ts", false)
     ∷ (codes "http://a b", false)
     ∷ (codes "http://a\"", false)
-    ∷ (codes "http://" ++ (127 ∷ []), false) ∷ [])
+    ∷ (codes "http://" ++ (127 ∷ []), false)
+    ∷ (codes "http://!", true)
+    ∷ (codes "http://" ++ long 66, true)
+    ∷ (codes "http://" ++ long 32, false) ∷ [])
 
 -- RFC 8216, 4.3.2.4: METHOD is an enumerated-string; NONE is no key
 abbrev pub MethodsAreChecked : Type 0
-MethodsAreChecked = Gives is_method ((codes "AES-128", true) ∷ (codes "NONE", false) ∷ (codes "aes", false) ∷ ([], false) ∷ [])
+MethodsAreChecked = Gives is_method ((codes "AES-128", true) ∷ (codes "NONE", false) ∷ (codes "aes", false) ∷ ([], false) ∷ (long 65, true) ∷ (long 97, false) ∷ [])
 
 abbrev pub FormatsAreChecked : Type 0
-FormatsAreChecked = Gives is_format ((codes "a b", true) ∷ ([], false) ∷ (codes "a\"", false) ∷ [])
+FormatsAreChecked = Gives is_format ((codes "a b", true) ∷ ([], false) ∷ (codes "a\"", false) ∷ (long 65, true) ∷ (long 34, false) ∷ [])
 
 abbrev pub key : Option ℕ → Key
 key iv = record { format = codes "f"; method = codes "AES-128"; uri = codes "http://a/k"; iv = iv; other_attributes = [] }
@@ -94,8 +104,16 @@ clear segments = record { init_section = None; keys = []; segments = segments }
 abbrev pub pod : List Ad → Pod
 pod ads = record { ads = ads }
 
+-- five ads, the last of which has five segments
+abbrev pub five_ads_with : PodSegment → List Ad
+five_ads_with last =
+    clear (segment 100 ∷ []) ∷ clear (segment 100 ∷ []) ∷ clear (segment 100 ∷ []) ∷ clear (segment 100 ∷ []) ∷ clear (segment 20 ∷ segment 20 ∷ segment 20 ∷ segment 20 ∷ last ∷ []) ∷ []
+
+abbrev pub five_ads : List Ad
+five_ads = five_ads_with (segment 20)
+
 abbrev pub PodsAreSummed : Type 0
-PodsAreSummed = Gives total ((pod (clear (segment 1 ∷ segment 20 ∷ []) ∷ ad (segment 300 ∷ []) ∷ []), 321) ∷ (pod [], 0) ∷ [])
+PodsAreSummed = Gives total ((pod (clear (segment 1 ∷ segment 20 ∷ []) ∷ ad (segment 300 ∷ []) ∷ []), 321) ∷ (pod [], 0) ∷ (pod five_ads, 500) ∷ [])
 
 -- 4.3.3.1: a segment, rounded to seconds, is at most the target duration; and an ad has an initialisation section if the origin's segments
 -- have one
@@ -106,7 +124,9 @@ PodsFit = Gives (pod_fits 10 false) (
     ∷ (pod (clear (segment 1 ∷ segment 10499999999 ∷ []) ∷ clear (segment 10499999999 ∷ segment 1 ∷ []) ∷ []), true)
     ∷ (pod (clear (segment 1 ∷ segment 10500000000 ∷ []) ∷ []), false)
     ∷ (pod (clear (segment 10500000000 ∷ segment 1 ∷ []) ∷ []), false)
-    ∷ (pod (ad (segment 1 ∷ []) ∷ []), false) ∷ [])
+    ∷ (pod (ad (segment 1 ∷ []) ∷ []), false)
+    ∷ (pod five_ads, true)
+    ∷ (pod (five_ads_with (segment 10500000000)), false) ∷ [])
 
 abbrev pub PodsWithInitSectionsFit : Type 0
 PodsWithInitSectionsFit = Gives (pod_fits 10 true) (
@@ -134,7 +154,22 @@ RulesAreKept = Gives ads_keep (
     ∷ (record (clear (segment 1 ∷ [])) { keys = record (key (Some 1)) { format = [] } ∷ [] } ∷ [], false)
     ∷ (record (clear (segment 1 ∷ [])) { keys = record (key (Some 1)) { other_attributes = codes ",X=1" } ∷ [] } ∷ [], false)
     ∷ (record (clear (segment 1 ∷ [])) { init_section = Some (record (init_section []) { uri = codes "i" }) } ∷ [], false)
-    ∷ (record (clear (segment 1 ∷ [])) { init_section = Some (init_section (key (Some 1) ∷ key (Some 2) ∷ [])) } ∷ [], false) ∷ [])
+    ∷ (record (clear (segment 1 ∷ [])) { init_section = Some (init_section (key (Some 1) ∷ key (Some 2) ∷ [])) } ∷ [], false)
+    ∷ (record (clear (segment 1 ∷ [])) { init_section = Some (init_section (key None ∷ [])) } ∷ [], false)
+    ∷ (record (clear (segment 1 ∷ [])) { init_section = Some (init_section []) } ∷ [], true)
+    ∷ (record (clear (segment 1 ∷ [])) { init_section = Some (record (init_section []) { byte_range = Some (record { length = 1; offset = 2 ^ 64 - 1 }) }) } ∷ [], false)
+    ∷ (record (clear (segment 1 ∷ [])) { init_section = Some (record (init_section []) { uri = codes "http://" ++ long 32 }) } ∷ [], false)
+    ∷ (clear (record (segment 1) { byte_range = None } ∷ []) ∷ [], true)
+    ∷ (clear (segment 1 ∷ record (segment 1) { uri = codes "s" } ∷ []) ∷ [], false)
+    ∷ (clear (record (segment 1) { uri = codes "http://" ++ long 32 } ∷ []) ∷ [], false)
+    ∷ (clear (segment 1 ∷ []) ∷ clear [] ∷ [], false)
+    ∷ (five_ads, true)
+    ∷ (five_ads_with (record (segment 1) { uri = codes "s" }), false)
+    ∷ (replicate 5 (clear (replicate 100 (segment 1))), true)
+    ∷ (replicate 5 (clear (replicate 101 (segment 1))), false)
+    ∷ (record (clear (segment 1 ∷ [])) { keys = record (key (Some 1)) { method = long 97 } ∷ [] } ∷ [], false)
+    ∷ (record (clear (segment 1 ∷ [])) { keys = record (key (Some 1)) { uri = codes "http://" ++ long 32 } ∷ [] } ∷ [], false)
+    ∷ (record (clear (segment 1 ∷ [])) { keys = record (key (Some 1)) { format = long 34 } ∷ [] } ∷ [], false) ∷ [])
 
 -- ---- the store
 
@@ -166,6 +201,23 @@ DecisionsAreTaken = Gives (decided ab) (
     ∷ (Fallback (short 5), Ok (record { entries = unused (codes "a") 1 ∷ used (codes "b") 2 ∷ []; fallback = Some (short 5) }))
     ∷ (NoFallback, Ok (record { entries = unused (codes "a") 1 ∷ used (codes "b") 2 ∷ []; fallback = None })) ∷ [])
 
+-- breaks whose IDs differ in their last byte alone
+abbrev pub alike : Store
+alike = record { entries = unused (long 98) 1 ∷ unused (long 99) 2 ∷ unused (long 100) 3 ∷ used (long 101) 4 ∷ unused (long 102) 5 ∷ []; fallback = None }
+
+abbrev pub LongIdsAreApart : Type 0
+LongIdsAreApart = Gives (decided alike) (
+    (Breaks ((long 99, short 9) ∷ (long 103, short 7) ∷ []), Ok (record { entries = unused (long 98) 1 ∷ unused (long 99) 9 ∷ unused (long 100) 3 ∷ used (long 101) 4 ∷ unused (long 102) 5 ∷ unused (long 103) 7 ∷ []; fallback = None }))
+    ∷ (
+      Breaks ((codes "1", short 1) ∷ (codes "2", short 2) ∷ (codes "3", short 3) ∷ (codes "4", short 4) ∷ (codes "5", short 5) ∷ []),
+      Ok (record { entries = unused (long 98) 1 ∷ unused (long 99) 2 ∷ unused (long 100) 3 ∷ used (long 101) 4 ∷ unused (long 102) 5 ∷ unused (codes "1") 1 ∷ unused (codes "2") 2 ∷ unused (codes "3") 3 ∷ unused (codes "4") 4 ∷ unused (codes "5") 5 ∷ []; fallback = None }),
+    )
+    ∷ (Breaks ((codes "1", short 1) ∷ (codes "2", short 2) ∷ (codes "3", short 3) ∷ (long 101, short 9) ∷ []), Err (fault_at nowhere fault.Used))
+    ∷ (Withdraw (long 99), Ok (record { entries = unused (long 98) 1 ∷ unused (long 100) 3 ∷ used (long 101) 4 ∷ unused (long 102) 5 ∷ []; fallback = None }))
+    ∷ (Withdraw (long 102), Ok (record { entries = unused (long 98) 1 ∷ unused (long 99) 2 ∷ unused (long 100) 3 ∷ used (long 101) 4 ∷ []; fallback = None }))
+    ∷ (Withdraw (long 101), Err (fault_at nowhere fault.Used))
+    ∷ (Withdraw (long 104), Err (fault_at nowhere fault.Unknown)) ∷ [])
+
 -- so many decisions, for breaks of one byte or two each
 abbrev pub breaks : ℕ → List Decision
 breaks zero = []
@@ -187,7 +239,13 @@ StoreIsLimited = Gives fault_of_breaks (
     ∷ ((record { entries = unused (codes "ab") 1 ∷ []; fallback = None }, 256), Some fault.Full)
     ∷ ((record { entries = unused (0 ∷ []) 1 ∷ []; fallback = None }, 256), None)
     ∷ ((record { entries = copy (codes "ab") 1 ∷ []; fallback = None }, 256), None)
-    ∷ ((record { entries = used (0 ∷ []) 1 ∷ []; fallback = None }, 257), Some fault.Used) ∷ [])
+    ∷ ((record { entries = used (0 ∷ []) 1 ∷ []; fallback = None }, 257), Some fault.Used)
+    ∷ ((record { entries = used (codes "ab") 1 ∷ []; fallback = None }, 256), Some fault.Full)
+    ∷ ((alike, 251), None)
+    ∷ ((alike, 252), Some fault.Full) ∷ [])
+
+abbrev pub LongIdsCountOnce : Type 0
+LongIdsCountOnce = Gives (λ (n : ℕ). fault_of (decided alike (Breaks ((long 98, short 1) ∷ breaks n)))) ((251, None) ∷ (252, Some fault.Full) ∷ [])
 
 -- a break is filled with the pod of its own, else with the fallback
 abbrev pub PodsAreFound : Type 0
@@ -199,13 +257,32 @@ abbrev pub OwnPodsFit : Type 0
 OwnPodsFit = Gives (λ (id : List ℕ). fits (record { entries = unused (codes "a") 10500000000 ∷ []; fallback = Some (short 1) }) id 10 false) (
     (codes "a", false) ∷ (codes "b", true) ∷ [])
 
+abbrev pub LongIdsAreFound : Type 0
+LongIdsAreFound = Gives (pod_for alike) ((long 98, Some (short 1)) ∷ (long 102, Some (short 5)) ∷ (long 104, None) ∷ [])
+
+-- a break that has no pod, and no fallback, has none that fits
+abbrev pub StoresFit : Type 0
+StoresFit = Gives (λ (it : Store × List ℕ). fits it.0 it.1 10 false) (
+    ((nothing_decided, codes "a"), false) ∷ ((ab, codes "a"), true) ∷ ((alike, long 102), true) ∷ ((alike, long 104), false) ∷ [])
+
+-- without a fallback there is nothing to copy
+abbrev pub NothingIsCopied : Type 0
+NothingIsCopied = Gives (λ (ids : List (List ℕ)). kept_in_use ids alike) (
+    (long 101 ∷ codes "z" ∷ [], alike)
+    ∷ (codes "w" ∷ codes "x" ∷ codes "y" ∷ codes "z" ∷ long 101 ∷ [], alike)
+    ∷ (codes "z" ∷ [], record { entries = unused (long 98) 1 ∷ unused (long 99) 2 ∷ unused (long 100) 3 ∷ unused (long 102) 5 ∷ []; fallback = None }) ∷ [])
+
 -- of the used breaks those that aren't in use any more go, each break in use is used, and one without a pod of its own keeps a copy
 -- of the fallback
 abbrev pub UsedPodsStay : Type 0
 UsedPodsStay = Gives (λ (ids : List (List ℕ)). kept_in_use ids (record { entries = unused (codes "a") 1 ∷ used (codes "b") 2 ∷ copy (codes "c") 3 ∷ []; fallback = Some (short 9) })) (
     ([], record { entries = unused (codes "a") 1 ∷ []; fallback = Some (short 9) })
     ∷ (codes "a" ∷ codes "c" ∷ [], record { entries = used (codes "a") 1 ∷ copy (codes "c") 3 ∷ []; fallback = Some (short 9) })
-    ∷ (codes "b" ∷ codes "d" ∷ codes "d" ∷ [], record { entries = unused (codes "a") 1 ∷ used (codes "b") 2 ∷ copy (codes "d") 9 ∷ []; fallback = Some (short 9) }) ∷ [])
+    ∷ (codes "b" ∷ codes "d" ∷ codes "d" ∷ [], record { entries = unused (codes "a") 1 ∷ used (codes "b") 2 ∷ copy (codes "d") 9 ∷ []; fallback = Some (short 9) })
+    ∷ (
+      codes "b" ∷ codes "c" ∷ codes "x" ∷ codes "y" ∷ long 98 ∷ long 98 ∷ [],
+      record { entries = unused (codes "a") 1 ∷ used (codes "b") 2 ∷ copy (codes "c") 3 ∷ copy (codes "x") 9 ∷ copy (codes "y") 9 ∷ copy (long 98) 9 ∷ []; fallback = Some (short 9) },
+    ) ∷ [])
 
 -- ---- decision files
 
@@ -223,6 +300,18 @@ FilesAreRead = Gives decisions_of ((
     ∷ (
       codes "{\"breaks\":[{\"id\":\"b\",\"ads\":[{\"key\":{\"method\":\"AES-128\",\"uri\":\"http://a/k\",\"iv\":\"0x1F\"},\"segments\":[{\"uri\":\"http://a/s\",\"duration\":\"1\"}]}]}]}",
       Ok (Breaks ((codes "b", pod (record { init_section = None; keys = record (key (Some 31)) { format = codes "identity" } ∷ []; segments = record (segment 1000000000) { byte_range = None } ∷ [] } ∷ [])) ∷ [])),
+    )
+    ∷ (
+      codes "{\"breaks\":[{\"id\":\"b\",\"ads\":[{\"segments\":[{\"uri\":\"http://a/s\",\"duration\":\"1\",\"offset\":5,\"length\":100},{\"uri\":\"http://a/s\",\"duration\":\"2\",\"offset\":5,\"length\":100},{\"uri\":\"http://a/s\",\"duration\":\"3\",\"offset\":5,\"length\":100},{\"uri\":\"http://a/s\",\"duration\":\"4\",\"offset\":5,\"length\":100},{\"uri\":\"http://a/s\",\"duration\":\"5\",\"offset\":5,\"length\":100}]},{\"segments\":[{\"uri\":\"http://a/s\",\"duration\":\"6\",\"offset\":5,\"length\":100}]},{\"segments\":[{\"uri\":\"http://a/s\",\"duration\":\"7\",\"offset\":5,\"length\":100}]},{\"segments\":[{\"uri\":\"http://a/s\",\"duration\":\"8\",\"offset\":5,\"length\":100}]},{\"segments\":[{\"uri\":\"http://a/s\",\"duration\":\"9\",\"offset\":5,\"length\":100}]}]}]}",
+      Ok (Breaks ((codes "b", pod (clear (segment 1000000000 ∷ segment 2000000000 ∷ segment 3000000000 ∷ segment 4000000000 ∷ segment 5000000000 ∷ []) ∷ clear (segment 6000000000 ∷ []) ∷ clear (segment 7000000000 ∷ []) ∷ clear (segment 8000000000 ∷ []) ∷ clear (segment 9000000000 ∷ []) ∷ [])) ∷ [])),
+    )
+    ∷ (
+      codes "{\"fallback\":{\"ads\":[{\"segments\":[{\"uri\":\"http://a/" ++ (long 66 ++ (codes "\",\"duration\":\"" ++ (replicate 45 48 ++ codes "1\"}]}]}}"))),
+      Ok (Fallback (pod (clear (record (segment 1000000000) { uri = codes "http://a/" ++ long 66; byte_range = None } ∷ []) ∷ []))),
+    )
+    ∷ (
+      codes "{\"fallback\":{\"ads\":[{\"map\":{\"uri\":\"http://a/" ++ (long 66 ++ codes "\"},\"segments\":[{\"uri\":\"http://a/s\",\"duration\":\"1\",\"offset\":9223372036854775808,\"length\":1}]}]}}"),
+      Ok (Fallback (pod (record (clear (record (segment 1000000000) { byte_range = Some (record { length = 1; offset = 9223372036854775808 }) } ∷ [])) { init_section = Some (record { uri = codes "http://a/" ++ long 66; byte_range = None; keys = [] }) } ∷ []))),
     )
     ∷ (codes "{\"breaks\":[]}", Ok (Breaks []))
     ∷ (codes "{\"withdraw\":\"b\"}", Ok (Withdraw (codes "b")))
@@ -265,6 +354,14 @@ BreaksAreChecked = Gives decisions_of (
     ∷ (codes "{\"breaks\":[{\"id\":\"b\",\"ads\":[]}]}", Err (fault_at (in_break 0) fault.EmptyPod))
     ∷ (codes "{\"breaks\":[{\"id\":\"b\",\"ads\":[{\"segments\":[{\"uri\":\"http://a\",\"duration\":\"1\"}]}]},{\"id\":\"b\",\"ads\":[]}]}", Err (fault_at (in_break 1) fault.Shape))
     ∷ (codes "{\"breaks\":[{\"id\":\"b\",\"ads\":[{}]}]}", Err (fault_at (in_ad 0 0) fault.Shape))
+    ∷ (codes "{\"breaks\":[{\"id\":\"b\",\"ads\":[{\"segments\":[{\"uri\":\"http://a\",\"duration\":\"1\"}]}]},{\"id\":\"c\",\"ads\":[{}]}]}", Err (fault_at (in_ad 1 0) fault.Shape))
+    ∷ (codes "{\"breaks\":[{\"id\":\"b\",\"ads\":[{\"segments\":[{\"uri\":\"http://a\",\"duration\":\"1\"}]}]},{\"id\":\"c\",\"ads\":[{\"map\":7}]}]}", Err (fault_at (in_ad 1 0) fault.Shape))
+    ∷ (codes "{\"breaks\":[{\"id\":\"b\",\"ads\":[{\"segments\":[{\"uri\":\"http://a\",\"duration\":\"1\"}]}]},{\"id\":\"c\",\"ads\":[{\"map\":{\"uri\":\"i\"}}]}]}", Err (fault_at (in_ad 1 0) fault.BadUri))
+    ∷ (codes "{\"breaks\":[{\"id\":\"b\",\"ads\":[{\"segments\":[{\"uri\":\"http://a\",\"duration\":\"1\"}]}]},{\"id\":\"c\",\"ads\":[{\"key\":7}]}]}", Err (fault_at (in_ad 1 0) fault.Shape))
+    ∷ (codes "{\"breaks\":[{\"id\":\"b\",\"ads\":[{\"segments\":[{\"uri\":\"http://a\",\"duration\":\"1\"}]}]},{\"id\":\"c\",\"ads\":[{\"segments\":[]}]}]}", Err (fault_at (in_ad 1 0) fault.EmptyPod))
+    ∷ (codes "{\"breaks\":[{\"id\":\"b\",\"ads\":[{\"segments\":[{\"uri\":\"http://a\",\"duration\":\"1\"}]}]},{\"id\":\"c\",\"ads\":[{\"segments\":[{}]}]}]}", Err (fault_at (in_segment 1 0 0) fault.Shape))
+    ∷ (codes "{\"breaks\":[{\"id\":\"a\",\"ads\":[{\"segments\":[{\"uri\":\"http://a\",\"duration\":\"1\"}]}]},{\"id\":\"b\",\"ads\":[{\"segments\":[{\"uri\":\"http://a\",\"duration\":\"1\"}]}]},{\"id\":\"c\",\"ads\":[{\"segments\":[{\"uri\":\"http://a\",\"duration\":\"1\"}]}]},{\"id\":\"d\",\"ads\":[{\"segments\":[{\"uri\":\"http://a\",\"duration\":\"1\"}]}]},{\"id\":\"d\",\"ads\":[{\"segments\":[{\"uri\":\"http://a\",\"duration\":\"1\"}]}]}]}", Err (fault_at (in_break 4) fault.Shape))
+    ∷ (codes "{\"fallback\":{\"ads\":[{\"segments\":[{\"uri\":\"http://a\",\"duration\":\"x\"}]}]}}", Err (fault_at (record { pod = None; ad = Some 0; segment = Some 0 }) fault.BadDuration))
     ∷ (codes "{\"breaks\":[{\"id\":\"b\",\"ads\":[{\"segments\":[]}]},{\"id\":\"\"}]}", Err (fault_at (in_ad 0 0) fault.EmptyPod))
     ∷ (codes "{\"breaks\":[{\"id\":\"b\",\"ads\":[{\"segments\":[]}]}]}", Err (fault_at (in_ad 0 0) fault.EmptyPod)) ∷ [])
 
@@ -279,6 +376,7 @@ AdsAreChecked = Gives (λ (text : List ℕ). decisions_of (with_ad text)) (
     ∷ (codes "{\"map\":null}", Err (fault_at (in_ad 0 0) fault.Shape))
     ∷ (codes "{\"segments\":[]}", Err (fault_at (in_ad 0 0) fault.EmptyPod))
     ∷ (codes "{\"map\":{\"uri\":\"i\"}}", Err (fault_at (in_ad 0 0) fault.BadUri))
+    ∷ (codes "{\"map\":{\"uri\":\"http://a/" ++ (long 32 ++ codes "\"}}"), Err (fault_at (in_ad 0 0) fault.BadUri))
     ∷ (codes "{\"map\":{\"uri\":\"i\",\"offset\":1}}", Err (fault_at (in_ad 0 0) fault.BadUri))
     ∷ (codes "{\"map\":{\"uri\":\"http://a/i\",\"offset\":1}}", Err (fault_at (in_ad 0 0) fault.Shape))
     ∷ (codes "{\"map\":{\"uri\":\"i\"},\"key\":7}", Err (fault_at (in_ad 0 0) fault.BadUri))
@@ -305,6 +403,7 @@ AdsAreChecked = Gives (λ (text : List ℕ). decisions_of (with_ad text)) (
     ∷ (codes "{\"segments\":[{\"uri\":\"http://a\",\"duration\":\"1\",\"offset\":1}]}", refused 0 0 0 fault.Shape)
     ∷ (codes "{\"segments\":[{\"uri\":\"http://a\",\"duration\":\"1\",\"length\":1}]}", refused 0 0 0 fault.Shape)
     ∷ (codes "{\"segments\":[{\"uri\":\"http://a\",\"duration\":\"1\",\"offset\":1.0,\"length\":1}]}", refused 0 0 0 fault.Shape)
+    ∷ (codes "{\"segments\":[{\"uri\":\"http://a\",\"duration\":\"1\",\"offset\":1,\"length\":1.0}]}", refused 0 0 0 fault.Shape)
     ∷ (codes "{\"segments\":[{\"uri\":\"http://a\",\"duration\":\"1\",\"offset\":-0,\"length\":1}]}", refused 0 0 0 fault.Shape)
     ∷ (codes "{\"segments\":[{\"uri\":\"http://\",\"duration\":\"x\"}]}", refused 0 0 0 fault.BadUri)
     ∷ (codes "{\"segments\":[{\"uri\":\"http://a\",\"duration\":\"1\",\"offset\":18446744073709551615,\"length\":1}]}", refused 0 0 0 fault.Shape) ∷ [])
@@ -315,6 +414,26 @@ said_after before = json_of (codes "{\"segments\":[{\"uri\":\"http://a/s\",\"dur
 
 abbrev pub SegmentsAreCounted : Type 0
 SegmentsAreCounted = Gives said_after ((499, Ok (segment 1 ∷ [])) ∷ (500, Err (fault_at (in_segment 0 1 0) fault.TooMany)) ∷ [])
+
+-- an ad of two segments after these ads
+abbrev pub said_after_ads : List Ad → Outcome Ad
+said_after_ads done = json_of (codes "{\"segments\":[{\"uri\":\"http://a/s\",\"duration\":\"0.000000001\",\"offset\":5,\"length\":100},{\"uri\":\"http://a/s\",\"duration\":\"0.000000002\",\"offset\":5,\"length\":100}]}") >>= next_ad 7 done
+
+abbrev pub AdsAreCounted : Type 0
+AdsAreCounted = Gives said_after_ads (
+    (clear (replicate 498 (segment 1)) ∷ [], Ok (clear (segment 1 ∷ segment 2 ∷ [])))
+    ∷ (clear (replicate 499 (segment 1)) ∷ [], Err (fault_at (in_segment 7 1 1) fault.TooMany))
+    ∷ (clear (replicate 500 (segment 1)) ∷ [], Err (fault_at (in_segment 7 1 0) fault.TooMany))
+    ∷ (clear (segment 1 ∷ []) ∷ clear (segment 1 ∷ []) ∷ clear (segment 1 ∷ []) ∷ clear (segment 1 ∷ []) ∷ clear (replicate 494 (segment 1)) ∷ [], Ok (clear (segment 1 ∷ segment 2 ∷ [])))
+    ∷ (clear (segment 1 ∷ []) ∷ clear (segment 1 ∷ []) ∷ clear (segment 1 ∷ []) ∷ clear (segment 1 ∷ []) ∷ clear (replicate 495 (segment 1)) ∷ [], Err (fault_at (in_segment 7 5 1) fault.TooMany)) ∷ [])
+
+-- five segments after these
+abbrev pub said_five_after : ℕ → Outcome (List PodSegment)
+said_five_after before = json_of (codes "{\"segments\":[{\"uri\":\"http://a/s\",\"duration\":\"0.000000001\",\"offset\":5,\"length\":100},{\"uri\":\"http://a/s\",\"duration\":\"0.000000002\",\"offset\":5,\"length\":100},{\"uri\":\"http://a/s\",\"duration\":\"0.000000003\",\"offset\":5,\"length\":100},{\"uri\":\"http://a/s\",\"duration\":\"0.000000004\",\"offset\":5,\"length\":100},{\"uri\":\"http://a/s\",\"duration\":\"0.000000005\",\"offset\":5,\"length\":100}]}") >>= segments_said 0 1 before
+
+abbrev pub ManySegmentsAreCounted : Type 0
+ManySegmentsAreCounted = Gives said_five_after (
+    (495, Ok (segment 1 ∷ segment 2 ∷ segment 3 ∷ segment 4 ∷ segment 5 ∷ [])) ∷ (496, Err (fault_at (in_segment 0 1 4) fault.TooMany)) ∷ [])
 
 -- docs/OPERATING.md, "Faults"
 abbrev pub FaultsOfFilesAreTold : Type 0

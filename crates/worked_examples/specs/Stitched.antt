@@ -1,7 +1,8 @@
 -- The stitched list: pods in place of runs, numbers, and the pace of a run.
-use Rattle.std.specs.Prelude.{ℕ, Bool, true, false, List, [], ◌∷◌, ◌++◌, map, reverse, length, codes, pos, Some, None}
+use Rattle.std.specs.Prelude.{ℕ, Bool, true, false, List, [], ◌∷◌, ◌++◌, map, reverse, length, slice_index, codes, pos, Option, Some, None}
 use Rattle.playlist_model.specs.declared.Segment.{Segment}
 use Rattle.playlist_model.specs.declared.Key.{Key}
+use Rattle.playlist_model.specs.declared.InitSection.{InitSection}
 use Rattle.playlist_model.specs.declared.KeyTag.{KeyTag}
 use Rattle.playlist_model.specs.declared.KeyTag.TheVariants.{End, Set}
 use Rattle.pod_store.specs.Marks.{Mark, Marked}
@@ -51,6 +52,39 @@ of_second_ad = record {
 abbrev pub PodsStandInOrder : Type 0
 PodsStandInOrder = Gives pod_pieces ((two_ads, of_first_ad true 8 ∷ of_first_ad false 9 ∷ of_second_ad ∷ []) ∷ [])
 
+-- a break of this ID with a pod of clear ads, each segment of which has this URI and lasts so long
+abbrev pub break : List ℕ → List (List (ℕ × ℕ)) → Mark
+break id ads = record { id = id; pod = record { ads = map (λ (segments : List (ℕ × ℕ)). record { init_section = None; keys = []; segments = map (λ (one : ℕ × ℕ). record { uri = one.0 ∷ []; byte_range = None; duration = one.1 }) segments }) ads } }
+
+-- a pod of five ads, the first of which has five segments
+abbrev pub large : Mark
+large = break (codes "b") (((1000, 10) ∷ (1001, 10) ∷ (1002, 10) ∷ (1003, 10) ∷ (1004, 10) ∷ []) ∷ ((1005, 10) ∷ []) ∷ ((1006, 10) ∷ []) ∷ ((1007, 10) ∷ []) ∷ ((1008, 10) ∷ []) ∷ [])
+
+abbrev pub first_uris : List Piece → List ℕ
+first_uris pieces = map (λ (p : Piece). slice_index p.segment.uri 0) pieces
+
+abbrev pub LargePodsStand : Type 0
+LargePodsStand = Gives (λ (place : ℕ). first_uris (rest_pieces (Some (record { mark = large; place = place })))) (
+    (0, 1008 ∷ 1007 ∷ 1006 ∷ 1005 ∷ 1004 ∷ 1003 ∷ 1002 ∷ 1001 ∷ 1000 ∷ []) ∷ (2, 1008 ∷ 1007 ∷ 1006 ∷ 1005 ∷ 1004 ∷ 1003 ∷ 1002 ∷ []) ∷ (9, []) ∷ [])
+
+abbrev pub of_format : List ℕ → ℕ → Key
+of_format format iv = record { format = format; method = codes "AES-128"; uri = codes "a:k"; iv = Some iv; other_attributes = [] }
+
+-- keys of four formats
+abbrev pub four_keys : List Key
+four_keys = of_format (codes "f") 1 ∷ of_format (codes "g") 1 ∷ of_format (codes "h") 1 ∷ of_format (codes "i") 1 ∷ []
+
+abbrev pub under_keys : List Key → Mark
+under_keys keys = record { id = codes "b"; pod = pods.pod (record (pods.clear (pods.segment 1 ∷ [])) { init_section = Some (pods.init_section []); keys = keys } ∷ []) }
+
+abbrev pub keys_of_piece : Piece → List Key × Option InitSection
+keys_of_piece p = (p.segment.keys, p.segment.init_section)
+
+-- a segment of an ad has all of its keys, and its initialisation section has them
+abbrev pub AdsHaveTheirKeys : Type 0
+AdsHaveTheirKeys = Gives (λ (keys : List Key). map keys_of_piece (pod_pieces (under_keys keys))) (
+    ([], ([], Some (pods.init_section [])) ∷ []) ∷ (four_keys, (four_keys, Some (pods.init_section four_keys)) ∷ []) ∷ [])
+
 -- the rest of a pod from a place on, the newest first
 abbrev pub RestsAreLeft : Type 0
 RestsAreLeft = Gives (λ (place : ℕ). rest_pieces (Some (record { mark = two_ads; place = place }))) (
@@ -68,10 +102,6 @@ unmarked s = record { segment = s; instant = None; mark = None }
 abbrev pub marked : Mark → Segment → Marked
 marked mark s = record { segment = s; instant = None; mark = Some mark }
 
--- a break of this ID with a pod of clear ads, each segment of which has this URI and lasts so long
-abbrev pub break : List ℕ → List (List (ℕ × ℕ)) → Mark
-break id ads = record { id = id; pod = record { ads = map (λ (segments : List (ℕ × ℕ)). record { init_section = None; keys = []; segments = map (λ (one : ℕ × ℕ). record { uri = one.0 ∷ []; byte_range = None; duration = one.1 }) segments }) ads } }
-
 abbrev pub b : Mark
 b = break (codes "b") (((1000, 10) ∷ (1001, 10) ∷ []) ∷ [])
 
@@ -86,7 +116,17 @@ brief item = item.piece.segment.uri ++ item.numbers.media_sequence ∷ item.numb
 abbrev pub listed : Bool × List Marked → List (List ℕ)
 listed it = map brief (reverse (due_list it.0 it.1))
 
--- each run is replaced by its pod, each other segment stands itself; media numbers rise by one (RFC 8216, 4.3.3.2); one
+-- four segments of the origin, and a run of five with a large pod
+abbrev pub large_run : List Marked
+large_run =
+    marked large (stepped 8 0 0) ∷ marked large (stepped 7 0 0) ∷ marked large (stepped 6 0 0) ∷ marked large (stepped 5 0 0) ∷ marked large (stepped 4 0 0)
+    ∷ unmarked (stepped 3 0 0) ∷ unmarked (stepped 2 0 0) ∷ unmarked (stepped 1 0 0) ∷ unmarked (stepped 0 0 0) ∷ []
+
+-- segment n with a mark of the same break, and another pod
+abbrev pub other : ℕ → Marked
+other n = marked (break (codes "b") (((3000, 10) ∷ []) ∷ [])) (stepped n 0 0)
+
+-- a run has the pod that its first segment has. Each run is replaced by its pod, each other segment stands itself; media numbers rise by one (RFC 8216, 4.3.3.2); one
 -- discontinuity stands before each ad, and one where the origin comes back; else the origin's own (4.3.3.3). The newest
 -- segment of a history stands first
 abbrev pub RunsAreReplaced : Type 0
@@ -116,6 +156,27 @@ RunsAreReplaced = Gives listed (
       (false, marked b (stepped 2 0 0) ∷ unmarked (stepped 1 0 0) ∷ marked b (stepped 0 0 0) ∷ []),
       (1000 ∷ 0 ∷ 1 ∷ 1 ∷ []) ∷ (1001 ∷ 1 ∷ 1 ∷ 0 ∷ []) ∷ (1 ∷ 2 ∷ 2 ∷ 1 ∷ []) ∷ (1000 ∷ 3 ∷ 3 ∷ 1 ∷ []) ∷ [],
     )
+    ∷ (
+      (false, unmarked (stepped 12 0 0) ∷ marked c (stepped 11 0 0) ∷ marked c (stepped 10 0 0) ∷ unmarked (stepped 9 0 0) ∷ large_run),
+      (0 ∷ 0 ∷ 0 ∷ 0 ∷ []) ∷ (1 ∷ 1 ∷ 0 ∷ 0 ∷ []) ∷ (2 ∷ 2 ∷ 0 ∷ 0 ∷ []) ∷ (3 ∷ 3 ∷ 0 ∷ 0 ∷ [])
+          ∷ (1000 ∷ 4 ∷ 1 ∷ 1 ∷ []) ∷ (1001 ∷ 5 ∷ 1 ∷ 0 ∷ []) ∷ (1002 ∷ 6 ∷ 1 ∷ 0 ∷ []) ∷ (1003 ∷ 7 ∷ 1 ∷ 0 ∷ []) ∷ (1004 ∷ 8 ∷ 1 ∷ 0 ∷ [])
+          ∷ (1005 ∷ 9 ∷ 2 ∷ 1 ∷ []) ∷ (1006 ∷ 10 ∷ 3 ∷ 1 ∷ []) ∷ (1007 ∷ 11 ∷ 4 ∷ 1 ∷ []) ∷ (1008 ∷ 12 ∷ 5 ∷ 1 ∷ []) ∷ (9 ∷ 13 ∷ 6 ∷ 1 ∷ [])
+          ∷ (2000 ∷ 14 ∷ 7 ∷ 1 ∷ []) ∷ (2001 ∷ 15 ∷ 8 ∷ 1 ∷ []) ∷ (12 ∷ 16 ∷ 9 ∷ 1 ∷ []) ∷ [],
+    )
+    ∷ (
+      (false, large_run),
+      (0 ∷ 0 ∷ 0 ∷ 0 ∷ []) ∷ (1 ∷ 1 ∷ 0 ∷ 0 ∷ []) ∷ (2 ∷ 2 ∷ 0 ∷ 0 ∷ []) ∷ (3 ∷ 3 ∷ 0 ∷ 0 ∷ [])
+          ∷ (1000 ∷ 4 ∷ 1 ∷ 1 ∷ []) ∷ (1001 ∷ 5 ∷ 1 ∷ 0 ∷ []) ∷ (1002 ∷ 6 ∷ 1 ∷ 0 ∷ []) ∷ (1003 ∷ 7 ∷ 1 ∷ 0 ∷ []) ∷ (1004 ∷ 8 ∷ 1 ∷ 0 ∷ []) ∷ [],
+    )
+    ∷ (
+      (false, unmarked (stepped 2 0 0) ∷ other 1 ∷ marked b (stepped 0 0 0) ∷ []),
+      (1000 ∷ 0 ∷ 1 ∷ 1 ∷ []) ∷ (1001 ∷ 1 ∷ 1 ∷ 0 ∷ []) ∷ (2 ∷ 2 ∷ 2 ∷ 1 ∷ []) ∷ [],
+    )
+    ∷ ((false, other 1 ∷ marked b (stepped 0 0 0) ∷ []), (1000 ∷ 0 ∷ 1 ∷ 1 ∷ []) ∷ (1001 ∷ 1 ∷ 1 ∷ 0 ∷ []) ∷ [])
+    ∷ (
+      (false, other 6 ∷ other 5 ∷ other 4 ∷ other 3 ∷ other 2 ∷ other 1 ∷ marked b (stepped 0 0 0) ∷ []),
+      (1000 ∷ 0 ∷ 1 ∷ 1 ∷ []) ∷ (1001 ∷ 1 ∷ 1 ∷ 0 ∷ []) ∷ [],
+    )
     ∷ ((false, marked b (stepped 1 0 0) ∷ marked b (stepped 0 0 0) ∷ []), (1000 ∷ 0 ∷ 1 ∷ 1 ∷ []) ∷ (1001 ∷ 1 ∷ 1 ∷ 0 ∷ []) ∷ [])
     ∷ ((false, marked b (stepped 0 0 0) ∷ []), (1000 ∷ 0 ∷ 1 ∷ 1 ∷ []) ∷ [])
     ∷ ((true, marked b (stepped 0 0 0) ∷ []), (1000 ∷ 0 ∷ 1 ∷ 1 ∷ []) ∷ (1001 ∷ 1 ∷ 1 ∷ 0 ∷ []) ∷ []) ∷ [])
@@ -133,6 +194,7 @@ PodsKeepPace = Gives due_of (
     ∷ ((30, 10 ∷ 20 ∷ 30 ∷ []), 2)
     ∷ ((31, 10 ∷ 20 ∷ 30 ∷ []), 3)
     ∷ ((99, 10 ∷ 20 ∷ 30 ∷ []), 3)
+    ∷ ((41, 10 ∷ 10 ∷ 10 ∷ 10 ∷ 10 ∷ 10 ∷ []), 5)
     ∷ ((5, []), 0) ∷ [])
 
 abbrev pub with_numbers : ℕ → ℕ → Item
@@ -156,15 +218,13 @@ ItemsAreWritten = Gives written_item ((
 
 -- the mark of a break is the break with the pod that it has in the store
 abbrev pub MarksAreFound : Type 0
-MarksAreFound = Gives (mark_in (record pods.ab { fallback = Some (pods.short 9) })) (
+MarksAreFound = Gives (mark_in (record pods.ab { entries = pods.unused (pods.long 98) 7 ∷ pods.ab.entries; fallback = Some (pods.short 9) })) (
     (None, None)
+    ∷ (Some (pods.long 98), Some (record { id = pods.long 98; pod = pods.short 7 }))
     ∷ (Some (codes "a"), Some (record { id = codes "a"; pod = pods.short 1 }))
     ∷ (Some (codes "z"), Some (record { id = codes "z"; pod = pods.short 9 })) ∷ [])
 
 -- ---- key tags
-
-abbrev pub of_format : List ℕ → ℕ → Key
-of_format format iv = record { format = format; method = codes "AES-128"; uri = codes "a:k"; iv = Some iv; other_attributes = [] }
 
 abbrev pub tags : List Key × List Key → List KeyTag
 tags it = transition it.0 it.1
@@ -178,4 +238,14 @@ KeysChange = Gives tags (
     ∷ ((of_format (codes "f") 1 ∷ [], of_format (codes "f") 2 ∷ []), Set (of_format (codes "f") 2) ∷ [])
     ∷ ((of_format (codes "f") 1 ∷ [], of_format (codes "f") 1 ∷ of_format (codes "g") 1 ∷ []), Set (of_format (codes "g") 1) ∷ [])
     ∷ ((of_format (codes "f") 1 ∷ of_format (codes "g") 1 ∷ [], of_format (codes "g") 1 ∷ []), End ∷ Set (of_format (codes "g") 1) ∷ [])
-    ∷ ((of_format (codes "f") 1 ∷ [], []), End ∷ []) ∷ [])
+    ∷ ((of_format (codes "f") 1 ∷ [], []), End ∷ [])
+    ∷ (([], four_keys), map Set four_keys)
+    ∷ ((four_keys ++ of_format (codes "j") 1 ∷ [], four_keys), End ∷ map Set four_keys)
+    ∷ ((four_keys, of_format (codes "f") 1 ∷ of_format (codes "g") 1 ∷ of_format (codes "h") 1 ∷ of_format (codes "i") 2 ∷ []), Set (of_format (codes "i") 2) ∷ [])
+    ∷ ((four_keys, four_keys ++ of_format (codes "j") 1 ∷ []), Set (of_format (codes "j") 1) ∷ [])
+    ∷ (
+      (four_keys, of_format (codes "f") 1 ∷ of_format (codes "g") 1 ∷ of_format (codes "h") 1 ∷ []),
+      End ∷ Set (of_format (codes "f") 1) ∷ Set (of_format (codes "g") 1) ∷ Set (of_format (codes "h") 1) ∷ [],
+    )
+    ∷ ((of_format (pods.long 98) 1 ∷ [], of_format (pods.long 98) 2 ∷ []), Set (of_format (pods.long 98) 2) ∷ [])
+    ∷ ((of_format (pods.long 98) 1 ∷ [], of_format (pods.long 99) 1 ∷ []), End ∷ Set (of_format (pods.long 99) 1) ∷ []) ∷ [])

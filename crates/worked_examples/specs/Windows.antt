@@ -32,7 +32,7 @@ abbrev pub PiecesHaveSegments : Type 0
 PiecesHaveSegments = Gives segment_of ((record of_second_ad { segment = stepped 5 3 1 }, stepped 5 3 1) ∷ [])
 
 abbrev pub PiecesLast : Type 0
-PiecesLast = Gives lasts (([], 0) ∷ (of_first_ad true 8 ∷ of_first_ad false 9 ∷ of_second_ad ∷ [], 24) ∷ [])
+PiecesLast = Gives lasts (([], 0) ∷ (of_first_ad true 8 ∷ of_first_ad false 9 ∷ of_second_ad ∷ [], 24) ∷ (of_first_ad true 8 ∷ of_first_ad false 9 ∷ of_second_ad ∷ of_second_ad ∷ of_first_ad true 8 ∷ [], 39) ∷ [])
 
 -- the origin's segment under a mark, if any
 abbrev pub MarkedAreTheOrigins : Type 0
@@ -65,7 +65,12 @@ RestsAreMeant = Gives (rest_in pods.ab) (
 -- a playlist lists the oldest segment first
 abbrev pub SegmentsAreListed : Type 0
 SegmentsAreListed = Gives listed (
-    ([], []) ∷ (marked stitched.b (stepped 6 3 0) ∷ unmarked (stepped 5 3 1) ∷ [], stepped 5 3 1 ∷ stepped 6 3 0 ∷ []) ∷ [])
+    ([], [])
+    ∷ (marked stitched.b (stepped 6 3 0) ∷ unmarked (stepped 5 3 1) ∷ [], stepped 5 3 1 ∷ stepped 6 3 0 ∷ [])
+    ∷ (
+      unmarked (stepped 9 3 0) ∷ unmarked (stepped 8 3 0) ∷ unmarked (stepped 7 3 0) ∷ unmarked (stepped 6 3 0) ∷ unmarked (stepped 5 3 1) ∷ [],
+      stepped 5 3 1 ∷ stepped 6 3 0 ∷ stepped 7 3 0 ∷ stepped 8 3 0 ∷ stepped 9 3 0 ∷ [],
+    ) ∷ [])
 
 -- ---- windows
 

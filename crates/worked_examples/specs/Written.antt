@@ -1,5 +1,5 @@
 -- How a playlist is spelled.
-use Rattle.std.specs.Prelude.{true, false, [], ◌∷◌, codes, pos, Some, None}
+use Rattle.std.specs.Prelude.{ℕ, true, false, List, [], ◌∷◌, ◌++◌, codes, pos, Option, Some, None}
 use Rattle.playlist_model.specs.declared.Segment.{Segment}
 use Rattle.playlist_model.specs.declared.Key.{Key}
 use Rattle.playlist_model.specs.declared.PlaylistKind.TheVariants.{Event, Vod}
@@ -10,10 +10,30 @@ use Rattle.playlist_write.specs.Owed.{none_yet, playlist_text}
 use Rattle.playlist_write.specs.Laid.{after_segments, current_of}
 use Rattle.playlist_write.specs.declared.OutPlaylist.{OutPlaylist}
 use Rattle.worked_examples.specs.Playlists.{text, identity}
+use Rattle.playlist_model.specs.declared.InitSection.{InitSection}
+use Rattle.worked_examples.specs.Pods.{long}
 use Rattle.worked_examples.specs.Tables.{Gives}
 
 abbrev pub drm : Key
 drm = record { format = codes "f"; method = codes "SAMPLE-AES"; uri = codes "skd://k"; iv = None; other_attributes = codes ",KEYFORMATVERSIONS=\"1\"" }
+
+-- a key of long texts, and its line
+abbrev pub long_key : ℕ → Key
+long_key byte = record { format = long byte; method = long 77; uri = codes "a:" ++ long byte; iv = Some 1; other_attributes = [] }
+
+abbrev pub long_key_line : ℕ → List ℕ
+long_key_line byte =
+    codes "#EXT-X-KEY:METHOD=" ++ (long 77 ++ (codes ",URI=\"a:" ++ (long byte ++ (codes "\",IV=0x00000000000000000000000000000001,KEYFORMAT=\"" ++ (long byte ++ codes "\"")))))
+
+-- keys of four formats, and of five
+abbrev pub four_keys : List Key
+four_keys = long_key 97 ∷ long_key 98 ∷ long_key 99 ∷ long_key 100 ∷ []
+
+abbrev pub five_keys : List Key
+five_keys = four_keys ++ long_key 101 ∷ []
+
+abbrev pub four_key_lines : List (List ℕ)
+four_key_lines = long_key_line 97 ∷ long_key_line 98 ∷ long_key_line 99 ∷ long_key_line 100 ∷ []
 
 -- RFC 8216, 4.1 and 4.3: one line each
 abbrev pub LinesAreSpelled : Type 0
@@ -38,7 +58,14 @@ LinesAreSpelled = Gives spelled (
     ∷ (init_section (codes "a:i") (Some (record { length = 100; offset = 5 })), codes "#EXT-X-MAP:URI=\"a:i\",BYTERANGE=\"100@5\"")
     ∷ (time (pos 1714564800000000000), codes "#EXT-X-PROGRAM-DATE-TIME:2024-05-01T12:00:00.000Z")
     ∷ (date_range (record { id = codes "b"; start = None; end = None; duration = None; planned_duration = None; scte35_out = None; scte35_in = None; attributes = codes "ID=\"b\",X=1" }), codes "#EXT-X-DATERANGE:ID=\"b\",X=1")
-    ∷ (media (codes "a:s"), codes "a:s") ∷ [])
+    ∷ (media (codes "a:s"), codes "a:s")
+    ∷ (media (codes "a:" ++ long 98), codes "a:" ++ long 98)
+    ∷ (key (long_key 98), long_key_line 98)
+    ∷ (init_section (codes "a:" ++ long 98) None, codes "#EXT-X-MAP:URI=\"a:" ++ (long 98 ++ codes "\""))
+    ∷ (
+      date_range (record { id = codes "b"; start = None; end = None; duration = None; planned_duration = None; scte35_out = None; scte35_in = None; attributes = codes "ID=\"b\",X=" ++ long 98 }),
+      codes "#EXT-X-DATERANGE:ID=\"b\",X=" ++ long 98,
+    ) ∷ [])
 
 abbrev pub first : Segment
 first = record { media_sequence = 0; discontinuity_sequence = 0; discontinuities = 0; uri = codes "a:s"; byte_range = Some (record { length = 100; offset = 5 }); keys = identity (codes "a:k") (Some 1) ∷ []; init_section = Some (record { uri = codes "a:i"; byte_range = None; keys = identity (codes "a:k") (Some 1) ∷ [] }); duration = 9500000000; title = codes "one"; program_date_time = None }
@@ -112,3 +139,47 @@ WrittenTextsTellWhatIsInForce = Gives current_of ((
   record { text = codes "x"; from = 0; till = 1; count = 1; keys = first.keys; init_section = first.init_section },
   record { keys = first.keys; init_section = first.init_section },
 ) ∷ [])
+
+-- ---- a large playlist
+
+abbrev pub under : List Key → Option InitSection → Segment
+under keys section = record { media_sequence = 0; discontinuity_sequence = 0; discontinuities = 0; uri = codes "a:" ++ long 98; byte_range = None; keys = keys; init_section = section; duration = 10000000000; title = []; program_date_time = None }
+
+abbrev pub one : Option InitSection
+one = Some (record { uri = codes "a:" ++ long 98; byte_range = None; keys = five_keys })
+
+abbrev pub other : Option InitSection
+other = Some (record { uri = codes "a:j"; byte_range = None; keys = four_keys })
+
+abbrev pub plain_out : Segment → OutSegment
+plain_out s = record { segment = s; media_sequence = 7; discontinuity_sequence = 0; discontinuities = 0; program_date_time = None }
+
+abbrev pub large : OutPlaylist
+large = record nobody {
+  date_ranges = long 98 ∷ codes "b" ∷ codes "c" ∷ codes "d" ∷ codes "e" ∷ [];
+  segments =
+      plain_out (under five_keys one) ∷ plain_out (under five_keys one) ∷ plain_out (under four_keys one) ∷ plain_out (under five_keys other) ∷ plain_out (under five_keys None) ∷ plain_out (under five_keys other) ∷ [];
+}
+
+abbrev pub its_lines : List (List ℕ)
+its_lines = codes "#EXTINF:10," ∷ (codes "a:" ++ long 98) ∷ []
+
+-- five date ranges and six segments: under five keys, four, which takes an end of all, and five again, with two initialisation sections
+abbrev pub LargePlaylistsAreWritten : Type 0
+LargePlaylistsAreWritten = Gives playlist_text ((
+  large,
+  text (
+      (codes "#EXTM3U" ∷ codes "#EXT-X-VERSION:6" ∷ codes "#EXT-X-TARGETDURATION:10" ∷ codes "#EXT-X-MEDIA-SEQUENCE:7" ∷ codes "#EXT-X-DISCONTINUITY-SEQUENCE:0" ∷ [])
+      ++ ((codes "#EXT-X-DATERANGE:" ++ long 98) ∷ codes "#EXT-X-DATERANGE:b" ∷ codes "#EXT-X-DATERANGE:c" ∷ codes "#EXT-X-DATERANGE:d" ∷ codes "#EXT-X-DATERANGE:e" ∷ [])
+      ++ (four_key_lines ++ (long_key_line 101 ∷ (codes "#EXT-X-MAP:URI=\"a:" ++ (long 98 ++ codes "\"")) ∷ its_lines))
+      ++ its_lines
+      ++ (codes "#EXT-X-KEY:METHOD=NONE" ∷ (four_key_lines ++ its_lines))
+      ++ (codes "#EXT-X-MAP:URI=\"a:j\"" ∷ long_key_line 101 ∷ its_lines)
+      ++ its_lines
+      ++ its_lines),
+) ∷ [])
+
+abbrev pub LargeListsAreInForce : Type 0
+LargeListsAreInForce = Gives (after_segments none_yet) (
+    (large.segments, record { keys = five_keys; init_section = other })
+    ∷ (large.segments ++ plain_out (under four_keys one) ∷ [], record { keys = four_keys; init_section = one }) ∷ [])

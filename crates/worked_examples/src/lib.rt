@@ -3,17 +3,19 @@
 //! it; no code is named. Each function's contract is its tables; calling it does nothing.
 #![tactic(auto)]
 
-ghost use Rattle.worked_examples.specs.Texts.{DurationsAreRead, DurationsAreWritten, DurationsAreRounded, AttributesAreRead, AttributesAreLimited, AttributesAreWritten, DecimalsAreRead, SequencesAreRead, InstantsAreRead, InstantsAreWritten};
-ghost use Rattle.worked_examples.specs.Lines.{LinesHaveTheirKinds, TagsHaveTheirNames, SchemesAreSeen, VersionsAreRead, TypesAreRead, SegmentDurationsAreRead, ByteRangesAreRead, ReferencesAreResolved, BasesAreWebUrls, KeysAreRead, InitSectionsAreRead, DateRangesAreRead};
-ghost use Rattle.worked_examples.specs.Playlists.{WholePlaylistIsRead, TagsArePlaced, SegmentsAreChecked, HeadersAreChecked, ReadersAreLimited, LimitsAreStated, KeysAreInForce, KeysHaveTheirIvs, LinesStand, SegmentsBegin, SegmentsEnd, PartsAreKept, SegmentsAreCompared, FaultsAreTold};
-ghost use Rattle.worked_examples.specs.Splices.{SplicesAreRead};
-ghost use Rattle.worked_examples.specs.Breaks.{SignalsAreRead, TicksAreCounted, FirstValuesStand, BreaksEnd, BreaksAreSignalled, StartsAreNear, EndsAreNear, ClosedBreaksCanBeEntered, BreaksAreKnown, BreaksAreEntered, BreaksGoOn, ReasonsAreTold};
-ghost use Rattle.worked_examples.specs.Pods.{IdsAreChecked, UrisAreChecked, MethodsAreChecked, FormatsAreChecked, PodsAreSummed, PodsFit, PodsWithInitSectionsFit, RulesAreKept, DecisionsAreTaken, StoreIsLimited, PodsAreFound, OwnPodsFit, UsedPodsStay, FilesAreRead, BreaksAreChecked, AdsAreChecked, SegmentsAreCounted, FaultsOfFilesAreTold, LackOfMemoryHasNoPlace};
-ghost use Rattle.worked_examples.specs.Stitched.{PodsStandInOrder, RestsAreLeft, RunsAreReplaced, PodsKeepPace, NumbersFit, ItemsAreWritten, MarksAreFound, KeysChange};
-ghost use Rattle.worked_examples.specs.Written.{LinesAreSpelled, PlaylistsAreWritten, WrittenLinesAreInForce, WrittenTextsTellWhatIsInForce};
+ghost use Rattle.worked_examples.specs.Texts.{DurationsAreRead, DurationsAreWritten, DurationsAreRounded, AttributesAreRead, AttributesAreLimited, AttributesAreWritten, DecimalsAreRead, SequencesAreRead, InstantsAreRead, InstantsAreWritten, PairFaultsAreOrdered, ValuesAreChecked, MonthsEnd, FormsAreChecked, OffsetsAreRead};
+ghost use Rattle.worked_examples.specs.Lines.{LinesHaveTheirKinds, TagsHaveTheirNames, SchemesAreSeen, VersionsAreRead, TypesAreRead, SegmentDurationsAreRead, ByteRangesAreRead, ReferencesAreResolved, BasesAreWebUrls, KeysAreRead, InitSectionsAreRead, DateRangesAreRead, JoinsCanBeWritten, PathsAreJoined};
+ghost use Rattle.worked_examples.specs.Playlists.{WholePlaylistIsRead, TagsArePlaced, SegmentsAreChecked, HeadersAreChecked, ReadersAreLimited, LimitsAreStated, KeysAreInForce, KeysHaveTheirIvs, LinesStand, SegmentsBegin, SegmentsEnd, PartsAreKept, SegmentsAreCompared, FaultsAreTold, TagsApartArePlaced, TagsAfterSegmentsArePlaced, TagsStand};
+ghost use Rattle.worked_examples.specs.Splices.{SplicesAreRead, LargeSplicesAreRead, SpliceFaultsAreOrdered};
+ghost use Rattle.worked_examples.specs.Breaks.{SignalsAreRead, TicksAreCounted, FirstValuesStand, BreaksEnd, BreaksAreSignalled, StartsAreNear, EndsAreNear, ClosedBreaksCanBeEntered, BreaksAreKnown, BreaksAreEntered, BreaksGoOn, ReasonsAreTold, StartsAreStated, MarksAreMade, BreaksOfOthersGoOn, ReasonsOfOthersAreTold};
+ghost use Rattle.worked_examples.specs.Pods.{IdsAreChecked, UrisAreChecked, MethodsAreChecked, FormatsAreChecked, PodsAreSummed, PodsFit, PodsWithInitSectionsFit, RulesAreKept, DecisionsAreTaken, StoreIsLimited, PodsAreFound, OwnPodsFit, UsedPodsStay, FilesAreRead, BreaksAreChecked, AdsAreChecked, SegmentsAreCounted, FaultsOfFilesAreTold, LackOfMemoryHasNoPlace, LongIdsAreApart, LongIdsCountOnce, LongIdsAreFound, StoresFit, NothingIsCopied, AdsAreCounted, ManySegmentsAreCounted};
+ghost use Rattle.worked_examples.specs.Stitched.{PodsStandInOrder, RestsAreLeft, RunsAreReplaced, PodsKeepPace, NumbersFit, ItemsAreWritten, MarksAreFound, KeysChange, LargePodsStand, AdsHaveTheirKeys};
+ghost use Rattle.worked_examples.specs.Written.{LinesAreSpelled, PlaylistsAreWritten, WrittenLinesAreInForce, WrittenTextsTellWhatIsInForce, LargePlaylistsAreWritten, LargeListsAreInForce};
 ghost use Rattle.worked_examples.specs.Windows.{ItemsAreOfPods, ItemsHavePieces, PiecesHaveSegments, PiecesLast, MarkedAreTheOrigins, UnmarkedAreSeen, TimesAreStated, MarksAreMeant, RestsAreMeant, SegmentsAreListed, LastWindowsStand, BreaksArePlayed};
-ghost use Rattle.worked_examples.specs.Channels.{PlaylistsFollow, TypesStay, SegmentsStay, DiscontinuitiesFollow, EndedStays, TolerancesAreStated, BreaksAreFilled, TolerancesCount, SeveralAreFilled, WindowsGoOn, HeadersAreOwed, TypesAreOwed, PodsAreKept, StatesAreKept, RefreshFaultsAreTold, LastNumbersAreRefused};
-ghost use Rattle.worked_examples.specs.Paced.{BreaksGoThrough, PodsGoOnWithRuns, NothingIsShownAtOnce, InstantsCount, TimesAreReckoned, RestsAreWritten, DateRangesComeBack, PodsGo, FallbacksStay, FallbacksFillEach, OwnPodsComeFirst, UsedPodsStand};
+ghost use Rattle.worked_examples.specs.Channels.{PlaylistsFollow, TypesStay, SegmentsStay, DiscontinuitiesFollow, EndedStays, TolerancesAreStated, BreaksAreFilled, TolerancesCount, SeveralAreFilled, WindowsGoOn, HeadersAreOwed, TypesAreOwed, PodsAreKept, StatesAreKept, RefreshFaultsAreTold, LastNumbersAreRefused, LastSegmentsCount};
+ghost use Rattle.worked_examples.specs.LargePlaylists.{LargePlaylistsAreRead, LargePlaylistsAreDenoted};
+ghost use Rattle.worked_examples.specs.Long.{LongRunsAreWritten, WholeListsAreStitched, DateRangesAreLeft, PodsStay, BreaksAreInUse, LongStatesAreKept, DateRangesAreCarried, BreaksAreShown, WindowsAreKept};
+ghost use Rattle.worked_examples.specs.Paced.{BreaksGoThrough, PodsGoOnWithRuns, NothingIsShownAtOnce, InstantsCount, TimesAreReckoned, RestsAreWritten, DateRangesComeBack, PodsGo, FallbacksStay, FallbacksFillEach, OwnPodsComeFirst, UsedPodsStand, LastBreaksAreLeft};
 
 /// Durations, attribute lists, numbers and times.
 pub fn texts_have_their_values()
@@ -27,6 +29,11 @@ pub fn texts_have_their_values()
     ensures sequences_are_read { SequencesAreRead }
     ensures instants_are_read { InstantsAreRead }
     ensures instants_are_written { InstantsAreWritten }
+    ensures pair_faults_are_ordered { PairFaultsAreOrdered }
+    ensures values_are_checked { ValuesAreChecked }
+    ensures months_end { MonthsEnd }
+    ensures forms_are_checked { FormsAreChecked }
+    ensures offsets_are_read { OffsetsAreRead }
 {}
 
 /// What one line of a playlist says.
@@ -43,6 +50,8 @@ pub fn lines_have_their_values()
     ensures keys_are_read { KeysAreRead }
     ensures init_sections_are_read { InitSectionsAreRead }
     ensures date_ranges_are_read { DateRangesAreRead }
+    ensures joins_can_be_written { JoinsCanBeWritten }
+    ensures paths_are_joined { PathsAreJoined }
 {}
 
 /// What the bytes of a playlist denote, or their first fault; when segments begin, and which are the same.
@@ -61,11 +70,16 @@ pub fn playlists_have_their_values()
     ensures parts_are_kept { PartsAreKept }
     ensures segments_are_compared { SegmentsAreCompared }
     ensures faults_are_told { FaultsAreTold }
+    ensures tags_apart_are_placed { TagsApartArePlaced }
+    ensures tags_after_segments_are_placed { TagsAfterSegmentsArePlaced }
+    ensures tags_stand { TagsStand }
 {}
 
 /// What a splice section says, by the tables of ANSI/SCTE 35.
 pub fn splices_have_their_values()
-    ensures { SplicesAreRead }
+    ensures splices_are_read { SplicesAreRead }
+    ensures large_splices_are_read { LargeSplicesAreRead }
+    ensures splice_faults_are_ordered { SpliceFaultsAreOrdered }
 {}
 
 /// What date ranges say of breaks, which breaks are known, and which one a segment enters.
@@ -82,6 +96,10 @@ pub fn breaks_have_their_values()
     ensures breaks_are_entered { BreaksAreEntered }
     ensures breaks_go_on { BreaksGoOn }
     ensures reasons_are_told { ReasonsAreTold }
+    ensures starts_are_stated { StartsAreStated }
+    ensures marks_are_made { MarksAreMade }
+    ensures breaks_of_others_go_on { BreaksOfOthersGoOn }
+    ensures reasons_of_others_are_told { ReasonsOfOthersAreTold }
 {}
 
 /// Pods, the store of decided breaks, and decision files.
@@ -105,6 +123,13 @@ pub fn pods_have_their_values()
     ensures segments_are_counted { SegmentsAreCounted }
     ensures faults_of_files_are_told { FaultsOfFilesAreTold }
     ensures lack_of_memory_has_no_place { LackOfMemoryHasNoPlace }
+    ensures long_ids_are_apart { LongIdsAreApart }
+    ensures long_ids_count_once { LongIdsCountOnce }
+    ensures long_ids_are_found { LongIdsAreFound }
+    ensures stores_fit { StoresFit }
+    ensures nothing_is_copied { NothingIsCopied }
+    ensures ads_are_counted { AdsAreCounted }
+    ensures many_segments_are_counted { ManySegmentsAreCounted }
 {}
 
 /// The stitched list: pods in place of runs, numbers, and the pace of a run.
@@ -117,6 +142,8 @@ pub fn stitched_have_their_values()
     ensures items_are_written { ItemsAreWritten }
     ensures marks_are_found { MarksAreFound }
     ensures keys_change { KeysChange }
+    ensures large_pods_stand { LargePodsStand }
+    ensures ads_have_their_keys { AdsHaveTheirKeys }
 {}
 
 /// How a playlist is spelled.
@@ -125,6 +152,8 @@ pub fn written_have_their_values()
     ensures playlists_are_written { PlaylistsAreWritten }
     ensures written_lines_are_in_force { WrittenLinesAreInForce }
     ensures written_texts_tell_what_is_in_force { WrittenTextsTellWhatIsInForce }
+    ensures large_playlists_are_written { LargePlaylistsAreWritten }
+    ensures large_lists_are_in_force { LargeListsAreInForce }
 {}
 
 /// Which playlist may follow which, and what a channel owes after decisions and refreshes.
@@ -145,6 +174,7 @@ pub fn channels_have_their_values()
     ensures states_are_kept { StatesAreKept }
     ensures refresh_faults_are_told { RefreshFaultsAreTold }
     ensures last_numbers_are_refused { LastNumbersAreRefused }
+    ensures last_segments_count { LastSegmentsCount }
 {}
 
 /// What stands in a window: its items and pieces, the breaks that are played in it, and the pods that its marks mean.
@@ -177,4 +207,24 @@ pub fn paced_have_their_values()
     ensures fallbacks_fill_each { FallbacksFillEach }
     ensures own_pods_come_first { OwnPodsComeFirst }
     ensures used_pods_stand { UsedPodsStand }
+    ensures last_breaks_are_left { LastBreaksAreLeft }
+{}
+
+/// A long run, the rest of its pod, and IDs that differ in their last byte.
+pub fn long_runs_have_their_values()
+    ensures long_runs_are_written { LongRunsAreWritten }
+    ensures whole_lists_are_stitched { WholeListsAreStitched }
+    ensures date_ranges_are_left { DateRangesAreLeft }
+    ensures pods_stay { PodsStay }
+    ensures breaks_are_in_use { BreaksAreInUse }
+    ensures long_states_are_kept { LongStatesAreKept }
+    ensures date_ranges_are_carried { DateRangesAreCarried }
+    ensures breaks_are_shown { BreaksAreShown }
+    ensures windows_are_kept { WindowsAreKept }
+{}
+
+/// What the bytes of a large playlist denote.
+pub fn large_playlists_have_their_values()
+    ensures large_playlists_are_read { LargePlaylistsAreRead }
+    ensures large_playlists_are_denoted { LargePlaylistsAreDenoted }
 {}

@@ -1,5 +1,5 @@
 -- What proofs and inner functions say with the definitions of `Listed`.
-use Rattle.std.specs.Prelude.{◌≡◌, ℕ, ◌+◌, ◌-◌, drop, length, if◌then◌else◌, Some, None, true, Bool, not, nat_lt, map, filter, List, ◌∷◌, [], Option, is_some}
+use Rattle.std.specs.Prelude.{◌≡◌, ℕ, ◌+◌, ◌-◌, ◌++◌, drop, length, if◌then◌else◌, Some, None, true, Bool, not, nat_lt, map, filter, List, ◌∷◌, [], Option, is_some}
 use Rattle.playlist_model.specs.declared.Segment.{Segment}
 use Rattle.stitcher.specs.Stitched.{Numbers}
 use Rattle.pod_store.specs.Rules.{ads_keep}
@@ -8,6 +8,10 @@ use Rattle.playlist_model.specs.declared.DateRange.{DateRange}
 use Rattle.pod_store.specs.Store.{is_one_of}
 use Rattle.stitcher.specs.declared.marked.MarkedSegment.{MarkedSegment as Held}
 use Rattle.channel_spec.specs.Live.{date_range_text}
+
+-- these stand in front of the others
+abbrev pub IsFront : List Held → List Held → Type 0
+IsFront front list = (tail : List Held) × (list ≡ front ++ tail)
 
 -- a list ends with these
 abbrev pub IsTail : List Segment → List Segment → Type 0

@@ -8,7 +8,7 @@ use Rattle.stitcher.specs.Stitched.{newest_place}
 use Rattle.stitcher.specs.Paced.{Rest as MeantRest, rest_pieces}
 use Rattle.stitcher.specs.StitchedSegments.{rest_in}
 use Rattle.channel_window.specs.Marking.{place_on}
-use Rattle.channel_window.specs.Listed.{IsFront}
+use Rattle.channel_window.specs.Inner.Listed.{IsFront}
 
 -- ---- where a window starts
 

@@ -1,5 +1,5 @@
 -- What an accepted refresh comes to, as a channel holds it.
-use Rattle.std.specs.Prelude.{◌≡◌, ◌≢◌, ℕ, List, true, map, Option, Some, None, Ok, Err}
+use Rattle.std.specs.Prelude.{◌≡◌, ◌≢◌, ◌≤◌, ◌++◌, ℕ, List, true, drop, length, map, Option, Some, None, Ok, Err}
 use Rattle.std.specs.List.{list_all, list_any}
 use Rattle.playlist_model.specs.declared.Playlist.{Playlist}
 use Rattle.channel_spec.specs.declared.heading.Heading.{Heading}
@@ -10,6 +10,9 @@ use Rattle.pod_store.specs.Store.{kept_in_use}
 use Rattle.pod_store.specs.Inner.Store.{NameTheSame}
 use Rattle.stitcher.specs.StitchedSegments.{AreDecided, rest_in}
 use Rattle.stitcher.specs.Written.{written_item}
+use Rattle.stitcher.specs.declared.marked.MarkedSegment.{MarkedSegment as Held}
+use Rattle.playlist_write.specs.declared.resumed.WrittenText.{WrittenText}
+use Rattle.live_channel.specs.declared.channel.Refreshed.{Refreshed}
 use Rattle.break_finder.specs.Breaks.{Break}
 use Rattle.break_finder.specs.Known.{carry}
 use Rattle.playlist_write.specs.Owed.{playlist_text}
@@ -27,9 +30,11 @@ use Rattle.channel_spec.specs.Marking.{last_entered}
 use Rattle.channel_spec.specs.Kept.{Kept, kept_succession, shown_from, head_numbers, items_on, window_on, rest_after, kept_acceptance, kept_list, kept_length}
 use Rattle.live_channel.specs.declared.next.NextState.{NextState}
 use Rattle.channel_window.specs.Marking.{so_far}
-use Rattle.channel_window.specs.Showing.{kept_in}
-use Rattle.channel_window.specs.Listed.{IsRestDecided, RisesOn}
-use Rattle.channel_window.specs.Checked.{AreContiguous}
+use Rattle.channel_window.specs.Showing.{AreKept, IsLastEntered, kept_in}
+use Rattle.channel_window.specs.Listed.{IsRestDecided, RisesOn, segments_in}
+use Rattle.channel_window.specs.Checked.{AreContiguous, AreTaken}
+use Rattle.playlist_parse.specs.declared.source.Read.{Read}
+use Rattle.live_channel.specs.Inner.LastText.{StoodBefore}
 use Rattle.live_channel.specs.Channel.{refreshed_with, fresh_after, channel_with, Steps}
 use Rattle.channel_window.specs.declared.state.ChannelState.{ChannelState}
 
@@ -41,13 +46,14 @@ breaks_after kept p list = in_use_with (first_number p.segments) list (or_earlie
 abbrev pub text_with_window : Playlist → List (List ℕ) → List Item → List ℕ
 text_with_window p breaks window = playlist_text (out_playlist p (map date_range_text (date_ranges_left (list_any states_instant window) breaks p.date_ranges)) (map written_item window))
 
--- what a channel comes to if these breaks are known, and these segments, as they are meant, are shown, the newest run of which
+-- what a channel comes to if these breaks are known, and these segments are shown, which mean this list, the newest run of which
 -- has lasted so long, and so many of which weren't shown before: each number of the stitched list fits
-pub record IsNext (kept : Kept) (p : Playlist) (known : List Break) (list : List Marked) (so_long fresh : ℕ) (next : NextState) : Type 0 where
+pub record IsNext (kept : Kept) (p : Playlist) (known : List Break) (held : List Held) (list : List Marked) (so_long fresh : ℕ) (next : NextState) : Type 0 where
   pub fit : list_all fits (items_on kept p list so_long) ≡ true
+  pub within : next.gone ≤ length held
   pub breaks : next.shown.knowledge ≡ known
-  pub shown : so_far kept.store next.shown.list ≡ shown_from (first_number p.segments) list
-  pub decided : AreDecided kept.store next.shown.list
+  pub shown : so_far kept.store (drop next.gone held) ≡ shown_from (first_number p.segments) list
+  pub decided : AreDecided kept.store (drop next.gone held)
   pub entered : next.shown.entered ≡ or_earlier (last_entered list) kept.entered
   pub in_use : NameTheSame next.in_use.items (breaks_after kept p list)
   pub numbers : next.shown.numbers ≡ head_numbers (window_on kept p list so_long)
@@ -58,21 +64,21 @@ pub record IsNext (kept : Kept) (p : Playlist) (known : List Break) (list : List
   pub text : next.written.text ≡ text_with_window p (breaks_after kept p list) (window_on kept p list so_long)
   pub laid : IsLaid (map written_item (window_on kept p list so_long)) next.written
 
--- what it comes to by an accepted refresh
-abbrev pub IsAccepted : ℕ → Kept → Playlist → NextState → Type 0
-IsAccepted tolerance kept p next =
-    IsNext kept p (carry (kept_acceptance kept p) kept.breaks) (kept_list tolerance kept p) (kept_length tolerance kept p) (fresh_after kept.shown p) next
+-- what it comes to by an accepted refresh, after which these segments are shown
+abbrev pub IsAccepted : ℕ → Kept → Playlist → List Held → NextState → Type 0
+IsAccepted tolerance kept p held next =
+    IsNext kept p (carry (kept_acceptance kept p) kept.breaks) held (kept_list tolerance kept p) (kept_length tolerance kept p) (fresh_after kept.shown p) next
 
 -- ---- a refresh, from its bytes on
 
 -- the playlist may follow the last one, and no number passes its range
-pub record Follows (tolerance : ℕ) (kept : Kept) (p : Playlist) (next : NextState) : Type 0 where
+pub record Follows (tolerance : ℕ) (kept : Kept) (p : Playlist) (held : List Held) (next : NextState) : Type 0 where
   pub succeeds : kept_succession kept p ≡ None
-  pub accepted : IsAccepted tolerance kept p next
+  pub accepted : IsAccepted tolerance kept p held next
 
 -- its numbers go on those that are shown, if it may follow
 abbrev pub RisesNext : ChannelState → Playlist → Type 0
-RisesNext state p = kept_succession (kept_in state) p ≡ None → RisesOn state.shown.list p.segments
+RisesNext state p = kept_succession (kept_in state) p ≡ None → RisesOn state.list p.segments
 
 -- the bytes are read as this playlist
 pub record IsRead (base : Parts) (bytes : List ℕ) (p : Playlist) : Type 0 where
@@ -96,7 +102,35 @@ Refused base tolerance state bytes fault =
 
 -- what is kept then: a break that is in use keeps its pod, or a copy of the fallback
 abbrev pub state_with : ChannelState → Heading → NextState → ChannelState
-state_with state last next = record { store = kept_in_use next.in_use.items state.store; last = Some last; shown = next.shown }
+state_with state last next = record { store = kept_in_use next.in_use.items state.store; last = Some last; list = drop next.gone state.list; shown = next.shown }
 
 abbrev pub accepted_state : ChannelState → Playlist → NextState → ChannelState
 accepted_state state p next = state_with state (heading_of p) next
+
+-- ---- what holds when a playlist comes that was read
+
+-- the last text has the lines of the last window; the playlist's numbers rise by one, and go on those that are shown if it may
+-- follow; what was taken over from the last one is shown; and what is kept is sound
+pub record IsJudged (tolerance : ℕ) (state : ChannelState) (written : Option WrittenText) (read : Read) : Type 0 where
+  pub stood : StoodBefore tolerance (kept_in state) read.playlist written
+  pub contiguous : AreContiguous read.playlist.segments
+  pub decided : AreKept state.store state
+  pub entered : IsLastEntered (kept_in state)
+  pub rising : RisesNext state read.playlist
+  pub last : AreContiguous (segments_in state.list)
+  pub taken : AreTaken (segments_in state.list) read.playlist.segments read.taken.start read.taken.end
+
+-- ---- the segments that are shown, before a refresh is accepted
+
+-- other segments stand behind those that were shown, and all else is as it was
+abbrev pub HasGrown : ChannelState → ChannelState → Type 0
+HasGrown old new = (come : List Held) × (new ≡ record old { list = old.list ++ come })
+
+-- the channel has come to what it comes to by this playlist, and answers so
+pub record Accepts (tolerance : ℕ) (old : ChannelState) (p : Playlist) (new : ChannelState) (written : Option WrittenText) (done : Refreshed) : Type 0 where
+  pub held : List Held
+  pub next : NextState
+  pub follows : Follows tolerance (kept_in old) p held next
+  pub state_is : new ≡ accepted_state (record old { list = held }) p next
+  pub written_is : written ≡ Some next.written
+  pub done_is : done ≡ next.refreshed

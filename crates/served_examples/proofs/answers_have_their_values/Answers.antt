@@ -53,3 +53,19 @@ returns-clause-refresh_faults_are_answered c = refl
 pub returns-clause-words_of_why_are_told : goal.returns-clause-words_of_why_are_told
 unfolding on_literals
 returns-clause-words_of_why_are_told c = refl
+
+pub returns-clause-others_stay : goal.returns-clause-others_stay
+unfolding on_literals
+returns-clause-others_stay c = refl
+
+pub returns-clause-body_faults_are_answered : goal.returns-clause-body_faults_are_answered
+unfolding on_literals
+returns-clause-body_faults_are_answered c = refl
+
+pub returns-clause-body_faults_are_told : goal.returns-clause-body_faults_are_told
+unfolding on_literals
+returns-clause-body_faults_are_told c = refl
+
+pub returns-clause-channels_are_once : goal.returns-clause-channels_are_once
+unfolding on_literals
+returns-clause-channels_are_once c = refl

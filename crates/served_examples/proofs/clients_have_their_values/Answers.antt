@@ -53,3 +53,7 @@ returns-clause-calls_are_counted c = refl
 pub returns-clause-failures_are_counted : goal.returns-clause-failures_are_counted
 unfolding on_literals
 returns-clause-failures_are_counted c = refl
+
+pub returns-clause-others_are_apart : goal.returns-clause-others_are_apart
+unfolding on_literals
+returns-clause-others_are_apart c = refl

@@ -29,3 +29,7 @@ returns-clause-decisions_are_stored c = refl
 pub returns-clause-segments_are_held : goal.returns-clause-segments_are_held
 unfolding on_literals
 returns-clause-segments_are_held c = refl
+
+pub returns-clause-shown_are_meant : goal.returns-clause-shown_are_meant
+unfolding on_literals
+returns-clause-shown_are_meant c = λ it. refl

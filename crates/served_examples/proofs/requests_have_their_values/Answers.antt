@@ -41,3 +41,7 @@ returns-clause-head_replies_are_written c = refl
 pub returns-clause-heads_are_framed : goal.returns-clause-heads_are_framed
 unfolding on_literals
 returns-clause-heads_are_framed c = refl
+
+pub returns-clause-all_fields_count : goal.returns-clause-all_fields_count
+unfolding on_literals
+returns-clause-all_fields_count c = refl

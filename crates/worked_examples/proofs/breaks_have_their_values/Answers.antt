@@ -49,3 +49,19 @@ returns-clause-breaks_go_on c = refl
 pub returns-clause-reasons_are_told : goal.returns-clause-reasons_are_told
 unfolding on_literals
 returns-clause-reasons_are_told c = refl
+
+pub returns-clause-starts_are_stated : goal.returns-clause-starts_are_stated
+unfolding on_literals
+returns-clause-starts_are_stated c = refl
+
+pub returns-clause-marks_are_made : goal.returns-clause-marks_are_made
+unfolding on_literals
+returns-clause-marks_are_made c = refl
+
+pub returns-clause-breaks_of_others_go_on : goal.returns-clause-breaks_of_others_go_on
+unfolding on_literals
+returns-clause-breaks_of_others_go_on c = refl
+
+pub returns-clause-reasons_of_others_are_told : goal.returns-clause-reasons_of_others_are_told
+unfolding on_literals
+returns-clause-reasons_of_others_are_told c = refl

@@ -65,3 +65,7 @@ returns-clause-types_are_owed c = refl
 pub returns-clause-refresh_faults_are_told : goal.returns-clause-refresh_faults_are_told
 unfolding on_literals
 returns-clause-refresh_faults_are_told c = refl
+
+pub returns-clause-last_segments_count : goal.returns-clause-last_segments_count
+unfolding on_literals
+returns-clause-last_segments_count c = refl

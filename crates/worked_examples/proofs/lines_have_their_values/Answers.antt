@@ -49,3 +49,11 @@ returns-clause-init_sections_are_read c = refl
 pub returns-clause-date_ranges_are_read : goal.returns-clause-date_ranges_are_read
 unfolding on_literals
 returns-clause-date_ranges_are_read c = refl
+
+pub returns-clause-joins_can_be_written : goal.returns-clause-joins_can_be_written
+unfolding on_literals
+returns-clause-joins_can_be_written c = refl
+
+pub returns-clause-paths_are_joined : goal.returns-clause-paths_are_joined
+unfolding on_literals
+returns-clause-paths_are_joined c = refl

@@ -49,3 +49,7 @@ returns-clause-own_pods_come_first c = refl
 pub returns-clause-used_pods_stand : goal.returns-clause-used_pods_stand
 unfolding on_literals
 returns-clause-used_pods_stand c = refl
+
+pub returns-clause-last_breaks_are_left : goal.returns-clause-last_breaks_are_left
+unfolding on_literals
+returns-clause-last_breaks_are_left c = refl

@@ -57,3 +57,15 @@ returns-clause-faults_are_told c = refl
 pub returns-clause-lines_stand : goal.returns-clause-lines_stand
 unfolding on_literals
 returns-clause-lines_stand c = refl
+
+pub returns-clause-tags_apart_are_placed : goal.returns-clause-tags_apart_are_placed
+unfolding on_literals
+returns-clause-tags_apart_are_placed c = refl
+
+pub returns-clause-tags_after_segments_are_placed : goal.returns-clause-tags_after_segments_are_placed
+unfolding on_literals
+returns-clause-tags_after_segments_are_placed c = refl
+
+pub returns-clause-tags_stand : goal.returns-clause-tags_stand
+unfolding on_literals
+returns-clause-tags_stand c = refl

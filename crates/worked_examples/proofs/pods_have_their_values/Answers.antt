@@ -77,3 +77,31 @@ returns-clause-faults_of_files_are_told c = refl
 pub returns-clause-lack_of_memory_has_no_place : goal.returns-clause-lack_of_memory_has_no_place
 unfolding on_literals
 returns-clause-lack_of_memory_has_no_place c = refl
+
+pub returns-clause-long_ids_are_apart : goal.returns-clause-long_ids_are_apart
+unfolding on_literals
+returns-clause-long_ids_are_apart c = refl
+
+pub returns-clause-long_ids_count_once : goal.returns-clause-long_ids_count_once
+unfolding on_literals
+returns-clause-long_ids_count_once c = refl
+
+pub returns-clause-long_ids_are_found : goal.returns-clause-long_ids_are_found
+unfolding on_literals
+returns-clause-long_ids_are_found c = refl
+
+pub returns-clause-stores_fit : goal.returns-clause-stores_fit
+unfolding on_literals
+returns-clause-stores_fit c = refl
+
+pub returns-clause-nothing_is_copied : goal.returns-clause-nothing_is_copied
+unfolding on_literals
+returns-clause-nothing_is_copied c = refl
+
+pub returns-clause-ads_are_counted : goal.returns-clause-ads_are_counted
+unfolding on_literals
+returns-clause-ads_are_counted c = refl
+
+pub returns-clause-many_segments_are_counted : goal.returns-clause-many_segments_are_counted
+unfolding on_literals
+returns-clause-many_segments_are_counted c = refl

@@ -33,3 +33,11 @@ returns-clause-marks_are_found c = refl
 pub returns-clause-keys_change : goal.returns-clause-keys_change
 unfolding on_literals
 returns-clause-keys_change c = refl
+
+pub returns-clause-large_pods_stand : goal.returns-clause-large_pods_stand
+unfolding on_literals
+returns-clause-large_pods_stand c = refl
+
+pub returns-clause-ads_have_their_keys : goal.returns-clause-ads_have_their_keys
+unfolding on_literals
+returns-clause-ads_have_their_keys c = refl

@@ -17,3 +17,11 @@ returns-clause-written_lines_are_in_force c = refl
 pub returns-clause-written_texts_tell_what_is_in_force : goal.returns-clause-written_texts_tell_what_is_in_force
 unfolding on_literals
 returns-clause-written_texts_tell_what_is_in_force c = refl
+
+pub returns-clause-large_playlists_are_written : goal.returns-clause-large_playlists_are_written
+unfolding on_literals
+returns-clause-large_playlists_are_written c = refl
+
+pub returns-clause-large_lists_are_in_force : goal.returns-clause-large_lists_are_in_force
+unfolding on_literals
+returns-clause-large_lists_are_in_force c = refl

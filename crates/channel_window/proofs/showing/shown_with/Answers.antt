@@ -1,11 +1,9 @@
-use Rattle.std.proofs.Common.{rules, refl, length, ◌≡◌, ◌∙◌, ap, sym, subst, List}
+use Rattle.std.proofs.Common.{rules, refl, length, ◌≡◌, ◌∙◌, ◌++◌, ap, sym}
 use Rattle.std.specs.Prelude.{filter}
 use Rattle.channel_spec.specs.Marking.{Moment, is_new}
 use Rattle.channel_spec.specs.Successor.{has_init_sections}
-use Rattle.break_finder.specs.Breaks.{Break}
 use Rattle.channel_window.specs.declared.showing.Showing.{Showing}
 use Rattle.channel_window.specs.Marking.{so_far, mark_on, length_after}
-use Rattle.channel_window.specs.Showing.{IsShown}
 use Rattle.channel_window.proofs.ShownWith.{newest_entered, shown_is}
 use Rattle.channel_window.proofs.showing.shown_with.Goals as goal
 
@@ -24,9 +22,8 @@ returns c =
     let fresh = c.fresh_of-fresh.result.now in
     let moment : Moment = record { tolerance = c.args.tolerance; target_duration = p.target_duration; with_init_sections = has_init_sections p.segments; breaks = c.in_ok-knowledge.knowledge; store = s.store } in
     let marked_are : marked ≡ mark_on moment newest s.shown.entered fresh c.new-2.result = search rules in
-    let a : Showing = record { knowledge = c.in_ok-knowledge.knowledge; list = c.in_ok-joined.field-0; fresh = length c.fresh_of-fresh.result.now; entered = marks.entered; so_far = marks.so_far } in
+    let a : Showing = record { knowledge = c.in_ok-knowledge.knowledge; come = marks.list; fresh = length c.fresh_of-fresh.result.now; entered = marks.entered; so_far = marks.so_far } in
     let long : marks.so_far ≡ length_after s.store newest s.shown.so_far marked = search rules in
-    subst (λ (breaks : List Break). IsShown c.args.tolerance s p (record a { knowledge = breaks })) (sym c.knowledge.view_is)
-    (shown_is c.args.tolerance s p c.as_slice-shown.result.now newest c.fresh_of-fresh.result.now c.newest_end.result c.new-2.result marked a c.requires.decided c.requires.entered c.as_slice-shown.ensures
-    (c.in_ok-newest.ensures.mark s.store) (c.in_ok-newest.ensures.decided s.store) (search rules) (c.fresh_of-fresh.ensures.value s.store ∙ ap (filter (is_new (so_far s.store c.as_slice-shown.result.now))) (c.as_slice.ensures ∙ c.deref-2.ensures)) (c.newest_end.ensures s.store) c.new-2.ensures marked_are (search rules)
-    c.requires.contiguous c.requires.rising c.in_ok-marks.ensures.entered refl long)
+    shown_is c.args.tolerance s p c.as_slice-shown.result.now newest c.fresh_of-fresh.result.now c.newest_end.result c.new-2.result marked a c.requires.decided c.requires.entered c.as_slice-shown.ensures
+    (c.in_ok-newest.ensures.mark s.store) (c.in_ok-newest.ensures.decided s.store) (search rules) (c.fresh_of-fresh.ensures.value s.store ∙ ap (filter (is_new (so_far s.store c.as_slice-shown.result.now))) (c.as_slice.ensures ∙ c.deref-2.ensures)) (c.newest_end.ensures s.store) c.new-2.ensures marked_are (s.list ++ marked) (ap (λ xs. xs ++ marked) (sym c.as_slice-shown.ensures))
+    c.requires.contiguous c.requires.rising c.in_ok-marks.ensures.entered refl long

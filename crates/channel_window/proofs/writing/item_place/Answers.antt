@@ -4,9 +4,8 @@ use Rattle.channel_window.proofs.writing.item_place.Goals as goal
 
 pub returns-clause-value : goal.returns-clause-value
 returns-clause-value c =
-    let s = c.args.state.now in
     let list = c.args.list.now in
-    sym (place_found s.store c.args.number c.place_of.result list c.front_to.result.now c.requires.decided c.front_to.ensures.front (c.front_to.ensures.seen s.store) c.place_of.ensures)
+    sym (place_found c.args.store.now c.args.number c.place_of.result list c.front_to.result.now c.requires.decided c.front_to.ensures.front (c.front_to.ensures.seen c.args.store.now) c.place_of.ensures)
 
 pub returns-clause-room : goal.returns-clause-room
 returns-clause-room c = omega (arith, c.requires.room c.front_to.result.now c.front_to.ensures.front, c.place_of.ensures)

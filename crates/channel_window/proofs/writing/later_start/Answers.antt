@@ -9,25 +9,22 @@ use Rattle.channel_window.proofs.writing.later_start.Goals as goal
 
 pub returns-then-item-place-clause-rest : goal.returns-then-item-place-clause-rest
 returns-then-item-place-clause-rest c =
-    let s = c.args.state.now in
-    let seen = so_far s.store c.args.list.now in
-    rest_none (rest_count s.store s.shown.rest) c.min-place.result c.args.number seen (omega (arith, c.if-item-place.true, c.item_place.ensures.value, c.rest_count-before.ensures.value))
+    let seen = so_far c.args.store.now c.args.list.now in
+    rest_none (rest_count c.args.store.now c.args.rest.now) c.min-place.result c.args.number seen (omega (arith, c.if-item-place.true, c.item_place.ensures.value, c.rest_count-rest_items.ensures.value))
 
 pub rest_of-requires-clause-room : goal.rest_of-requires-clause-room
-rest_of-requires-clause-room c = omega (arith, c.requires.room c.front_before-gone.result.now c.front_before-gone.ensures.front, c.rest_count-before.ensures.value)
+rest_of-requires-clause-room c = omega (arith, c.requires.room c.front_before-gone.result.now c.front_before-gone.ensures.front, c.rest_count-rest_items.ensures.value)
 
 pub rest_of-requires-clause-decided : goal.rest_of-requires-clause-decided
 rest_of-requires-clause-decided c =
-    let s = c.args.state.now in
-    front_decided s.store c.args.list.now c.front_before-gone.result.now c.requires.decided c.front_before-gone.ensures.front
+    front_decided c.args.store.now c.args.list.now c.front_before-gone.result.now c.requires.decided c.front_before-gone.ensures.front
 
 pub returns-clause-rest : goal.returns-clause-rest
 returns-clause-rest c =
-    let s = c.args.state.now in
-    let seen = so_far s.store c.args.list.now in
-    let before = rest_count s.store s.shown.rest in
+    let seen = so_far c.args.store.now c.args.list.now in
+    let before = rest_count c.args.store.now c.args.rest.now in
     let place = c.min-place.result in
-    let lower : place < place_of c.args.number seen + before = omega (arith, c.if-item-place.false, c.item_place.ensures.value, c.rest_count-before.ensures.value) in
+    let lower : place < place_of c.args.number seen + before = omega (arith, c.if-item-place.false, c.item_place.ensures.value, c.rest_count-rest_items.ensures.value) in
     c.in_ok-rest.ensures.value
-    ∙ (ap (λ n. rest_of n place (so_far s.store c.front_before-gone.result.now)) c.rest_count-before.ensures.value
-    ∙ (ap (rest_of before place) (c.front_before-gone.ensures.seen s.store) ∙ rest_lower before place c.args.number seen lower))
+    ∙ (ap (λ n. rest_of n place (so_far c.args.store.now c.front_before-gone.result.now)) c.rest_count-rest_items.ensures.value
+    ∙ (ap (rest_of before place) (c.front_before-gone.ensures.seen c.args.store.now) ∙ rest_lower before place c.args.number seen lower))

@@ -13,5 +13,5 @@ returns-in-Some c =
     let last = c.in-Some.last in
     c.check_successor.ensures
     ∙ (ap (λ held. answer_of (following_fault last (segments_in held) p)) c.as_slice-shown.ensures
-    ∙ (ap (λ xs. answer_of (following_fault last xs p)) (sym (held_listed s.store s.shown.list))
+    ∙ (ap (λ xs. answer_of (following_fault last xs p)) (sym (held_listed s.store s.list))
     ∙ ap (λ o. answer_of (succession_on o (listed (kept_in s).shown) p)) (sym c.in-Some.is)))

@@ -20,5 +20,5 @@ take-requires-clause-taken c =
     let i = c.self.inside in
     let read = c.in_ok-read.read in
     subst (λ (x : Channel). AreTaken (listed x.kept.shown) read.playlist.segments read.taken.start read.taken.end) c.self.view_is
-    (as_listed i.state.store i.state.shown.list read.playlist.segments read.taken.start read.taken.end
+    (as_listed i.state.store i.state.list read.playlist.segments read.taken.start read.taken.end
     (taken_over i.last i.state read.playlist.segments read.taken.start read.taken.end c.self.invariant.2.0 c.in_ok-read.ensures.taken))

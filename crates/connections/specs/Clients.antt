@@ -1,0 +1,71 @@
+-- A client, and what its turn came to.
+use Rattle.std.specs.Prelude.{◌≡◌, ◌≢◌, ℕ, zero, suc, ◌+◌, ◌*◌, ◌≤◌, Bool, true, List, [], ◌∷◌, length, Option, Some, ◌⊎◌}
+use Rattle.http_edge.specs.declared.serving.EdgeFault.{EdgeFault}
+use Rattle.connections.specs.declared.devices.Passage.{Passage}
+use Rattle.connections.specs.declared.devices.Passage.TheVariants.{WouldWait}
+use Rattle.connections.specs.Devices.{DeviceStand}
+use Rattle.connections.specs.Limits.{reads_in_turn, writes_in_turn}
+use Rattle.connections.specs.Runs.{IsRun}
+use Rattle.connections.specs.Table.{State, ClientEvent, arrival, request_bytes, reply_bytes, departure, at, left_of}
+use Rattle.connections.specs.Turns.{MovedEach, HasListened, HasListenedUntil, HasNoMore, HasSpoken, HasSpokenUntil, is_read_out}
+
+-- its device, its place, whether its end alone is awaited, and whether the system was asked to tell of it
+pub record ClientAt (X : Type 0) : Type 0 where
+  pub device : X
+  pub place : ℕ
+  pub is_ending : Bool
+  pub is_watched : Bool
+
+-- its device before a turn and after it, and how it stands as what is read and as what is written to
+module _ {X : Type 0} (incoming outgoing : X → DeviceStand) (place : ℕ) (before after : X) (old new : State) where
+  -- it was heard, and then it was told of its reply
+  pub record HasTurned : Type 0 where
+    pub device : X
+    pub state : State
+    pub heard : HasListened (incoming before) (incoming device) place old state
+    pub told : HasSpoken (outgoing device) (outgoing after) place state new
+
+  -- so it was until the last call, after which it went for this fault
+  abbrev pub HasTurnedUntil : EdgeFault → Type 0
+  HasTurnedUntil fault =
+      HasListenedUntil fault (incoming before) (incoming after) place old new
+      ⊎ ((device : X) × (state : State) × HasListened (incoming before) (incoming device) place old state × HasSpokenUntil fault (outgoing device) (outgoing after) place state new)
+
+  -- it was read, or written to, as often as it may be in a turn, and each call moved a byte or more
+  abbrev pub HasMoved : Type 0
+  HasMoved =
+      MovedEach reads_in_turn (incoming before).calls (incoming after).calls
+      ⊎ ((device : X) × MovedEach writes_in_turn (outgoing device).calls (outgoing after).calls)
+
+  -- its last call would have had to wait
+  abbrev pub HasToWait : Type 0
+  HasToWait = ((incoming after).calls.last ≡ Some WouldWait) ⊎ ((outgoing after).calls.last ≡ Some WouldWait)
+
+-- the last call told its end, or failed; or it was granted what it asked, and nothing that it sent is unread
+abbrev pub HasEnded : Bool → Option Passage → Type 0
+HasEnded granted last = HasNoMore last ⊎ ((granted ≡ true) × (is_read_out last ≡ true))
+
+-- of its reply so many bytes fewer are left, at least
+abbrev pub AreSent : ℕ → ℕ → State → State → Type 0
+AreSent count place old new = length (left_of (at new place)) + count ≤ length (left_of (at old place))
+
+-- ---- turn after turn
+
+-- what happened was at other places
+abbrev pub AreElsewhere : ℕ → List ClientEvent → Type 0
+AreElsewhere place [] = Unit {0}
+AreElsewhere place (arrival k ∷ before) = (place ≢ k) × AreElsewhere place before
+AreElsewhere place (request_bytes k piece ∷ before) = (place ≢ k) × AreElsewhere place before
+AreElsewhere place (reply_bytes k count ∷ before) = (place ≢ k) × AreElsewhere place before
+AreElsewhere place (departure k ∷ before) = (place ≢ k) × AreElsewhere place before
+
+-- so many turns of a client that is answered went on; before each of them others may have had theirs
+unfoldable pub WentOn : ℕ → ℕ → State → State → Type 0
+WentOn zero place old new = new ≡ old
+WentOn (suc n) place old new =
+    (before middle : State) × (events : List ClientEvent)
+    × WentOn n place old before × IsRun before events middle × AreElsewhere place events × AreSent writes_in_turn place middle new
+
+-- after so many turns that went on, four times as many bytes of the reply are gone, at least
+abbrev pub RepliesAreSent : Type 0
+RepliesAreSent = (turns place : ℕ) (old new : State) → WentOn turns place old new → AreSent (writes_in_turn * turns) place old new

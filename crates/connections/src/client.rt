@@ -1,0 +1,186 @@
+//! A client, from its first byte to its end. Its device is read and written to here alone.
+ghost use Rattle.std.specs.Prelude.{◌≡◌, ◌<◌, ◌+◌, ◌≢◌, [], Some, length, true, false};
+ghost use Rattle.connections.specs.declared.devices.Passage.TheVariants.{WouldWait};
+ghost use Rattle.connections.specs.Arrivals.{is_asking};
+ghost use Rattle.connections.specs.Clients.{AreSent, HasEnded, HasMoved, HasToWait, HasTurned, HasTurnedUntil};
+ghost use Rattle.connections.specs.Limits.{most_held, drains_in_turn, writes_in_turn};
+ghost use Rattle.connections.specs.Runs.{HasRun};
+ghost use Rattle.connections.specs.Table.{Happens, at, departure, held_in, left_of};
+ghost use Rattle.connections.specs.Turns.{HasNoMore, IfGone, MovedEach, Stays};
+
+use crate::devices::{Ending, Incoming, Outgoing, Socket};
+use crate::seats::Seat;
+use crate::table::Connections;
+use crate::turns::{Turn, drain, is_read_out, listen, speak};
+use mio::{Interest, Registry, Token};
+use std::marker::Model;
+
+/// A client at its seat, with its device.
+#[derive(Drop)]
+pub struct Client<T> {
+    device: T,
+    seat: Seat<T>,
+    // Whether its reply is gone, or it is given up, so that its end alone is awaited.
+    is_ending: bool,
+    // Whether the system was asked to tell when it is ready.
+    is_watched: bool,
+}
+
+impl<T> Model for Client<T> {
+    ghost use Rattle.connections.specs.Clients.{ClientAt};
+
+    ghost Value = { ClientAt T };
+
+    ghost view = { λ c. record { device = c.device; place = c.seat; is_ending = c.is_ending; is_watched = c.is_watched } };
+}
+
+impl<T> Client<T> {
+    /// The client at `seat` whose device is `device`. It asks.
+    pub fn new(device: T, seat: Seat<T>) -> Client<T>
+        ensures { result ≡ record { device = device; place = seat; is_ending = false; is_watched = false } }
+    {
+        Client {
+            device,
+            seat,
+            is_ending: false,
+            is_watched: false,
+        }
+    }
+
+    /// Whether its end alone is awaited.
+    pub fn is_ending(&self) -> bool
+        ensures { result ≡ self.now.is_ending }
+    {
+        self.is_ending
+    }
+
+    /// The client is given up, or its reply is gone: nothing is at its place in `connections` any more.
+    pub fn leave(&self, connections: &mut Connections)
+        ensures goes { Happens connections.old (departure self.now.place) connections.new }
+        ensures run { HasRun connections.old connections.new }
+    {
+        connections.remove(&self.seat);
+    }
+}
+
+impl<T: Drop> Client<T> {
+    /// Closes its device. Its seat is another one's then.
+    pub fn close(self) -> Seat<T>
+        ensures { result ≡ self.place }
+    {
+        let Client { seat, .. } = self;
+        seat
+    }
+}
+
+impl<T: Incoming + Outgoing> Client<T> {
+    #[tactic(auto, using(crate::proofs::Leading::and_then))]
+    /// Gives the client its turn: it is heard until its request is whole, then its reply is written, and once it is
+    /// ending what it sends is passed over. `connections` have what it said and what is left of its reply; `block` is room
+    /// for a read.
+    pub fn take_turn(&mut self, connections: &mut Connections, block: &mut [u8]) -> Turn
+        requires { 0 < length block.old }
+        ensures place { self.new.place ≡ self.old.place }
+        ensures is_ending { self.new.is_ending ≡ self.old.is_ending }
+        ensures is_watched { self.new.is_watched ≡ self.old.is_watched }
+
+        // What it said and took is what went through its device, in order.
+        ensures turned { self.old.is_ending ≡ false → Stays result
+            (HasTurned T.Incoming.stand T.Outgoing.stand
+            self.old.place self.old.device self.new.device connections.old connections.new) }
+        ensures gone { self.old.is_ending ≡ false → IfGone result
+            (HasTurnedUntil T.Incoming.stand T.Outgoing.stand
+            self.old.place self.old.device self.new.device connections.old connections.new) }
+        ensures whole { self.old.is_ending ≡ false → result ≡ Turn.Done →
+            is_asking (at connections.new self.old.place) ≡ false }
+        ensures done { self.old.is_ending ≡ false → result ≡ Turn.Done →
+            left_of (at connections.new self.old.place) ≡ [] }
+        ensures full { result ≡ Turn.Full →
+            most_held < held_in connections.new.places + length block.old }
+
+        // A turn that goes on has moved bytes at each call.
+        ensures moved { self.old.is_ending ≡ false → result ≡ Turn.Goes →
+            HasMoved T.Incoming.stand T.Outgoing.stand
+            self.old.place self.old.device self.new.device connections.old connections.new }
+        ensures sent { self.old.is_ending ≡ false → result ≡ Turn.Goes →
+            is_asking (at connections.old self.old.place) ≡ false →
+            AreSent writes_in_turn self.old.place connections.old connections.new }
+        ensures waits { result ≡ Turn.Waits →
+            HasToWait T.Incoming.stand T.Outgoing.stand
+            self.old.place self.old.device self.new.device connections.old connections.new }
+
+        // Once it is ending, nothing of it is heard or told.
+        ensures passed { self.old.is_ending ≡ true → connections.new ≡ connections.old }
+        ensures drained { self.old.is_ending ≡ true → result ≡ Turn.Goes →
+            MovedEach drains_in_turn (T.Incoming.stand self.old.device).calls
+            (T.Incoming.stand self.new.device).calls }
+        ensures ended { self.old.is_ending ≡ true → result ≡ Turn.Done →
+            HasNoMore (T.Incoming.stand self.new.device).calls.last }
+        ensures run { HasRun connections.old connections.new }
+    {
+        if self.is_ending {
+            return drain(&mut self.device);
+        }
+        if connections.is_asking(self.seat.place()) {
+            match listen(&mut self.device, connections, &self.seat, block) {
+                Turn::Done => {}
+                other => return other,
+            }
+        }
+        speak(&mut self.device, connections, &self.seat)
+    }
+}
+
+impl<T: Incoming + Ending> Client<T> {
+    /// Ends what is sent to a client whose reply is gone, or that is given up. `Done` if it `was_granted` what it
+    /// asked and nothing of what it sent is unread; else its end alone is awaited from now on, and what it sends is passed
+    /// over.
+    pub fn end(&mut self, was_granted: bool) -> Turn
+        ensures place { self.new.place ≡ self.old.place }
+        ensures is_watched { self.new.is_watched ≡ self.old.is_watched }
+        ensures is_ending { was_granted ≡ false → self.new.is_ending ≡ true }
+        ensures goes_on { result ≢ Turn.Done → self.new.is_ending ≡ true }
+        ensures waits { result ≡ Turn.Waits →
+            (T.Incoming.stand self.new.device).calls.last ≡ Some WouldWait }
+        ensures done { result ≡ Turn.Done → HasEnded was_granted
+            (T.Incoming.stand self.new.device).calls.last }
+        ensures room { result ≡ Turn.Full → ⊥ }
+        ensures stays { IfGone result (λ fault. ⊥) }
+    {
+        if was_granted && is_read_out(&mut self.device) {
+            return Turn::Done;
+        }
+        self.device.end_output();
+        self.is_ending = true;
+        drain(&mut self.device)
+    }
+}
+
+impl Client<Socket> {
+    /// Has the system say, by `registry`, when the client is ready. False if it can't.
+    pub fn watch(&mut self, registry: &Registry) -> bool
+        ensures place { self.new.place ≡ self.old.place }
+        ensures is_ending { self.new.is_ending ≡ self.old.is_ending }
+        ensures is_watched { self.new.is_watched ≡ true }
+    {
+        let both = Interest::READABLE | Interest::WRITABLE;
+        let token = Token(self.seat.place());
+        let stream = self.device.inner();
+        let done = if self.is_watched {
+            registry.reregister(stream, token, both)
+        } else {
+            registry.register(stream, token, both)
+        };
+        self.is_watched = true;
+        done.is_ok()
+    }
+
+    /// Has the system say, by `registry`, when the client is ready, if it doesn't already. False if it can't.
+    pub fn keep_watched(&mut self, registry: &Registry) -> bool
+        ensures place { self.new.place ≡ self.old.place }
+        ensures is_ending { self.new.is_ending ≡ self.old.is_ending }
+        ensures is_watched { self.new.is_watched ≡ true }
+    {
+        self.is_watched || self.watch(registry)
+    }
+}
