@@ -7,7 +7,6 @@ ghost use Rattle.date_times.specs.Instant.{in_range, if_in_range};
 use std::marker::Model;
 
 mod reading;
-mod worked_examples;
 mod writing;
 
 pub use reading::{TimeFault, TimeReader, read_instant};

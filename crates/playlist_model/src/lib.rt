@@ -262,8 +262,6 @@ pub struct Playlist {
     pub segments: Shared<Items<Segment>>,
 }
 
-mod worked_examples;
-
 // Whether a byte is an ASCII character that is no control character.
 fn is_printable(byte: u8) -> bool
     ensures { result ≡ is_printable byte }

@@ -1,4 +1,3 @@
 pub mod Read
 pub mod Laws
 pub mod Limits
-pub mod Inner

@@ -3,8 +3,6 @@
 
 ghost use Rattle.read_is_writable.specs.Laws.{ReadCanBeWritten, TextSegmentsCanBeWritten, ReadsWithinLimits};
 
-mod worked_examples;
-
 /// What is read, by whatever reader and under whatever base, can be written again.
 pub fn read_can_be_written()
     ensures { ReadCanBeWritten }

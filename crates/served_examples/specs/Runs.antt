@@ -1,5 +1,5 @@
 -- A run over one playlist, and what a channel was given.
-use Rattle.std.specs.Prelude.{ℕ, ◌-◌, ◌^◌, true, false, List, [], ◌∷◌, ◌++◌, map, codes, pos, Option, Some, None, option_map, Result, Ok, Err}
+use Rattle.std.specs.Prelude.{ℕ, ◌-◌, ◌^◌, true, false, List, [], ◌∷◌, ◌++◌, map, replicate, codes, pos, Option, Some, None, option_map, Result, Ok, Err}
 use Rattle.url.specs.Parts.{Parts}
 use Rattle.byte_streams.specs.Devices.{next_count}
 use Rattle.pod_store.specs.declared.Decisions.TheVariants.{Breaks, Withdraw}
@@ -13,7 +13,8 @@ use Rattle.channel_spec.specs.Live as live
 use Rattle.live_channel.specs.Channel.{Given, decided, withdrawn, refreshed, events_of}
 use Rattle.playlist_model.specs.declared.Segment.{Segment}
 use Rattle.playlist_model.specs.declared.Key.{Key}
-use Rattle.read_is_writable.specs.Read.{uris_are_text}
+use Rattle.read_is_writable.specs.Limits.{line_keeps}
+use Rattle.read_is_writable.specs.Read.{uri_reads, quoted_uri_reads, numbers_read, segment_reads, segment_can_be_written, uris_are_text}
 use Rattle.vod_run.specs.Events as vod
 use Rattle.vod_run.specs.Given.{given_by}
 use Rattle.byte_streams.specs.Fair.{most_reads}
@@ -68,6 +69,39 @@ UrisAreText = Gives uris_are_text (
     ∷ (record segment { init_section = Some (record { uri = codes "a:i"; byte_range = None; keys = key (codes "a:k") ∷ key (255 ∷ []) ∷ [] }) }, false)
     ∷ (record segment { init_section = Some (record { uri = codes "a:i"; byte_range = None; keys = key (codes "a:k") ∷ key (codes "a:k") ∷ key (codes "a:k") ∷ key (codes "a:k") ∷ key (255 ∷ []) ∷ [] }) }, false)
     ∷ (record segment { keys = key (codes "a:k") ∷ key (codes "a:k") ∷ key (codes "a:k") ∷ key (codes "a:k") ∷ key (255 ∷ []) ∷ [] }, false) ∷ [])
+
+-- a whole URI without a control character is read, and between quotes one without a quote (4.2, 4.3.2.4)
+abbrev pub ReadUrisAreWhole : Type 0
+ReadUrisAreWhole = Gives (λ (uri : List ℕ). (uri_reads uri, quoted_uri_reads uri)) (
+    (codes "http://h/a", (true, true)) ∷ (codes "s0.ts", (false, false)) ∷ (codes "http://h/" ++ (127 ∷ []), (false, false)) ∷ (codes "http://h/\"", (true, false)) ∷ [])
+
+-- 4.3.3.2 and 4.3.3.3: a playlist has a segment, and numbers go up by one and by the discontinuities between
+abbrev pub ReadNumbersRise : Type 0
+ReadNumbersRise = Gives numbers_read (
+    ([], false)
+    ∷ (segment ∷ record segment { media_sequence = 1; discontinuity_sequence = 1; discontinuities = 1 } ∷ [], true)
+    ∷ (segment ∷ record segment { media_sequence = 1; discontinuity_sequence = 1 } ∷ [], false)
+    ∷ (segment ∷ record segment { media_sequence = 2 } ∷ [], false)
+    ∷ (record segment { discontinuities = 1 } ∷ [], false) ∷ [])
+
+-- whether such a segment is read, and whether it can be written: its URI is whole, its byte range ends below 2^64, and it lasts
+-- less than 1,000,000 s; what is written is UTF-8 too
+abbrev pub ReadSegmentsAreWritten : Type 0
+ReadSegmentsAreWritten = Gives (λ (s : Segment). (segment_reads s, segment_can_be_written s)) (
+    (segment, (true, true))
+    ∷ (record segment { byte_range = Some (record { length = 5; offset = 3 }); keys = key (codes "a:k") ∷ []; title = codes "first"; program_date_time = Some (pos 0) }, (true, true))
+    ∷ (record segment { uri = codes "s" }, (false, false))
+    ∷ (record segment { uri = codes "a:" ++ (255 ∷ []) }, (true, false))
+    ∷ (record segment { byte_range = Some (record { length = 2; offset = 2 ^ 64 - 2 }) }, (false, false))
+    ∷ (record segment { duration = 10 ^ 15 }, (false, false)) ∷ [])
+
+-- docs/OPERATING.md: a tag of attributes has 64 at most; EXTINF has none
+abbrev pub LinesKeepTheirLimit : Type 0
+LinesKeepTheirLimit = Gives line_keeps (
+    (codes "#EXT-X-KEY:METHOD=AES-128,URI=\"k\"", true)
+    ∷ (codes "#EXT-X-MAP:" ++ replicate 63 44, true)
+    ∷ (codes "#EXT-X-MAP:" ++ replicate 64 44, false)
+    ∷ (codes "#EXTINF:" ++ replicate 64 44, true) ∷ [])
 
 abbrev pub uris_of : Result Playlist Fault → Option (List (List ℕ))
 uris_of (Ok p) = Some (map (λ (s : Segment). s.uri) p.segments)

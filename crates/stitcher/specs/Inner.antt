@@ -1,4 +1,2 @@
 pub mod Making
-pub mod Stitched
-pub mod WorkedExamples
 pub mod Cuts

@@ -13,7 +13,6 @@ mod marked;
 mod segment_ref;
 mod stitched_list;
 mod text_ref;
-mod worked_examples;
 
 pub use ends::{Ends, Rest};
 pub use fault::StitchFault;

@@ -4,12 +4,19 @@ use Rattle.url.specs.Parts.{Parts}
 use Rattle.playlist_model.specs.declared.FaultKind.TheVariants.{BadVersion, Version, BadValue, BadDuration, BadAttributes, MissingAttribute, BadRange, BadTime, BadUri}
 use Rattle.playlist_model.specs.declared.PlaylistKind.TheVariants.{Event, Vod}
 use Rattle.playlist_model.specs.declared.Key.{Key}
-use Rattle.playlist_model.specs.Lines.{ignored, uri, tag, kind_of}
+use Rattle.playlist_model.specs.Lines.{ignored, uri, tag, kind_of, placed_lines}
 use Rattle.playlist_model.specs.Uri.{base_of, can_be_written, has_scheme, joined, resolved}
 use Rattle.playlist_model.specs.Said.{Name, version_tag, target_tag, sequence_tag, discontinuity_sequence_tag, type_tag, ended_tag, independent_tag, frames_tag, master_tag, duration_tag, byte_range_tag, discontinuity_tag, key_tag, init_section_tag, time_tag, date_range_tag, unknown_tag, duration, no_keys, key, init_section, date_range, version_of, playlist_type_of, duration_said, byte_range_of, key_said, init_section_said, date_range_said}
 use Rattle.playlist_model.specs.Reading.{name_of, limited}
 use Rattle.worked_examples.specs.Pods.{long}
 use Rattle.worked_examples.specs.Tables.{Gives}
+
+-- RFC 8216, 4.1: a line ends with LF or CR LF; a CR that no LF follows is part of its line. Each line stands with its place
+abbrev pub LinesArePlaced : Type 0
+LinesArePlaced = Gives placed_lines (
+    ([], [])
+    ∷ (codes "#EXTM3U" ++ (13 ∷ 10 ∷ codes "a b" ++ (10 ∷ 10 ∷ codes "c" ++ (13 ∷ []))), (0, codes "#EXTM3U") ∷ (9, codes "a b") ∷ (13, []) ∷ (14, codes "c" ++ (13 ∷ [])) ∷ [])
+    ∷ (codes "a" ++ (13 ∷ codes "b" ++ (10 ∷ [])), (0, codes "a" ++ (13 ∷ codes "b")) ∷ []) ∷ [])
 
 -- RFC 8216, 4.1: a line is a URI, is blank, or begins with `#`; a tag begins with `#EXT`, in that case
 abbrev pub LinesHaveTheirKinds : Type 0
@@ -112,6 +119,8 @@ ReferencesAreResolved = Gives (λ reference. based (λ base. resolved base refer
     ∷ (codes "//cdn.example/s0.ts", Some (Some (codes "http://cdn.example/s0.ts")))
     ∷ (codes "skd://key", Some (Some (codes "skd://key")))
     ∷ (codes "HTTP://H/a", Some (Some (codes "HTTP://H/a")))
+    ∷ (codes "http:", Some (Some (codes "http:")))
+    ∷ (codes "../a b?q#f", Some (Some (codes "http://origin.example/a%20b?q#f")))
     ∷ (long 98 ++ codes ":a", Some (Some (long 98 ++ codes ":a")))
     ∷ (long 98, Some (Some (codes "http://origin.example/ch/" ++ long 98)))
     ∷ (codes "//[/x", Some None) ∷ [])
@@ -139,6 +148,7 @@ abbrev pub KeysAreRead : Type 0
 KeysAreRead = Gives (λ text. based (λ base. key_said limited base text)) (
     (codes "METHOD=NONE", Some (Ok no_keys))
     ∷ (codes "METHOD=NONE,URI=a", Some (Ok no_keys))
+    ∷ (codes "METHOD=NONE,IV=5", Some (Ok no_keys))
     ∷ (codes "METHOD=AES-128,URI=\"k\"", Some (Ok (key (aes (codes "identity") (codes "http://origin.example/ch/k") None []))))
     ∷ (codes "METHOD=AES-128,URI=\"a:k\",IV=0x1F,KEYFORMAT=\"f\",KEYFORMATVERSIONS=\"1\"", Some (Ok (key (aes (codes "f") (codes "a:k") (Some 31) (codes ",KEYFORMATVERSIONS=\"1\"")))))
     ∷ (codes "METHOD=AES-128,URI=\"a:k\",X-A=1,X-B=2,X-C=3,X-D=4,IV=0x1F,KEYFORMAT=\"f\"", Some (Ok (key (aes (codes "f") (codes "a:k") (Some 31) (codes ",X-A=1,X-B=2,X-C=3,X-D=4")))))
@@ -163,6 +173,7 @@ KeysAreRead = Gives (λ text. based (λ base. key_said limited base text)) (
 abbrev pub InitSectionsAreRead : Type 0
 InitSectionsAreRead = Gives (λ text. based (λ base. init_section_said limited base text)) (
     (codes "URI=\"a:i\"", Some (Ok (init_section (codes "a:i") None)))
+    ∷ (codes "URI=\"i\"", Some (Ok (init_section (codes "http://origin.example/ch/i") None)))
     ∷ (codes "URI=\"a:i\",BYTERANGE=\"100@5\"", Some (Ok (init_section (codes "a:i") (Some (record { length = 100; offset = 5 })))))
     ∷ (codes "URI=\"a:i\",BYTERANGE=\"100\"", Some (Ok (init_section (codes "a:i") (Some (record { length = 100; offset = 0 })))))
     ∷ (codes "URI=\"a:i\",BYTERANGE=\"18446744073709551615\"", Some (Ok (init_section (codes "a:i") (Some (record { length = 18446744073709551615; offset = 0 })))))

@@ -1,5 +1,5 @@
 -- What the bytes of a playlist denote, or their first fault; when segments begin, and which are the same.
-use Rattle.std.specs.Prelude.{ℕ, true, false, ℤ, pos, List, [], ◌∷◌, ◌++◌, codes, Option, Some, None, option_map, Result, Ok, Err}
+use Rattle.std.specs.Prelude.{ℕ, true, false, ℤ, pos, negsuc, List, [], ◌∷◌, ◌++◌, codes, Option, Some, None, option_map, Result, Ok, Err}
 use Rattle.playlist_model.specs.declared.FaultKind.{FaultKind}
 use Rattle.playlist_model.specs.declared.FaultKind.TheVariants as fault
 use Rattle.playlist_model.specs.declared.PlaylistFault.{PlaylistFault}
@@ -12,7 +12,7 @@ use Rattle.playlist_model.specs.Said as said
 use Rattle.playlist_model.specs.Said.{Reader, key, no_keys, nothing}
 use Rattle.playlist_model.specs.EffectiveKeys.{effective_key}
 use Rattle.playlist_model.specs.FaultTexts.{fault_text}
-use Rattle.playlist_model.specs.Instants.{begins_at, ends_at}
+use Rattle.playlist_model.specs.Instants.{begins_at, ends_at, instants_of}
 use Rattle.playlist_model.specs.LookBack.{keys_at, standing_at}
 use Rattle.playlist_model.specs.Reading.{reading, limited, unlimited}
 use Rattle.playlist_model.specs.Same.{same_segment, kept_parts}
@@ -38,13 +38,18 @@ refused_at line kind = Some (Err (record { kind = kind; line = line }))
 abbrev pub identity : List ℕ → Option ℕ → Key
 identity resource iv = record { format = codes "identity"; method = codes "AES-128"; uri = resource; iv = iv; other_attributes = [] }
 
+-- a key of another format, with an attribute that has no meaning here
+abbrev pub drm : Key
+drm = record { format = codes "com.example.drm"; method = codes "SAMPLE-AES"; uri = codes "skd://k"; iv = None; other_attributes = codes ",X=\"y\"" }
+
 abbrev pub under_key_1 : InitSection
 under_key_1 = record { uri = codes "a:i"; byte_range = None; keys = identity (codes "a:1") (Some 1) ∷ [] }
 
 -- RFC 8216, 4.3: the tags of the whole playlist, and of three segments. The first number is the stated one (4.3.3.2), the
 -- discontinuity number goes up with each EXT-X-DISCONTINUITY (4.3.3.3), a byte range without an offset begins where the one
 -- before ended (4.3.2.2), a key is in force until another one or NONE (4.3.2.4) and has the segment's number as IV (5.2), and
--- an initialisation section has the keys in force at its own line (4.3.2.5)
+-- an initialisation section has the keys in force at its own line (4.3.2.5). Keys stand in the order of their formats, a
+-- reference is resolved against the base (4.1), and of two EXTINF of a segment the last one counts
 abbrev pub WholePlaylistIsRead : Type 0
 WholePlaylistIsRead = Gives (read_by limited) ((
   codes "#EXTM3U"
@@ -97,6 +102,33 @@ WholePlaylistIsRead = Gives (read_by limited) ((
         segments = record { media_sequence = 0; discontinuity_sequence = 0; discontinuities = 0; uri = codes "a:s"; byte_range = None; keys = []; init_section = None; duration = 10000000000; title = []; program_date_time = None } ∷ [];
       })),
     )
+    ∷ (
+      codes "#EXTM3U"
+          ∷ codes "#EXT-X-TARGETDURATION:10"
+          ∷ codes "#EXT-X-MEDIA-SEQUENCE:7"
+          ∷ codes "#EXT-X-KEY:METHOD=AES-128,URI=\"k1\""
+          ∷ codes "#EXT-X-KEY:METHOD=SAMPLE-AES,URI=\"skd://k\",KEYFORMAT=\"com.example.drm\",X=\"y\""
+          ∷ codes "#EXT-X-DISCONTINUITY"
+          ∷ codes "#EXTINF:10,a,b"
+          ∷ codes "s0.ts"
+          ∷ codes "#EXTINF:5,"
+          ∷ codes "#EXT-X-KEY:METHOD=NONE"
+          ∷ codes "#EXTINF:10,"
+          ∷ codes "#EXT-X-PROGRAM-DATE-TIME:2024-05-01T14:00:10.25+02:00"
+          ∷ codes "s1.ts" ∷ [],
+      Some (Ok (record {
+        version = 1;
+        target_duration = 10;
+        playlist_type = None;
+        independent_segments = false;
+        end_list = false;
+        date_ranges = [];
+        segments =
+            record { media_sequence = 7; discontinuity_sequence = 1; discontinuities = 1; uri = codes "http://h/s0.ts"; byte_range = None; keys = drm ∷ identity (codes "http://h/k1") (Some 7) ∷ []; init_section = None; duration = 10000000000; title = codes "a,b"; program_date_time = None }
+            ∷ record { media_sequence = 8; discontinuity_sequence = 1; discontinuities = 0; uri = codes "http://h/s1.ts"; byte_range = None; keys = []; init_section = None; duration = 10000000000; title = []; program_date_time = Some (pos 1714564810250000000) }
+            ∷ [];
+      })),
+    )
     ∷ [])
 
 -- what lines are read as after `#EXTM3U` and a target duration of 10 s
@@ -130,6 +162,7 @@ TagsArePlaced = Gives read_on (
     ∷ (codes "#EXT-X-PLAYLIST-TYPE:VOD" ∷ codes "#EXT-X-PLAYLIST-TYPE:x" ∷ [], refused_at 4 fault.Repeated)
     ∷ ((codes "#EXT-X-VERSION:x" ++ 7 ∷ []) ∷ [], refused_at 3 fault.Control)
     ∷ ((97 ∷ 7 ∷ []) ∷ [], refused_at 3 fault.Control)
+    ∷ ((97 ∷ 13 ∷ 98 ∷ []) ∷ [], refused_at 3 fault.Control)
     ∷ ((codes "#EXTINF:1," ++ 9 ∷ []) ∷ [], refused_at 3 fault.Control)
     ∷ ((codes "# " ++ 127 ∷ []) ∷ [], refused_at 3 fault.Control)
     ∷ ((codes "# " ++ 194 ∷ 133 ∷ []) ∷ [], refused_at 3 fault.Control)
@@ -192,7 +225,8 @@ SegmentsAreChecked = Gives read_on (
       refused_at 16 fault.NoDuration,
     ) ∷ [])
 
--- 4.3.1.1 and 4.3.3.1: EXTM3U is the first line, and EXT-X-TARGETDURATION is required; 4.1: a playlist is UTF-8. What the whole
+-- 4.3.1.1 and 4.3.3.1: EXTM3U is the first line, and EXT-X-TARGETDURATION is required; 4.1: a playlist is UTF-8, and its lines
+-- may end with CR LF. What the whole
 -- playlist lacks is told after the faults of its lines, the target duration first
 abbrev pub HeadersAreChecked : Type 0
 HeadersAreChecked = Gives (read_by limited) (
@@ -205,7 +239,9 @@ HeadersAreChecked = Gives (read_by limited) (
     ∷ (codes "#EXTM3U" ∷ codes "#EXT-X-VERSION:x" ∷ [], refused_at 2 fault.BadVersion)
     ∷ (codes "#EXTM3U" ∷ codes "#EXT-X-TARGETDURATION:x" ∷ [], refused_at 2 fault.BadValue)
     ∷ (codes "#EXTM3U" ∷ codes "#EXTINF:1," ∷ codes "a:s" ∷ codes "#EXT-X-MAP:URI=\"a:i\"" ∷ codes "#EXTINF:1," ∷ codes "a:t" ∷ [], refused_at 0 fault.NoTarget)
+    ∷ ((codes "#EXTM3U" ++ (13 ∷ [])) ∷ (codes "#EXT-X-VERSION:9" ++ (13 ∷ [])) ∷ [], refused_at 2 fault.Version)
     ∷ (codes "#EXTM3U" ∷ (128 ∷ []) ∷ [], refused_at 0 fault.NotUtf8)
+    ∷ (codes "#EXTM3U" ∷ (194 ∷ []) ∷ [], refused_at 0 fault.NotUtf8)
     ∷ ((128 ∷ []) ∷ [], refused_at 0 fault.NotUtf8) ∷ [])
 
 abbrev pub small : Reader
@@ -309,7 +345,21 @@ SegmentsBegin = Gives begins (
     ∷ ((None, lasting 10 None, lasting 20 None ∷ lasting 40 (Some (pos 90)) ∷ lasting 10 (Some (pos 500)) ∷ []), Some (pos 60))
     ∷ ((None, lasting 10 None, lasting 20 None ∷ []), None)
     ∷ ((Some (pos 7258118400000000000), lasting 10 None, []), None)
+    ∷ ((None, lasting 10 None, lasting 10 (Some (negsuc 2208988799999999999)) ∷ []), None)
     ∷ ((Some (pos 7258118399999999999), lasting 10 None, []), Some (pos 7258118399999999999)) ∷ [])
+
+-- the same of each segment of a list: a time that is stated later or anew, one that is stated nowhere, a segment that ends after
+-- the year 2199, and one that begins before 1900
+abbrev pub InstantsFollow : Type 0
+InstantsFollow = Gives instants_of (
+    (lasting 10 None ∷ lasting 10 (Some (pos 70)) ∷ lasting 9 None ∷ [], Some (pos 60) ∷ Some (pos 70) ∷ Some (pos 80) ∷ [])
+    ∷ (lasting 10 (Some (pos 50)) ∷ lasting 10 (Some (pos 61)) ∷ [], Some (pos 50) ∷ Some (pos 61) ∷ [])
+    ∷ (lasting 10 None ∷ [], None ∷ [])
+    ∷ (
+      lasting 10 (Some (pos 7258118399999999995)) ∷ lasting 10 None ∷ lasting 10 None ∷ lasting 10 (Some (pos 70)) ∷ [],
+      Some (pos 7258118399999999995) ∷ None ∷ Some (pos 60) ∷ Some (pos 70) ∷ [],
+    )
+    ∷ (lasting 10 None ∷ lasting 10 (Some (negsuc 2208988799999999994)) ∷ [], None ∷ Some (negsuc 2208988799999999994) ∷ []) ∷ [])
 
 abbrev pub SegmentsEnd : Type 0
 SegmentsEnd = Gives (λ (begun : Option ℤ). ends_at begun 30) ((Some (pos 50), Some (pos 80)) ∷ (None, None) ∷ [])

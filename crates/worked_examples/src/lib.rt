@@ -4,8 +4,8 @@
 #![tactic(auto)]
 
 ghost use Rattle.worked_examples.specs.Texts.{DurationsAreRead, DurationsAreWritten, DurationsAreRounded, AttributesAreRead, AttributesAreLimited, AttributesAreWritten, DecimalsAreRead, SequencesAreRead, InstantsAreRead, InstantsAreWritten, PairFaultsAreOrdered, ValuesAreChecked, MonthsEnd, FormsAreChecked, OffsetsAreRead};
-ghost use Rattle.worked_examples.specs.Lines.{LinesHaveTheirKinds, TagsHaveTheirNames, SchemesAreSeen, VersionsAreRead, TypesAreRead, SegmentDurationsAreRead, ByteRangesAreRead, ReferencesAreResolved, BasesAreWebUrls, KeysAreRead, InitSectionsAreRead, DateRangesAreRead, JoinsCanBeWritten, PathsAreJoined};
-ghost use Rattle.worked_examples.specs.Playlists.{WholePlaylistIsRead, TagsArePlaced, SegmentsAreChecked, HeadersAreChecked, ReadersAreLimited, LimitsAreStated, KeysAreInForce, KeysHaveTheirIvs, LinesStand, SegmentsBegin, SegmentsEnd, PartsAreKept, SegmentsAreCompared, FaultsAreTold, TagsApartArePlaced, TagsAfterSegmentsArePlaced, TagsStand};
+ghost use Rattle.worked_examples.specs.Lines.{LinesArePlaced, LinesHaveTheirKinds, TagsHaveTheirNames, SchemesAreSeen, VersionsAreRead, TypesAreRead, SegmentDurationsAreRead, ByteRangesAreRead, ReferencesAreResolved, BasesAreWebUrls, KeysAreRead, InitSectionsAreRead, DateRangesAreRead, JoinsCanBeWritten, PathsAreJoined};
+ghost use Rattle.worked_examples.specs.Playlists.{WholePlaylistIsRead, TagsArePlaced, SegmentsAreChecked, HeadersAreChecked, ReadersAreLimited, LimitsAreStated, KeysAreInForce, KeysHaveTheirIvs, LinesStand, SegmentsBegin, InstantsFollow, SegmentsEnd, PartsAreKept, SegmentsAreCompared, FaultsAreTold, TagsApartArePlaced, TagsAfterSegmentsArePlaced, TagsStand};
 ghost use Rattle.worked_examples.specs.Splices.{SplicesAreRead, LargeSplicesAreRead, SpliceFaultsAreOrdered};
 ghost use Rattle.worked_examples.specs.Breaks.{SignalsAreRead, TicksAreCounted, FirstValuesStand, BreaksEnd, BreaksAreSignalled, StartsAreNear, EndsAreNear, ClosedBreaksCanBeEntered, BreaksAreKnown, BreaksAreEntered, BreaksGoOn, ReasonsAreTold, StartsAreStated, MarksAreMade, BreaksOfOthersGoOn, ReasonsOfOthersAreTold};
 ghost use Rattle.worked_examples.specs.Pods.{IdsAreChecked, UrisAreChecked, MethodsAreChecked, FormatsAreChecked, PodsAreSummed, PodsFit, PodsWithInitSectionsFit, RulesAreKept, DecisionsAreTaken, StoreIsLimited, PodsAreFound, OwnPodsFit, UsedPodsStay, FilesAreRead, BreaksAreChecked, AdsAreChecked, SegmentsAreCounted, FaultsOfFilesAreTold, LackOfMemoryHasNoPlace, LongIdsAreApart, LongIdsCountOnce, LongIdsAreFound, StoresFit, NothingIsCopied, AdsAreCounted, ManySegmentsAreCounted};
@@ -38,6 +38,7 @@ pub fn texts_have_their_values()
 
 /// What one line of a playlist says.
 pub fn lines_have_their_values()
+    ensures lines_are_placed { LinesArePlaced }
     ensures lines_have_their_kinds { LinesHaveTheirKinds }
     ensures tags_have_their_names { TagsHaveTheirNames }
     ensures schemes_are_seen { SchemesAreSeen }
@@ -66,6 +67,7 @@ pub fn playlists_have_their_values()
     ensures keys_have_their_ivs { KeysHaveTheirIvs }
     ensures lines_stand { LinesStand }
     ensures segments_begin { SegmentsBegin }
+    ensures instants_follow { InstantsFollow }
     ensures segments_end { SegmentsEnd }
     ensures parts_are_kept { PartsAreKept }
     ensures segments_are_compared { SegmentsAreCompared }

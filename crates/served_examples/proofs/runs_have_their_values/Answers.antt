@@ -29,3 +29,19 @@ returns-clause-inputs_are_read_under_bases c = refl
 pub returns-clause-runs_are_told : goal.returns-clause-runs_are_told
 unfolding on_literals
 returns-clause-runs_are_told c = refl
+
+pub returns-clause-read_uris_are_whole : goal.returns-clause-read_uris_are_whole
+unfolding on_literals
+returns-clause-read_uris_are_whole c = refl
+
+pub returns-clause-read_numbers_rise : goal.returns-clause-read_numbers_rise
+unfolding on_literals
+returns-clause-read_numbers_rise c = refl
+
+pub returns-clause-read_segments_are_written : goal.returns-clause-read_segments_are_written
+unfolding on_literals
+returns-clause-read_segments_are_written c = refl
+
+pub returns-clause-lines_keep_their_limit : goal.returns-clause-lines_keep_their_limit
+unfolding on_literals
+returns-clause-lines_keep_their_limit c = refl

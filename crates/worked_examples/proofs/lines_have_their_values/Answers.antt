@@ -57,3 +57,7 @@ returns-clause-joins_can_be_written c = refl
 pub returns-clause-paths_are_joined : goal.returns-clause-paths_are_joined
 unfolding on_literals
 returns-clause-paths_are_joined c = refl
+
+pub returns-clause-lines_are_placed : goal.returns-clause-lines_are_placed
+unfolding on_literals
+returns-clause-lines_are_placed c = refl

@@ -69,3 +69,7 @@ returns-clause-tags_after_segments_are_placed c = refl
 pub returns-clause-tags_stand : goal.returns-clause-tags_stand
 unfolding on_literals
 returns-clause-tags_stand c = refl
+
+pub returns-clause-instants_follow : goal.returns-clause-instants_follow
+unfolding on_literals
+returns-clause-instants_follow c = refl

@@ -1,7 +1,0 @@
-use Rattle.std.proofs.Common.{refl}
-use Rattle.url.proofs.OnLiterals.{url_on_literals}
-use Rattle.read_is_writable.proofs.worked_examples.small_example.Goals as goal
-
-pub returns : goal.returns
-unfolding url_on_literals
-returns c = record { segments = refl; numbers = refl; fit = refl; uris = refl; written = refl; limits = refl }
