@@ -210,13 +210,21 @@ def give_room() -> None:
     signal.signal(signal.SIGALRM, too_long)
 
 
+def end_at_once() -> None:
+    """Lets a worker end at SIGTERM: with this script's own handler it can wait for ever, as the pool ends."""
+    signal.signal(signal.SIGTERM, signal.SIG_DFL)
+    signal.signal(signal.SIGINT, signal.SIG_IGN)
+
+
 def verdicts_on(trials: Trials, turned: list[Turned], workers: int, log: Any = None) -> list[Verdict]:
     """The verdicts on these, by so many processes."""
     SHARED[:] = [trials, turned]
     found: dict[int, Verdict] = {}
-    with multiprocessing.get_context("fork").Pool(workers) as pool:
+    with multiprocessing.get_context("fork").Pool(workers, end_at_once) as pool:
         for at, verdict in pool.imap_unordered(verdict_at, range(len(turned)), chunksize=8):
             found[at] = verdict
             if log:
                 log(turned[at], verdict)
+        pool.close()
+        pool.join()
     return [found[at] for at in range(len(turned))]
