@@ -10,6 +10,8 @@ from typing import NoReturn
 NO_KIT = ("the command rt isn't on the path. It is the Rattle kit's, which proves and compiles this program: "
           "CONTRIBUTING.md, 'Set up', says what the kit is and where it comes from")
 
+USAGE = "usage: adsplice vod BASE [DECISIONS] | adsplice live PORT COUNT"  # (what the program says of words that it does not take)
+
 
 def end(why: str, status: int = 2) -> NoReturn:
     """Ends the script with a line that says why it can't begin."""
