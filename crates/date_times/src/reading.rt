@@ -2,14 +2,13 @@
 ghost use Rattle.std.specs.Prelude.{◌≡◌, ◌+◌, ◌-◌, ◌*◌, ◌^◌, ◌<◌, ◌≤◌, ◌==◌, drop, length, pos, ◌-ℤ◌, ◌+ℤ◌, ◌*ℤ◌, Some, IsTrue, true, false, slice_index, MatchOption};
 ghost use Rattle.std.specs.Option.{ok_or, IfSome};
 ghost use Rattle.jiff_core.specs.Calendar.{IsEpochDay, IsWithin};
-ghost use Rattle.std.specs.List.{list_all, prefix_len};
+ghost use Rattle.std.specs.List.{prefix_len};
 ghost use Rattle.std.specs.Char.{is_ascii_digit};
-ghost use Rattle.std.specs.Str.Parse.{digits_value};
 ghost use Rattle.date_times.specs.Instant.{field, are_digits, has_date_form, is_day, is_date, day_number, has_clock_form, is_clock, fraction_len, is_fraction, offset_seconds, zone_offset, if_in_range, instant_of, IsDayOf};
 ghost use Rattle.date_times.specs.Inner.Instant.{has_offset_form, minutes_of};
 
 use crate::Instant;
-use fixed_duration::nanos_of_fraction;
+use fixed_duration::{are_all_digits, nanos_of_fraction, number_of};
 use jiff_core::civil::Date;
 use std::marker::Model;
 
@@ -134,31 +133,11 @@ fn is_at(text: &[u8], place: usize, byte: u8) -> bool
     place < text.len() && text[place] == byte
 }
 
-fn are_all_digits(text: &[u8]) -> bool
-    ensures { result ≡ list_all is_ascii_digit text.now }
-{
-    text.iter().all(|b| b.is_ascii_digit())
-}
-
 fn are_digits(text: &[u8], from: usize, to: usize) -> bool
     requires { from ≤ to }
     ensures { result ≡ are_digits text.now from to }
 {
     to <= text.len() && are_all_digits(&text[from..to])
-}
-
-// The number that digits write.
-fn number(digits: &[u8]) -> u32
-    requires digits { IsTrue (list_all is_ascii_digit digits.now) }
-    requires few { length digits.now ≤ 9 }
-    ensures value { result ≡ digits_value 10 digits.now }
-    ensures below { result < 10 ^ length digits.now }
-{
-    let mut value: u32 = 0;
-    for digit in digits {
-        value = value * 10 + u32::from(*digit - b'0');
-    }
-    value
 }
 
 // The number that the digits from one place up to another write.
@@ -169,7 +148,7 @@ fn field(text: &[u8], from: usize, to: usize) -> u32
     ensures value { result ≡ field text.now from to }
     ensures below { result < 10 ^ (to - from) }
 {
-    number(&text[from..to])
+    number_of(&text[from..to])
 }
 
 fn has_date_form(text: &[u8]) -> bool
@@ -296,7 +275,7 @@ fn offset_seconds(text: &[u8]) -> Option<u32>
     if !are_all_digits(hours) || !are_all_digits(minutes) {
         return None;
     }
-    let (hours, minutes) = (number(hours), number(minutes));
+    let (hours, minutes) = (number_of(hours), number_of(minutes));
     if hours >= 24 || minutes >= 60 {
         return None;
     }

@@ -92,7 +92,7 @@ impl Nanos {
             return Err(DurationFault::Empty);
         }
         let (whole, fraction) = parts_of(text);
-        if !is_all_digits(whole.as_bytes()) || !is_all_digits(fraction.as_bytes()) {
+        if !are_all_digits(whole.as_bytes()) || !are_all_digits(fraction.as_bytes()) {
             return Err(DurationFault::NotDigits);
         }
         if whole.is_empty() && fraction.is_empty() {
@@ -164,8 +164,8 @@ fn parts_of(text: &str) -> (&str, &str)
     text.split_once('.').unwrap_or((text, ""))
 }
 
-// Whether each byte is a decimal digit.
-fn is_all_digits(bytes: &[u8]) -> bool
+/// Whether each of `bytes` is a decimal digit. Takes no memory.
+pub fn are_all_digits(bytes: &[u8]) -> bool
     ensures { result ≡ are_digits bytes.now }
 {
     bytes.iter().all(|b| b.is_ascii_digit())
@@ -194,8 +194,8 @@ fn power_of_ten(places: usize) -> u32
     POWERS_OF_TEN[places]
 }
 
-// The number that at most nine digits write.
-fn number_of(digits: &[u8]) -> u32
+/// The number that `digits` write, which are nine at most. Takes no memory.
+pub fn number_of(digits: &[u8]) -> u32
     requires digits { IsTrue (are_digits digits.now) }
     requires few { length digits.now ≤ 9 }
     ensures value { result ≡ number_of digits.now }
