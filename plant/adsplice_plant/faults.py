@@ -1,4 +1,5 @@
 """What each fault of adsplice says in words, and what to do: for the lines of the feed, the explainer and the judge of decision files."""
+from adsplice_rules.decisions import MOST_DECIDED, MOST_POD_SEGMENTS
 
 # Each code with what it means. The pages of docs say more.
 MEANINGS = {
@@ -42,9 +43,9 @@ MEANINGS = {
     "J4": "a duration isn't a decimal of seconds",
     "J5": "the key needs `method`, `uri` and `iv`",
     "J6": "a break without ads, or an ad without segments",
-    "J7": "more than 500 segments for one break",
+    "J7": f"more than {MOST_POD_SEGMENTS} segments for one break",
     "J9": "a break of it has begun with another pod, which it keeps",
-    "J10": "256 breaks are decided, and no more have room",
+    "J10": f"{MOST_DECIDED} breaks are decided, and no more have room",
     "J11": "the withdrawn break has no pod of its own",
     "C1": "the base isn't an absolute http or https URL",
     "C2": "the tolerance isn't a duration of at most 10 s",

@@ -6,7 +6,7 @@ import re
 from dataclasses import dataclass
 from typing import Any
 
-from adsplice_rules.decisions import Numeral, Store, decided, decisions_of, json_of
+from adsplice_rules.decisions import MOST_DECIDED, MOST_POD_SEGMENTS, Numeral, Store, decided, decisions_of, json_of
 from adsplice_rules.lines import has_control
 from adsplice_rules.values import Fault
 
@@ -67,7 +67,7 @@ def of_text(body: bytes) -> tuple[str, str]:
 def of_member(value: Any, fault: Fault) -> tuple[str, str]:
     """The place and the text of the `fault` of a file with the JSON value `value`."""
     if fault.code == "J10":
-        return "break 256", "a channel has at most 256 decided breaks"
+        return f"break {MOST_DECIDED}", f"a channel has at most {MOST_DECIDED} decided breaks"
     owner, kind, places = value, "file", [] if not isinstance(value, dict) or "fallback" not in value else ["fallback"]
     if isinstance(value, dict) and places and fault.place + fault.member:
         owner, kind = value["fallback"], "fallback"
@@ -87,7 +87,7 @@ def text_of(owner: Any, kind: str, name: str, code: str) -> str:
     if not isinstance(owner, dict):
         return OBJECTS[kind]
     if code == "J7":
-        return "a pod has at most 500 segments in all its ads"
+        return f"a pod has at most {MOST_POD_SEGMENTS} segments in all its ads"
     if kind == "file":
         return of_file(owner)
     if name == "range":

@@ -6,6 +6,7 @@ from tools import PLANT, decided
 
 sys.path.insert(0, PLANT)
 from adsplice_plant.pod import verdict  # noqa: E402
+from adsplice_rules.decisions import MOST_DECIDED, MOST_POD_SEGMENTS  # noqa: E402
 
 NEEDS = ("program",)
 AD = "#EXTM3U\n#EXT-X-TARGETDURATION:6\n#EXTINF:6,\na0.ts\n#EXTINF:5.5,\na1.ts\n#EXT-X-ENDLIST\n"
@@ -54,13 +55,15 @@ WRONG = [
     (ad(key=KEY | {"iv": "12"}), 'break 0, ad 0, key: `iv` "12" doesn\'t read'), (ad(key=KEY | {"uri": "k"}), 'break 0, ad 0, key: `uri` "k" has to begin'),
     (ad(key={"method": "AES-128", "iv": "0x1"}), "break 0, ad 0, key: `uri` is missing"), (ad(key=KEY | {"format": ""}), 'break 0, ad 0, key: `format` "" has to be'),
     (ad(segments=[]), "break 0, ad 0: `segments` is empty"), (ad(segments={}), "break 0, ad 0: `segments` has to be a list"), (ad(segments=[5]), "break 0, ad 0, segment 0: a segment has to be"),
-    (ad(segments=[{"uri": "http://a/b", "duration": "1"}] * 501), "break 0, ad 0, segment 500: a pod has at most 500 segments"),
+    (ad(segments=[{"uri": "http://a/b", "duration": "1"}] * (MOST_POD_SEGMENTS + 1)),
+     f"break 0, ad 0, segment {MOST_POD_SEGMENTS}: a pod has at most {MOST_POD_SEGMENTS} segments"),
     ('{"breaks":[{"id":"b1","ads":[]}]}', "break 0: `ads` is empty"), ('{"breaks":[{"id":"b1"}]}', "break 0: `ads` is missing"),
     ('{"breaks":[{"ads":[]}]}', "break 0: `id` is missing"), ('{"breaks":[{"id":7,"ads":[]}]}', "break 0: `id` has to be a string"),
     ('{"breaks":[{"id":"","ads":[]}]}', "break 0: `id` has to have 1 to 255 bytes"), ('{"breaks":[{"id":"a\\"b","ads":[]}]}', "break 0: `id` may hold no quote"),
     (json.dumps({"breaks": [{"id": "ä" * 128, "ads": []}]}), "break 0: `id` has to have 1 to 255 bytes"),
     (json.dumps({"breaks": json.loads(decided(("b", 1)))["breaks"] * 2}), 'break 1: the `id` "b" came before in this file'),
-    (json.dumps({"breaks": [json.loads(decided((f"b{n}", 1)))["breaks"][0] for n in range(257)]}), "break 256: a channel has at most 256"),
+    (json.dumps({"breaks": [json.loads(decided((f"b{n}", 1)))["breaks"][0] for n in range(MOST_DECIDED + 1)]}),
+     f"break {MOST_DECIDED}: a channel has at most {MOST_DECIDED}"),
     ("[]", "the file has to be an object"), ("{}", "and has none"), ('{"breaks":[],"withdraw":"b"}', "and has `breaks` and `withdraw`"), ('{"breaks":{}}', "`breaks` has to be a list"),
     ('{"withdraw":5}', "`withdraw` has to be a string"), ('{"fallback":5}', "`fallback` has to be an object"), ('{"fallback":{"ads":[]}}', "fallback: `ads` is empty"),
     ('{"fallback":{"ads":[{"segments":[{"uri":"http://a/b","duration":2}]}]}}', 'fallback, ad 0, segment 0: `duration` has to be a string, as "2"'),

@@ -9,6 +9,7 @@ from tools import PLANT
 sys.path[:0] = [PLANT]
 from adsplice_plant.judge import judge  # noqa: E402
 from adsplice_plant.program import run_vod  # noqa: E402
+from adsplice_rules.decisions import MOST_POD_SEGMENTS  # noqa: E402
 
 BASE = "http://nowhere.invalid/index.m3u8"
 VALUES = (None, True, 0, -1, 1.5, 1e3, 2**64, "", "x", "2", "2,5", "-1", "1e3", "999999.9", "1000000", "a\tb", 'a"b', "é" * 128, "http://a/b", "http://a/b c", "HTTP://a/b",
@@ -57,7 +58,7 @@ def spoil(rng, value):
     elif how < 0.3 and isinstance(owner, list):
         owner.insert(path[-1], owner[path[-1]])
     elif how < 0.35 and isinstance(owner, list):
-        owner[path[-1]:] = owner[path[-1]:] * 501
+        owner[path[-1]:] = owner[path[-1]:] * (MOST_POD_SEGMENTS + 1)
     elif how < 0.45 and isinstance(owner, dict):
         owner[rng.choice(("breaks", "withdraw", "fallback", "id", "ads", "offset", "length", "uri"))] = rng.choice(VALUES)
     else:

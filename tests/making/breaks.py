@@ -6,6 +6,8 @@ from collections.abc import Callable
 from random import Random
 from typing import Any
 
+from adsplice_rules.decisions import MOST_DECIDED, MOST_POD_SEGMENTS
+
 from .common import BASES, Origin, is_lucky, json_text, pod_ads, text_of
 from .playlists import FAULTY, GOOD
 
@@ -52,20 +54,20 @@ def put_wrong(rng: Random, file: dict[str, Any]) -> None:
 
 
 def of_many_segments(rng: Random, file: dict[str, Any]) -> None:
-    """A break of 500 segments, or of one more, in one ad or in two."""
+    """A break of as many segments as it may have, or of one more, in one ad or in two."""
     if isinstance(file.get("breaks"), list) and file["breaks"]:
         one = {"uri": "http://a", "duration": "1"}
-        count = rng.choice((500, 501))
+        count = rng.choice((MOST_POD_SEGMENTS, MOST_POD_SEGMENTS + 1))
         cut = rng.choice((count, 250))
         ads = [{"segments": [one] * size} for size in (cut, count - cut) if size]
         file["breaks"][0] = {"id": "b1", "ads": ads}
 
 
 def of_many_breaks(rng: Random, file: dict[str, Any]) -> None:
-    """A file of 256 breaks, or of one more."""
+    """A file of as many breaks as are decided at most, or of one more."""
     ads = [{"segments": [{"uri": "http://a", "duration": "1"}]}]
     file.clear()
-    file["breaks"] = [{"id": f"n{n}", "ads": ads} for n in range(rng.choice((256, 257)))]
+    file["breaks"] = [{"id": f"n{n}", "ads": ads} for n in range(rng.choice((MOST_DECIDED, MOST_DECIDED + 1)))]
 
 
 def file_for(rng: Random, origin: Origin) -> dict[str, Any]:

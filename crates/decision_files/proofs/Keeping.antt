@@ -10,6 +10,7 @@ use Rattle.std.proofs.lemmas.List.Folds.{list_all-append}
 use Rattle.fixed_duration.specs.Duration.{duration_of}
 use Rattle.playlist_model.specs.declared.ByteRange.{ByteRange}
 use Rattle.playlist_model.specs.declared.Key.{Key}
+use Rattle.pod_store.specs.Limits.{most_pod_segments}
 use Rattle.pod_store.specs.Pods.{PodSegment, Ad, is_uri, is_method, is_format, segment_count}
 use Rattle.serde_json.specs.Data.{Data}
 use Rattle.serde_json.specs.Find.{get, as_object}
@@ -114,7 +115,7 @@ said_keeps place d =
 
 next_keeps : (pod ad before : ℕ) (done : List PodSegment) (d : Data) (s : PodSegment) → said.next_segment pod ad before done d ≡ Ok s → Keeps s
 next_keeps pod ad before done d =
-    passed Keeps (nat_le 500 (before + length done)) (fault_at (in_segment pod ad (length done)) TooMany) (said.segment_said (in_segment pod ad (length done)) d)
+    passed Keeps (nat_le most_pod_segments (before + length done)) (fault_at (in_segment pod ad (length done)) TooMany) (said.segment_said (in_segment pod ad (length done)) d)
     (λ t. said_keeps (in_segment pod ad (length done)) d)
 
 -- ---- lists
@@ -251,7 +252,7 @@ ad_said_keeps pod ad before d =
     (segments_keep pod ad before d segments s)))))
 
 -- the ads that are read keep the rules
-pub ads_read_keep : (pod : ℕ) (list : List Data) (ads : List Ad) → (length list == 0) ≡ false → each_after (said.next_ad pod) [] list ≡ Ok ads → sum (map segment_count ads) ≤ 500 → ads_keep ads ≡ true
+pub ads_read_keep : (pod : ℕ) (list : List Data) (ads : List Ad) → (length list == 0) ≡ false → each_after (said.next_ad pod) [] list ≡ Ok ads → sum (map segment_count ads) ≤ most_pod_segments → ads_keep ads ≡ true
 ads_read_keep pod list ads some h most =
     and_from _ _ (and_from _ _ (some_read (said.next_ad pod) list ads some h) (le-leb _ _ most))
     (each_keeps ad_keeps (said.next_ad pod) (λ done d a e. ad_said_keeps pod (length done) (sum (map segment_count done)) d a e) [] list refl ads h)

@@ -7,6 +7,7 @@ use Rattle.attr_list.specs.Numbers.{hex_of}
 use Rattle.playlist_model.specs.declared.ByteRange.{ByteRange}
 use Rattle.playlist_model.specs.declared.InitSection.{InitSection}
 use Rattle.playlist_model.specs.declared.Key.{Key}
+use Rattle.pod_store.specs.Limits.{most_pod_segments}
 use Rattle.pod_store.specs.Pods.{PodSegment, Ad, Pod, Decision, is_id, is_uri, is_method, is_format, segment_count}
 use Rattle.serde_json.specs.Data.{Data}
 use Rattle.serde_json.specs.Find.{get, as_null, as_str, as_object}
@@ -108,7 +109,7 @@ segment_said place d =
 abbrev pub next_segment : ℕ → ℕ → ℕ → List PodSegment → Data → Outcome PodSegment
 next_segment pod ad before done d =
     let place = in_segment pod ad (length done) in
-    refuse_if (nat_le 500 (before + length done)) (fault_at place TooMany) (segment_said place d)
+    refuse_if (nat_le most_pod_segments (before + length done)) (fault_at place TooMany) (segment_said place d)
 
 -- ---- ads
 

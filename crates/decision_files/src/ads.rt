@@ -9,9 +9,9 @@ ghost use Rattle.decision_files.specs.Decided.{init_section_said, key_said, ad_s
 ghost use Rattle.decision_files.specs.Inner.Views.{part_of};
 
 use crate::keys::{Part, init_section_said, init_section_with, key_said, keys_of};
-use crate::segments::{MAX_SEGMENTS, segments_said};
+use crate::segments::segments_said;
 use playlist_model::{Items, Key};
-use pod_store::{Ad, DecisionFault, DecisionKind, Place, Pod, PodSegment};
+use pod_store::{Ad, DecisionFault, DecisionKind, MAX_POD_SEGMENTS, Place, Pod, PodSegment};
 use serde_json::Value;
 use std::alloc::{AllocError, Global};
 
@@ -67,9 +67,9 @@ fn ad_said(
     before: usize,
     value: &Value,
 ) -> Result<Ad, DecisionFault>
-    requires { before ≤ MAX_SEGMENTS }
+    requires { before ≤ MAX_POD_SEGMENTS }
     ensures said { Gives (λ a. a) result (ad_said pod ad before (view value.now)) }
-    ensures most { IfOk result (λ a. before + segment_count a ≤ MAX_SEGMENTS) }
+    ensures most { IfOk result (λ a. before + segment_count a ≤ MAX_POD_SEGMENTS) }
 {
     let place = Place::in_ad(pod, ad);
     let part = stated_init_section(alloc, place, value)?;
@@ -81,7 +81,7 @@ fn ad_said(
 // The ads of these objects.
 fn ads_of(alloc: Global, pod: usize, list: &[Value]) -> Result<Vec<Ad>, DecisionFault>
     ensures said { Gives (λ v. v.items) result (each_after (next_ad pod) [] (map view list.now)) }
-    ensures most { IfOk result (λ v. sum (map segment_count v.items) ≤ MAX_SEGMENTS) }
+    ensures most { IfOk result (λ v. sum (map segment_count v.items) ≤ MAX_POD_SEGMENTS) }
 {
     let mut done: Vec<Ad> = Vec::new(alloc);
     let mut before: usize = 0;

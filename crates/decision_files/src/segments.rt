@@ -10,12 +10,9 @@ use crate::keys::part_of_resource;
 use crate::members::{list_at, text_at};
 use fixed_duration::Nanos;
 use playlist_model::Shared;
-use pod_store::{DecisionFault, DecisionKind, Place, PodSegment};
+use pod_store::{DecisionFault, DecisionKind, MAX_POD_SEGMENTS, Place, PodSegment};
 use serde_json::Value;
 use std::alloc::Global;
-
-/// How many segments a break has at most.
-pub const MAX_SEGMENTS: usize = 500;
 
 fn segment_texts(
     alloc: Global,
@@ -57,15 +54,15 @@ fn next_segment(
     done: &Vec<PodSegment>,
     value: &Value,
 ) -> Result<PodSegment, DecisionFault>
-    requires { before ≤ MAX_SEGMENTS }
+    requires { before ≤ MAX_POD_SEGMENTS }
     ensures said { Gives (λ s. s) result
         (next_segment pod ad before done.now.items (view value.now)) }
     ensures told { Tells result
         (next_segment pod ad before done.now.items (view value.now)) }
-    ensures room { OnOk result (before + length done.now.items < MAX_SEGMENTS) }
+    ensures room { OnOk result (before + length done.now.items < MAX_POD_SEGMENTS) }
 {
     let place = Place::in_segment(pod, ad, done.len());
-    if done.len() >= MAX_SEGMENTS - before {
+    if done.len() >= MAX_POD_SEGMENTS - before {
         return Err(place.fault(DecisionKind::TooMany));
     }
     segment_said(alloc, place, value)
@@ -79,10 +76,10 @@ fn segments_of(
     before: usize,
     list: &[Value],
 ) -> Result<Vec<PodSegment>, DecisionFault>
-    requires { before ≤ MAX_SEGMENTS }
+    requires { before ≤ MAX_POD_SEGMENTS }
     ensures said { Gives (λ v. v.items) result
         (each_after (next_segment pod ad before) [] (map view list.now)) }
-    ensures most { IfOk result (λ v. before + length v.items ≤ MAX_SEGMENTS) }
+    ensures most { IfOk result (λ v. before + length v.items ≤ MAX_POD_SEGMENTS) }
 {
     let mut done = Vec::new(alloc);
     let mut rest = list;
@@ -104,13 +101,13 @@ pub fn segments_said(
     before: usize,
     value: &Value,
 ) -> Result<Vec<PodSegment>, DecisionFault>
-    requires { before ≤ MAX_SEGMENTS }
+    requires { before ≤ MAX_POD_SEGMENTS }
     ensures said { Gives (λ v. v.items) result (segments_said pod ad before (view value.now)) }
 
     // That there are none is answered whatever memory there is.
     ensures told { list_at (codes "segments") (view value.now) ≡ Some []
         → result ≡ Err (fault_at (in_ad pod ad) DecisionKind.EmptyPod) }
-    ensures most { IfOk result (λ v. before + length v.items ≤ MAX_SEGMENTS) }
+    ensures most { IfOk result (λ v. before + length v.items ≤ MAX_POD_SEGMENTS) }
 {
     let place = Place::in_ad(pod, ad);
     let list = list_at(value, "segments").ok_or(place.fault(DecisionKind::Shape))?;

@@ -5,6 +5,7 @@ use Rattle.std.specs.List.{list_any, list_all}
 use Rattle.std.proofs.lemmas.Bool.{and_parts, and_from, or_parts, ltb-false}
 use Rattle.std.proofs.lemmas.Slice.Eq.{bytes_eq-Decides}
 use Rattle.playlist_model.specs.LookBack.{or_earlier}
+use Rattle.pod_store.specs.Limits.{most_breaks}
 use Rattle.pod_store.specs.Pods.{Pod, Decision}
 use Rattle.pod_store.specs.declared.Decisions.TheVariants.{Breaks, Withdraw, Fallback, NoFallback}
 use Rattle.pod_store.specs.declared.fault.DecisionKind.TheVariants.{Used, Full, Unknown}
@@ -243,15 +244,15 @@ count_all (d ∷ ds) store =
 -- ---- after any calls
 
 abbrev IsSmall : List Entry → Type 0
-IsSmall store = (are_distinct store ≡ true) × (count store ≤ 256)
+IsSmall store = (are_distinct store ≡ true) × (count store ≤ most_breaks)
 
 small_all : (ds : List Decision) (store : Store) → IsSmall store.entries → IsSmall (accepted store (with_all store ds)).entries
-small_all ds store h = by (list_any (names_used store) ds) (nat_lt 256 (count_with store ds)) refl
+small_all ds store h = by (list_any (names_used store) ds) (nat_lt most_breaks (count_with store ds)) refl
   where
-    fit : (n m : ℕ) → n ≤ m → m ≤ 256 → n ≤ 256
+    fit : (n m : ℕ) → n ≤ m → m ≤ most_breaks → n ≤ most_breaks
     fit n m g h = omega (arith, g, h)
 
-    by : (used full : Bool) → nat_lt 256 (count_with store ds) ≡ full
+    by : (used full : Bool) → nat_lt most_breaks (count_with store ds) ≡ full
         → IsSmall (accepted store (refuse_if used (fault_at nowhere Used) (refuse_if full (fault_at nowhere Full) (Ok (with_entries store (fold put store.entries ds)))))).entries
     by true full e = h
     by false true e = h
@@ -260,7 +261,7 @@ small_all ds store h = by (list_any (names_used store) ds) (nat_lt 256 (count_wi
 small_without : (id : List ℕ) (store : List Entry) → IsSmall store → IsSmall (without id store)
 small_without id store h = (distinct_without id store h.0, fit _ _ (count_without id store) h.1)
   where
-    fit : (n m : ℕ) → n ≤ m → m ≤ 256 → n ≤ 256
+    fit : (n m : ℕ) → n ≤ m → m ≤ most_breaks → n ≤ most_breaks
     fit n m g h = omega (arith, g, h)
 
 small_withdrawn : (id : List ℕ) (store : Store) → IsSmall store.entries → IsSmall (accepted store (withdrawn store id)).entries
@@ -381,7 +382,7 @@ put_others id (d ∷ ds) store first u h =
     put_others id ds (put store d) first u p.1 ∙ put_other id d store (apart first id d.0 u p.0)
 
 pub used_pods_stay : UsedPodsStay
-used_pods_stay store id u (Breaks ds) = by (list_any (names_used store) ds) (nat_lt 256 (count_with store ds)) refl
+used_pods_stay store id u (Breaks ds) = by (list_any (names_used store) ds) (nat_lt most_breaks (count_with store ds)) refl
   where
     by : (used full : Bool) → list_any (names_used store) ds ≡ used
         → entry_for (accepted store (refuse_if used (fault_at nowhere Used) (refuse_if full (fault_at nowhere Full) (Ok (with_entries store (fold put store.entries ds)))))) id ≡ entry_for store id
@@ -502,7 +503,7 @@ pub pods_in_use : (ids : List (List ℕ)) (id : List ℕ) (store : Store) → ar
 pods_in_use ids id store h = kept_pod ids id store (distinct_copies ids store h)
 
 pods_after : (id : List ℕ) (call : Call) (store : Store) → are_distinct store.entries ≡ true → own_pod (after_call call store) id ≡ pod_after id call store (own_pod store id)
-pods_after id (decide (Breaks ds)) store h = by (with_all store ds) (list_any (names_used store) ds) (nat_lt 256 (count_with store ds)) refl
+pods_after id (decide (Breaks ds)) store h = by (with_all store ds) (list_any (names_used store) ds) (nat_lt most_breaks (count_with store ds)) refl
   where
     by : (o : Outcome Store) (used full : Bool) → refuse_if used (fault_at nowhere Used) (refuse_if full (fault_at nowhere Full) (Ok (with_entries store (fold put store.entries ds)))) ≡ o
         → own_pod (accepted store o) id ≡ pod_given id ds (own_pod store id) o

@@ -3,6 +3,7 @@ use Rattle.std.proofs.Common.{◌≡◌, ℕ, suc, ◌+◌, ◌*◌, ◌<◌, �
 use Rattle.std.specs.List.{list_all}
 use Rattle.std.proofs.lemmas.List.Sums.{sum_by-cons}
 use Rattle.std.proofs.lemmas.Bool.{and_parts, leb-true, ltb-true}
+use Rattle.pod_store.specs.Limits.{most_pod_segments}
 use Rattle.pod_store.specs.Pods.{PodSegment, Ad, duration_of_segment, segments_total, ad_total, ads_total, segment_count}
 use Rattle.pod_store.specs.Rules.{segment_keeps, ad_keeps, ads_keep}
 
@@ -29,11 +30,11 @@ ads_small (ad ∷ later) h =
     both (ads_total (ad ∷ later)) (sum (map segment_count (ad ∷ later))) (ad_total ad) (ads_total later) (segment_count ad) (sum (map segment_count later))
     (sum_by-cons (λ n. n) (ad_total ad) (map ad_total later)) (sum_by-cons (λ n. n) (segment_count ad) (map segment_count later)) (segments_small ad.segments (and_parts _ _ p.0).1) (ads_small later p.1)
 
--- at most 500 segments of less than 1,000,000 s
-pub ads_total_is_small : (ads : List Ad) → ads_keep ads ≡ true → ads_total ads ≤ 500 * 10 ^ 15
+-- at most so many segments of less than 1,000,000 s
+pub ads_total_is_small : (ads : List Ad) → ads_keep ads ≡ true → ads_total ads ≤ most_pod_segments * 10 ^ 15
 ads_total_is_small ads h =
     let p = and_parts _ _ h in
     bounded (ads_total ads) (sum (map segment_count ads)) (ads_small ads p.1) (leb-true _ _ (and_parts _ _ p.0).1)
   where
-    bounded : (t n : ℕ) → t ≤ longest n → n ≤ 500 → t ≤ 500 * 10 ^ 15
+    bounded : (t n : ℕ) → t ≤ longest n → n ≤ most_pod_segments → t ≤ most_pod_segments * 10 ^ 15
     bounded t n g h = omega (arith, g, h)

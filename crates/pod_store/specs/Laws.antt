@@ -2,6 +2,7 @@
 use Rattle.std.specs.Prelude.{◌≡◌, ℕ, ◌≤◌, Bool, true, not, ◌&&◌, List, [], ◌∷◌, length, filter, fold, Option, Some, None, Ok, Err, bytes_eq, if◌then◌else◌}
 use Rattle.std.specs.List.{list_any, list_all}
 use Rattle.playlist_model.specs.LookBack.{or_earlier}
+use Rattle.pod_store.specs.Limits.{most_breaks}
 use Rattle.pod_store.specs.Pods.{PodSegment, Ad, Pod, Decision}
 use Rattle.writable.specs.Fitting.{if_some, uri_fits, byte_range_fits, duration_fits, effective_keys_fit, init_section_fits}
 use Rattle.pod_store.specs.declared.Decisions.{Decisions}
@@ -39,10 +40,10 @@ abbrev pub are_distinct : List Entry → Bool
 are_distinct [] = true
 are_distinct (e ∷ later) = not (list_any (has_id e.id) later) && are_distinct later
 
--- after any calls no break stands twice, and at most 256 have pods that decisions gave them; each of the others keeps a copy of
+-- after any calls no break stands twice, and only so many have pods that decisions gave them; each of the others keeps a copy of
 -- the fallback
 abbrev pub StaysSmall : Type 0
-StaysSmall = (calls : List Call) → (are_distinct (after_calls calls).entries ≡ true) × (length (filter is_named (after_calls calls).entries) ≤ 256)
+StaysSmall = (calls : List Call) → (are_distinct (after_calls calls).entries ≡ true) × (length (filter is_named (after_calls calls).entries) ≤ most_breaks)
 
 -- ---- used pods
 

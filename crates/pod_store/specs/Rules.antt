@@ -4,6 +4,7 @@ use Rattle.std.specs.List.{list_all}
 use Rattle.playlist_model.specs.declared.ByteRange.{ByteRange}
 use Rattle.playlist_model.specs.declared.InitSection.{InitSection}
 use Rattle.playlist_model.specs.declared.Key.{Key}
+use Rattle.pod_store.specs.Limits.{most_pod_segments}
 use Rattle.pod_store.specs.Pods.{PodSegment, Ad, is_uri, is_method, is_format, segment_count}
 use Rattle.writable.specs.Fitting.{iv_fits, duration_fits}
 
@@ -33,6 +34,6 @@ ad_keeps ad =
     init_section_keeps ad.init_section && nat_le (length ad.keys) 1 && list_all key_keeps ad.keys
     && nat_lt 0 (length ad.segments) && list_all segment_keeps ad.segments
 
--- at least one ad, and at most 500 segments in all
+-- at least one ad, and no more segments in all than a pod may have
 abbrev pub ads_keep : List Ad → Bool
-ads_keep ads = nat_lt 0 (length ads) && nat_le (sum (map segment_count ads)) 500 && list_all ad_keeps ads
+ads_keep ads = nat_lt 0 (length ads) && nat_le (sum (map segment_count ads)) most_pod_segments && list_all ad_keeps ads

@@ -2,6 +2,7 @@
 use Rattle.std.specs.Prelude.{◌≡◌, ℕ, ◌+◌, Bool, true, false, not, ◌&&◌, ◌||◌, ◌==◌, List, [], ◌∷◌, ◌++◌, map, filter, fold, find, length, nat_lt, Option, Some, None, option_map, is_some, is_none, Result, Ok, Err, MatchResult, bytes_eq, if◌then◌else◌}
 use Rattle.std.specs.List.{list_any}
 use Rattle.playlist_model.specs.LookBack.{or_earlier}
+use Rattle.pod_store.specs.Limits.{most_breaks}
 use Rattle.pod_store.specs.Pods.{Pod, Decision, pod_fits}
 use Rattle.pod_store.specs.declared.fault.DecisionFault.{DecisionFault}
 use Rattle.pod_store.specs.declared.fault.DecisionKind.TheVariants.{Used, Full, Unknown}
@@ -109,7 +110,7 @@ names_used store d = is_used store d.0
 abbrev pub with_all : Store → List Decision → Outcome Store
 with_all store decisions =
     refuse_if (list_any (names_used store) decisions) (fault_at nowhere Used)
-    (refuse_if (nat_lt 256 (count_with store decisions)) (fault_at nowhere Full)
+    (refuse_if (nat_lt most_breaks (count_with store decisions)) (fault_at nowhere Full)
     (Ok (with_entries store (fold put store.entries decisions))))
 
 abbrev pub withdrawn : Store → List ℕ → Outcome Store

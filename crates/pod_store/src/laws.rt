@@ -1,7 +1,17 @@
 //! Laws of pods and of the store. Each function's contract is its law; calling it does nothing.
+ghost use Rattle.std.specs.Prelude.{◌≡◌};
+ghost use Rattle.pod_store.specs.Limits.{most_breaks, most_pod_segments};
 ghost use Rattle.pod_store.specs.Laws.{PodsCanBeWritten, StaysSmall, UsedPodsStay, LastPodStands, KeepingIsAdopting};
 
-/// After any calls no break stands twice in the store, and at most 256 are decided.
+use crate::limits::{MAX_BREAKS, MAX_POD_SEGMENTS};
+
+/// The limits are these constants.
+pub fn limits_are_the_stores()
+    ensures segments { most_pod_segments ≡ MAX_POD_SEGMENTS }
+    ensures breaks { most_breaks ≡ MAX_BREAKS }
+{}
+
+/// After any calls no break stands twice in the store, and at most `MAX_BREAKS` are decided.
 pub fn stays_small()
     ensures { StaysSmall }
 {}

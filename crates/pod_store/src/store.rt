@@ -12,15 +12,13 @@ use crate::fault::{DecisionFault, DecisionKind, Place};
 use crate::kept::{
     Pods, SharedDecision, are_used, copy, count_named, keep_in_use, kept_for, mark, put_all, remove,
 };
+use crate::limits::MAX_BREAKS;
 use crate::{Ad, Decision, Decisions, IdSet, Pod, PodSegment};
 use indexmap::IndexMap;
 use playlist_model::{InitSection, Shared, Text};
 use std::alloc::{AllocError, Global};
 use std::hash::RandomState;
 use std::marker::Model;
-
-/// How many breaks get their pods by decisions at most.
-const MAX_PODS: usize = 256;
 
 /// The decided breaks with their pods, in the order in which they were decided, and the fallback: the pod of each break that
 /// has none of its own. A break that is entered with the fallback keeps a copy of it, whatever becomes of the fallback.
@@ -238,7 +236,7 @@ impl PodStore {
         if self.is_any_used(decisions.as_slice()) {
             return Err(Place::nowhere().fault(DecisionKind::Used));
         }
-        if self.count_new(decisions.as_slice()) + count_named(&self.kept) > MAX_PODS {
+        if self.count_new(decisions.as_slice()) + count_named(&self.kept) > MAX_BREAKS {
             return Err(Place::nowhere().fault(DecisionKind::Full));
         }
         self.put_all(decisions)?;
@@ -255,7 +253,7 @@ impl PodStore {
     }
 
     /// Does what `decisions` say. `Used` if one of their breaks is used; then `Full` if decisions would have given
-    /// pods to more than 256 breaks. A break that is decided already gets the new pod in place of the old one. A
+    /// pods to more than `MAX_BREAKS` breaks. A break that is decided already gets the new pod in place of the old one. A
     /// withdrawal has the faults of `withdraw`. A fallback takes the place of the one before, if any. `OutOfMemory`
     /// only if an allocation fails. After a fault the store is as it was.
     ///

@@ -132,15 +132,19 @@ abbrev pub PodsWithInitSectionsFit : Type 0
 PodsWithInitSectionsFit = Gives (pod_fits 10 true) (
     (pod (ad (segment 1 ∷ []) ∷ []), true) ∷ (pod (clear (segment 1 ∷ []) ∷ []), false) ∷ (pod (ad (segment 1 ∷ []) ∷ clear (segment 1 ∷ []) ∷ []), false) ∷ [])
 
+-- docs/DECISION_FILES.md: how many segments a pod has at most
+abbrev pub most_of_a_pod : ℕ
+most_of_a_pod = 500
+
 -- docs/DECISION_FILES.md: an ad has a segment, and at most one key, which has an IV of 128 bits; a byte range ends below 2^64,
--- a segment lasts less than 1,000,000 s, and a pod has at most 500 segments
+-- a segment lasts less than 1,000,000 s, and a pod has no more segments than it may
 abbrev pub RulesAreKept : Type 0
 RulesAreKept = Gives ads_keep (
     (ad (segment 999999999999999 ∷ []) ∷ [], true)
     ∷ ([], false)
     ∷ (clear [] ∷ [], false)
-    ∷ (clear (replicate 500 (segment 1)) ∷ [], true)
-    ∷ (clear (replicate 500 (segment 1)) ∷ clear (segment 1 ∷ []) ∷ [], false)
+    ∷ (clear (replicate most_of_a_pod (segment 1)) ∷ [], true)
+    ∷ (clear (replicate most_of_a_pod (segment 1)) ∷ clear (segment 1 ∷ []) ∷ [], false)
     ∷ (clear (segment 1000000000000000 ∷ []) ∷ [], false)
     ∷ (clear (record (segment 1) { uri = codes "s" } ∷ []) ∷ [], false)
     ∷ (clear (record (segment 1) { byte_range = Some (record { length = 1; offset = 2 ^ 64 - 2 }) } ∷ []) ∷ [], true)
@@ -408,12 +412,12 @@ AdsAreChecked = Gives (λ (text : List ℕ). decisions_of (with_ad text)) (
     ∷ (codes "{\"segments\":[{\"uri\":\"http://\",\"duration\":\"x\"}]}", refused 0 0 0 fault.BadUri)
     ∷ (codes "{\"segments\":[{\"uri\":\"http://a\",\"duration\":\"1\",\"offset\":18446744073709551615,\"length\":1}]}", refused 0 0 0 fault.Shape) ∷ [])
 
--- the segments of an ad, if so many stand in the ads before: 500 at most in a break (J7)
+-- the segments of an ad, if so many stand in the ads before (J7)
 abbrev pub said_after : ℕ → Outcome (List PodSegment)
 said_after before = json_of (codes "{\"segments\":[{\"uri\":\"http://a/s\",\"duration\":\"0.000000001\",\"offset\":5,\"length\":100}]}") >>= segments_said 0 1 before
 
 abbrev pub SegmentsAreCounted : Type 0
-SegmentsAreCounted = Gives said_after ((499, Ok (segment 1 ∷ [])) ∷ (500, Err (fault_at (in_segment 0 1 0) fault.TooMany)) ∷ [])
+SegmentsAreCounted = Gives said_after ((most_of_a_pod - 1, Ok (segment 1 ∷ [])) ∷ (most_of_a_pod, Err (fault_at (in_segment 0 1 0) fault.TooMany)) ∷ [])
 
 -- an ad of two segments after these ads
 abbrev pub said_after_ads : List Ad → Outcome Ad
@@ -421,11 +425,11 @@ said_after_ads done = json_of (codes "{\"segments\":[{\"uri\":\"http://a/s\",\"d
 
 abbrev pub AdsAreCounted : Type 0
 AdsAreCounted = Gives said_after_ads (
-    (clear (replicate 498 (segment 1)) ∷ [], Ok (clear (segment 1 ∷ segment 2 ∷ [])))
-    ∷ (clear (replicate 499 (segment 1)) ∷ [], Err (fault_at (in_segment 7 1 1) fault.TooMany))
-    ∷ (clear (replicate 500 (segment 1)) ∷ [], Err (fault_at (in_segment 7 1 0) fault.TooMany))
-    ∷ (clear (segment 1 ∷ []) ∷ clear (segment 1 ∷ []) ∷ clear (segment 1 ∷ []) ∷ clear (segment 1 ∷ []) ∷ clear (replicate 494 (segment 1)) ∷ [], Ok (clear (segment 1 ∷ segment 2 ∷ [])))
-    ∷ (clear (segment 1 ∷ []) ∷ clear (segment 1 ∷ []) ∷ clear (segment 1 ∷ []) ∷ clear (segment 1 ∷ []) ∷ clear (replicate 495 (segment 1)) ∷ [], Err (fault_at (in_segment 7 5 1) fault.TooMany)) ∷ [])
+    (clear (replicate (most_of_a_pod - 2) (segment 1)) ∷ [], Ok (clear (segment 1 ∷ segment 2 ∷ [])))
+    ∷ (clear (replicate (most_of_a_pod - 1) (segment 1)) ∷ [], Err (fault_at (in_segment 7 1 1) fault.TooMany))
+    ∷ (clear (replicate most_of_a_pod (segment 1)) ∷ [], Err (fault_at (in_segment 7 1 0) fault.TooMany))
+    ∷ (clear (segment 1 ∷ []) ∷ clear (segment 1 ∷ []) ∷ clear (segment 1 ∷ []) ∷ clear (segment 1 ∷ []) ∷ clear (replicate (most_of_a_pod - 6) (segment 1)) ∷ [], Ok (clear (segment 1 ∷ segment 2 ∷ [])))
+    ∷ (clear (segment 1 ∷ []) ∷ clear (segment 1 ∷ []) ∷ clear (segment 1 ∷ []) ∷ clear (segment 1 ∷ []) ∷ clear (replicate (most_of_a_pod - 5) (segment 1)) ∷ [], Err (fault_at (in_segment 7 5 1) fault.TooMany)) ∷ [])
 
 -- five segments after these
 abbrev pub said_five_after : ℕ → Outcome (List PodSegment)
@@ -433,7 +437,7 @@ said_five_after before = json_of (codes "{\"segments\":[{\"uri\":\"http://a/s\",
 
 abbrev pub ManySegmentsAreCounted : Type 0
 ManySegmentsAreCounted = Gives said_five_after (
-    (495, Ok (segment 1 ∷ segment 2 ∷ segment 3 ∷ segment 4 ∷ segment 5 ∷ [])) ∷ (496, Err (fault_at (in_segment 0 1 4) fault.TooMany)) ∷ [])
+    (most_of_a_pod - 5, Ok (segment 1 ∷ segment 2 ∷ segment 3 ∷ segment 4 ∷ segment 5 ∷ [])) ∷ (most_of_a_pod - 4, Err (fault_at (in_segment 0 1 4) fault.TooMany)) ∷ [])
 
 -- docs/OPERATING.md, "Faults"
 abbrev pub FaultsOfFilesAreTold : Type 0

@@ -1,0 +1,116 @@
+"""The limits whose numbers stand in several files. Each has one definition; what the other files say has to agree with it.
+
+A place is a file, and what stands in it: {n} is the number, {n:,} the number as pages write it and {n:_} as code does, {more}
+is one more and {less} one less. tests/rules looks that each place says its number, and tests/recipes changes one.
+"""
+from __future__ import annotations
+
+import os
+import re
+from typing import NamedTuple
+
+TOP = os.path.dirname(os.path.dirname(os.path.abspath(__file__)))
+Place = tuple[str, str]
+
+
+class Limit(NamedTuple):
+    """A limit: what it limits, where it is defined, and the other places."""
+
+    said: str
+    definition: Place
+    places: tuple[Place, ...]
+
+
+POD_SEGMENTS = Limit("the segments of a pod", ("crates/pod_store/specs/Limits.antt", "most_pod_segments = {n}\n"), (
+    ("crates/pod_store/src/limits.rt", "MAX_POD_SEGMENTS: usize = {n:_};"),
+    ("crates/channel_window/src/placing.rt", "rest_count store.now rest.now }}\n    ensures few {{ result ≤ {n} }}"),
+    ("crates/channel_window/src/placing.rt", "marked.now.mark) }}\n    ensures few {{ result ≤ {n} }}"),
+    ("crates/channel_window/proofs/Sizes.antt", "sum (map segment_count ads) ≤ {n}\n"),
+    ("crates/channel_window/proofs/Sizes.antt", "leb-true (sum (map segment_count ads)) {n} "),
+    ("crates/channel_window/proofs/placing/place_of/Invariants.antt", "few : l.items ≤ {n};"),
+    ("crates/owed_is_denoted/proofs/Writable.antt", "nat_le (sum counts) {n})"),
+    ("crates/worked_examples/specs/Pods.antt", "most_of_a_pod = {n}\n"),
+    ("plant/adsplice_rules/decisions.py", "MOST_POD_SEGMENTS = {n:_}\n"),
+    ("bench/rivals/decisions/src/main.rs", "count <= {n:_})"),
+    ("docs/decisions.schema.json", "a pod has at most {n:,} segments"),
+    ("docs/decisions.schema.json", '"maxItems": {n}, "items": {{ "$ref": "#/definitions/segment" }}'),
+    ("docs/DECISION_FILES.md", "a pod has at most {n:,} segments"),
+    ("docs/DECISIONS.md", "a pod has at most {n:,} segments"),
+    ("docs/PROOF.md", "there are at most {n:,} segments in all"),
+    ("README.md", "| A pod | at most {n:,} segments"),
+))
+
+DECIDED_BREAKS = Limit("the breaks that have pods by decisions", ("crates/pod_store/specs/Limits.antt", "most_breaks = {n}\n"), (
+    ("crates/pod_store/src/limits.rt", "MAX_BREAKS: usize = {n:_};"),
+    ("crates/pod_store/wrong/full_at_257.edit", "old: pub const MAX_BREAKS: usize = {n:_};"),
+    ("crates/worked_examples/specs/Pods.antt", "at most {n} breaks have pods"),
+    ("plant/adsplice_rules/decisions.py", "MOST_DECIDED = {n:_}\n"),
+    ("plant/adsplice_plant/breaks.py", "MOST = {n:_}  # breaks known at a time: adsplice decides no more"),
+    ("tests/model_faults", '"MOST_DECIDED = {n:_}", "MOST_DECIDED = {less:_}"'),
+    ("docs/decisions.schema.json", '"maxItems": {n}, "items": {{ "$ref": "#/definitions/break" }}'),
+    ("docs/DECISION_FILES.md", "at most {n:,} in one file"),
+    ("docs/OPERATING.md", "than adsplice has room for ({n:,} breaks)"),
+    ("docs/OPERATING.md", "more than {n:,} breaks that are still to come"),
+    ("docs/PROOF.md", "at most {n:,} have pods that decisions gave them"),
+    ("docs/SIGNALS.md", "more than {n:,} breaks that aren't over"),
+    ("README.md", "at most {n:,} decided breaks"),
+))
+
+PLAYLIST_BYTES = Limit("the bytes of a playlist", ("crates/playlist_model/specs/Reading.antt", "  bytes = Some {n};"), (
+    ("crates/playlist_model/src/limits.rt", "MAX_BYTES: usize = {n:_};"),
+    ("crates/playlist_model/wrong/playlist_has_2000_bytes_at_most.edit", "old: pub const MAX_BYTES: usize = {n:_};"),
+    ("crates/playlist_model/wrong_definitions", "old: bytes = Some {n};"),
+    ("crates/read_is_writable/specs/Limits.antt", "length text ≤ {n}\n"),
+    ("crates/worked_examples/specs/Playlists.antt", "(limited, (Some {n},"),
+    ("plant/adsplice_rules/reading.py", "MOST_BYTES = {n:_} "),
+    ("plant/adsplice_plant/faults.py", '"P2": "it is longer than {n:,} bytes"'),
+    ("docs/CONFORMANCE.md", "at most {n:,} bytes and"),
+    ("docs/OPERATING.md", "| `P2 TooLong` | it is longer than {n:,} bytes"),
+    ("docs/PROOF.md", "These are {n:,} bytes"),
+    ("README.md", "| A media playlist | at most {n:,} bytes"),
+))
+
+PLAYLIST_SEGMENTS = Limit("the segments of a playlist", ("crates/playlist_model/specs/Reading.antt", "  segments = Some {n};"), (
+    ("crates/playlist_model/src/limits.rt", "MAX_SEGMENTS: u64 = {n:_};"),
+    ("crates/playlist_model/wrong/playlist_has_5_segments_at_most.edit", "old: pub const MAX_SEGMENTS: u64 = {n:_};"),
+    ("crates/read_is_writable/specs/Limits.antt", "(said_by_lines base (lines text)) ≤ {n}\n"),
+    ("crates/worked_examples/specs/Playlists.antt", "Some {n})) ∷ (unlimited"),
+    ("plant/adsplice_rules/reading.py", "MOST_SEGMENTS = {n:_}\n"),
+    ("plant/adsplice_plant/origin.py", "adsplice takes {n:,} segments"),
+    ("plant/adsplice_plant/faults.py", '"P24": "more than {n:,} segments'),
+    ("docs/CONFORMANCE.md", "bytes and {n:,} segments"),
+    ("docs/OPERATING.md", "lines or {n:,} segments isn't put right"),
+    ("docs/OPERATING.md", "| `P24 TooMany` | more than {n:,} segments"),
+    ("docs/PROOF.md", "bytes, {n:,} segments, 64"),
+    ("README.md", "bytes, {n:,} segments"),
+))
+
+LIMITS = (POD_SEGMENTS, DECIDED_BREAKS, PLAYLIST_BYTES, PLAYLIST_SEGMENTS)
+
+
+def said(pattern: str, number: int) -> str:
+    """What a place says of this number."""
+    return pattern.format(n=number, more=number + 1, less=number - 1)
+
+
+def text_of(path: str, top: str = TOP) -> str:
+    with open(os.path.join(top, path), encoding="utf-8") as it:
+        return it.read()
+
+
+def number_of(limit: Limit, top: str = TOP) -> int:
+    """The number that a limit's definition states. Fails if it isn't there."""
+    path, pattern = limit.definition
+    found = re.findall(re.escape(pattern).replace(r"\{n\}", "([0-9]+)"), text_of(path, top))
+    if len(found) != 1:
+        raise ValueError(f"{path} doesn't define {limit.said} once")
+    return int(found[0])
+
+
+def lacking(top: str = TOP) -> tuple[int, list[str]]:
+    """How many places there are, and which don't say the number that is defined."""
+    faults = []
+    for limit in LIMITS:
+        number = number_of(limit, top)
+        faults += [f"{path}: it doesn't say {said(pattern, number).strip()!r}, which limits {limit.said}" for path, pattern in limit.places if said(pattern, number) not in text_of(path, top)]
+    return sum(len(limit.places) for limit in LIMITS), faults
