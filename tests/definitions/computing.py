@@ -3,9 +3,13 @@ from __future__ import annotations
 
 import os
 import re
-from typing import Any, Callable, NamedTuple
+import time
+from contextlib import contextmanager
+from types import CodeType, FunctionType
+from typing import Any, Callable, Iterable, Iterator, NamedTuple
 
 from . import library, reading
+from .noting import Notes
 from .reading import Equation, Node, Unread
 
 Key = tuple[str, str, str]  # a definition: its crate, its module and its name
@@ -40,6 +44,19 @@ class Maker(tuple):
 
     def __call__(self, it: Any) -> "Maker":
         return Maker((*self, it))
+
+
+class Record(dict):
+    """A record: the values of its fields, which nothing changes."""
+
+    __slots__ = ("number",)
+
+    def __hash__(self) -> int:  # type: ignore[override]
+        try:
+            return self.number
+        except AttributeError:
+            self.number = hash(frozenset(self.items()))
+            return self.number
 
 
 def without_value(name: str = "no equation fits") -> Any:
@@ -97,7 +114,7 @@ class Names:
 
     def found(self, crate: str, module: str, name: str) -> Found:
         if module.endswith("TheConstants"):
-            return Found("value", {"mask": library.SETS[name]})
+            return Found("value", Record(mask=library.SETS[name]))
         if crate == "serde_json" and module == "Read" and name in library.JSON_WORDS:
             return Found("word", library.JSON_WORDS[name])
         if crate in STANDARD and name in library.WORDS:
@@ -148,8 +165,8 @@ SIGNS = {
 class Writer:
     """Writes the Python of an equation; `names` are its variables."""
 
-    def __init__(self, machine: "Machine", own: tuple[str, str]) -> None:
-        self.machine, self.own, self.fresh = machine, own, 0
+    def __init__(self, machine: "Machine", own: tuple[str, str], key: Key | None = None) -> None:
+        self.machine, self.own, self.key = machine, own, key
 
     def variable(self, name: str) -> str:
         return "v_" + re.sub(r"\W", lambda it: f"_{ord(it[0]):x}_", name)
@@ -209,7 +226,7 @@ class Writer:
     def of_record(self, it: Node, names: frozenset[str]) -> str:
         base, fields = it.parts
         said = ", ".join(f"{name!r}: {self.expression(value, names)}" for name, value in fields)
-        return f"{{**{self.expression(base, names)}, {said}}}" if base else f"{{{said}}}"
+        return f"Record({{**{self.expression(base, names)}, {said}}})" if base else f"Record({{{said}}})"
 
     def of_binary(self, it: Node, names: frozenset[str]) -> str:
         sign, left, right = it.parts
@@ -249,7 +266,11 @@ class Writer:
         return said + "".join(f"({self.expression(one, names)})" for one in arguments)
 
     def function(self, found: Found) -> str:
-        return self.machine.constant(found.name[1]) if found.kind == "word" else self.machine.function(found.name)
+        if found.kind == "word":
+            return self.machine.constant(found.name[1])
+        if self.key:
+            self.machine.users.setdefault(found.name, set()).add(self.key)
+        return self.machine.function(found.name)
 
     def of_found(self, found: Found, arguments: tuple[Node, ...], names: frozenset[str]) -> str:
         said = [self.expression(one, names) for one in arguments]
@@ -312,30 +333,66 @@ class Writer:
             for place, one in enumerate(parts, 1):
                 self.pattern(one, f"{at}[{place}]", tests, places)
 
-    def equation(self, it: Equation, mark: int) -> list[str]:
+    def equation(self, it: Equation) -> "Branch":
         tests: list[str] = []
         places: dict[str, str] = {}
         for at, pattern in enumerate(it.patterns):
             self.pattern(pattern, f"a{at}", tests, places)
-        lines = [f" if {' and '.join(tests) or 'True'}:", f"  hits.add({mark})"]
-        lines += [f"  {self.variable(name)} = {at}" for name, at in places.items()]
-        return [*lines, f"  return {self.expression(it.body, frozenset(places))}"]
+        variables = [f"{self.variable(name)} = {at}" for name, at in places.items()]
+        return Branch(" and ".join(tests) or "True", variables, self.expression(it.body, frozenset(places)))
+
+
+class Branch(NamedTuple):
+    """An equation in Python: the test of its arguments, its variables, and its value."""
+
+    test: str
+    variables: list[str]
+    value: str
+
+
+class Written(NamedTuple):
+    """A definition in Python: its function's name, how many arguments that takes, the mark of its first equation, and its equations."""
+
+    name: str
+    count: int
+    mark: int
+    branches: list[Branch]
+
+    def given(self) -> str:
+        """Its arguments, as a tuple."""
+        return "(" + "".join(f"a{at}, " for at in range(self.count)) + ")"
+
+    def text(self, key: Key, before: list[str], returned: Callable[[int, str], str]) -> str:
+        """The function, with lines before its equations; `returned` writes what an equation's value is returned as."""
+        lines = [f"def {self.name}({', '.join(f'a{at}' for at in range(self.count))}):", *before]
+        if key == ("matchit", "Seek", "seek"):
+            lines.append(" if not a1: return ('None',)")  # (no row is left; the equations go on in two ways at each byte)
+        if not self.count:
+            it = self.branches[0]
+            return "\n".join([*lines, f" if {self.name!r} in kept: return kept[{self.name!r}]", f" kept[{self.name!r}] = it = {returned(self.mark, it.value)}", " return it"])
+        for at, it in enumerate(self.branches):
+            lines += [f" if {it.test}:", *(f"  {one}" for one in it.variables), f"  return {returned(self.mark + at, it.value)}"]
+        return "\n".join([*lines, " return without_value()"])
 
 
 class Machine:
     """Python functions of definitions, which are made as they are needed."""
 
     def __init__(self, names: Names) -> None:
-        self.names, self.hits, self.kept = names, set(), {}
+        self.names, self.kept = names, {}
         self.space: dict[str, Any] = {
             "built": built, "partly": partly, "minus": lambda a, b: max(0, a - b), "over": library.WORDS["◌/◌"][1], "rest": library.WORDS["◌%◌"][1],
-            "hits": self.hits, "kept": self.kept, "without_value": without_value, "power": library.power,
+            "kept": self.kept, "without_value": without_value, "power": library.power, "Record": Record, "now": time.perf_counter,
         }
         self.read: dict[Key, reading.Definition] = {}
         self.numbers: dict[Key, int] = {}
         self.marks: list[tuple[Key, int]] = []
         self.first_marks: dict[Key, int] = {}
         self.waiting: list[Key] = []
+        self.written: dict[Key, Written] = {}
+        self.users: dict[Key, set[Key]] = {}  # the definitions that name each
+        self.quick: dict[Key, CodeType] = {}  # functions that give what was given before for the same arguments
+        self.slow: dict[Key, CodeType] = {}  # and those that compute it
 
     def constant(self, value: Any) -> str:
         name = f"k{len(self.space)}"
@@ -358,21 +415,20 @@ class Machine:
             self.waiting.append(key)
         return f"f{self.numbers[key]}"
 
-    def source(self, key: Key, definition: reading.Definition) -> str:
+    def write(self, key: Key, definition: reading.Definition) -> Written:
         """The Python of a definition."""
-        count = max((len(it.patterns) for it in definition.equations), default=0)
         if key not in self.first_marks:
             self.first_marks[key] = len(self.marks)
             self.marks += [(key, at) for at in range(len(definition.equations))]
-        writer, name = Writer(self, key[:2]), self.function(key)
-        lines = [f"def {name}({', '.join(f'a{at}' for at in range(count))}):"]
-        if not count:
-            lines = [f"def {name}():", f" if {name!r} in kept: return kept[{name!r}]", f" kept[{name!r}] = found = {name}_()", " return found", f"def {name}_():"]
-        if key == ("matchit", "Seek", "seek"):
-            lines.append(" if not a1: return ('None',)")  # (no row is left; the equations go on in two ways at each byte)
-        for at, it in enumerate(definition.equations):
-            lines += writer.equation(it, self.first_marks[key] + at)
-        return "\n".join([*lines, " return without_value()"])
+        writer, count = Writer(self, key[:2], key), max((len(it.patterns) for it in definition.equations), default=0)
+        return Written(self.function(key), count, self.first_marks[key], [writer.equation(it) for it in definition.equations])
+
+    def compiled(self, key: Key, text: str) -> CodeType:
+        """The code of a function."""
+        return next(it for it in compile(text, ".".join(key), "exec").co_consts if isinstance(it, CodeType))
+
+    def plain(self, key: Key, written: Written) -> CodeType:
+        return self.compiled(key, written.text(key, [], lambda _, value: value))
 
     def make(self, key: Key) -> None:
         """Makes a definition's function, and those of all that it names."""
@@ -381,7 +437,10 @@ class Machine:
             it = self.waiting.pop()
             name = self.function(it)
             try:
-                exec(compile(self.source(it, self.definition(it)), ".".join(it), "exec"), self.space)
+                written = self.write(it, self.definition(it))
+                self.slow[it] = self.plain(it, written)
+                self.written[it] = written
+                self.space[name] = FunctionType(self.slow[it], self.space, name)
             except (Lacking, Unread, KeyError) as why:
                 self.space[name] = self.lacking(it, why)
 
@@ -391,16 +450,83 @@ class Machine:
 
         return tell
 
-    def change(self, key: Key, text: str) -> Callable[[], None]:
-        """Puts another text in place of a definition's; what comes back puts the old one back."""
-        name, other = self.function(key), reading.definition_of(text)
-        old, old_inner = self.space[name], self.space.get(f"{name}_")
-        exec(compile(self.source(key, other), ".".join(key), "exec"), self.space)
+    # ---- what is kept of calls
+
+    def is_of_kit(self, key: Key) -> bool:
+        return not os.path.isdir(f"{self.names.root}/crates/{key[0]}")
+
+    def kept_of_kit(self) -> list[Key]:
+        """The kit's definitions that the repository's name, and that take no functions."""
+        those = [key for key in self.written if self.is_of_kit(key) and any(not self.is_of_kit(it) for it in self.users.get(key, ()))]
+        return [key for key in those if self.written[key].count and not self.takes_functions(key)]
+
+    def takes_functions(self, key: Key) -> bool:
+        return any("→" in it for it in self.definition(key).types)
+
+    def use(self, key: Key, code: CodeType) -> None:
+        """Puts a function's code: who has the function calls the new one."""
+        self.space[self.function(key)].__code__ = code
+
+    def take_notes(self, notes: Notes) -> None:
+        """Notes each call of the repository's definitions from now on; what the kit's gave is given again."""
+        self.space.update(note=notes.note, note_row=notes.note_row)
+        for key, written in self.written.items():
+            if not self.is_of_kit(key):
+                how = "note_row({}, {})" if self.takes_functions(key) else f"note({{}}, {written.given()}, now(), {{}})"
+                self.use(key, self.compiled(key, written.text(key, [], how.format)))
+        for key in self.kept_of_kit():
+            written = self.written[key]
+            known = self.constant({})
+            before = [f" it = {known}.get({written.given()})", " if it is not None: return it"]
+            self.use(key, self.compiled(key, written.text(key, before, lambda _, value: f"{known}.setdefault({written.given()}, {value})")))
+            self.quick[key] = self.compiled(key, written.text(key, before, lambda _, value: value))
+
+    def use_notes(self, notes: Notes) -> None:
+        """Gives from now on what was noted, if that is quicker than to compute it."""
+        for key, written in self.written.items():
+            if not self.is_of_kit(key):
+                known = notes.worth_keeping(range(written.mark, written.mark + len(written.branches)))
+                if known:
+                    name = self.constant(known)
+                    before = [f" it = {name}.get({written.given()})", " if it is not None: return it"]
+                    self.quick[key] = self.compiled(key, written.text(key, before, lambda _, value: value))
+            self.use(key, self.quick.get(key, self.slow[key]))
+
+    def resting_on(self, keys: Iterable[Key]) -> set[Key]:
+        """The definitions that rest on one of these, themselves among them."""
+        found, waiting = set(keys), list(keys)
+        while waiting:
+            for key in self.users.get(waiting.pop(), set()) - found:
+                found.add(key)
+                waiting.append(key)
+        return found
+
+    @contextmanager
+    def changed(self, texts: dict[Key, str]) -> Iterator[None]:
+        """Other texts in place of these definitions', in this context."""
+        above = [key for key in self.resting_on(texts) if key in self.quick]
+        old = {key: self.space.get(self.function(key)) for key in texts}
+        try:
+            for key in above:
+                self.use(key, self.slow[key])
+            for key, text in texts.items():
+                self.put(key, text)
+            yield
+        finally:
+            for key, it in old.items():
+                if key in self.slow:
+                    self.use(key, self.slow[key])
+                else:
+                    self.space[self.function(key)] = it
+            for key in above:
+                self.use(key, self.quick[key])
+            self.kept.clear()
+
+    def put(self, key: Key, text: str) -> None:
+        """Puts another text in place of a definition's."""
+        code = self.plain(key, self.write(key, reading.definition_of(text)))
+        if key in self.slow:
+            self.use(key, code)
+        else:
+            self.space[self.function(key)] = FunctionType(code, self.space, self.function(key))
         self.make(key)
-
-        def back() -> None:
-            self.space[name] = old
-            if old_inner:
-                self.space[f"{name}_"] = old_inner
-
-        return back

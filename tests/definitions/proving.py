@@ -9,9 +9,10 @@ import subprocess
 import sys
 import tempfile
 from collections import defaultdict
-from typing import Any
+from contextlib import contextmanager
+from typing import Any, Iterator
 
-from .edits import ROOT, Definitions, Key, Trial, load, text_of, write
+from .edits import EXAMPLES, ROOT, Definitions, Key, Trial, load, text_of, write
 
 USE = re.compile(r"^(?:pub )?use Rattle\.(\w+)\.specs\.([\w.]+?)(?:\.\{([^}]*)\}| as (\w+))?$", re.MULTILINE)
 # what the prover says of two sides that it has computed, and that aren't the same
@@ -179,20 +180,6 @@ def words_for(lib: Any, crate: Any) -> list[str]:
     return words
 
 
-def told_of(crate: str, room: str, more: list[str]) -> str:
-    """What a check says of the crate in a folder, in the place of this one."""
-    lib = load_rt()
-    one = next(it for it in lib.crates_below(ROOT) if it.name == crate)
-    one.out = open(os.devnull, "w")
-    words = [lib.RATTLE, "check", *words_for(lib, one), "--only", "reads_all", *more]
-    child = subprocess.Popen(words, cwd=room, stdin=subprocess.DEVNULL, stdout=subprocess.PIPE, stderr=subprocess.STDOUT, errors="replace", text=True)
-    try:
-        return child.communicate()[0]
-    finally:
-        child.kill()
-        child.wait()
-
-
 def verdicts_of(told: str, trials: list[Trial]) -> dict[str, bool | str]:
     """Of each trial: whether its table holds, or why that isn't known."""
     found = {}
@@ -206,17 +193,49 @@ def verdicts_of(told: str, trials: list[Trial]) -> dict[str, bool | str]:
     return found
 
 
-def try_all(definitions: Definitions, crate: str, trials: list[Trial], words: argparse.Namespace) -> dict[str, bool | str]:
-    """The verdicts on these trials of a crate's tables."""
-    if not trials:
-        return {}
-    with tempfile.TemporaryDirectory(prefix="wrong-definitions-") as room:
-        write_trials(definitions, crate, trials, room)
+class Check:
+    """A check of trials of one crate's tables, which runs beside what the script does until its verdicts are asked for."""
+
+    def __init__(self, definitions: Definitions, crate: str, trials: list[Trial], words: argparse.Namespace) -> None:
+        self.crate, self.trials, self.words = crate, trials, words
+        self.room = tempfile.TemporaryDirectory(prefix="wrong-definitions-")
+        write_trials(definitions, crate, trials, self.room.name)
+        lib = load_rt()
+        one = next(it for it in lib.crates_below(ROOT) if it.name == crate)
+        one.out = open(os.devnull, "w")
         more = ["--incremental", os.path.abspath(words.incremental)] if words.incremental else []
-        told = told_of(crate, room, more)
-        if words.keep:
-            shutil.copytree(room, f"{words.keep}/{crate}", dirs_exist_ok=True)
-            write(f"{words.keep}/{crate}.log", told)
-    if not re.search(r"^only=", told, re.MULTILINE):
-        sys.exit("wrong definitions: the check came to no verdict: " + told.rstrip()[-300:])
-    return verdicts_of(told, trials)
+        command = [lib.RATTLE, "check", *words_for(lib, one), "--only", "reads_all", *more]
+        with open(f"{self.room.name}/told", "w", encoding="utf-8") as printed:
+            self.child = subprocess.Popen(command, cwd=self.room.name, stdin=subprocess.DEVNULL, stdout=printed, stderr=subprocess.STDOUT)
+
+    def verdicts(self) -> dict[str, bool | str]:
+        """The verdicts on the trials."""
+        self.child.wait()
+        with open(f"{self.room.name}/told", encoding="utf-8", errors="replace") as it:
+            told = it.read()
+        if self.words.keep:
+            shutil.copytree(self.room.name, f"{self.words.keep}/{self.crate}", dirs_exist_ok=True)
+            write(f"{self.words.keep}/{self.crate}.log", told)
+        if not re.search(r"^only=", told, re.MULTILINE):
+            sys.exit("wrong definitions: the check came to no verdict: " + told.rstrip()[-300:])
+        return verdicts_of(told, self.trials)
+
+    def end(self) -> None:
+        """Ends the check if it runs, and takes away its files."""
+        self.child.kill()
+        self.child.wait()
+        self.room.cleanup()
+
+
+@contextmanager
+def checks_of(definitions: Definitions, trials: list[Trial], words: argparse.Namespace) -> Iterator[list[Check]]:
+    """The checks of these trials, one for each crate of tables; they end with this context."""
+    checks: list[Check] = []
+    try:
+        for crate in EXAMPLES:
+            if here := [it for it in trials if it.table[0] == crate]:
+                checks.append(Check(definitions, crate, here, words))
+        yield checks
+    finally:
+        for it in checks:
+            it.end()

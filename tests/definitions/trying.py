@@ -1,22 +1,30 @@
 """Tries turned equations: the rows of the tables that rest on an equation are computed with it, until one has another value."""
 from __future__ import annotations
 
+import gc
 import multiprocessing
 import re
 import resource
 import signal
 import sys
 import time
-from collections import Counter, defaultdict
+from collections import Counter
+from contextlib import contextmanager
 from typing import Any, Callable, Iterable, Iterator, NamedTuple
 
 from . import computing, data, reading, turning
 from .computing import Key, Lacking, Machine, Maker, Writer
 from .library import TooLarge
+from .noting import Notes
 from .reading import Unread
 
 IS_TABLE = re.compile(r"(?m)^\w+ = (?:\(.*?\) → )?Gives ")
-ROW_SECONDS = 10  # (a row takes 0.4 s at most)
+ROW_SECONDS = 5  # (a row takes 0.4 s at most)
+CALL_SECONDS, TIMES = 1, 20  # (a turned equation may take a second, and so many times as long as it takes as it is)
+TOO_LONG, TOO_DEEP = "it takes too long", "it goes too deep"
+ENDLESS = (f"Lacking {TOO_LONG}", TOO_DEEP)
+MOST_ENDLESS = 8  # (a turned equation of which so many calls don't end isn't tried further)
+ERRORS = (Lacking, TypeError, KeyError, IndexError, RecursionError, AttributeError, ValueError, OverflowError, MemoryError, TooLarge)
 
 
 class Row(NamedTuple):
@@ -45,11 +53,10 @@ def place_of(key: Key) -> str:
 
 
 class Verdict(NamedTuple):
-    """What came of a turned equation: `refused` by this table, `passes`, or `unread` for this reason; and how many rows rest on it."""
+    """What came of a turned equation: `refused` by this table, `passes`, or `unread` for this reason."""
 
     word: str
     said: str
-    rows: int
 
 
 def flat(text: str) -> str:
@@ -57,7 +64,17 @@ def flat(text: str) -> str:
 
 
 def too_long(*_: Any) -> None:
-    raise Lacking("it takes too long")
+    raise Lacking(TOO_LONG)
+
+
+@contextmanager
+def at_most(seconds: float) -> Iterator[None]:
+    """Stops what is computed in this context after so many seconds of the processor."""
+    signal.setitimer(signal.ITIMER_VIRTUAL, seconds)
+    try:
+        yield
+    finally:
+        signal.setitimer(signal.ITIMER_VIRTUAL, 0)
 
 
 class Trials:
@@ -70,7 +87,7 @@ class Trials:
         self.types = data.types_of(root, sorted(definitions.repository.crates))
         self.rows: list[Row] = []
         self.costs: list[float] = []
-        self.resting: dict[tuple[Key, int], list[int]] = defaultdict(list)
+        self.notes = Notes()
         self.failures: list[str] = []
 
     # ---- rows
@@ -99,22 +116,22 @@ class Trials:
         """Computes each row, notes what it rests on, and what has another value than the stated one."""
         for key in sorted(tables):
             self.read_table(key)
+        self.machine.take_notes(self.notes)
         for at, row in enumerate(self.rows):
+            self.notes.begin(at)
             self.machine.kept.clear()
-            self.machine.hits.clear()
             begun = time.monotonic()
-            signal.setitimer(signal.ITIMER_REAL, ROW_SECONDS)
             try:
-                value, stated = row.values()
+                with at_most(ROW_SECONDS):
+                    value, stated = row.values()
                 why = None if value == stated else "has another value than the stated one"
-            except (Lacking, TypeError, KeyError, IndexError, RecursionError) as it:
+            except ERRORS as it:
                 why = f"isn't computed: {type(it).__name__} {it}"
-            signal.setitimer(signal.ITIMER_REAL, 0)
             self.costs.append(time.monotonic() - begun)
             if why:
                 self.failures.append(f"{row.table[1]}.{row.table[2]}, row {row.place + 1}: {why}")
-            for mark in self.machine.hits:
-                self.resting[self.machine.marks[mark]].append(at)
+        self.machine.kept.clear()
+        self.machine.use_notes(self.notes)
 
     # ---- turned equations
 
@@ -150,47 +167,88 @@ class Trials:
             number = f" (place {counts[label]})" if counts[label] > 1 else ""
             yield Turned(key, it.equation, label + number, text[: it.start] + it.new + text[it.end :])
 
+    def is_computed(self, key: Key) -> bool:
+        """Whether a table computes a definition."""
+        return key in self.machine.first_marks
+
+    def resting(self, it: Turned) -> list[int]:
+        """The rows that rest on a turned equation, the quickest first."""
+        marks = self.marks_of(it)
+        return sorted(set().union(*map(self.notes.rows_of, marks)), key=lambda at: self.costs[at])
+
+    def marks_of(self, it: Turned) -> list[int]:
+        return [self.machine.first_marks[it.key] + it.equation] if self.is_computed(it.key) else []
+
     def verdict(self, it: Turned) -> Verdict:
         """What the rows that rest on a turned equation say of it."""
-        return self.judged_on({it.key: it.text}, self.resting.get((it.key, it.equation), []))
+        return self.judged_with({it.key: it.text}, self.marks_of(it))
 
-    def judged_with(self, texts: dict[Key, str]) -> Verdict:
-        """What the rows that rest on one of these definitions say, if they have these texts."""
-        return self.judged_on(texts, sorted({at for (key, _), rows in self.resting.items() if key in texts for at in rows}))
-
-    def judged_on(self, texts: dict[Key, str], resting: list[int]) -> Verdict:
-        """What these rows say of changed definitions, the quickest first."""
-        backs = []
+    def judged_with(self, texts: dict[Key, str], marks: Iterable[int] | None = None) -> Verdict:
+        """What the rows say of definitions with these texts; `marks`: those of the changed equations, if the others are as they were."""
+        if marks is None:
+            marks = [at for at, (key, _) in enumerate(self.machine.marks) if key in texts]
         try:
-            for key, text in texts.items():
-                backs.append(self.machine.change(key, text))
-            return self.judged(sorted(resting, key=lambda at: self.costs[at]))
+            with self.machine.changed(texts):
+                return self.judged(list(marks))
         except (Lacking, Unread, KeyError, SyntaxError) as why:
-            return Verdict("unread", f"{type(why).__name__} {why}", len(resting))
-        finally:
-            for back in backs:
-                back()
-            self.machine.kept.clear()
+            return Verdict("unread", f"{type(why).__name__} {why}")
 
     def table_over(self, it: Turned, verdict: Verdict) -> Key:
         """The table that refuses a turned equation, or else the quickest that rests on it."""
-        rows = [self.rows[at].table for at in sorted(self.resting[it.key, it.equation], key=lambda at: self.costs[at])]
+        rows = [self.rows[at].table for at in self.resting(it)]
         return next((key for key in rows if f"{key[1]}.{key[2]}" == verdict.said), rows[0])
 
-    def judged(self, resting: list[int]) -> Verdict:
-        why = None
+    def judged(self, marks: list[int]) -> Verdict:
+        """What the rows say that make another call of these equations than before, or so many calls that not all are noted.
+
+        A row has the same value as before if each of its calls has. It has none if no call of it that differs has one.
+        """
+        tried: set[int] = set()
+        why, endless = None, 0
+        for rows, error in self.rows_that_differ(marks, tried):
+            why, endless = why or error, endless + (error in ENDLESS)
+            if endless == MOST_ENDLESS:
+                break
+            for at in sorted(rows - tried, key=lambda at: self.costs[at]):
+                tried.add(at)
+                said = self.said_of(self.rows[at])
+                if said is True:
+                    return Verdict("refused", f"{self.rows[at].table[1]}.{self.rows[at].table[2]}")
+                why = why or said
+        return Verdict("unread", why) if why else Verdict("passes", "")
+
+    def rows_that_differ(self, marks: list[int], tried: set[int]) -> Iterator[tuple[set[int], str]]:
+        """The rows of each call that gives something else now, or why one gives nothing; last the rows of which not all calls are noted."""
+        calls = [(call, self.machine.marks[mark][0], given) for mark in marks for given, call in self.notes.calls[mark].items()]
+        for call, key, given in sorted(calls, key=lambda it: it[0].seconds):
+            if not tried.issuperset(call.rows):
+                limit = CALL_SECONDS + TIMES * call.seconds
+                said = self.computed(lambda: self.machine.space[self.machine.function(key)](*given) != call.value, limit)
+                if said is True:
+                    yield set(call.rows), ""
+                elif said:
+                    yield set(), said
+        yield set().union(*(self.notes.more[mark] for mark in marks)), ""
+
+    def said_of(self, row: Row) -> bool | str:
+        """Whether a row has another value than the stated one, or why that isn't known."""
+
+        def differs() -> bool:
+            value, stated = row.values()
+            return value != stated
+
+        return self.computed(differs, ROW_SECONDS)
+
+    def computed(self, test: Callable[[], bool], limit: float) -> bool | str:
+        """What a test gives within so many seconds, or why it gives nothing."""
         self.machine.kept.clear()
-        for at in resting:
-            signal.setitimer(signal.ITIMER_REAL, ROW_SECONDS)
-            try:
-                value, stated = self.rows[at].values()
-                if value != stated:
-                    return Verdict("refused", f"{self.rows[at].table[1]}.{self.rows[at].table[2]}", len(resting))
-            except (Lacking, TypeError, KeyError, IndexError, RecursionError, AttributeError, ValueError, OverflowError, MemoryError, TooLarge) as it:
-                why = why or f"{type(it).__name__} {it}"
-            finally:
-                signal.setitimer(signal.ITIMER_REAL, 0)
-        return Verdict("unread", why, len(resting)) if why else Verdict("passes", "", len(resting))
+        try:
+            with at_most(limit):
+                return test()
+        except RecursionError:
+            return TOO_DEEP
+        except ERRORS as it:
+            return f"{type(it).__name__} {it}"
 
 
 SHARED: list[Any] = []  # (what the workers have from the process that made them: the trials, and the turned equations)
@@ -202,12 +260,12 @@ def verdict_at(at: int) -> tuple[int, Verdict]:
 
 
 def give_room() -> None:
-    """Leaves room for deep recursion."""
+    """Leaves room for deep recursion (the rows as they are go less than 600 calls deep)."""
     soft, hard = resource.getrlimit(resource.RLIMIT_STACK)
     most = 1 << 29
     resource.setrlimit(resource.RLIMIT_STACK, (most if hard == resource.RLIM_INFINITY else min(most, hard), hard))
-    sys.setrecursionlimit(20000)
-    signal.signal(signal.SIGALRM, too_long)
+    sys.setrecursionlimit(5000)
+    signal.signal(signal.SIGVTALRM, too_long)
 
 
 def end_at_once() -> None:
@@ -219,6 +277,7 @@ def end_at_once() -> None:
 def verdicts_on(trials: Trials, turned: list[Turned], workers: int, log: Any = None) -> list[Verdict]:
     """The verdicts on these, by so many processes."""
     SHARED[:] = [trials, turned]
+    gc.freeze()  # (else each process would copy all that is noted)
     found: dict[int, Verdict] = {}
     with multiprocessing.get_context("fork").Pool(workers, end_at_once) as pool:
         for at, verdict in pool.imap_unordered(verdict_at, range(len(turned)), chunksize=8):

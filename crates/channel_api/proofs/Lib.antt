@@ -2,3 +2,4 @@ pub mod Apart
 pub mod Fronts
 pub mod Lines
 pub mod Names
+pub mod NamedPaths

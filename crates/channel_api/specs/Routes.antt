@@ -1,5 +1,5 @@
 -- What a target names.
-use Rattle.std.specs.Prelude.{ℕ, Bool, ◌≡◌, ◌&&◌, ◌||◌, ◌==◌, nat_le, List, [], ◌∷◌, ◌++◌, codes, length, drop, Option, Some, None, option_and_then, if◌then◌else◌}
+use Rattle.std.specs.Prelude.{ℕ, Bool, true, false, ◌≡◌, ◌&&◌, ◌||◌, ◌==◌, nat_le, List, [], ◌∷◌, ◌++◌, codes, length, drop, Option, Some, None, option_and_then, if◌then◌else◌}
 use Rattle.std.specs.Borrow.{Bor}
 use Rattle.std.specs.List.{list_all, before_first}
 use Rattle.std.specs.Char.{is_ascii_digit, is_ascii_lowercase}
@@ -67,3 +67,21 @@ pair found = (found.0.now, found.1)
 -- the channel's name and what of it a path names
 abbrev pub route_of : List ℕ → Option (List ℕ × Resource)
 route_of path = option_and_then (named path) (found_at path)
+
+-- ---- laws
+
+-- the path of what is named of the channel of this name
+abbrev pub path_to : List ℕ → Resource → List ℕ
+path_to name Channel = front ++ name
+path_to name Origin = front ++ (name ++ codes "/origin")
+path_to name Decisions = front ++ (name ++ codes "/decisions")
+path_to name Live = front ++ (name ++ codes "/live.m3u8")
+path_to name Why = front ++ (name ++ codes "/why")
+
+-- each name of a channel, of 32 bytes too, has its five routes
+abbrev pub EachNameHasItsRoutes : Type 0
+EachNameHasItsRoutes = (name : List ℕ) (resource : Resource) → is_channel_name name ≡ true → route_of (path_to name resource) ≡ Some (name, resource)
+
+-- a path in which no channel's name is has no route
+abbrev pub OthersHaveNone : Type 0
+OthersHaveNone = (path : List ℕ) → is_channel_name (name_in path) ≡ false → route_of path ≡ None

@@ -2,6 +2,7 @@
 #![tactic(auto)]
 
 mod channel_body;
+pub mod laws;
 mod named;
 mod reasons;
 mod replies;

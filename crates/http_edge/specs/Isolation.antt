@@ -4,8 +4,8 @@ use Rattle.std.specs.List.{list_all}
 use Rattle.http_messages.specs.declared.message.Request.{Request}
 use Rattle.http_messages.specs.declared.message.Reply.{Reply}
 use Rattle.channel_api.specs.declared.routes.Resource.{Resource}
-use Rattle.channel_api.specs.Routes.{path_of, route_of}
-use Rattle.http_edge.specs.Table.{reply_to}
+use Rattle.channel_api.specs.Routes.{is_channel_name, path_of, path_to, route_of}
+use Rattle.http_edge.specs.Table.{Table, reply_to, turn, turn_at}
 use Rattle.http_edge.specs.Edges.{NamedChannel, RepresentsRequests, AnswersRequest}
 
 abbrev pub names : List ℕ → Option (List ℕ × Resource) → Bool
@@ -59,3 +59,15 @@ IsIsolatedIn name run =
 -- whatever else was asked, of an edge that stood for no request
 abbrev pub RunsAreIsolated : Type 0
 RunsAreIsolated = (name : List ℕ) (first last : List NamedChannel) (run : List Exchange) → RepresentsRequests first [] → IsRun first run last → IsIsolatedIn name run
+
+-- ---- paths
+
+-- a request whose path is one of a channel's name is on this channel
+abbrev pub PathsAreOnTheirChannels : Type 0
+PathsAreOnTheirChannels = (r : Request) (name : List ℕ) (resource : Resource) → is_channel_name name ≡ true → path_of r.target ≡ path_to name resource
+    → is_on name r ≡ true
+
+-- and does what a request does for what it names of this channel
+abbrev pub PathsLeadToTheirChannels : Type 0
+PathsLeadToTheirChannels = (table : Table) (r : Request) (name : List ℕ) (resource : Resource) → is_channel_name name ≡ true
+    → path_of r.target ≡ path_to name resource → turn table r ≡ turn_at table r name resource
