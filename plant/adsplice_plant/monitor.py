@@ -18,7 +18,7 @@ from .masters import written_names
 from .numbers import repairs_kept
 from .origins import NAMES
 from .reconcile import report
-from .watch import WORDS, Watch
+from .watch import UNFILLABLE, WORDS, Watch
 from .web import Client
 from .words import Fault
 
@@ -128,6 +128,7 @@ class Figures(Collector):
         target = GaugeMetricFamily("adsplice_target_duration_seconds", "EXT-X-TARGETDURATION", labels=["channel"])
         ended = GaugeMetricFamily("adsplice_ended", "Whether the playlist has ended (EXT-X-ENDLIST)", labels=["channel"])
         breaks = GaugeMetricFamily("adsplice_breaks", "Known breaks by the word of why", labels=["channel", "why"])
+        unfillable = GaugeMetricFamily("adsplice_breaks_unfillable", "Listed breaks that SCTE 35 signals and that can't be filled", labels=["channel", "why"])
         lines = CounterMetricFamily("adsplice_as_run", "Breaks that were written to the as-run log, by the pod that was shown", labels=["channel", "pod", "why"])
         begun = CounterMetricFamily("adsplice_breaks_begun", "Breaks that have begun, by the pod in their place", labels=["channel", "pod", "why"])
         waiting = GaugeMetricFamily("adsplice_as_run_waiting", "Lines of the as-run log that can't be written", labels=["channel"])
@@ -143,12 +144,15 @@ class Figures(Collector):
                     target.add_metric([it.name], it.target)
                 for word in WORDS:
                     breaks.add_metric([it.name, word], it.words[word])
+                if (found := it.unfillable()) is not None:
+                    for word in UNFILLABLE:
+                        unfillable.add_metric([it.name, word], found[word])
                 if it.as_run:
                     for pod, why in dict.fromkeys([*KEYS, *it.as_run.counts, *it.as_run.begun]):  # (each from 0 on, so that its first one is seen to come)
                         lines.add_metric([it.name, pod, why], it.as_run.counts[pod, why])
                         begun.add_metric([it.name, pod, why], it.as_run.begun[pod, why])
                     waiting.add_metric([it.name], len(it.as_run.waiting) + it.as_run.lost)
-        yield from (answers, behind, still, target, ended, breaks, lines, begun, waiting)
+        yield from (answers, behind, still, target, ended, breaks, unfillable, lines, begun, waiting)
 
     def pushes(self) -> Iterator[Metric]:
         """The figures of what the feeds kept."""
