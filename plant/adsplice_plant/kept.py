@@ -8,7 +8,7 @@ from pathlib import Path
 from typing import Any
 
 from . import faults, playlist
-from .decisions import said_by
+from .decisions import OVER, said_by
 from .edits import Piece, places_after
 from .journal import Event, Reader
 from .playlist import DateRange
@@ -160,10 +160,10 @@ class Kept:
         if event.what == "origin":
             self.newest = event.lines
         elif event.what == "decisions":
-            self.decide(json.loads(event.body))
+            self.decide(json.loads(event.body), event.fault)
 
-    def decide(self, said: dict[str, Any]) -> None:
-        """Takes in the decision file `said`, which adsplice took."""
+    def decide(self, said: dict[str, Any], why: str = "") -> None:
+        """Takes in the decision file `said`, which adsplice took; `why` the feed gave it, if it was of its own accord."""
         for it in said.get("breaks", []):
             self.pods.pop(it["id"], None)
             self.reasons.pop(it["id"], None)
@@ -172,7 +172,7 @@ class Kept:
             self.pods.pop(next(iter(self.pods)))
         if "withdraw" in said:
             self.pods.pop(said["withdraw"], None)
-            self.give_reason([said["withdraw"]], "its pod was withdrawn")
+            self.give_reason([said["withdraw"]] if why != OVER else [], "its pod was withdrawn")
         if "fallback" in said:
             self.fallback = pod_of(said["fallback"]["ads"]) if said["fallback"] else None
 

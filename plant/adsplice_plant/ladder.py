@@ -89,13 +89,13 @@ class Rendition(Channel):
             self.is_apart = is_apart
             self.note("apart", Answer(int(is_apart)))
 
-    def anew(self, is_new: bool) -> None:
-        """Its channel is there, and all is to be given to it again; `is_new`: it was made."""
+    def anew(self, is_new: bool, is_empty: bool) -> None:
+        """Its channel is there, and all is to be given to it again; `is_new`: it has no list yet; `is_empty`: it was made now."""
         self.is_made, self.debts = True, []
         if is_new:
             self.reached = 0
             self.lists.begin_anew()
-            self.folder.start_anew()
+            self.folder.start_anew(is_empty)
         self.folder.look()
 
 
@@ -114,6 +114,7 @@ class Ladder:
         self.given_up: set[str] = set()  # those of them without which the others have gone on
         self.equal_after = -1  # the media number up to which discontinuities were not added yet
         self.is_resumed = False  # the channels were there when the feed began: a break that has begun has the pod that it is given again
+        self.is_full = False  # whether a rendition has no room for more decisions
         self.seen: dict[str, float] = {}  # files that aren't there in all renditions, and since when
 
     def tell(self, what: str, fault: str, text: str) -> None:
@@ -142,7 +143,7 @@ class Ladder:
             return self.again(one)
         if not self.decide():
             return not all(it.is_made for it in self.members) and self.again(one)
-        if not one.push():
+        if not one.make_room() or not one.push():
             return not one.is_made and self.again(one)
         self.compare()
         return True
@@ -174,7 +175,7 @@ class Ladder:
         if all(it.status == 201 for it in answers.values()):
             self.level()
         for it, answer in [(it, answer) for it, answer in answers.items() if answer.status == 201 or not it.is_made]:
-            it.anew(it.is_new(answer))
+            it.anew(it.is_new(answer), answer.status == 201)
             it.compare(answer.status)
             it.states.pop("adsplice", None)
             it.tell("adsplice", answer.status, "", "makes the channel" if answer.status == 201 else "the channel is there already; goes on with it")
@@ -203,8 +204,13 @@ class Ladder:
         if is_anew or any(it.stamp() not in (None, it.fallback_stamp) for it in self.members):
             if not self.give_fallbacks():
                 return False
-        names = dict.fromkeys(found.path.name for it in self.members for found in it.folder.next_up(it.lists.listed or ()))
-        return all(self.give_file(it) for it in names)
+        self.is_full = False
+        for name in dict.fromkeys(found.path.name for it in self.members for found in it.folder.next_up(it.lists.listed or ())):
+            if not self.give_file(name):
+                return False
+            if self.is_full:
+                break
+        return True
 
     def give_fallbacks(self) -> bool:
         """Gives each rendition its fallback file; if one is refused, none has a fallback. Whether all was answered."""
@@ -333,6 +339,7 @@ class Ladder:
                 it.note_late(decision.ids)
             self.tell(f"decisions/{name}", "J9", f"{', '.join(decision.ids)} has begun in {refuser.settings.name}, and keeps its pod; no rendition is given another one")
         elif faults.code_of(line) == "J10":
+            self.is_full = True
             self.tell(f"decisions/{name}", "J10", f"{refuser.settings.name}: {faults.meaning(answer.status, line)}; tries it again")
         else:
             self.refuse(name, group, faults.name_of(line), f"{refuser.settings.name}: {faults.meaning(answer.status, line)} ({line})")
@@ -345,7 +352,7 @@ class Ladder:
         bodies = {name: withdrawal(name) for name in decision.ids} if decision.kind == "breaks" else {"": NO_FALLBACK}
         for it, _ in group if decision.kind != "withdraw" else []:
             for name, body in bodies.items():
-                answer = Answer(0) if it.debts else it.put("decisions", body)  # (what it owes comes first)
+                answer = Answer(0) if it.debts else it.withdraw(name) if name else it.put("decisions", body)  # (what it owes comes first)
                 if answer.status != 204 and answer.status not in JUDGED:
                     it.debts.append(body)
                 elif faults.code_of(answer.line()) == "J9":
@@ -355,10 +362,14 @@ class Ladder:
     def take_removed_back(self, name: str) -> None:
         """The file `name` was removed from a rendition's folder after it was given: takes its decision back from all. The others' files
         wait until all have one again. A break that has begun in one rendition keeps its pod in all."""
-        removed = {it: decision for it in self.members if (decision := it.folder.removed.pop(name, None)) is not None}
+        removed = {it: decision for it in self.members if (decision := it.folder.removed.get(name)) is not None}
         where, first = ", ".join(it.settings.name for it in removed), next(iter(removed.values()))
         ids = [one for one in first.ids if all(one in it.folder.held_by(decision) for it, decision in removed.items())]
-        begun = self.begun(ids)
+        begun = self.begun(ids) if first.body else self.filled(ids)
+        if begun is None:
+            return
+        for it in removed:
+            del it.folder.removed[name]
         group = [(it, replace(removed.get(it) or it.folder.named(name) or first, ids=[one for one in ids if one not in begun])) for it in self.members]
         entered = self.withdraw(group)
         self.give_back(group, entered)
@@ -373,9 +384,14 @@ class Ladder:
         self.tell(f"decisions/{name}", "Removed", f"the file was removed from {where}; {taken_back_text(first, ids, [*begun, *entered])} in all renditions")
         self.states.pop(f"decisions/{name}")
 
+    def filled(self, ids: list[str]) -> list[str] | None:
+        """Those of the breaks `ids` that an earlier feed gave and that are filled in a rendition by now; none if one doesn't answer."""
+        found = [it.filled(ids) for it in self.members]
+        return None if None in found else [one for one in ids if any(one in (it or ()) for it in found)]
+
     def give_back(self, group: Group, ids: list[str]) -> None:
-        """The breaks `ids` of `group` were withdrawn, but have begun in a rendition: all have their pods again."""
-        for it, decision in group if ids else []:
+        """The breaks `ids` of `group` were withdrawn, but have begun in a rendition: all have their pods again, as far as they are known."""
+        for it, decision in [it for it in group if it[1].body] if ids else []:
             it.put("decisions", without(decision, set(said_by(decision.body)[1]) - set(ids)).body)
 
     def hold(self, name: str, group: Group, away: list[tuple[Rendition, Answer]]) -> bool:

@@ -218,7 +218,7 @@ class Lists:
     def refused(self) -> None:
         """The list was refused: the next one follows the one before it."""
         if self.before is not None:
-            self.stands, self.before = replace(self.before, repairs=self.stands.repairs, files=self.stands.files), None
+            self.stands, self.before = replace(self.before, repairs=self.stands.repairs, files=self.stands.files, over=self.stands.over), None
             self.save()
         self.is_open, self.pending = False, None
 

@@ -424,6 +424,65 @@ def test_feed_that_was_started_again_gives_no_decision_twice(room):
     assert len(controller.puts("decisions")) == 1 and controller.puts("origin")[-1] == origin.text.encode()
 
 
+def test_files_that_are_removed_while_the_feed_is_down_are_withdrawn_when_it_is_back(room):
+    controller, path = room.server(RulesController()), f"{room.path}/decisions"
+    words = ("--channel", "news", "--origin", room.write("index.m3u8", listed(0, 5, [("b1", 40, 4)])), "--at", controller.url, "--base", "http://h/i.m3u8",
+             "--decisions", path, "--keep", f"{room.path}/kept")
+    for name, text in (("one", decided(("b1", 2))), ("two", decided(("b2", 1), ("b3", 1))), ("three", decided(("b3", 1), ("b4", 1))), ("fallback", FALLBACK)):
+        room.write(f"decisions/{name}.json", text)
+    feed = room.feed(*words)
+    for name in ("b1", "b2, b3", "b3, b4"):
+        feed.sees(f"204 -: decides {name}")
+    until(lambda: "three.json" in Path(room.path, "kept", "news.numbers").read_text(encoding="utf-8"), 10, "what a later feed has to know")
+    feed.end(signal.SIGKILL)
+    for name in ("one", "two", "fallback"):
+        os.remove(f"{path}/{name}.json")
+    feed = room.feed(*words)
+    feed.sees("news decisions/one.json 204 Removed: the file was removed; withdraws b1")
+    feed.sees("news decisions/two.json 204 Removed: the file was removed; withdraws b2$")
+    feed.sees("news decisions/fallback.json 204 Removed: the file was removed; takes its fallback back")
+    store = controller.edge.channels["news"].store
+    assert {it.id for it in store.entries} == {"b3", "b4"} and store.fallback is None, store
+    feed.end(signal.SIGKILL)
+    feed = room.feed(*words)
+    feed.sees("news adsplice 409 -: the channel is there already")
+    room.write("index.m3u8", listed(1, 6))
+    until(lambda: "s6.ts" in controller.shown("news"), 10, "the next list")
+    assert not any("Removed" in line for line in feed.lines), feed.lines
+
+
+def test_a_new_channel_is_not_asked_to_forget_what_it_never_held(room):
+    path = f"{room.path}/decisions"
+    words = ("--decisions", path, "--keep", f"{room.path}/kept")
+    origin, controller, feed = started(room, listed(0, 5, [("b1", 40, 4)]), *words)
+    room.write("decisions/one.json", decided(("b1", 2)))
+    feed.sees("news decisions/one.json 204 -: decides b1")
+    until(lambda: "one.json" in Path(room.path, "kept", "news.numbers").read_text(encoding="utf-8"), 10, "what a later feed has to know")
+    feed.end(signal.SIGKILL)
+    os.remove(f"{path}/one.json")
+    controller.channels.clear()
+    feed = room.feed("--channel", "news", "--origin", origin.url, "--at", controller.url, *words)
+    feed.sees("news adsplice 204 -: the list is taken")
+    assert controller.puts("decisions") == [decided(("b1", 2)).encode()], controller.puts("decisions")
+
+
+def test_breaks_that_never_began_leave_room_once_they_are_long_over(room):
+    controller = room.server(RulesController())
+    feed = room.feed("--channel", "news", "--origin", room.write("index.m3u8", listed(0, 5)), "--at", controller.url, "--base", "http://h/i.m3u8",
+                     "--decisions", f"{room.path}/decisions", "--keep", f"{room.path}/kept", "--signals", "no")
+    feed.sees("news adsplice 204 -: the list is taken")
+    for turn in range(20):  # (each is taken out of the list before it begins)
+        room.write(f"decisions/{turn}.json", decided((f"b{turn}", 1)))
+        feed.sees(f"204 -: decides b{turn}$")
+        room.write("index.m3u8", listed(turn, turn + 5, [(f"b{turn}", 2 * turn + 40, 4)]))
+        until(lambda turn=turn: f's{turn + 5}.ts' in controller.shown("news"), 10, "the list")
+    feed.sees("news breaks/b2 204 Over: it was decided, left the list and never began; takes its pod back")
+    assert {it.id for it in controller.edge.channels["news"].store.entries} == {f"b{turn}" for turn in range(3, 20)}, controller.edge.channels["news"].store
+    kept = Kept(Path(room.path, "kept", "news.events"))
+    kept.follow()
+    assert not kept.refused and not kept.reasons, (kept.refused, kept.reasons)
+
+
 def test_a_feed_shows_that_it_goes_on(room):
     origin, controller, feed = started(room, listed(0, 5), "--keep", f"{room.path}/kept")
     path, kept = Path(room.path, "kept", "news.beat"), kept_of(room)

@@ -2,7 +2,9 @@
 import json
 import os
 import re
+import signal
 import urllib.request
+from pathlib import Path
 
 from tools import FALLBACK, FakeController, FakeOrigin, RulesController, decided, free_port, get, instant, listed, put, until
 
@@ -175,6 +177,27 @@ def test_ladder_removed_file_is_withdrawn_from_one_that_was_away_before_its_next
     with controller.lock:
         found = [(path, body) for method, path, body in controller.asked[before:] if path.startswith("/channels/news-2/") and method == "PUT"]
     assert found[0] == ("/channels/news-2/decisions", b'{"withdraw": "b1"}') and found[1][0] == "/channels/news-2/origin", found
+
+
+def test_ladder_file_that_is_removed_while_the_feed_is_down_is_withdrawn_unless_its_break_has_begun(room):
+    controller, breaks, kept = room.server(RulesController()), [("b1", 14, 4), ("b2", 40, 4)], ("--keep", f"{room.path}/kept")
+    ladder = Ladder(room, controller.url, listed(0, 5, breaks), *kept)
+    ladder.taken()
+    ladder.decide("one", decided(("b1", 2)))
+    ladder.decide("two", decided(("b2", 2)))
+    ladder.feed.sees("news decisions/one.json - -: decides b1 in all renditions")
+    ladder.feed.sees("news decisions/two.json - -: decides b2 in all renditions")
+    ladder.push(listed(0, 7, breaks), ("1",))  # (b1 has begun in one rendition)
+    until(lambda: "b1-0.ts" in controller.shown("news-1"), 10, "its break")
+    until(lambda: all("two.json" in Path(room.path, "kept", f"news-{it}.numbers").read_text(encoding="utf-8") for it in NAMES), 10, "what a later feed has to know")
+    ladder.feed.end(signal.SIGKILL)
+    for name, file in (("2", "one"), ("3", "one"), ("1", "two"), ("2", "two"), ("3", "two")):
+        os.remove(f"{room.path}/{name}/decisions/{file}.json")
+    later = Ladder(room, controller.url, listed(0, 7, breaks), *kept)
+    later.feed.sees("news decisions/one.json - Removed: the file was removed from news-2, news-3; b1 has begun, and keeps its pod in all renditions")
+    later.feed.sees("news decisions/two.json - Removed: the file was removed from news-1, news-2, news-3; withdraws b2 in all renditions")
+    until(lambda: all("b1-0.ts" in controller.shown(f"news-{it}") for it in NAMES), 10, "the others' lists")
+    assert all([it.id for it in controller.edge.channels[f"news-{name}"].store.entries] == ["b1"] for name in NAMES)
 
 
 def test_ladder_pods_of_unequal_cuts_are_given_to_none(room):
