@@ -233,6 +233,20 @@ class Breaks:
         self.tell(f"breaks/{shown(new.id)}", "Begins", f"at {instant_text(start)}, {length} ({name})")
         return new
 
+    def move(self, one: Break, start: int, line: Timeline, fresh: int) -> None:
+        """The break `one` is said to begin at `start`, by another clock than before. It does, unless it has begun on `line` before the place
+        `fresh`, or in segments that have left it."""
+        half, begins = line.half(one.start), line.begins[:fresh]
+        if not begins or one.start < begins[0] - half or any(abs(it - one.start) <= half for it in begins):
+            return
+        found, by = line.nearest(start), line.aligned(start) - one.start
+        one.is_settled = found is not None or not line.aligns
+        one.number = found.number if found else one.number
+        one.start, one.latest, one.until, one.is_ended = one.start + by, one.latest + by, None, False
+        self.known.sort(key=lambda it: it.start)
+        if by:
+            self.tell(f"breaks/{shown(one.id)}", "Moved", f"to {instant_text(one.start)}: the packager states another START-DATE before it has begun")
+
     def goes_on(self, it: Placed, line: Timeline, has_begun: bool) -> Break | None:
         """The signal `it` says that a break goes on. If the feed began within it, it becomes known, as one that began before; but
         not if a signal of the same list said more of it (`has_begun`)."""

@@ -56,6 +56,7 @@ class Channel:
         self.fallback_stamp: tuple[int, int, int] | None = None  # of the file that was given
         self.is_made = False
         self.tolerance = playlist.read_duration(settings.tolerance) if settings.tolerance else TOLERANCE
+        self.unnoted: tuple[Answer, bytes] | None = None  # a list that was taken, and is kept with the next event
         self.reached = 0  # the instant at which the last segment that was taken begins; 0 if the channel was made since
         self.beat_at = settings.keep / f"{settings.name}{BEAT}" if settings.keep else None
         self.beaten = float("-inf")  # when it was shown last that the feed goes on
@@ -99,6 +100,9 @@ class Channel:
 
     def note(self, what: str, answer: Answer, body: bytes = b"") -> None:
         """Keeps an event for the monitor and the explainer."""
+        if self.unnoted is not None:
+            (before, text), self.unnoted = self.unnoted, None
+            self.note("origin", before, text)
         if self.journal:
             try:
                 self.journal.add(what, answer.status, answer.why or answer.line(), body)
@@ -131,7 +135,10 @@ class Channel:
         """PUTs `body` to the channel (`what` is ``), or to its `origin` or `decisions`."""
         answer = self.client.ask("PUT", f"{self.url}/{what}" if what else self.url, body)
         self.beat()
-        self.note(what or "channel", answer, body)
+        if what == "origin" and self.lists.ahead is not None and answer.status == 204:
+            self.unnoted = answer, body  # (it is kept with the list that it comes ahead of: between both a break seems to be gone)
+        else:
+            self.note(what or "channel", answer, body)
         return answer
 
     def withdraw(self, name: str, why: str = "") -> Answer:
@@ -316,8 +323,9 @@ class Channel:
 
     def begun(self, ids: list[str]) -> list[str]:
         """Those of the breaks `ids` that have begun in a list that was taken since the channel was made."""
-        starts = self.starts() if self.reached else {}
-        return [it for it in dict.fromkeys(ids) if it in starts and self.reached >= starts[it] - (self.tolerance or 0)]
+        starts, newest = self.starts() if self.reached else {}, self.lists.newest.segments
+        reached = min(self.reached, (newest[-1].begins or self.reached) if newest else self.reached)  # (the newest may be of a clock that went back)
+        return [it for it in dict.fromkeys(ids) if it in starts and reached >= starts[it] - (self.tolerance or 0)]
 
     def came_late(self, decision: Decision, late: list[str], who: str) -> None:
         """The breaks `late` of the `decision`, which adsplice took, had begun with no pod: they stay as they are."""

@@ -124,7 +124,7 @@ class Folder:
     def find_removed(self) -> None:
         """Those that an earlier feed gave, and that somebody took away while none ran: adsplice holds them. One that this feed had put into
         `done` is over."""
-        for name, (said, is_given, _, kind, ids) in list(self.before.items()):
+        for name, (said, is_given, _, kind, ids, _) in list(self.before.items()):
             path = (self.path or Path()) / name
             if os.path.lexists(path):
                 continue
@@ -167,14 +167,14 @@ class Folder:
         self.decisions.pop(path, None)  # (a changed one comes last)
         self.decisions[path] = found = Decision(path, stamp, body, *said_by(body))
         if (known := self.before.pop(path.name, None)) is not None and known[0] == list(stamp):
-            found.state, found.late = ("given" if known[1] else "new"), set(known[2])
+            found.state, found.late = ("given" if known[1] else "refused" if known[5] else "new"), set(known[2])
         return None
 
     def kept(self) -> dict[str, list[Any]]:
         """What a later feed has to know of the files, by their names: the stamp, whether adsplice holds it, which breaks were late, the kind,
-        and the breaks."""
-        known = [*self.removed.values(), *(it for it in self.decisions.values() if it.state == "given" or it.late)]
-        return {it.path.name: [list(it.stamp), it.state == "given", sorted(it.late), it.kind, it.ids] for it in known}
+        the breaks, and whether it was refused."""
+        known = [*self.removed.values(), *(it for it in self.decisions.values() if it.state in ("given", "refused") or it.late)]
+        return {it.path.name: [list(it.stamp), it.state == "given", sorted(it.late), it.kind, it.ids, it.state == "refused"] for it in known}
 
     def pass_over(self, name: str, why: str) -> None:
         """What the folder has under `name` isn't taken; `why` says why."""
@@ -238,16 +238,15 @@ class Folder:
 
     def retire(self, listed: set[str]) -> list[Decision]:
         """Moves away the files whose breaks have all been listed and are no more, of which `listed` are the IDs that are. One whose
-        breaks haven't come stays, however old it is."""
+        breaks haven't come stays, however old it is, and one that was refused."""
         gone = []
-        for it in self.open():
-            if it.kind != "breaks":
-                continue
+        for it in [it for it in self.decisions.values() if it.kind == "breaks" and it.state in ("given", "new")]:
             it.listed |= listed & set(it.ids)
             if not listed & set(it.ids) and it.listed >= set(it.ids):
+                if it.state == "given":
+                    self.over += [name for name in dict.fromkeys(it.ids) if name not in self.over]
                 self.finish(it)
                 gone.append(it)
-                self.over += [name for name in dict.fromkeys(it.ids) if name not in self.over]
         return gone
 
     def finish(self, decision: Decision) -> None:

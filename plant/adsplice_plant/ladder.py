@@ -38,8 +38,8 @@ class Rendition(Channel):
         self.debts: list[bytes] = []  # withdrawals that come before its next list
         ladder.members.append(self)
         self.lists.join(Siblings(lambda: [
-            Sibling(it.settings.base, it.lists.listed_segments, it.lists.is_held, it.settings.group == settings.group)
-            for it in ladder.members if it is not self]))
+            Sibling(it.settings.base, it.lists.listed_segments, it.lists.is_held, it.settings.group == settings.group, it.lists.moved)
+            for it in ladder.members if it is not self], self.lists.moved))
         if isinstance(self.origin, TwoOrigins):
             self.origin.join(ladder.choice)
 
@@ -172,8 +172,9 @@ class Ladder:
             if answer.status not in (201, 409):
                 one.unmade(answer, f"makes {it.settings.name} with the other renditions as soon as it can")
                 return False
-        if all(it.status == 201 for it in answers.values()):
-            self.level()
+        new = [it for it, answer in answers.items() if answer.status == 201]
+        if len(new) == len(self.members) or self.states.get("numbers"):
+            self.level(new)
         for it, answer in [(it, answer) for it, answer in answers.items() if answer.status == 201 or not it.is_made]:
             it.anew(it.is_new(answer), answer.status == 201)
             it.compare(answer.status)
@@ -184,13 +185,14 @@ class Ladder:
         self.is_resumed = all(it.status == 409 for it in answers.values())
         return True
 
-    def level(self) -> None:
-        """All channels are new: they begin with the greatest numbers that viewers have of one segment, if these are apart."""
-        viewed = [it.lists.stands.viewed for it in self.members]
-        common = set.intersection(*(set(it.begins) for it in viewed))
-        found = [it.begins[max(common)] for it in viewed] if common else []
-        for it, (media, discontinuity) in zip(viewed, found):
-            it.rise(max(one for one, _ in found) - media, max(one for _, one in found) - discontinuity)
+    def level(self, new: list[Rendition]) -> None:
+        """The channels of the renditions `new` have no list: they begin with the greatest media numbers that viewers have of one segment, if
+        these are apart. If all are new, so do their discontinuity numbers; else the feed adds discontinuities where they lack."""
+        common = set.intersection(*({number - it.lists.moved() for number in it.lists.stands.viewed.begins} for it in self.members))
+        found = {it: it.lists.stands.viewed.begins[max(common) + it.lists.moved()] for it in self.members} if common else {}
+        for it in new if found else []:
+            media, discontinuity = (max(one[place] for one in found.values()) - found[it][place] for place in (0, 1))
+            it.lists.stands.viewed.rise(media, discontinuity if len(new) == len(self.members) else 0)
 
     # ---- decisions
 
@@ -415,11 +417,11 @@ class Ladder:
     def compare(self) -> None:
         """Compares the numbers that viewers have of the newest segment that all renditions have shown. If they come apart, it is told,
         and the discontinuities that a rendition lacks are added where no break may begin: within one they might be replaced."""
-        common = set.intersection(*({one.number for one in it.lists.stands.repairer.last} for it in self.members))
-        known = [number for number in common if number > self.equal_after and all(number in it.lists.stands.viewed.begins for it in self.members)]
+        common = set.intersection(*({one.number - it.lists.moved() for one in it.lists.stands.repairer.last} for it in self.members))
+        known = [number for number in common if number > self.equal_after and all(number + it.lists.moved() in it.lists.stands.viewed.begins for it in self.members)]
         if not known or any(it.lists.is_open or it.lists.stands.viewed.is_replaced for it in self.members):
             return
-        found = {it.settings.name: it.lists.stands.viewed.begins[max(known)] for it in self.members}
+        found = {it.settings.name: it.lists.stands.viewed.begins[max(known) + it.lists.moved()] for it in self.members}
         usual = max(found.values(), key=list(found.values()).count)
         odd = {name: it for name, it in found.items() if it != usual}
         for it in self.members:
@@ -428,20 +430,21 @@ class Ladder:
             if self.states.pop("numbers", ""):
                 self.say(f"{now_text()} {self.name} ladder - -: the renditions' numbers are equal")
             return
-        self.tell_apart(odd, usual)
+        self.tell_apart(odd, usual, [name for name, it in found.items() if it[0] < max(media for media, _ in found.values())])
         if not any(it.lists.may_enter(it.tolerance or 0) for it in self.members):
             most = max(discontinuity for _, discontinuity in found.values())
             for it in self.members:
                 it.lists.owe(most - found[it.settings.name][1])
-            self.equal_after = max(it.lists.stands.repairer.last[-1].number for it in self.members) + 1
+            self.equal_after = max(it.lists.stands.repairer.last[-1].number - it.lists.moved() for it in self.members) + 1
 
-    def tell_apart(self, odd: dict[str, Numbers], usual: Numbers) -> None:
-        """Tells which renditions are `odd`, with their numbers, beside the `usual` ones: once until all are equal again."""
+    def tell_apart(self, odd: dict[str, Numbers], usual: Numbers, lower: list[str]) -> None:
+        """Tells which renditions are `odd`, with their numbers, beside the `usual` ones: once until all are equal again. Those that are
+        `lower` in their media numbers have to be made anew."""
         if self.states.get("numbers"):
             return
         text = "; ".join(f"{name} ends with media number {it[0]} and discontinuity number {it[1]}" for name, it in odd.items())
         does = "the discontinuities are added as soon as no break may begin" if all(it[0] == usual[0] for it in odd.values()) else \
-            "media numbers stay so: DELETE all of them while no break is listed"
+            f"media numbers stay so: DELETE {', '.join(lower)} while no break is listed"
         self.states["numbers"] = "Apart"
         self.say(f"{now_text()} {self.name} ladder - Apart: the renditions' numbers come apart: {text}, and the others with {usual[0]} and {usual[1]}; {does}")
 

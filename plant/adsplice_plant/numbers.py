@@ -149,7 +149,7 @@ def pack(it: Standing) -> str:
         "own": [one.own for one in history], "bare": sorted({key.text for one in history for key in one.keys if key.takes_number()}),
         "begins": [[number, *found] for number, found in it.viewed.begins.items() if number >= history[0].number],
         "end": it.viewed.end, "is_replaced": it.viewed.is_replaced, "ranges": [[*found] for found in it.viewed.ranges.values()],
-        "said": {name: found[3:] for name, found in it.files.items()}, "over": it.over,
+        "said": {name: found[3:] for name, found in it.files.items()}, "over": it.over, "moved": it.repairer.moved,
     })
 
 
@@ -163,6 +163,7 @@ def unpack(body: bytes, choices: Choices) -> Standing:
         repairer = Repairer(choices)
         version, target, kind = said["head"]
         repairer.head, repairer.adds = Head(version, int(target), kind), bool(said["adds"])
+        repairer.moved = int(said.get("moved", 0))
         repairer.past = [it for it in history if it.number < said["listed"]]
         repairer.last = [it for it in history if it.number >= said["listed"]]
         viewed = Viewed({int(number): (int(media), int(step)) for number, media, step in said["begins"]}, None, bool(said["is_replaced"]))
@@ -178,11 +179,11 @@ def unpack(body: bytes, choices: Choices) -> Standing:
 
 
 def files_of(said: dict[str, Any]) -> dict[str, list[Any]]:
-    """What is known of decision files by what was `said`, as Folder.kept answers it; an earlier feed said no kinds and no breaks."""
+    """What is known of decision files by what was `said`, as Folder.kept answers it; an earlier feed said less."""
     found: dict[str, list[Any]] = {}
     for name, (stamp, given, late) in said["files"].items():
-        kind, ids = said.get("said", {}).get(name, ["", []])
-        found[str(name)] = [[int(one) for one in stamp], bool(given), [str(one) for one in late], str(kind), [str(one) for one in ids]]
+        kind, ids, refused = said.get("said", {}).get(name, ["", [], False])
+        found[str(name)] = [[int(one) for one in stamp], bool(given), [str(one) for one in late], str(kind), [str(one) for one in ids], bool(refused)]
     return found
 
 

@@ -47,6 +47,7 @@ class Translator:
         self.done: dict[str, Mark] = {}  # of each rendition
         self.firsts: dict[str, int] = {}  # the instant of the first one
         self.seen: dict[str, dict[str, set[str]]] = {}  # of each rendition's listed date ranges the attributes that were looked at
+        self.stated: dict[str, dict[str, int]] = {}  # of each rendition's listed date ranges the START-DATE
         self.styles: set[str] = set()  # that were told as not translated
 
     # ---- what a list says
@@ -60,6 +61,7 @@ class Translator:
         if any(it.begins is None for it in found.segments):
             return Translated(None, self.tellings())
         line, before = Timeline(found.segments, self.aligns), {it.id for it in self.breaks.known}
+        self.restate(ranges, line, fresh, rendition)
         self.count(self.of_segments(found, fresh) + self.of_ranges(ranges, line, fresh, rendition), line)
         self.breaks.settle(line)
         newest = found.segments[-1]
@@ -72,6 +74,16 @@ class Translator:
         others = [it.line for it in ranges if not it.is_translated() and self.breaks.named(it.id) is None]
         lines = None if is_known else others + [self.written(it) for it in listed]
         return Translated(lines, self.tellings(), [it for it in self.breaks.known if it.id not in before])
+
+    def restate(self, ranges: list[DateRange], line: Timeline, fresh: int, rendition: str) -> None:
+        """A packager whose clock was put right states another START-DATE of a break: one that hasn't begun in a segment before the place
+        `fresh` begins then. The rest as in `of_ranges`."""
+        before = self.stated.get(rendition, {})
+        self.stated[rendition] = {it.id: start for it in ranges if it.is_splice() and (start := it.start()) is not None}
+        for name, start in self.stated[rendition].items():
+            one = self.breaks.named(name)
+            if one is not None and abs(start - before.get(name, start)) > self.tolerance:
+                self.breaks.move(one, start, line, fresh)
 
     def first_new(self, found: PackagedList, rendition: str) -> int:
         """The place of the first segment of the list `found` that the `rendition` hasn't listed before; past the last one if none is."""
@@ -197,11 +209,12 @@ class Translator:
     def kept(self) -> dict[str, Any]:
         """The state as JSON."""
         return {"breaks": self.breaks.kept(), "done": self.done, "cancelled": sorted(self.breaks.cancelled), "styles": sorted(self.styles),
-                "seen": {name: {id_: sorted(said) for id_, said in it.items()} for name, it in self.seen.items()}}
+                "stated": self.stated, "seen": {name: {id_: sorted(said) for id_, said in it.items()} for name, it in self.seen.items()}}
 
     def resume(self, kept: dict[str, Any]) -> None:
         """Goes on from the state that `kept` answered; raises if that isn't one (KeyError, TypeError, ValueError)."""
         self.breaks.known = [Break(**it) for it in kept["breaks"]]
         self.done = {name: Mark(*it) for name, it in kept["done"].items()}
         self.seen = {name: {id_: set(said) for id_, said in it.items()} for name, it in kept["seen"].items()}
+        self.stated = {name: {id_: int(start) for id_, start in it.items()} for name, it in kept.get("stated", {}).items()}
         self.breaks.cancelled, self.styles, self.breaks.is_first = set(kept["cancelled"]), set(kept["styles"]), not self.done

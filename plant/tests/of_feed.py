@@ -9,7 +9,7 @@ import time
 import urllib.request
 from pathlib import Path
 
-from tools import FALLBACK, PLANT, PYTHON, FakeController, FakeOrigin, RulesController, decided, free_port, get, listed, until
+from tools import FALLBACK, PLANT, PYTHON, FakeController, FakeOrigin, RulesController, decided, free_port, get, instant, listed, until
 
 sys.path.insert(0, PLANT)
 from adsplice_plant.kept import Kept  # noqa: E402
@@ -424,6 +424,12 @@ def test_feed_that_was_started_again_gives_no_decision_twice(room):
     assert len(controller.puts("decisions")) == 1 and controller.puts("origin")[-1] == origin.text.encode()
 
 
+def kept_numbers(room, name="news"):
+    """What a later feed of a channel has to know; nothing before the first list."""
+    path = Path(room.path, "kept", f"{name}.numbers")
+    return path.read_text(encoding="utf-8") if path.exists() else ""
+
+
 def test_files_that_are_removed_while_the_feed_is_down_are_withdrawn_when_it_is_back(room):
     controller, path = room.server(RulesController()), f"{room.path}/decisions"
     words = ("--channel", "news", "--origin", room.write("index.m3u8", listed(0, 5, [("b1", 40, 4)])), "--at", controller.url, "--base", "http://h/i.m3u8",
@@ -433,7 +439,8 @@ def test_files_that_are_removed_while_the_feed_is_down_are_withdrawn_when_it_is_
     feed = room.feed(*words)
     for name in ("b1", "b2, b3", "b3, b4"):
         feed.sees(f"204 -: decides {name}")
-    until(lambda: "three.json" in Path(room.path, "kept", "news.numbers").read_text(encoding="utf-8"), 10, "what a later feed has to know")
+    feed.sees("news adsplice 204 -: the list is taken")
+    until(lambda: "three.json" in kept_numbers(room), 20, "what a later feed has to know")
     feed.end(signal.SIGKILL)
     for name in ("one", "two", "fallback"):
         os.remove(f"{path}/{name}.json")
@@ -451,13 +458,28 @@ def test_files_that_are_removed_while_the_feed_is_down_are_withdrawn_when_it_is_
     assert not any("Removed" in line for line in feed.lines), feed.lines
 
 
+def test_file_that_was_refused_is_not_given_again_by_a_later_feed(room):
+    words = ("--decisions", f"{room.path}/decisions", "--keep", f"{room.path}/kept")
+    origin, controller, feed = started(room, listed(0, 5), *words)
+    controller.refusals[("PUT", "decisions")] = [(422, "J2 Shape break 0\n")]
+    room.write("decisions/one.json", decided(("b1", 2)))
+    feed.sees("news decisions/one.json 422 J2 Shape")
+    until(lambda: "one.json" in kept_numbers(room), 20, "what a later feed has to know")
+    feed.end(signal.SIGKILL)
+    feed = room.feed("--channel", "news", "--origin", origin.url, "--at", controller.url, *words)
+    feed.sees("news adsplice 204 -: the list is taken")
+    assert len(controller.puts("decisions")) == 1
+    room.write("decisions/one.json", decided(("b1", 1)))
+    feed.sees("news decisions/one.json 204 -: decides b1")
+
+
 def test_a_new_channel_is_not_asked_to_forget_what_it_never_held(room):
     path = f"{room.path}/decisions"
     words = ("--decisions", path, "--keep", f"{room.path}/kept")
     origin, controller, feed = started(room, listed(0, 5, [("b1", 40, 4)]), *words)
     room.write("decisions/one.json", decided(("b1", 2)))
     feed.sees("news decisions/one.json 204 -: decides b1")
-    until(lambda: "one.json" in Path(room.path, "kept", "news.numbers").read_text(encoding="utf-8"), 10, "what a later feed has to know")
+    until(lambda: "one.json" in kept_numbers(room), 20, "what a later feed has to know")
     feed.end(signal.SIGKILL)
     os.remove(f"{path}/one.json")
     controller.channels.clear()
@@ -481,6 +503,36 @@ def test_breaks_that_never_began_leave_room_once_they_are_long_over(room):
     kept = Kept(Path(room.path, "kept", "news.events"))
     kept.follow()
     assert not kept.refused and not kept.reasons, (kept.refused, kept.reasons)
+
+
+def by_clock(first, last, breaks, ahead, is_each):
+    """A list of segments `first` to `last` whose clock, and that of its `breaks`, is `ahead` by so many seconds; `is_each`: each segment states
+    its instant, and not the first one alone."""
+    text = listed(first, last, [(name, start + ahead, length) for name, start, length in breaks])
+    text = text.replace(f"#EXT-X-PROGRAM-DATE-TIME:{instant(2 * first)}\n", "")
+    for number in range(first, last + 1 if is_each else first + 1):
+        text = text.replace(f"#EXTINF:2,\ns{number}.ts", f"#EXT-X-PROGRAM-DATE-TIME:{instant(2 * number + ahead)}\n#EXTINF:2,\ns{number}.ts")
+    return text
+
+
+def test_a_clock_that_changes_within_an_announced_break_leaves_it_filled(room):
+    breaks, cases = [("b1", 20, 4)], [(before, after, is_each) for before, after in ((-180, 0), (0, -180), (0, 7)) for is_each in (True, False)]
+    controller, feeds = room.server(RulesController()), []
+    for place, (before, after, is_each) in enumerate(cases):
+        room.write(f"c{place}/b1.json", decided(("b1", 2)))
+        words = ("--at", controller.url, "--base", "http://h/i.m3u8", "--decisions", f"{room.path}/c{place}", "--keep", f"{room.path}/kept")
+        feeds.append(room.feed("--channel", f"c{place}", "--origin", room.write(f"c{place}.m3u8", by_clock(0, 5, breaks, before, is_each)), *words))
+    for newest in range(6, 14):  # (the clock changes with segment 8, two before the break)
+        for place, (before, after, is_each) in enumerate(cases):
+            room.write(f"c{place}.m3u8", by_clock(newest - 5, newest, breaks, before if newest < 8 else after, is_each))
+        for place in range(len(cases)):
+            name = f"s{newest}.ts" if newest not in (10, 11) else f"b1-{newest - 10}.ts"
+            try:
+                until(lambda place=place, name=name: name in controller.shown(f"c{place}"), 60, f"{name} of {cases[place]}")
+            except AssertionError as fault:
+                raise AssertionError("\n".join([str(fault), controller.shown(f"c{place}"), *feeds[place].lines])) from None
+    for place in range(len(cases)):
+        assert len(re.findall(r"b1-\d.ts", controller.shown(f"c{place}"))) == 2 and f"c{place} adsplice 4" not in "\n".join(feeds[place].lines), feeds[place].lines
 
 
 def test_a_feed_shows_that_it_goes_on(room):

@@ -4,8 +4,8 @@ import os
 import re
 import signal
 import urllib.request
-from pathlib import Path
 
+from of_feed import kept_numbers
 from tools import FALLBACK, FakeController, FakeOrigin, RulesController, decided, free_port, get, instant, listed, put, until
 
 NEEDS = ("httpx",)
@@ -189,7 +189,7 @@ def test_ladder_file_that_is_removed_while_the_feed_is_down_is_withdrawn_unless_
     ladder.feed.sees("news decisions/two.json - -: decides b2 in all renditions")
     ladder.push(listed(0, 7, breaks), ("1",))  # (b1 has begun in one rendition)
     until(lambda: "b1-0.ts" in controller.shown("news-1"), 10, "its break")
-    until(lambda: all("two.json" in Path(room.path, "kept", f"news-{it}.numbers").read_text(encoding="utf-8") for it in NAMES), 10, "what a later feed has to know")
+    until(lambda: all("two.json" in kept_numbers(room, f"news-{it}") for it in NAMES), 20, "what a later feed has to know")
     ladder.feed.end(signal.SIGKILL)
     for name, file in (("2", "one"), ("3", "one"), ("1", "two"), ("2", "two"), ("3", "two")):
         os.remove(f"{room.path}/{name}/decisions/{file}.json")
@@ -358,6 +358,39 @@ def test_ladder_that_came_apart_comes_together_though_a_break_is_always_listed(r
     assert at_newest(controller) == [(12, 2)] * 3 and sum(" Apart: " in line for line in ladder.feed.lines) == 1, (at_newest(controller), ladder.feed.lines)
     with open(f"{room.path}/kept/news-1.events", encoding="utf-8") as it:
         assert [said["status"] for said in map(json.loads, it) if said["what"] == "apart"] == [1, 0]
+
+
+def test_ladder_whose_media_numbers_came_apart_has_equal_ones_once_the_lower_are_deleted(room):
+    controller, breaks = room.server(RulesController()), [("b1", 8, 4)]
+    ladder = Ladder(room, controller.url, listed(0, 3, breaks))
+    ladder.taken()
+    assert put(f"{controller.url}/channels/news-1/decisions", decided(("b1", 4), seconds="1").encode()) == 204  # (4 segments for 2, in one alone)
+    push_on(ladder, controller, [7], breaks)
+    after = ladder.feed.sees("news ladder - Apart: .*; media numbers stay so: DELETE news-2, news-3 while no break is listed")
+    push_on(ladder, controller, range(8, 15), ())
+    assert [media for media, _ in at_newest(controller)] == [16, 14, 14], at_newest(controller)
+    with controller.one_by_one:
+        del controller.edge.channels["news-2"], controller.edge.channels["news-3"]
+    push_on(ladder, controller, range(15, 18), ())
+    ladder.feed.sees("news ladder - -: the renditions' numbers are equal", 20, after)
+    assert at_newest(controller) == [(19, 2)] * 3 and sum("news-1 adsplice 201" in line for line in ladder.feed.lines) == 1, at_newest(controller)
+
+
+def test_ladder_one_that_is_made_anew_after_a_pod_of_another_cut_is_not_apart(room):
+    controller, breaks = room.server(RulesController()), [("b1", 8, 4)]
+    ladder = Ladder(room, controller.url, listed(0, 3, breaks), "--keep", f"{room.path}/kept")
+    ladder.taken()
+    ladder.decide("one", decided(("b1", 4), seconds="1"))
+    ladder.feed.sees("news decisions/one.json - -: decides b1 in all renditions")
+    push_on(ladder, controller, range(7, 18), breaks)
+    with controller.one_by_one:
+        del controller.edge.channels["news-2"]  # (whose list begins with greater numbers than the feed's from now on)
+    push_on(ladder, controller, range(18, 20), [("b2", 60, 4)])
+    ladder.push(listed(30, 30, name="t").replace("SEQUENCE:30", "SEQUENCE:0"), ("2",))  # (its packager was away, and begins again)
+    push_on(ladder, controller, range(20, 31), (), ("1", "3"))
+    until(lambda: "t30.ts" in controller.shown("news-2"), 20, "the list of news-2")
+    found = [media for media, _ in at_newest(controller)]
+    assert found == [32] * 3 and not any("media numbers stay so" in line for line in ladder.feed.lines), (found, ladder.feed.lines)
 
 
 def test_ladder_whose_way_to_one_is_cut_within_a_decision_has_equal_numbers(room):
