@@ -147,7 +147,7 @@ class Lists:
             return
         self.count(found)
         if found.found is not None:
-            if self.signalling.translate(found.found, self.settings.rendition()):
+            if self.signalling.translate(found.found, self.settings.rendition(), self.moved()):
                 found.came = None
             self.learn(found.found)
         text = found.body()
@@ -269,7 +269,7 @@ class Lists:
         if newest.why == repairs.SECTIONS:
             return self.begin_after()
         if newest.found is not None:
-            self.signalling.translate(newest.found, self.settings.rendition())
+            self.signalling.translate(newest.found, self.settings.rendition(), self.moved())
         listed = newest.found.segments if newest.found is not None else repairer.last
         head = newest.head or repairer.head
         history = [it for it in (*repairer.past, *repairer.last) if it.number < listed[0].number] + listed
@@ -301,8 +301,8 @@ class Lists:
         segments = first.found.segments
         segments[0].discontinuities = max(1, segments[0].discontinuities)
         count_on(PackagedSegment("", 0, number=number, discontinuity=discontinuity), segments)
-        self.signalling.translate(first.found, self.settings.rendition())
         moved = stands.repairer.moved + number - stands.repairer.last[-1].number
+        self.signalling.translate(first.found, self.settings.rendition(), moved)
         self.stands = replace(stands, repairer=Repairer(stands.repairer.choices, stands.repairer.siblings), viewed=Viewed(end=stands.viewed.end))
         self.stands.repairer.moved = moved
         self.pending, self.text, self.is_open, self.is_new = first, packaged.write(first.found), True, False

@@ -515,24 +515,26 @@ def by_clock(first, last, breaks, ahead, is_each):
     return text
 
 
-def test_a_clock_that_changes_within_an_announced_break_leaves_it_filled(room):
-    breaks, cases = [("b1", 20, 4)], [(before, after, is_each) for before, after in ((-180, 0), (0, -180), (0, 7)) for is_each in (True, False)]
+def test_a_clock_that_changes_moves_announced_breaks_and_the_end_of_one_that_has_begun(room):
+    breaks = [("b0", 12, 8), ("b1", 28, 4)]
+    owed = [f"b0-{n - 6}.ts" if 6 <= n < 10 else f"b1-{n - 14}.ts" if 14 <= n < 16 else f"s{n}.ts" for n in range(22)]
+    cases = [(changes, ahead, is_each) for changes in (8, 11) for ahead in ((-180, 0), (0, -180), (0, 7)) for is_each in (True, False)]
     controller, feeds = room.server(RulesController()), []
-    for place, (before, after, is_each) in enumerate(cases):
-        room.write(f"c{place}/b1.json", decided(("b1", 2)))
-        words = ("--at", controller.url, "--base", "http://h/i.m3u8", "--decisions", f"{room.path}/c{place}", "--keep", f"{room.path}/kept")
-        feeds.append(room.feed("--channel", f"c{place}", "--origin", room.write(f"c{place}.m3u8", by_clock(0, 5, breaks, before, is_each)), *words))
-    for newest in range(6, 14):  # (the clock changes with segment 8, two before the break)
-        for place, (before, after, is_each) in enumerate(cases):
-            room.write(f"c{place}.m3u8", by_clock(newest - 5, newest, breaks, before if newest < 8 else after, is_each))
-        for place in range(len(cases)):
-            name = f"s{newest}.ts" if newest not in (10, 11) else f"b1-{newest - 10}.ts"
+    for place, (changes, ahead, is_each) in enumerate(cases):
+        room.write(f"c{place}/b.json", decided(("b0", 4), ("b1", 2)))
+        origin = room.write(f"c{place}.m3u8", by_clock(0, 4, breaks, ahead[0], is_each))
+        feeds.append(f"[c{place}]\norigin = {origin}\ndecisions = {room.path}/c{place}\n")
+    feed = room.feed("--config", room.write("feed.ini", f"[DEFAULT]\nat = {controller.url}\nbase = http://h/i.m3u8\nkeep = {room.path}/kept\n" + "".join(feeds)))
+    for newest in range(5, 22):  # (the clock changes with segment 8, within b0, or with segment 11, between both)
+        for place, (changes, ahead, is_each) in enumerate(cases):
+            room.write(f"c{place}.m3u8", by_clock(max(0, newest - 8), newest, breaks if newest < 18 else (), ahead[newest >= changes], is_each))
+        for place, case in enumerate(cases):
             try:
-                until(lambda place=place, name=name: name in controller.shown(f"c{place}"), 60, f"{name} of {cases[place]}")
+                until(lambda place=place: controller.shown(f"c{place}").rstrip("\n").endswith("/" + owed[newest]), 60, f"{owed[newest]} of {case}")
             except AssertionError as fault:
-                raise AssertionError("\n".join([str(fault), controller.shown(f"c{place}"), *feeds[place].lines])) from None
-    for place in range(len(cases)):
-        assert len(re.findall(r"b1-\d.ts", controller.shown(f"c{place}"))) == 2 and f"c{place} adsplice 4" not in "\n".join(feeds[place].lines), feeds[place].lines
+                lines = [line for line in feed.lines if f" c{place} " in line]
+                raise AssertionError("\n".join([str(fault), controller.shown(f"c{place}"), *lines])) from None
+    assert not any(" adsplice 4" in line for line in feed.lines), feed.lines
 
 
 def test_a_feed_shows_that_it_goes_on(room):

@@ -5,7 +5,7 @@ import re
 import signal
 import urllib.request
 
-from of_feed import kept_numbers
+from of_feed import by_clock, kept_numbers
 from tools import FALLBACK, FakeController, FakeOrigin, RulesController, decided, free_port, get, instant, listed, put, until
 
 NEEDS = ("httpx",)
@@ -423,6 +423,20 @@ def test_ladder_whose_packagers_clock_goes_back_is_given_its_decisions(room):
     until(lambda: all("s6.ts" in asked(controller, name, "origin")[-1] for name in NAMES), 10, "the lists")
     ladder.decide("one", decided(("b1", 2)))
     ladder.feed.sees("news decisions/one.json - -: decides b1 in all renditions")
+
+
+def test_ladder_whose_packagers_clock_goes_back_within_a_break_has_equal_numbers(room):
+    controller, breaks = room.server(RulesController()), [("b0", 12, 8), ("b1", 28, 4)]
+    ladder = Ladder(room, controller.url, by_clock(0, 4, breaks, 0, True), "--keep", f"{room.path}/kept")
+    ladder.taken()
+    ladder.decide("one", decided(("b0", 4), ("b1", 2)))
+    ladder.feed.sees("news decisions/one.json - -: decides b0, b1 in all renditions")
+    owed = [f"b0-{n - 6}.ts" if 6 <= n < 10 else f"b1-{n - 14}.ts" if 14 <= n < 16 else f"s{n}.ts" for n in range(20)]
+    for newest in range(5, 20):  # (one rendition's list comes later than the others')
+        for names in (("1", "3"), ("2",)):
+            ladder.push(by_clock(max(0, newest - 8), newest, breaks if newest < 18 else (), -180 if newest >= 8 else 0, True), names)
+            until(lambda: all(controller.shown(f"news-{it}").rstrip("\n").endswith("/" + owed[newest]) for it in names), 20, f"{owed[newest]} in {names}")
+    assert at_newest(controller) == [(19, 4)] * 3, at_newest(controller)
 
 
 def test_ladder_whose_packagers_count_from_other_numbers_has_equal_ones(room):
