@@ -33,7 +33,7 @@ NO_PUT = {403, 404, 405}  # statuses by which no adsplice answers the making of 
 JUDGED = {409, 413, 422}  # statuses by which adsplice refuses what it was given; after others the same is tried again with pauses
 
 READ = ("200", "")  # the state of an origin that is read
-QUIET = ("list", "numbers")  # of which it isn't told that all is well at first
+QUIET = ("list", "numbers", "journal")  # of which it isn't told that all is well at first
 
 HERE = str(Path(__file__).parent)
 
@@ -106,8 +106,9 @@ class Channel:
         if self.journal:
             try:
                 self.journal.add(what, answer.status, answer.why or answer.line(), body)
+                self.tell("journal", 0, "", f"{self.journal.path}: events are kept again")
             except OSError as fault:
-                self.tell("journal", 0, "", f"{self.journal.path}: {fault.strerror}; goes on without it")
+                self.tell("journal", 0, "Unkept", f"{self.journal.path}: {fault.strerror}; goes on without it")
 
     def opening(self) -> list[Event]:
         """What a new file of kept events begins with: the channel, and the decisions that it holds."""

@@ -44,6 +44,7 @@ class Lists:
         self.before: Standing | None = None  # where the channel stood before it, if it was pushed
         self.is_aligned = False  # whether the first list was numbered as those of other renditions
         self.is_anew = False  # whether the channel is new, and begins where viewers' list stood
+        self.is_kept = True  # whether the numbers could be kept last
         self.told: set[str] = set()
         self.why = ""  # the word of why nothing was pushed of the newest list
         self.told_at: dict[str, float] = {}  # when each of these words was told
@@ -97,8 +98,10 @@ class Lists:
             return
         try:
             self.record.write(numbers.pack(self.stands), {"repairs": self.stands.repairs})
-            self.tell("numbers", 0, "", "")
+            self.tell("numbers", 0, "", "" if self.is_kept else f"{self.path}: numbers are kept again")
+            self.is_kept = True
         except OSError as fault:
+            self.is_kept = False
             self.tell("numbers", 0, "Unkept", f"{self.path}: {fault.strerror}; after a new start of the feed numbers may go back")
 
     # ---- from the packager

@@ -216,14 +216,31 @@ def once(watches: list[Watch], processes: Processes, registry: CollectorRegistry
     return CRITICAL if troubles else 0
 
 
+class Trouble:
+    """What keeps the monitor from its work on `name`, a channel or a file: told once for as long as it lasts, and when it is over."""
+
+    def __init__(self, name: str) -> None:
+        """Nothing is wrong yet."""
+        self.name, self.text, self.say = name, "", words.Teller(words.ERROR, lambda line: words.Level.ERROR).say
+
+    def tell(self, text: str) -> None:
+        """The trouble is `text` now; none if it is empty."""
+        if text != self.text:
+            self.text = text
+            self.say(f"{words.now_text()} {self.name}: {text or 'all is well again'}")
+
+
 def follow(watch: Watch, ending: threading.Event, interval: float) -> None:
     """Looks at `watch` every `interval` seconds until `ending` is set."""
-    say = words.Teller(words.ERROR, lambda line: words.Level.ERROR).say
+    trouble = Trouble(watch.name)
     while not ending.wait(watch.pause(interval)):
         try:
             watch.look()
+            trouble.tell("")
+        except OSError as fault:
+            trouble.tell(f"{fault.filename or ''} {fault.strerror}".strip())
         except Exception as fault:  # noqa: BLE001  (one channel's fault isn't to end the figures of the others)
-            say(f"{words.now_text()} {watch.name}: {type(fault).__name__}: {str(fault)[:200]}")
+            trouble.tell(f"{type(fault).__name__}: {str(fault)[:200]}")
 
 
 def serve(watches: list[Watch], processes: Processes, registry: CollectorRegistry, said: argparse.Namespace) -> int:
@@ -249,8 +266,7 @@ def serve(watches: list[Watch], processes: Processes, registry: CollectorRegistr
 
 def beat_on(log: Log, watches: list[Watch], ending: threading.Event) -> None:
     """Keeps that a monitor runs beside its as-run log `log`, and what it knows of the breaks of `watches`, until `ending` is set."""
-    say, has_begun = words.Teller(words.ERROR, lambda line: words.Level.ERROR).say, False
-    is_last = False
+    trouble, has_begun, is_last = Trouble(str(log.path)), False, False
     while not is_last:
         is_last = ending.is_set()
         try:
@@ -258,10 +274,11 @@ def beat_on(log: Log, watches: list[Watch], ending: threading.Event) -> None:
                 log.begin()
             has_begun = True
             log.beat(state_of(watches))
+            trouble.tell("")
         except OSError as fault:
-            say(f"{words.now_text()} {log.path}: {fault.strerror}")
+            trouble.tell(fault.strerror or str(fault))
         except Exception as fault:  # noqa: BLE001  (the sign that a monitor runs isn't to end in silence)
-            say(f"{words.now_text()} {log.path}: {type(fault).__name__}: {str(fault)[:200]}")
+            trouble.tell(f"{type(fault).__name__}: {str(fault)[:200]}")
         ending.wait(BEAT)
 
 

@@ -66,6 +66,8 @@ class Signalling:
             return
         try:
             write_aside(self.path, text.encode())
+            if not self.is_kept:
+                self.tell("signals", "-", "-", f"{self.path}: they are kept again")
             self.saved, self.is_kept = text, True
         except OSError as fault:
             if self.is_kept:

@@ -459,6 +459,15 @@ def test_alerts_name_figures_that_there_are_and_the_dashboard_has_each(room):
         assert done.returncode == 0, done.stdout + done.stderr
 
 
+def test_a_trouble_that_lasts_is_told_once_and_when_it_is_over(room):
+    from adsplice_plant.monitor import Trouble
+    trouble, said = Trouble("as-run.jsonl"), []
+    trouble.say = said.append
+    for text in ("", "No space left on device", "No space left on device", "", "", "No space left on device"):
+        trouble.tell(text)
+    assert [line.split(" ", 1)[1] for line in said] == ["as-run.jsonl: No space left on device", "as-run.jsonl: all is well again", "as-run.jsonl: No space left on device"], said
+
+
 def test_wrong_words_are_one_line_and_a_status(room):
     for words, status, text in ((["--channel", "news"], 2, "are needed"), (["--channel", "n", "--at", "http://h", "--as-run", "x"], 2, "needs --kept"),
                                 (["--channel", "n", "--at", "http://h", "--listen", "x"], 1, "--listen x"), (["--config", "no.ini"], 1, "No such file"),
