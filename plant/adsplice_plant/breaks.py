@@ -219,10 +219,12 @@ class Breaks:
 
     def is_spoken_of(self, before: Break, it: Placed, start: int, half: int, planned: int | None) -> bool:
         """Whether the signal `it`, at `start`, says once more that the break `before` begins or is open, or is of a span within it.
-        Then that break isn't over: with the same event, or without one, it is the same; with another type it is an inner one."""
+        Then that break isn't over: with the same event, or without one, it is the same; with another type it is an inner one. (Two breaks
+        that are announced may touch, and the first one be short: each has its event.)"""
         message = it.signal.message
         is_same = message.type == before.type and message.event in (0, before.event) or it.signal.is_cue and message.event == 0
-        if start - before.start <= half:
+        is_other = message.type == before.type and message.event and before.event and not is_same and start - before.start > TOLERANCE
+        if start - before.start <= half and not is_other:
             before.planned = planned if before.planned is None and before.until is None and is_same else before.planned
         elif before.is_over(start + half):
             return False
