@@ -159,8 +159,9 @@ FAULTS = (
     Fault("mistake", "sport", "a decision file has a mistake", decision("sport", "mistake"), (REFUSED, FALLBACK)),
     Fault("silent", "film", "no decision comes for a break", decision("film", "silent"), (FALLBACK,)),
     Fault("many-files", "film", f"{MANY:,} decision files for breaks to come lie there for 25 s", many_files, DECISIONS, is_due=False),
-    Fault("nginx", "", "nginx is killed, and started again after 3 s", lambda day: day.kill_nginx(3), is_due=False),
-    Fault("feed-killed", "", "the feed is killed, and started again after 1 s", feed_is_killed, is_due=False),
+    # (lists that stand still for six seconds by these are told)
+    Fault("nginx", "", "nginx is killed, and started again after 3 s", lambda day: day.kill_nginx(3), (STILL, LATE), is_due=False),
+    Fault("feed-killed", "", "the feed is killed, and started again after 1 s", feed_is_killed, (STILL, LATE), is_due=False),
     Fault("feed-stopped", "", "the feed is stopped for 15 s", stopped(lambda day: day.feed.pid, 15), (STILL, LATE, "AdspliceFeedHangs")),
     Fault("monitor", "", "the monitor is killed, and started again after 5 s", monitor_is_killed, is_due=False),
     Fault("slow-origin", "sport", "the origin gives no answer within 8 s, for 16 s", origin("first", "sport", "hangs", 16), (STILL, LATE)),

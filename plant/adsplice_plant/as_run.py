@@ -133,7 +133,10 @@ class AsRun:
             self.put({"at": now, "channel": self.channel, "gap": {"from": self.seen_at, "to": now}, "why": f"segments {self.last + 1} to {listed.first - 1} weren't seen"})
         self.first, self.last, self.seen_at = listed.first, listed.first + len(listed.segments) - 1, now
         for name, found in kept.ranges.items():
+            if name in kept.left and name in self.breaks and self.breaks[name].first is None:
+                del self.breaks[name]  # (adsplice keeps what a date range says for as long as it is listed)
             self.breaks.setdefault(name, Seen(found))
+        kept.left = set()
         for name, it in self.breaks.items():
             if name in words and (it.word != "Filled" or words[name] == "Filled"):
                 it.word = words[name]

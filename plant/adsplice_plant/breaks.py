@@ -27,7 +27,7 @@ class Break:
     (`is_ended`). What began it: its `name` by the standard, the segmentation `type` (none for a splice_insert and for a tag), the
     `event` and the `upid`. `number`: of its first segment. `latest`: the instant of the newest signal that spoke of it.
     `is_in_step`: its SCTE35-IN came before any segment after it. `others`: further attributes of its tag. `is_told`: its end was
-    told."""
+    told. `clock`: the media number of the last segment before the packager's clock changed, if it was put on the new clock."""
 
     id: str
     start: int
@@ -44,6 +44,7 @@ class Break:
     latest: int = 0
     others: str = ""
     is_told: bool = False
+    clock: int | None = None
 
     def end(self) -> int | None:
         """Where it ends as far as that is known, by a signal or else by its planned duration."""
@@ -88,23 +89,37 @@ class Line:
 
 class Timeline:
     """The instants of a list's `segments`, of which each has one. With `aligns` what lies within half a segment of a segment's
-    begin is put there."""
+    begin is put there. `moved`: by how much its media numbers are greater than those of a programme's other renditions."""
 
-    def __init__(self, segments: list[PackagedSegment], aligns: bool = True) -> None:
+    def __init__(self, segments: list[PackagedSegment], aligns: bool = True, moved: int = 0) -> None:
         self.segments, self.aligns = segments, aligns
+        self.last = segments[-1].number - moved
         self.begins = [it.begins or 0 for it in segments]
         self.end = self.begins[-1] + segments[-1].duration
+        self.first = min(self.begins)
+        self.low = next((n for n in range(len(segments) - 1, 0, -1) if self.begins[n] < self.begins[n - 1]), 0)  # since when the clock didn't go back
+
+    def jumps(self, fresh: int) -> list[tuple[int, int, int]]:
+        """The places, from the place `fresh` on, at which the clock changes by more than a segment: the instant at which it does, by how much,
+        and the media number of the segment before it."""
+        found = []
+        for n in range(max(1, fresh), len(self.segments)):
+            before = self.segments[n - 1]
+            at = self.begins[n - 1] + before.duration
+            if abs(self.begins[n] - at) > max(SECOND, before.duration):
+                found.append((at, self.begins[n] - at, self.last - len(self.segments) + n))
+        return found
 
     def half(self, instant: int) -> int:
         """Half the duration of the segment in which the `instant` is, or of the one nearest to it."""
-        place = min(max(bisect_left(self.begins, instant + 1) - 1, 0), len(self.segments) - 1)
+        place = min(max(bisect_left(self.begins, instant + 1, self.low) - 1, self.low), len(self.segments) - 1)
         return self.segments[place].duration // 2
 
     def nearest(self, instant: int) -> PackagedSegment | None:
         """The listed segment that begins within half a segment of the `instant`; none if there is none, or if the end of the list,
         where the next segment will begin, is nearer."""
-        place = bisect_left(self.begins, instant)
-        near = [place for place in (place - 1, place) if 0 <= place < len(self.begins)]
+        place = bisect_left(self.begins, instant, self.low)
+        near = [place for place in (place - 1, place) if self.low <= place < len(self.begins)]
         found = min(near, key=lambda it: abs(self.begins[it] - instant))
         by = abs(self.begins[found] - instant)
         return self.segments[found] if by <= self.half(instant) and by <= abs(self.end - instant) else None
@@ -145,6 +160,7 @@ class Breaks:
         self.told: list[Line] = []
         self.recent: deque[Line] = deque(maxlen=MOST)  # that were told: each rendition of a programme says the same
         self.is_first = True  # no list was looked at before
+        self.clock: int | None = None  # the media number of the last segment before the packager's clock changed
 
     def tell(self, who: str, word: str, text: str) -> None:
         """Tells a line, once."""
@@ -182,7 +198,7 @@ class Breaks:
         start, half = line.aligned(it.at), line.half(it.at)
         before = self.latest(start + half)
         planned = self.duration_of(it)
-        if self.named(it.id) or it.id in self.cancelled or planned is not None and start + planned <= line.begins[0]:
+        if self.named(it.id) or it.id in self.cancelled or planned is not None and start + planned <= line.first:
             return None  # (it is known, or was over before this list)
         if before is not None and self.is_spoken_of(before, it, start, half, planned):
             return None
@@ -203,10 +219,12 @@ class Breaks:
 
     def is_spoken_of(self, before: Break, it: Placed, start: int, half: int, planned: int | None) -> bool:
         """Whether the signal `it`, at `start`, says once more that the break `before` begins or is open, or is of a span within it.
-        Then that break isn't over: with the same event, or without one, it is the same; with another type it is an inner one."""
+        Then that break isn't over: with the same event, or without one, it is the same; with another type it is an inner one. (Two breaks
+        that are announced may touch, and the first one be short: each has its event.)"""
         message = it.signal.message
         is_same = message.type == before.type and message.event in (0, before.event) or it.signal.is_cue and message.event == 0
-        if start - before.start <= half:
+        is_other = message.type == before.type and message.event and before.event and not is_same and start - before.start > TOLERANCE
+        if start - before.start <= half and not is_other:
             before.planned = planned if before.planned is None and before.until is None and is_same else before.planned
         elif before.is_over(start + half):
             return False
@@ -227,11 +245,37 @@ class Breaks:
         name = message.name() if is_section or not it.signal.is_cue else "a tag without a section"
         number = found.number if found else it.number
         new = Break(it.id or f"{message.event or 'cue'}-{number}", start, number, name, message.type, message.event, message.upid, planned,
-                    is_settled=found is not None or start < line.begins[0] or not line.aligns, latest=start, others=it.others)
+                    is_settled=found is not None or start < line.first or not line.aligns, latest=start, others=it.others)
         insort(self.known, new, key=lambda one: one.start)
         length = "without a duration" if planned is None else f"planned for {seconds_text(planned)} s"
         self.tell(f"breaks/{shown(new.id)}", "Begins", f"at {instant_text(start)}, {length} ({name})")
         return new
+
+    def move(self, one: Break, start: int, line: Timeline, fresh: int) -> None:
+        """The break `one` is said to begin at `start`, perhaps by another clock than before. It does, unless it has begun on `line` before
+        the place `fresh`, or in segments that have left it."""
+        half, begins = line.half(one.start), line.begins[:fresh]
+        if not begins or one.start < begins[0] - half or any(abs(it - one.start) <= half for it in begins):
+            return
+        found, by = line.nearest(start), line.aligned(start) - one.start
+        one.is_settled = found is not None or not line.aligns
+        one.number = found.number if found else one.number
+        one.start, one.latest, one.until, one.is_ended, one.clock = one.start + by, one.latest + by, None, False, self.clock
+        self.known.sort(key=lambda it: it.start)
+        if by:
+            self.tell(f"breaks/{shown(one.id)}", "Moved", f"to {instant_text(one.start)}: the packager states another START-DATE before it has begun")
+
+    def turn_clock(self, at: int, by: int, number: int, names: set[str]) -> None:
+        """The packager's clock changed `by` so much at the instant `at`, after the segment of the media number `number`. What began before
+        began, and ends, by the new clock. If the clock went on, it may also have been away: then it holds for the breaks `names` alone, of
+        which it says so. Each rendition of a programme says the same."""
+        self.clock = number
+        for one in [it for it in self.known if it.start < at and it.clock != number and (by < 0 or it.id in names)]:
+            end = one.end()
+            if end is not None and end > at:
+                one.until, one.is_ended = end, True
+            one.start, one.latest, one.until, one.clock = one.start + by, one.latest + by, None if one.until is None else one.until + by, number
+        self.known.sort(key=lambda it: it.start)
 
     def goes_on(self, it: Placed, line: Timeline, has_begun: bool) -> Break | None:
         """The signal `it` says that a break goes on. If the feed began within it, it becomes known, as one that began before; but

@@ -6,6 +6,7 @@ import threading
 import time
 import traceback
 from collections.abc import Callable
+from dataclasses import replace
 from pathlib import Path
 
 from . import decisions, faults, finding, packaged, playlist
@@ -32,7 +33,7 @@ NO_PUT = {403, 404, 405}  # statuses by which no adsplice answers the making of 
 JUDGED = {409, 413, 422}  # statuses by which adsplice refuses what it was given; after others the same is tried again with pauses
 
 READ = ("200", "")  # the state of an origin that is read
-QUIET = ("list", "numbers")  # of which it isn't told that all is well at first
+QUIET = ("list", "numbers", "journal")  # of which it isn't told that all is well at first
 
 HERE = str(Path(__file__).parent)
 
@@ -55,6 +56,7 @@ class Channel:
         self.fallback_stamp: tuple[int, int, int] | None = None  # of the file that was given
         self.is_made = False
         self.tolerance = playlist.read_duration(settings.tolerance) if settings.tolerance else TOLERANCE
+        self.unnoted: tuple[Answer, bytes] | None = None  # a list that was taken, and is kept with the next event
         self.reached = 0  # the instant at which the last segment that was taken begins; 0 if the channel was made since
         self.beat_at = settings.keep / f"{settings.name}{BEAT}" if settings.keep else None
         self.beaten = float("-inf")  # when it was shown last that the feed goes on
@@ -64,7 +66,7 @@ class Channel:
         self.signalling = signalling or Signalling(settings.programme or settings.name, settings, client, say, self.answered)
         self.signalling.join(settings.rendition(), self.folder)
         self.lists = Lists(settings, self.tell, self.tell_repair, self.signalling)
-        self.folder.before = self.lists.stands.files
+        self.folder.before, self.folder.over = self.lists.stands.files, list(self.lists.stands.over)
         self.unfit = 0  # lists in a row that were refused since they don't follow the last one
         self.is_full = False  # whether adsplice has no room for more decisions
         self.knows = bool(self.lists.stands.repairer.last)  # whether it is known which decisions adsplice was given
@@ -98,11 +100,15 @@ class Channel:
 
     def note(self, what: str, answer: Answer, body: bytes = b"") -> None:
         """Keeps an event for the monitor and the explainer."""
+        if self.unnoted is not None:
+            (before, text), self.unnoted = self.unnoted, None
+            self.note("origin", before, text)
         if self.journal:
             try:
                 self.journal.add(what, answer.status, answer.why or answer.line(), body)
+                self.tell("journal", 0, "", f"{self.journal.path}: events are kept again")
             except OSError as fault:
-                self.tell("journal", 0, "", f"{self.journal.path}: {fault.strerror}; goes on without it")
+                self.tell("journal", 0, "Unkept", f"{self.journal.path}: {fault.strerror}; goes on without it")
 
     def opening(self) -> list[Event]:
         """What a new file of kept events begins with: the channel, and the decisions that it holds."""
@@ -130,7 +136,20 @@ class Channel:
         """PUTs `body` to the channel (`what` is ``), or to its `origin` or `decisions`."""
         answer = self.client.ask("PUT", f"{self.url}/{what}" if what else self.url, body)
         self.beat()
-        self.note(what or "channel", answer, body)
+        if what == "origin" and self.lists.ahead is not None and answer.status == 204:
+            self.unnoted = answer, body  # (it is kept with the list that it comes ahead of: between both a break seems to be gone)
+        else:
+            self.note(what or "channel", answer, body)
+        return answer
+
+    def withdraw(self, name: str, why: str = "") -> Answer:
+        """Withdraws the break `name` of the feed's own accord, since `why`. That there is nothing to withdraw any more is no fault, and isn't
+        kept."""
+        body = decisions.withdrawal(name)
+        answer = self.client.ask("PUT", f"{self.url}/decisions", body)
+        self.beat()
+        if answer.status not in JUDGED:
+            self.note("decisions", replace(answer, why=answer.why or why), body)
         return answer
 
     def fallback(self) -> bytes | None:
@@ -162,7 +181,7 @@ class Channel:
         if self.is_new(answer):
             self.knows, self.reached = True, 0
             self.lists.begin_anew()
-            self.folder.start_anew()
+            self.folder.start_anew(answer.status == 201)
         self.folder.look()
         text = "makes the channel" if answer.status == 201 else "the channel is there already; goes on with it"
         self.states.pop("adsplice", None)
@@ -221,12 +240,27 @@ class Channel:
         break comes after them."""
         if not all(self.take_back(it) for it in list(self.folder.removed.values())):
             return False
+        if not self.make_room():
+            return False
         self.is_full = False
         for it in self.folder.next_up(self.lists.listed or ()):
             if not self.give(it):
                 return False
             if self.is_full:
                 break
+        return True
+
+    def make_room(self) -> bool:
+        """Withdraws what was decided, left the list, and never began: adsplice would hold it for good. Whether it could be."""
+        for name in self.folder.past():
+            answer = self.withdraw(name, decisions.OVER)
+            if answer.status != 204 and answer.status not in JUDGED:
+                self.gone(answer)
+                return False
+            self.folder.over.remove(name)
+            if answer.status == 204:
+                self.tell(f"breaks/{name}", 204, "Over", "it was decided, left the list and never began; takes its pod back")
+                self.states.pop(f"breaks/{name}")
         return True
 
     def answered(self) -> None:
@@ -269,9 +303,8 @@ class Channel:
         keeps its pod."""
         ids = self.folder.held_by(decision)
         begun = self.begun(ids)
-        bodies = {it: decisions.withdrawal(it) for it in ids if it not in begun}
-        for name, body in bodies.items() if decision.kind == "breaks" else [("", self.fallback() or decisions.NO_FALLBACK)]:
-            answer = self.put("decisions", body)
+        for name in [it for it in ids if it not in begun] if decision.kind == "breaks" else [""]:
+            answer = self.withdraw(name) if name else self.put("decisions", self.fallback() or decisions.NO_FALLBACK)
             if answer.status != 204 and answer.status not in JUDGED:
                 self.gone(answer)
                 return False
@@ -291,8 +324,9 @@ class Channel:
 
     def begun(self, ids: list[str]) -> list[str]:
         """Those of the breaks `ids` that have begun in a list that was taken since the channel was made."""
-        starts = self.starts() if self.reached else {}
-        return [it for it in dict.fromkeys(ids) if it in starts and self.reached >= starts[it] - (self.tolerance or 0)]
+        starts, newest = self.starts() if self.reached else {}, self.lists.newest.segments
+        reached = min(self.reached, (newest[-1].begins or self.reached) if newest else self.reached)  # (the newest may be of a clock that went back)
+        return [it for it in dict.fromkeys(ids) if it in starts and reached >= starts[it] - (self.tolerance or 0)]
 
     def came_late(self, decision: Decision, late: list[str], who: str) -> None:
         """The breaks `late` of the `decision`, which adsplice took, had begun with no pod: they stay as they are."""
@@ -304,6 +338,12 @@ class Channel:
     def note_late(self, ids: list[str]) -> None:
         """Keeps that a decision came after its breaks `ids` had begun."""
         self.note("late", Answer(0, why=", ".join(ids)), json.dumps(ids).encode())
+
+    def filled(self, ids: list[str]) -> list[str] | None:
+        """Those of the breaks `ids` that adsplice says are filled; none if it doesn't answer."""
+        answer = self.client.ask("GET", f"{self.url}/why")
+        words = [line.rpartition("\t") for line in answer.body.decode("utf-8", "replace").splitlines()]
+        return None if answer.status != 200 else [name for name, _, word in words if word == "Filled" and name in ids]
 
     @staticmethod
     def taken_text(decision: Decision) -> str:
@@ -345,7 +385,7 @@ class Channel:
             if is_later and not self.decide_asked():
                 return False
             is_later = True
-            self.lists.stands.files = self.folder.kept()
+            self.keep_files()
             self.lists.sending()
             answer = self.put("origin", text)
             line = answer.line()
@@ -357,6 +397,12 @@ class Channel:
             else:
                 self.refused(answer.status, line)
         return True
+
+    def keep_files(self) -> bool:
+        """Has the file of numbers know what a later feed has to know of decision files; whether that has changed."""
+        stands, before = self.lists.stands, (self.lists.stands.files, self.lists.stands.over)
+        stands.files, stands.over = self.folder.kept(), list(self.folder.over)
+        return (stands.files, stands.over) != before
 
     def decide_asked(self) -> bool:
         """Waits for the answers that the newest list needs, and gives them; whether the feed may go on. (If an earlier feed's list came
@@ -462,6 +508,8 @@ class Channel:
         for it in self.folder.retire(self.lists.listed) if self.lists.listed is not None else []:
             self.tell(f"decisions/{it.path.name}", 0, "", f"{', '.join(it.ids)} is no longer listed; moves the file to done")
             self.states.pop(f"decisions/{it.path.name}", None)
+        if self.keep_files():
+            self.lists.save()
         if found.why:
             return min(self.missing.next(), self.longest(), self.origin.patience() if isinstance(self.origin, TwoOrigins) else MOST)
         self.missing.reset()

@@ -14,9 +14,12 @@ from typing import Any
 
 DAY = 86400
 DONE = "done"  # the folder in the folder
+LASTING = ("breaks", "fallback")  # the kinds that adsplice holds on to
 MOST_TOLD = 100  # names of what isn't taken
 MAX_BYTES = 4_194_304  # adsplice takes no longer file
 ROOM = 200  # decided breaks that aren't listed yet: adsplice holds 256, and the others are for those that are listed
+MOST_OVER = 16  # breaks that left the list and may come back: those before them are withdrawn if they never began
+OVER = "over"  # why such a one is withdrawn
 NO_FALLBACK = b'{"fallback":null}'  # the decision file that takes the fallback away
 
 
@@ -94,8 +97,9 @@ class Folder:
         self.path, self.keep_days = path, keep_days
         self.decisions: dict[Path, Decision] = {}
         self.removed: dict[str, Decision] = {}  # what adsplice holds though its file was taken away, by the files' names
+        self.over: list[str] = []  # decided breaks that left the list, the oldest first
         self.passed_over: dict[str, str] = {}  # what of the folder isn't taken, by its name, and why
-        self.before: dict[str, list[Any]] = {}  # what an earlier feed knew of files, by their names
+        self.before: dict[str, list[Any]] = {}  # what an earlier feed knew of files (kept()), by their names
 
     def look(self) -> None:
         """Finds new and changed files, and forgets those that somebody took away: of these, adsplice holds those that are `removed`.
@@ -107,6 +111,7 @@ class Folder:
         if files is None:
             return
         found = dict(files)
+        self.find_removed()
         for path in [it for it in self.decisions if it not in found and not os.path.lexists(it)]:  # (a file that is replaced may be missed)
             decision = self.decisions.pop(path)
             if decision.state == "given":
@@ -115,6 +120,18 @@ class Folder:
             known = self.decisions.get(path)
             if known is None or known.stamp != stamp:
                 self.take(path, stamp)
+
+    def find_removed(self) -> None:
+        """Those that an earlier feed gave, and that somebody took away while none ran: adsplice holds them. One that this feed had put into
+        `done` is over."""
+        for name, (said, is_given, _, kind, ids, _) in list(self.before.items()):
+            path = (self.path or Path()) / name
+            if os.path.lexists(path):
+                continue
+            del self.before[name]
+            done, stamp = stamp_of(path.parent / DONE / name), (int(said[0]), int(said[1]), int(said[2]))
+            if is_given and kind in LASTING and (done is None or done[1:] != stamp[1:]):
+                self.removed[name] = Decision(path, stamp, b"", kind, ids, "given")
 
     def files(self, folder: Path) -> Iterable[tuple[Path, tuple[int, int, int]]] | None:
         """The decision files in `folder`, each with what shows that it changed, in the order in which they were written; none if it can't
@@ -150,12 +167,14 @@ class Folder:
         self.decisions.pop(path, None)  # (a changed one comes last)
         self.decisions[path] = found = Decision(path, stamp, body, *said_by(body))
         if (known := self.before.pop(path.name, None)) is not None and known[0] == list(stamp):
-            found.state, found.late = ("given" if known[1] else "new"), set(known[2])
+            found.state, found.late = ("given" if known[1] else "refused" if known[5] else "new"), set(known[2])
         return None
 
     def kept(self) -> dict[str, list[Any]]:
-        """What a later feed has to know of the files, by their names: the stamp, whether adsplice holds it, and which breaks were late."""
-        return {it.path.name: [list(it.stamp), it.state == "given", sorted(it.late)] for it in self.decisions.values() if it.state == "given" or it.late}
+        """What a later feed has to know of the files, by their names: the stamp, whether adsplice holds it, which breaks were late, the kind,
+        the breaks, and whether it was refused."""
+        known = [*self.removed.values(), *(it for it in self.decisions.values() if it.state in ("given", "refused") or it.late)]
+        return {it.path.name: [list(it.stamp), it.state == "given", sorted(it.late), it.kind, it.ids, it.state == "refused"] for it in known}
 
     def pass_over(self, name: str, why: str) -> None:
         """What the folder has under `name` isn't taken; `why` says why."""
@@ -178,6 +197,10 @@ class Folder:
             found.append(it)
         return found
 
+    def past(self) -> list[str]:
+        """The breaks of decisions that are over for so long that they won't come back."""
+        return self.over[:max(0, len(self.over) - MOST_OVER)]
+
     def named(self, name: str) -> Decision | None:
         """The one in the file `name`; none if there is none."""
         return None if self.path is None else self.decisions.get(self.path / name)
@@ -191,15 +214,19 @@ class Folder:
         others = {name for it in self.open() for name in it.ids}
         return [it for it in dict.fromkeys(decision.ids) if it not in others]
 
-    def start_anew(self) -> None:
-        """The channel was made anew: what it held is to be given to it again, except what was `removed`."""
-        self.removed.clear()
+    def start_anew(self, is_empty: bool) -> None:
+        """The channel has no list yet: what it held is to be given to it again. If it `is_empty`, it was made now, and holds nothing."""
+        if is_empty:
+            self.removed.clear()
+            self.over.clear()
+            self.before = {name: [stamp, False, *rest] for name, (stamp, _, *rest) in self.before.items()}
         for it in self.open():
             it.state = "new"
 
     def given(self, decision: Decision) -> None:
         """`decision` was taken. A withdrawal is done with, and so is an older fallback, and an older file on the same breaks."""
         decision.state = "given"
+        self.over = [it for it in self.over if it not in decision.ids]
         for it in list(self.decisions.values()):
             if it is decision or it.state != "given":
                 continue
@@ -211,13 +238,13 @@ class Folder:
 
     def retire(self, listed: set[str]) -> list[Decision]:
         """Moves away the files whose breaks have all been listed and are no more, of which `listed` are the IDs that are. One whose
-        breaks haven't come stays, however old it is."""
+        breaks haven't come stays, however old it is, and one that was refused."""
         gone = []
-        for it in self.open():
-            if it.kind != "breaks":
-                continue
+        for it in [it for it in self.decisions.values() if it.kind == "breaks" and it.state in ("given", "new")]:
             it.listed |= listed & set(it.ids)
             if not listed & set(it.ids) and it.listed >= set(it.ids):
+                if it.state == "given":
+                    self.over += [name for name in dict.fromkeys(it.ids) if name not in self.over]
                 self.finish(it)
                 gone.append(it)
         return gone

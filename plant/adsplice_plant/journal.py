@@ -1,7 +1,7 @@
 """What a feed keeps of a channel, a JSON line for each event: for the monitor and the explainer.
 
 An event has `at` (the time of day, UTC), `what` (`channel`, `delete`, `decisions`, `origin` for the four requests, `read`
-for a playlist that couldn't be read from its origin, `hole` for a time of which nothing could be kept, `late` for a decision whose
+for a playlist that couldn't be read from its origin, `hole` for a time of which no list could be kept, `late` for a decision whose
 break had begun, `note` for why no rendition has the decision of the breaks in `body`, `apart` for renditions whose numbers come apart
 (1) or are equal again (0), `place` for the origin that is read, `restart` for a feed that began anew), `status`, `fault` (the
 answer's first line, or why there is none), and `body`, what was sent. In place of a list's `body` there may be its `edit`: what
@@ -24,6 +24,8 @@ MAX_BYTES = 4 << 20  # of a file, after which a new one is begun
 ROOM = 32 << 20  # bytes of all files of a channel
 FILES = 16  # at most
 BEAT = ".beat"  # the end of the name of the file whose time is that of a feed's last step
+LOST = ("origin", "read")  # events that a hole is of: there are many of them
+MOST_UNKEPT = 256  # others that wait until they can be kept
 WHOLE = 8  # times a list's length, after so much of differences it is kept as a whole again
 
 
@@ -95,6 +97,7 @@ class Journal:
         self.lines: list[str] | None = None  # of the newest list in this file that this journal wrote
         self.since = 0  # bytes that were written since the last whole list
         self.hole: Event | None = None  # since when nothing could be kept
+        self.unkept: list[Event] = []  # what is to be kept of that time: all but lists
 
     def add(self, what: str, status: int, fault: str, body: bytes = b"") -> None:
         """Keeps that the request of `what` with `body` was answered by `status` and `fault`. Raises OSError if it can't be kept;
@@ -105,6 +108,9 @@ class Journal:
         except OSError as lack:
             self.hole = self.hole or Event(event.at, "hole", 0, lack.strerror or "")
             self.lines = None
+            size = len(event.body) + sum(len(it.body) for it in self.unkept)
+            if what not in LOST and len(self.unkept) < MOST_UNKEPT and size <= MAX_BYTES:
+                self.unkept.append(event)
             raise
 
     def put(self, event: Event) -> None:
@@ -118,10 +124,11 @@ class Journal:
         if not size or (event.what == "origin" and self.since > WHOLE * len(event.body)):
             self.lines, self.since = None, 0
         opening = [] if size else [replace(it, again=True) for it in self.opening()]
-        told = [*opening, *([self.hole] if self.hole else []), event]
+        told = [*opening, *self.unkept, *([self.hole] if self.hole else []), event]
         data = (self.end + "".join(line_of(it, self.lines) for it in told)).encode()
         append(self.path, data)
         self.end, self.since = "", self.since + len(data)
+        self.unkept = []
         self.hole, self.lines = None, self.lines if event.lines is None else event.lines
 
     def begin_file(self) -> None:

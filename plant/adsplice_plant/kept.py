@@ -8,7 +8,7 @@ from pathlib import Path
 from typing import Any
 
 from . import faults, playlist
-from .decisions import said_by
+from .decisions import OVER, said_by
 from .edits import Piece, places_after
 from .journal import Event, Reader
 from .playlist import DateRange
@@ -82,9 +82,11 @@ class Kept:
     fallback: Pod | None = None
     reasons: dict[str, str] = field(default_factory=dict)  # why a break has no pod of its own, by its ID, if the feed knows
     ranges: dict[str, DateRange] = field(default_factory=dict)  # those of the newest list that was taken
+    left: set[str] = field(default_factory=set)  # that were listed no more, perhaps for one list alone, until somebody takes them
+    lines: list[str] = field(default_factory=list)  # of that list's date ranges
     known: dict[str, DateRange] = field(default_factory=dict)  # by their lines
     reader: RangeReader = field(default_factory=RangeReader)
-    newest: list[str] | None = None  # the lines of that list's date ranges
+    newest: list[str] | None = None  # the same, until they are looked at
     place: int = 0
     file: int = 0  # the inode of what was read
 
@@ -158,12 +160,20 @@ class Kept:
         if event.status not in (201, 204):
             return
         if event.what == "origin":
-            self.newest = event.lines
+            self.take_list(event.lines or [])
         elif event.what == "decisions":
-            self.decide(json.loads(event.body))
+            self.decide(json.loads(event.body), event.fault)
 
-    def decide(self, said: dict[str, Any]) -> None:
-        """Takes in the decision file `said`, which adsplice took."""
+    def take_list(self, lines: list[str]) -> None:
+        """Takes in the `lines` of the date ranges of a list that was taken: those that are listed no more have left."""
+        if gone := [line for line in self.lines if line not in lines]:
+            listed = {it.id for it in playlist.ranges_of(lines)}
+            self.left = self.left if len(self.left) < MOST_PODS else self.left & listed
+            self.left |= {it.id for it in playlist.ranges_of(gone)} - listed
+        self.newest = self.lines = lines
+
+    def decide(self, said: dict[str, Any], why: str = "") -> None:
+        """Takes in the decision file `said`, which adsplice took; `why` the feed gave it, if it was of its own accord."""
         for it in said.get("breaks", []):
             self.pods.pop(it["id"], None)
             self.reasons.pop(it["id"], None)
@@ -172,7 +182,7 @@ class Kept:
             self.pods.pop(next(iter(self.pods)))
         if "withdraw" in said:
             self.pods.pop(said["withdraw"], None)
-            self.give_reason([said["withdraw"]], "its pod was withdrawn")
+            self.give_reason([said["withdraw"]] if why != OVER else [], "its pod was withdrawn")
         if "fallback" in said:
             self.fallback = pod_of(said["fallback"]["ads"]) if said["fallback"] else None
 

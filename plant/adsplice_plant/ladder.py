@@ -38,8 +38,8 @@ class Rendition(Channel):
         self.debts: list[bytes] = []  # withdrawals that come before its next list
         ladder.members.append(self)
         self.lists.join(Siblings(lambda: [
-            Sibling(it.settings.base, it.lists.listed_segments, it.lists.is_held, it.settings.group == settings.group)
-            for it in ladder.members if it is not self]))
+            Sibling(it.settings.base, it.lists.listed_segments, it.lists.is_held, it.settings.group == settings.group, it.lists.moved)
+            for it in ladder.members if it is not self], self.lists.moved))
         if isinstance(self.origin, TwoOrigins):
             self.origin.join(ladder.choice)
 
@@ -89,13 +89,13 @@ class Rendition(Channel):
             self.is_apart = is_apart
             self.note("apart", Answer(int(is_apart)))
 
-    def anew(self, is_new: bool) -> None:
-        """Its channel is there, and all is to be given to it again; `is_new`: it was made."""
+    def anew(self, is_new: bool, is_empty: bool) -> None:
+        """Its channel is there, and all is to be given to it again; `is_new`: it has no list yet; `is_empty`: it was made now."""
         self.is_made, self.debts = True, []
         if is_new:
             self.reached = 0
             self.lists.begin_anew()
-            self.folder.start_anew()
+            self.folder.start_anew(is_empty)
         self.folder.look()
 
 
@@ -114,6 +114,7 @@ class Ladder:
         self.given_up: set[str] = set()  # those of them without which the others have gone on
         self.equal_after = -1  # the media number up to which discontinuities were not added yet
         self.is_resumed = False  # the channels were there when the feed began: a break that has begun has the pod that it is given again
+        self.is_full = False  # whether a rendition has no room for more decisions
         self.seen: dict[str, float] = {}  # files that aren't there in all renditions, and since when
 
     def tell(self, what: str, fault: str, text: str) -> None:
@@ -142,7 +143,7 @@ class Ladder:
             return self.again(one)
         if not self.decide():
             return not all(it.is_made for it in self.members) and self.again(one)
-        if not one.push():
+        if not one.make_room() or not one.push():
             return not one.is_made and self.again(one)
         self.compare()
         return True
@@ -171,10 +172,11 @@ class Ladder:
             if answer.status not in (201, 409):
                 one.unmade(answer, f"makes {it.settings.name} with the other renditions as soon as it can")
                 return False
-        if all(it.status == 201 for it in answers.values()):
-            self.level()
+        new = [it for it, answer in answers.items() if answer.status == 201]
+        if len(new) == len(self.members) or self.states.get("numbers"):
+            self.level(new)
         for it, answer in [(it, answer) for it, answer in answers.items() if answer.status == 201 or not it.is_made]:
-            it.anew(it.is_new(answer))
+            it.anew(it.is_new(answer), answer.status == 201)
             it.compare(answer.status)
             it.states.pop("adsplice", None)
             it.tell("adsplice", answer.status, "", "makes the channel" if answer.status == 201 else "the channel is there already; goes on with it")
@@ -183,13 +185,14 @@ class Ladder:
         self.is_resumed = all(it.status == 409 for it in answers.values())
         return True
 
-    def level(self) -> None:
-        """All channels are new: they begin with the greatest numbers that viewers have of one segment, if these are apart."""
-        viewed = [it.lists.stands.viewed for it in self.members]
-        common = set.intersection(*(set(it.begins) for it in viewed))
-        found = [it.begins[max(common)] for it in viewed] if common else []
-        for it, (media, discontinuity) in zip(viewed, found):
-            it.rise(max(one for one, _ in found) - media, max(one for _, one in found) - discontinuity)
+    def level(self, new: list[Rendition]) -> None:
+        """The channels of the renditions `new` have no list: they begin with the greatest media numbers that viewers have of one segment, if
+        these are apart. If all are new, so do their discontinuity numbers; else the feed adds discontinuities where they lack."""
+        common = set.intersection(*({number - it.lists.moved() for number in it.lists.stands.viewed.begins} for it in self.members))
+        found = {it: it.lists.stands.viewed.begins[max(common) + it.lists.moved()] for it in self.members} if common else {}
+        for it in new if found else []:
+            media, discontinuity = (max(one[place] for one in found.values()) - found[it][place] for place in (0, 1))
+            it.lists.stands.viewed.rise(media, discontinuity if len(new) == len(self.members) else 0)
 
     # ---- decisions
 
@@ -203,8 +206,13 @@ class Ladder:
         if is_anew or any(it.stamp() not in (None, it.fallback_stamp) for it in self.members):
             if not self.give_fallbacks():
                 return False
-        names = dict.fromkeys(found.path.name for it in self.members for found in it.folder.next_up(it.lists.listed or ()))
-        return all(self.give_file(it) for it in names)
+        self.is_full = False
+        for name in dict.fromkeys(found.path.name for it in self.members for found in it.folder.next_up(it.lists.listed or ())):
+            if not self.give_file(name):
+                return False
+            if self.is_full:
+                break
+        return True
 
     def give_fallbacks(self) -> bool:
         """Gives each rendition its fallback file; if one is refused, none has a fallback. Whether all was answered."""
@@ -333,6 +341,7 @@ class Ladder:
                 it.note_late(decision.ids)
             self.tell(f"decisions/{name}", "J9", f"{', '.join(decision.ids)} has begun in {refuser.settings.name}, and keeps its pod; no rendition is given another one")
         elif faults.code_of(line) == "J10":
+            self.is_full = True
             self.tell(f"decisions/{name}", "J10", f"{refuser.settings.name}: {faults.meaning(answer.status, line)}; tries it again")
         else:
             self.refuse(name, group, faults.name_of(line), f"{refuser.settings.name}: {faults.meaning(answer.status, line)} ({line})")
@@ -345,7 +354,7 @@ class Ladder:
         bodies = {name: withdrawal(name) for name in decision.ids} if decision.kind == "breaks" else {"": NO_FALLBACK}
         for it, _ in group if decision.kind != "withdraw" else []:
             for name, body in bodies.items():
-                answer = Answer(0) if it.debts else it.put("decisions", body)  # (what it owes comes first)
+                answer = Answer(0) if it.debts else it.withdraw(name) if name else it.put("decisions", body)  # (what it owes comes first)
                 if answer.status != 204 and answer.status not in JUDGED:
                     it.debts.append(body)
                 elif faults.code_of(answer.line()) == "J9":
@@ -355,10 +364,14 @@ class Ladder:
     def take_removed_back(self, name: str) -> None:
         """The file `name` was removed from a rendition's folder after it was given: takes its decision back from all. The others' files
         wait until all have one again. A break that has begun in one rendition keeps its pod in all."""
-        removed = {it: decision for it in self.members if (decision := it.folder.removed.pop(name, None)) is not None}
+        removed = {it: decision for it in self.members if (decision := it.folder.removed.get(name)) is not None}
         where, first = ", ".join(it.settings.name for it in removed), next(iter(removed.values()))
         ids = [one for one in first.ids if all(one in it.folder.held_by(decision) for it, decision in removed.items())]
-        begun = self.begun(ids)
+        begun = self.begun(ids) if first.body else self.filled(ids)
+        if begun is None:
+            return
+        for it in removed:
+            del it.folder.removed[name]
         group = [(it, replace(removed.get(it) or it.folder.named(name) or first, ids=[one for one in ids if one not in begun])) for it in self.members]
         entered = self.withdraw(group)
         self.give_back(group, entered)
@@ -373,9 +386,14 @@ class Ladder:
         self.tell(f"decisions/{name}", "Removed", f"the file was removed from {where}; {taken_back_text(first, ids, [*begun, *entered])} in all renditions")
         self.states.pop(f"decisions/{name}")
 
+    def filled(self, ids: list[str]) -> list[str] | None:
+        """Those of the breaks `ids` that an earlier feed gave and that are filled in a rendition by now; none if one doesn't answer."""
+        found = [it.filled(ids) for it in self.members]
+        return None if None in found else [one for one in ids if any(one in (it or ()) for it in found)]
+
     def give_back(self, group: Group, ids: list[str]) -> None:
-        """The breaks `ids` of `group` were withdrawn, but have begun in a rendition: all have their pods again."""
-        for it, decision in group if ids else []:
+        """The breaks `ids` of `group` were withdrawn, but have begun in a rendition: all have their pods again, as far as they are known."""
+        for it, decision in [it for it in group if it[1].body] if ids else []:
             it.put("decisions", without(decision, set(said_by(decision.body)[1]) - set(ids)).body)
 
     def hold(self, name: str, group: Group, away: list[tuple[Rendition, Answer]]) -> bool:
@@ -399,11 +417,11 @@ class Ladder:
     def compare(self) -> None:
         """Compares the numbers that viewers have of the newest segment that all renditions have shown. If they come apart, it is told,
         and the discontinuities that a rendition lacks are added where no break may begin: within one they might be replaced."""
-        common = set.intersection(*({one.number for one in it.lists.stands.repairer.last} for it in self.members))
-        known = [number for number in common if number > self.equal_after and all(number in it.lists.stands.viewed.begins for it in self.members)]
+        common = set.intersection(*({one.number - it.lists.moved() for one in it.lists.stands.repairer.last} for it in self.members))
+        known = [number for number in common if number > self.equal_after and all(number + it.lists.moved() in it.lists.stands.viewed.begins for it in self.members)]
         if not known or any(it.lists.is_open or it.lists.stands.viewed.is_replaced for it in self.members):
             return
-        found = {it.settings.name: it.lists.stands.viewed.begins[max(known)] for it in self.members}
+        found = {it.settings.name: it.lists.stands.viewed.begins[max(known) + it.lists.moved()] for it in self.members}
         usual = max(found.values(), key=list(found.values()).count)
         odd = {name: it for name, it in found.items() if it != usual}
         for it in self.members:
@@ -412,20 +430,21 @@ class Ladder:
             if self.states.pop("numbers", ""):
                 self.say(f"{now_text()} {self.name} ladder - -: the renditions' numbers are equal")
             return
-        self.tell_apart(odd, usual)
+        self.tell_apart(odd, usual, [name for name, it in found.items() if it[0] < max(media for media, _ in found.values())])
         if not any(it.lists.may_enter(it.tolerance or 0) for it in self.members):
             most = max(discontinuity for _, discontinuity in found.values())
             for it in self.members:
                 it.lists.owe(most - found[it.settings.name][1])
-            self.equal_after = max(it.lists.stands.repairer.last[-1].number for it in self.members) + 1
+            self.equal_after = max(it.lists.stands.repairer.last[-1].number - it.lists.moved() for it in self.members) + 1
 
-    def tell_apart(self, odd: dict[str, Numbers], usual: Numbers) -> None:
-        """Tells which renditions are `odd`, with their numbers, beside the `usual` ones: once until all are equal again."""
+    def tell_apart(self, odd: dict[str, Numbers], usual: Numbers, lower: list[str]) -> None:
+        """Tells which renditions are `odd`, with their numbers, beside the `usual` ones: once until all are equal again. Those that are
+        `lower` in their media numbers have to be made anew."""
         if self.states.get("numbers"):
             return
         text = "; ".join(f"{name} ends with media number {it[0]} and discontinuity number {it[1]}" for name, it in odd.items())
         does = "the discontinuities are added as soon as no break may begin" if all(it[0] == usual[0] for it in odd.values()) else \
-            "media numbers stay so: DELETE all of them while no break is listed"
+            f"media numbers stay so: DELETE {', '.join(lower)} while no break is listed"
         self.states["numbers"] = "Apart"
         self.say(f"{now_text()} {self.name} ladder - Apart: the renditions' numbers come apart: {text}, and the others with {usual[0]} and {usual[1]}; {does}")
 

@@ -10,7 +10,7 @@ from pathlib import Path
 
 from . import numbers, packaged, repairs, spelling
 from .numbers import Standing, Viewed
-from .packaged import PackagedList, PackagedSegment
+from .packaged import DATE_RANGE, PackagedList, PackagedSegment
 from .records import Record
 from .repair import Choices, Head, Repaired, Repairer, count_on
 from .settings import Settings
@@ -39,10 +39,12 @@ class Lists:
         self.is_new = False  # whether it is still to be taken in
         self.pending: Repaired | None = None  # what is to be pushed
         self.text: bytes | None = None  # of it, or of what was pushed last
+        self.ahead: bytes | None = None  # what is to be pushed before it
         self.is_open = False  # whether `text` is to be pushed, or was pushed and not answered
         self.before: Standing | None = None  # where the channel stood before it, if it was pushed
         self.is_aligned = False  # whether the first list was numbered as those of other renditions
         self.is_anew = False  # whether the channel is new, and begins where viewers' list stood
+        self.is_kept = True  # whether the numbers could be kept last
         self.told: set[str] = set()
         self.why = ""  # the word of why nothing was pushed of the newest list
         self.told_at: dict[str, float] = {}  # when each of these words was told
@@ -58,6 +60,10 @@ class Lists:
     def listed_segments(self) -> list[PackagedSegment]:
         """The segments that were listed, the oldest first, as far as they are remembered for other renditions."""
         return self.stands.repairer.past[-MOST_REMEMBERED:] + self.stands.repairer.last
+
+    def moved(self) -> int:
+        """By how much its media numbers are greater than the programme's, since the channel was made anew."""
+        return self.stands.repairer.moved
 
     def is_held(self) -> bool:
         """Whether a list that doesn't go on is held back."""
@@ -92,8 +98,10 @@ class Lists:
             return
         try:
             self.record.write(numbers.pack(self.stands), {"repairs": self.stands.repairs})
-            self.tell("numbers", 0, "", "")
+            self.tell("numbers", 0, "", "" if self.is_kept else f"{self.path}: numbers are kept again")
+            self.is_kept = True
         except OSError as fault:
+            self.is_kept = False
             self.tell("numbers", 0, "Unkept", f"{self.path}: {fault.strerror}; after a new start of the feed numbers may go back")
 
     # ---- from the packager
@@ -118,7 +126,7 @@ class Lists:
             if self.is_open and not self.is_aligned and self.is_first_of_several():
                 self.is_open, self.is_new, self.is_aligned = False, True, True  # (it is taken in again, by the numbers of the others)
             self.prepare()
-        return self.text if self.is_open else None
+        return (self.ahead or self.text) if self.is_open else None
 
     def is_first_of_several(self) -> bool:
         """Whether no list of this rendition was taken, and one of another was: its numbers go by these."""
@@ -142,12 +150,13 @@ class Lists:
             return
         self.count(found)
         if found.found is not None:
-            if self.signalling.translate(found.found, self.settings.rendition()):
+            if self.signalling.translate(found.found, self.settings.rendition(), self.moved()):
                 found.came = None
             self.learn(found.found)
         text = found.body()
         if text != self.stands.text:
             self.pending, self.text, self.is_open = found, text, True
+            self.ahead = without_moved(self.stands.text, text, self.signalling.translator.tolerance)
 
     def learn(self, found: PackagedList) -> None:
         """Learns from the newest list, which says `found`, what the channel needs to know of it."""
@@ -179,7 +188,7 @@ class Lists:
 
     def sending(self) -> None:
         """The list is about to be pushed: keeps where the channel stands then, so that a feed that is killed now goes on from there."""
-        if self.pending is not None and self.pending.found is not None and self.before is None:
+        if self.ahead is None and self.pending is not None and self.pending.found is not None and self.before is None:
             repairer, viewed, found = self.stands.repairer, self.stands.viewed, self.pending.found
             self.before = replace(self.stands, repairer=copy(repairer), viewed=Viewed(viewed.begins, viewed.end, viewed.is_replaced, dict(viewed.ranges)))
             repairer.accept(self.pending)
@@ -190,6 +199,9 @@ class Lists:
 
     def taken(self) -> bool:
         """The list was taken. Whether the written playlist has to be looked at to know its numbers."""
+        if self.ahead is not None:
+            self.ahead = None
+            return False
         self.is_open, self.before, self.pending = False, None, None
         last = self.stands.repairer.last
         return bool(last) and (self.is_signalled() or not self.stands.viewed.reckon(last))
@@ -217,8 +229,11 @@ class Lists:
 
     def refused(self) -> None:
         """The list was refused: the next one follows the one before it."""
+        if self.ahead is not None:
+            self.ahead = None
+            return
         if self.before is not None:
-            self.stands, self.before = replace(self.before, repairs=self.stands.repairs, files=self.stands.files), None
+            self.stands, self.before = replace(self.before, repairs=self.stands.repairs, files=self.stands.files, over=self.stands.over), None
             self.save()
         self.is_open, self.pending = False, None
 
@@ -229,6 +244,8 @@ class Lists:
     def adopt(self, found: PackagedList) -> None:
         """Goes on from the list `found`, which adsplice took with the numbers that it has."""
         repairer = Repairer(self.stands.repairer.choices, self.stands.repairer.siblings)
+        last = self.stands.repairer.last
+        repairer.moved = self.stands.repairer.moved + (found.segments[0].number - last[-1].number - 1 if last else 0)
         pending = Repaired(found, Head(found.version, found.target or 1, found.kind))
         self.stands = replace(self.stands, repairer=repairer, viewed=Viewed(), text=b"")
         self.pending, self.before, self.is_open = pending, None, False
@@ -239,6 +256,7 @@ class Lists:
     def begin_anew(self) -> None:
         """The channel is new: its first list begins where viewers' list stood."""
         self.signalling.begin_anew()
+        self.ahead = None
         self.is_anew, self.stands.text = bool(self.stands.repairer.last), b""
         if self.stands.repairer.head is not None and self.settings.target is not None:
             self.stands.repairer.head.target = self.settings.target  # (a new channel may have another one)
@@ -254,7 +272,7 @@ class Lists:
         if newest.why == repairs.SECTIONS:
             return self.begin_after()
         if newest.found is not None:
-            self.signalling.translate(newest.found, self.settings.rendition())
+            self.signalling.translate(newest.found, self.settings.rendition(), self.moved())
         listed = newest.found.segments if newest.found is not None else repairer.last
         head = newest.head or repairer.head
         history = [it for it in (*repairer.past, *repairer.last) if it.number < listed[0].number] + listed
@@ -286,11 +304,32 @@ class Lists:
         segments = first.found.segments
         segments[0].discontinuities = max(1, segments[0].discontinuities)
         count_on(PackagedSegment("", 0, number=number, discontinuity=discontinuity), segments)
-        self.signalling.translate(first.found, self.settings.rendition())
+        moved = stands.repairer.moved + number - stands.repairer.last[-1].number
+        self.signalling.translate(first.found, self.settings.rendition(), moved)
         self.stands = replace(stands, repairer=Repairer(stands.repairer.choices, stands.repairer.siblings), viewed=Viewed(end=stands.viewed.end))
+        self.stands.repairer.moved = moved
         self.pending, self.text, self.is_open, self.is_new = first, packaged.write(first.found), True, False
         self.learn(first.found)
         return True
+
+
+def starts_in(text: bytes) -> dict[str, tuple[int, bytes]]:
+    """The signalled breaks of the list `text`, which the feed wrote, by their IDs: each one's START-DATE and its line."""
+    found = {}
+    for line in text.split(b"\n"):
+        if line.startswith(DATE_RANGE.encode()) and SIGNAL.encode() in line:
+            said = packaged.attributes_of(line.decode("utf-8", "replace").partition(":")[2])
+            if (start := packaged.instant_of(said.get("START-DATE", ""))) is not None and "ID" in said:
+                found[said["ID"]] = start, line
+    return found
+
+
+def without_moved(before: bytes, text: bytes, tolerance: int) -> bytes | None:
+    """The list `before` without the breaks of which the next list, `text`, states a START-DATE that is another by more than `tolerance`;
+    none if there are none. adsplice keeps the first one for as long as a list has the ID (RFC 8216, 4.3.2.7)."""
+    known, now = starts_in(before), starts_in(text)
+    moved = {line for name, (start, line) in known.items() if name in now and abs(now[name][0] - start) > tolerance}
+    return b"\n".join(line for line in before.split(b"\n") if line not in moved) if moved else None
 
 
 def read(body: bytes) -> PackagedList:

@@ -18,7 +18,7 @@ from .masters import written_names
 from .numbers import repairs_kept
 from .origins import NAMES
 from .reconcile import report
-from .watch import WORDS, Watch
+from .watch import UNFILLABLE, WORDS, Watch
 from .web import Client
 from .words import Fault
 
@@ -128,6 +128,7 @@ class Figures(Collector):
         target = GaugeMetricFamily("adsplice_target_duration_seconds", "EXT-X-TARGETDURATION", labels=["channel"])
         ended = GaugeMetricFamily("adsplice_ended", "Whether the playlist has ended (EXT-X-ENDLIST)", labels=["channel"])
         breaks = GaugeMetricFamily("adsplice_breaks", "Known breaks by the word of why", labels=["channel", "why"])
+        unfillable = GaugeMetricFamily("adsplice_breaks_unfillable", "Listed breaks that SCTE 35 signals and that can't be filled", labels=["channel", "why"])
         lines = CounterMetricFamily("adsplice_as_run", "Breaks that were written to the as-run log, by the pod that was shown", labels=["channel", "pod", "why"])
         begun = CounterMetricFamily("adsplice_breaks_begun", "Breaks that have begun, by the pod in their place", labels=["channel", "pod", "why"])
         waiting = GaugeMetricFamily("adsplice_as_run_waiting", "Lines of the as-run log that can't be written", labels=["channel"])
@@ -143,12 +144,15 @@ class Figures(Collector):
                     target.add_metric([it.name], it.target)
                 for word in WORDS:
                     breaks.add_metric([it.name, word], it.words[word])
+                if (found := it.unfillable()) is not None:
+                    for word in UNFILLABLE:
+                        unfillable.add_metric([it.name, word], found[word])
                 if it.as_run:
                     for pod, why in dict.fromkeys([*KEYS, *it.as_run.counts, *it.as_run.begun]):  # (each from 0 on, so that its first one is seen to come)
                         lines.add_metric([it.name, pod, why], it.as_run.counts[pod, why])
                         begun.add_metric([it.name, pod, why], it.as_run.begun[pod, why])
                     waiting.add_metric([it.name], len(it.as_run.waiting) + it.as_run.lost)
-        yield from (answers, behind, still, target, ended, breaks, lines, begun, waiting)
+        yield from (answers, behind, still, target, ended, breaks, unfillable, lines, begun, waiting)
 
     def pushes(self) -> Iterator[Metric]:
         """The figures of what the feeds kept."""
@@ -212,14 +216,31 @@ def once(watches: list[Watch], processes: Processes, registry: CollectorRegistry
     return CRITICAL if troubles else 0
 
 
+class Trouble:
+    """What keeps the monitor from its work on `name`, a channel or a file: told once for as long as it lasts, and when it is over."""
+
+    def __init__(self, name: str) -> None:
+        """Nothing is wrong yet."""
+        self.name, self.text, self.say = name, "", words.Teller(words.ERROR, lambda line: words.Level.ERROR).say
+
+    def tell(self, text: str) -> None:
+        """The trouble is `text` now; none if it is empty."""
+        if text != self.text:
+            self.text = text
+            self.say(f"{words.now_text()} {self.name}: {text or 'all is well again'}")
+
+
 def follow(watch: Watch, ending: threading.Event, interval: float) -> None:
     """Looks at `watch` every `interval` seconds until `ending` is set."""
-    say = words.Teller(words.ERROR, lambda line: words.Level.ERROR).say
+    trouble = Trouble(watch.name)
     while not ending.wait(watch.pause(interval)):
         try:
             watch.look()
+            trouble.tell("")
+        except OSError as fault:
+            trouble.tell(f"{fault.filename or ''} {fault.strerror}".strip())
         except Exception as fault:  # noqa: BLE001  (one channel's fault isn't to end the figures of the others)
-            say(f"{words.now_text()} {watch.name}: {type(fault).__name__}: {str(fault)[:200]}")
+            trouble.tell(f"{type(fault).__name__}: {str(fault)[:200]}")
 
 
 def serve(watches: list[Watch], processes: Processes, registry: CollectorRegistry, said: argparse.Namespace) -> int:
@@ -245,8 +266,7 @@ def serve(watches: list[Watch], processes: Processes, registry: CollectorRegistr
 
 def beat_on(log: Log, watches: list[Watch], ending: threading.Event) -> None:
     """Keeps that a monitor runs beside its as-run log `log`, and what it knows of the breaks of `watches`, until `ending` is set."""
-    say, has_begun = words.Teller(words.ERROR, lambda line: words.Level.ERROR).say, False
-    is_last = False
+    trouble, has_begun, is_last = Trouble(str(log.path)), False, False
     while not is_last:
         is_last = ending.is_set()
         try:
@@ -254,10 +274,11 @@ def beat_on(log: Log, watches: list[Watch], ending: threading.Event) -> None:
                 log.begin()
             has_begun = True
             log.beat(state_of(watches))
+            trouble.tell("")
         except OSError as fault:
-            say(f"{words.now_text()} {log.path}: {fault.strerror}")
+            trouble.tell(fault.strerror or str(fault))
         except Exception as fault:  # noqa: BLE001  (the sign that a monitor runs isn't to end in silence)
-            say(f"{words.now_text()} {log.path}: {type(fault).__name__}: {str(fault)[:200]}")
+            trouble.tell(f"{type(fault).__name__}: {str(fault)[:200]}")
         ending.wait(BEAT)
 
 

@@ -123,13 +123,15 @@ def first_needed(viewed: Viewed, history: list[PackagedSegment], first: int) -> 
 @dataclass
 class Standing:
     """Where a channel stands: the `repairer` with what it accepted, what viewers have (`viewed`), the list `text` that was pushed,
-    how many lists had each kind of repair (`repairs`), and what is known of decision files (`files`, of Folder.kept)."""
+    how many lists had each kind of repair (`repairs`), what is known of decision files (`files`, of Folder.kept), and the decided breaks
+    that left the list (`over`, of Folder)."""
 
     repairer: Repairer
     viewed: Viewed
     text: bytes
     repairs: Counter[str]
     files: dict[str, list[Any]] = field(default_factory=dict)
+    over: list[str] = field(default_factory=list)
 
 
 def pack(it: Standing) -> str:
@@ -141,11 +143,13 @@ def pack(it: Standing) -> str:
     history = history[max(0, min(needed, len(history) - len(last)), len(history) - MOST_KEPT):]
     written = packaged.write(PackagedList(head.version, head.target, segments=history), [])
     return json.dumps({
-        "format": FORMAT, "head": [head.version, head.target, head.kind], "adds": it.repairer.adds, "repairs": it.repairs, "files": it.files,
+        "format": FORMAT, "head": [head.version, head.target, head.kind], "adds": it.repairer.adds, "repairs": it.repairs,
+        "files": {name: found[:3] for name, found in it.files.items()},
         "text": it.text.decode("utf-8", "replace"), "history": written.decode("utf-8", "replace"), "listed": last[0].number,
         "own": [one.own for one in history], "bare": sorted({key.text for one in history for key in one.keys if key.takes_number()}),
         "begins": [[number, *found] for number, found in it.viewed.begins.items() if number >= history[0].number],
         "end": it.viewed.end, "is_replaced": it.viewed.is_replaced, "ranges": [[*found] for found in it.viewed.ranges.values()],
+        "said": {name: found[3:] for name, found in it.files.items()}, "over": it.over, "moved": it.repairer.moved,
     })
 
 
@@ -159,6 +163,7 @@ def unpack(body: bytes, choices: Choices) -> Standing:
         repairer = Repairer(choices)
         version, target, kind = said["head"]
         repairer.head, repairer.adds = Head(version, int(target), kind), bool(said["adds"])
+        repairer.moved = int(said.get("moved", 0))
         repairer.past = [it for it in history if it.number < said["listed"]]
         repairer.last = [it for it in history if it.number >= said["listed"]]
         viewed = Viewed({int(number): (int(media), int(step)) for number, media, step in said["begins"]}, None, bool(said["is_replaced"]))
@@ -168,10 +173,18 @@ def unpack(body: bytes, choices: Choices) -> Standing:
         counts = Counter({str(name): int(count) for name, count in said["repairs"].items()})
         if not repairer.last:
             raise ValueError("it has no segment")
-        files = {str(name): [[int(one) for one in stamp], bool(given), [str(one) for one in late]] for name, (stamp, given, late) in said["files"].items()}
-        return Standing(repairer, viewed, said["text"].encode(), counts, files)
+        return Standing(repairer, viewed, said["text"].encode(), counts, files_of(said), [str(name) for name in said.get("over", [])])
     except (KeyError, TypeError, AttributeError, IndexError, RecursionError, spelling.Unread) as fault:
         raise ValueError(f"{type(fault).__name__}: {fault}") from None
+
+
+def files_of(said: dict[str, Any]) -> dict[str, list[Any]]:
+    """What is known of decision files by what was `said`, as Folder.kept answers it; an earlier feed said less."""
+    found: dict[str, list[Any]] = {}
+    for name, (stamp, given, late) in said["files"].items():
+        kind, ids, refused = said.get("said", {}).get(name, ["", [], False])
+        found[str(name)] = [[int(one) for one in stamp], bool(given), [str(one) for one in late], str(kind), [str(one) for one in ids], bool(refused)]
+    return found
 
 
 def history_of(text: bytes, own: list[int], bare: set[str]) -> list[PackagedSegment]:

@@ -74,6 +74,7 @@ class Repairer:
         self.past: list[PackagedSegment] = []  # those that left it, the oldest first
         self.adds = False  # whether the instants of the last list were added
         self.held_since: float | None = None  # when the first list that didn't go on was seen
+        self.moved = 0  # by how much its media numbers are greater than the programme's, since the channel was made anew
         self.owed = 0  # discontinuities that the next new segment has for other renditions
         self.lead: tuple[int, int] | None = None  # the first segment that was taken from another rendition, and how many are listed with it
 
@@ -119,6 +120,8 @@ class Repairer:
             lead = (self.last[-1].number + 1, len(self.last)) if "other renditions" in kinds else None
         steps = self.add_steps(found, kinds)
         self.set_times(found, False)
+        if is_timed:
+            self.follow_clock(found.segments, kinds)
         if is_untimed:
             kinds["times"] = ""
             self.agree(found.segments)
@@ -156,6 +159,7 @@ class Repairer:
 
     def renumber(self, media: int, discontinuity: int, listed: list[PackagedSegment]) -> None:
         """All numbers grow by `media` and `discontinuity`, those of the segments `listed`, too: a new channel begins with others."""
+        self.moved += media
         for it in {id(it): it for it in (*self.past, *self.last, *listed)}.values():
             it.number, it.discontinuity = it.number + media, it.discontinuity + discontinuity
 
@@ -171,6 +175,7 @@ class Repairer:
         first = found.segments[0]
         theirs = self.siblings.place_at(first.begins) if self.siblings is not None else None
         if theirs is not None:
+            self.moved = theirs[2]
             media, steps = theirs[0] - first.number, theirs[1] - first.discontinuity
             for it in found.segments:
                 it.number, it.discontinuity = it.number + media, it.discontinuity + steps
@@ -253,6 +258,17 @@ class Repairer:
         for before, it in zip(segments[-2::-1], segments[:0:-1]):
             if before.begins is None and it.begins is not None:
                 before.begins = it.begins - it.gap - before.duration
+
+    def follow_clock(self, segments: list[PackagedSegment], kinds: dict[str, str]) -> None:
+        """A packager that states the first instant of its list alone, and whose clock has changed: the new ones of `segments` have the
+        instants that follow from what the list states now, if these differ by more than a segment."""
+        ended: int | None = None  # where the segment before ends by what the list states now
+        for it in segments if self.last else []:
+            said = it.stated if it.stated is not None else None if ended is None else ended + it.gap
+            if it.number > self.last[-1].number and said is not None and it.begins is not None and abs(said - it.begins) > max(SECOND, it.duration):
+                kinds["clock"] = ""
+                it.stated = it.begins = said
+            ended = None if said is None else said + it.duration
 
     def end_of(self, first: PackagedSegment) -> int | None:
         """The instant at which the segment before `first` ended, if that is the last one of the last list and its instant is known."""

@@ -28,6 +28,7 @@ KINDS = {
     "keys": ("5.2", "a key without IV has the packager's number as IV, which is stated"),
     "other renditions": ("6.2.4", "a rendition that was away takes segments or a discontinuity of the others, so that equal instants have equal numbers"),
     "times": ("4.3.2.6", "no segment states EXT-X-PROGRAM-DATE-TIME: it is added by this machine's clock (times = no leaves it out)"),
+    "clock": ("4.3.2.6", "the packager's clock has changed: its new segments state the instants that follow from its list now"),
     "gaps": ("6.2.1", "a segment of EXT-X-GAP isn't there, and is left out with a discontinuity after it"),
 }
 TOLD_EACH = ("long segment", "began again")  # each time that it is another case

@@ -66,6 +66,8 @@ class Signalling:
             return
         try:
             write_aside(self.path, text.encode())
+            if not self.is_kept:
+                self.tell("signals", "-", "-", f"{self.path}: they are kept again")
             self.saved, self.is_kept = text, True
         except OSError as fault:
             if self.is_kept:
@@ -74,13 +76,13 @@ class Signalling:
 
     # ---- lists
 
-    def translate(self, found: PackagedList, rendition: str = "") -> bool:
-        """Puts date ranges that adsplice knows in place of the signals of the list `found` of a `rendition`, and asks for the breaks
-        that became known. Whether the list has changed by that."""
+    def translate(self, found: PackagedList, rendition: str = "", moved: int = 0) -> bool:
+        """Puts date ranges that adsplice knows in place of the signals of the list `found` of a `rendition`, which has `moved` its media
+        numbers, and asks for the breaks that became known. Whether the list has changed by that."""
         if not self.is_on or not found.segments:
             return False
         with self.lock:
-            said = self.translator.take(found, rendition)
+            said = self.translator.take(found, rendition, moved)
             for it in said.told:
                 self.tell(it.who, "-", it.word, it.text)
             last = found.segments[-1]

@@ -47,31 +47,46 @@ class Translator:
         self.done: dict[str, Mark] = {}  # of each rendition
         self.firsts: dict[str, int] = {}  # the instant of the first one
         self.seen: dict[str, dict[str, set[str]]] = {}  # of each rendition's listed date ranges the attributes that were looked at
+        self.stated: dict[str, dict[str, int]] = {}  # of each rendition's listed date ranges the START-DATE
         self.styles: set[str] = set()  # that were told as not translated
 
     # ---- what a list says
 
-    def take(self, found: PackagedList, rendition: str = "") -> Translated:
-        """Looks at the list `found` of a `rendition`, and answers what it becomes."""
+    def take(self, found: PackagedList, rendition: str = "", moved: int = 0) -> Translated:
+        """Looks at the list `found` of a `rendition`, which has `moved` its media numbers, and answers what it becomes."""
         if not found.segments:
             return Translated()
         ranges, fresh = ranges_of(found), self.first_new(found, rendition)
         self.look_for_styles(found, ranges, fresh)
         if any(it.begins is None for it in found.segments):
             return Translated(None, self.tellings())
-        line, before = Timeline(found.segments, self.aligns), {it.id for it in self.breaks.known}
+        line, before = Timeline(found.segments, self.aligns, moved), {it.id for it in self.breaks.known}
+        self.restate(ranges, line, fresh, rendition)
         self.count(self.of_segments(found, fresh) + self.of_ranges(ranges, line, fresh, rendition), line)
         self.breaks.settle(line)
         newest = found.segments[-1]
         if fresh < len(found.segments):
             self.done[rendition] = Mark(newest.number, newest.uri, line.begins[-1])
-        self.firsts[rendition], self.breaks.is_first = line.begins[0], False
+        self.firsts[rendition], self.breaks.is_first = line.first, False
         self.breaks.forget(min(self.firsts.values()))
         listed = [it for it in self.breaks.known if self.is_listed(it, line)]
         is_known = self.passes(ranges, listed, line)
         others = [it.line for it in ranges if not it.is_translated() and self.breaks.named(it.id) is None]
-        lines = None if is_known else others + [self.written(it) for it in listed]
+        lines = None if is_known else others + [self.written(it, line) for it in listed]
         return Translated(lines, self.tellings(), [it for it in self.breaks.known if it.id not in before])
+
+    def restate(self, ranges: list[DateRange], line: Timeline, fresh: int, rendition: str) -> None:
+        """A packager whose clock was put right states another START-DATE of a break: one that hasn't begun in a segment before the place
+        `fresh` begins then. The rest as in `of_ranges`."""
+        before = self.stated.get(rendition, {})
+        self.stated[rendition] = {it.id: start for it in ranges if it.is_splice() and (start := it.start()) is not None}
+        moved = {name: start for name, start in self.stated[rendition].items() if abs(start - before.get(name, start)) > self.tolerance}
+        for at, by, number in line.jumps(fresh) if self.done.get(rendition) is not None else []:
+            names = {name for name, start in moved.items() if abs(start - before[name] - by) <= line.half(at)}
+            self.breaks.turn_clock(at, by, number, names)
+        for name, start in moved.items():
+            if (one := self.breaks.named(name)) is not None and (one.clock is None or one.clock != self.breaks.clock):
+                self.breaks.move(one, start, line, fresh)
 
     def first_new(self, found: PackagedList, rendition: str) -> int:
         """The place of the first segment of the list `found` that the `rendition` hasn't listed before; past the last one if none is."""
@@ -168,7 +183,7 @@ class Translator:
         if not one.is_settled and not line.will_begin(one.start):
             return False
         end = one.end()
-        return end > line.begins[0] if end is not None else one.start >= line.begins[0] - TOLERANCE
+        return end > line.first if end is not None else one.start >= line.first - TOLERANCE
 
     def passes(self, ranges: list[DateRange], listed: list[Break], line: Timeline) -> bool:
         """Whether adsplice by itself makes of the date ranges `ranges` just the breaks that are `listed`. It keeps the first value of
@@ -178,17 +193,20 @@ class Translator:
             said[it.id] = it.said | said.get(it.id, {})
         if said.keys() & (self.breaks.cancelled | {it.id for it in self.breaks.known if not it.is_settled and it not in listed}):
             return False
-        earliest = line.begins[0] - TOLERANCE
+        if any(it.clock is not None for it in listed):
+            return False
+        earliest = line.first - TOLERANCE
         begun = {name for name, it in said.items() if is_leaving(it) and (packaged.instant_of(it["START-DATE"]) or 0) >= earliest}
         is_known = begun <= {it.id for it in listed} and all(it.id in said for it in listed)
         return is_known and all(is_leaving(said[it.id]) and is_same(it, said[it.id], self.tolerance) for it in listed)
 
-    def written(self, one: Break) -> str:
-        """The EXT-X-DATERANGE of the break `one`."""
+    def written(self, one: Break, line: Timeline) -> str:
+        """The EXT-X-DATERANGE of the break `one` in the list of `line`, which may be one from before the packager's clock changed."""
         end = one.end()
         planned = None if end is None else one.planned if one.planned is not None else end - one.start
         text = f'ID="{one.id}",START-DATE="{instant_text(one.start)}"' + one.others
-        text += f',END-DATE="{instant_text(one.until)}"' if one.is_ended and one.until is not None else ""
+        is_ended = one.is_ended and (one.clock is None or line.last > one.clock)
+        text += f',END-DATE="{instant_text(one.until)}"' if is_ended and one.until is not None else ""
         text += f",PLANNED-DURATION={seconds_text(planned)}" if planned is not None else ""
         return f"{DATE_RANGE}{text},SCTE35-OUT={splice.insert_text((one.event or one.number) % 2**32, planned)}"
 
@@ -197,11 +215,12 @@ class Translator:
     def kept(self) -> dict[str, Any]:
         """The state as JSON."""
         return {"breaks": self.breaks.kept(), "done": self.done, "cancelled": sorted(self.breaks.cancelled), "styles": sorted(self.styles),
-                "seen": {name: {id_: sorted(said) for id_, said in it.items()} for name, it in self.seen.items()}}
+                "stated": self.stated, "seen": {name: {id_: sorted(said) for id_, said in it.items()} for name, it in self.seen.items()}}
 
     def resume(self, kept: dict[str, Any]) -> None:
         """Goes on from the state that `kept` answered; raises if that isn't one (KeyError, TypeError, ValueError)."""
         self.breaks.known = [Break(**it) for it in kept["breaks"]]
         self.done = {name: Mark(*it) for name, it in kept["done"].items()}
         self.seen = {name: {id_: set(said) for id_, said in it.items()} for name, it in kept["seen"].items()}
+        self.stated = {name: {id_: int(start) for id_, start in it.items()} for name, it in kept.get("stated", {}).items()}
         self.breaks.cancelled, self.styles, self.breaks.is_first = set(kept["cancelled"]), set(kept["styles"]), not self.done

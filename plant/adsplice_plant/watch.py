@@ -11,6 +11,8 @@ from .web import Client
 from .written import Written
 
 WORDS = ("Filled", "NoStart", "NotSignalled", "NotDecided", "DoesNotFit", "Waiting")
+UNFILLABLE = ("NoStart", "NotSignalled", "DoesNotFit")  # which no wait changes
+SIGNAL = "SCTE35-OUT"  # the attribute of a date range that signals a break
 TARGETS = 3  # target durations after which a list is late, or stands still
 AT_REST = 1.75  # intervals, and
 NEXT = 0.875  # target durations, for which a list that has just changed isn't asked for: the smaller of both
@@ -88,6 +90,13 @@ class Watch:
             if why.status == 200:
                 self.told = dict(line.rsplit("\t", 1) for line in why.body.decode("utf-8", "replace").splitlines() if "\t" in line)
                 self.words = Counter(self.told.values())
+
+    def unfillable(self) -> Counter[str] | None:
+        """How many listed breaks that SCTE 35 signals can't be filled, by the word of `why`; none if nothing is known of what was listed."""
+        if self.kept is None:
+            return None
+        signalled = [name for name, it in self.kept.ranges.items() if SIGNAL in it.attributes]
+        return Counter(self.told[it] for it in signalled if self.told.get(it) in UNFILLABLE)
 
     def take(self, body: bytes) -> None:
         """Takes in the list `body`."""

@@ -14,9 +14,9 @@ from typing import NoReturn
 
 FAULT, WRONG_WORDS = 1, 2  # exit statuses
 OUT, ERROR = 1, 2  # descriptors of standard output and standard error
-NEEDED = {"origin", "adsplice", "journal", "fallback"}  # who of a feed's lines has no status only if it isn't there
-USUAL = {"Asked", "First", "Begins", "Ends", "Removed"}  # words in place of a fault that tell of nothing wrong
-NOTED = {"Repaired", "Held", "Lags", "Ignored", "Cancelled"}  # and of what the feed mends by itself
+NEEDED = {"origin", "adsplice", "fallback"}  # who of a feed's lines has no status only if it isn't there
+USUAL = {"Asked", "First", "Begins", "Ends", "Removed", "Over"}  # words in place of a fault that tell of nothing wrong
+NOTED = {"Repaired", "Held", "Lags", "Ignored", "Cancelled", "Moved"}  # and of what the feed mends by itself
 NAME = re.compile(r"[a-z0-9-]{1,32}")  # of a channel
 
 

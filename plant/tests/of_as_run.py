@@ -99,6 +99,19 @@ def test_as_run_log_has_each_written_segment_of_each_pod_once(room):
         assert not any("gap" in line for line in lines) and len({line["id"] for line in lines}) == len(lines) == len(breaks), (case, len(breaks), lines)
 
 
+def test_a_break_whose_start_date_changes_is_told_once_and_as_it_was_shown(room):
+    plant = Plant(room, None)
+    plant.give("decisions", decided(("b1", 2)))
+    for newest in range(5, 22):
+        if newest == 8:
+            plant.give("origin", listed(2, 7))  # (without the break, so that adsplice takes its other START-DATE)
+        plant.give("origin", listed(newest - 5, newest, [("b1", -160 if newest < 8 else 20, 4)] if newest < 17 else ()))
+        plant.look()
+    with open(f"{room.path}/as-run.jsonl", encoding="utf-8") as it:
+        said = [(line["id"], line["pod"], line["shown"], line["of"]) for line in map(json.loads, it)]
+    assert said == [("b1", "own", 2, 2)] and plant.run.begun == {("own", "Filled"): 1}, (said, plant.run.begun)
+
+
 def refuse(*_):
     """A full disk."""
     raise OSError(28, "No space left on device")

@@ -9,7 +9,7 @@ import time
 import urllib.request
 from pathlib import Path
 
-from tools import FALLBACK, PLANT, PYTHON, FakeController, FakeOrigin, RulesController, decided, free_port, get, listed, until
+from tools import FALLBACK, PLANT, PYTHON, FakeController, FakeOrigin, RulesController, decided, free_port, get, instant, listed, until
 
 sys.path.insert(0, PLANT)
 from adsplice_plant.kept import Kept  # noqa: E402
@@ -422,6 +422,119 @@ def test_feed_that_was_started_again_gives_no_decision_twice(room):
     feed.end(signal.SIGKILL)
     room.feed("--channel", "news", "--origin", origin.url, "--at", controller.url, *words).sees("news adsplice 204 -: the list is taken")
     assert len(controller.puts("decisions")) == 1 and controller.puts("origin")[-1] == origin.text.encode()
+
+
+def kept_numbers(room, name="news"):
+    """What a later feed of a channel has to know; nothing before the first list."""
+    path = Path(room.path, "kept", f"{name}.numbers")
+    return path.read_text(encoding="utf-8") if path.exists() else ""
+
+
+def test_files_that_are_removed_while_the_feed_is_down_are_withdrawn_when_it_is_back(room):
+    controller, path = room.server(RulesController()), f"{room.path}/decisions"
+    words = ("--channel", "news", "--origin", room.write("index.m3u8", listed(0, 5, [("b1", 40, 4)])), "--at", controller.url, "--base", "http://h/i.m3u8",
+             "--decisions", path, "--keep", f"{room.path}/kept")
+    for name, text in (("one", decided(("b1", 2))), ("two", decided(("b2", 1), ("b3", 1))), ("three", decided(("b3", 1), ("b4", 1))), ("fallback", FALLBACK)):
+        room.write(f"decisions/{name}.json", text)
+    feed = room.feed(*words)
+    for name in ("b1", "b2, b3", "b3, b4"):
+        feed.sees(f"204 -: decides {name}")
+    feed.sees("news adsplice 204 -: the list is taken")
+    until(lambda: "three.json" in kept_numbers(room), 20, "what a later feed has to know")
+    feed.end(signal.SIGKILL)
+    for name in ("one", "two", "fallback"):
+        os.remove(f"{path}/{name}.json")
+    feed = room.feed(*words)
+    feed.sees("news decisions/one.json 204 Removed: the file was removed; withdraws b1")
+    feed.sees("news decisions/two.json 204 Removed: the file was removed; withdraws b2$")
+    feed.sees("news decisions/fallback.json 204 Removed: the file was removed; takes its fallback back")
+    store = controller.edge.channels["news"].store
+    assert {it.id for it in store.entries} == {"b3", "b4"} and store.fallback is None, store
+    feed.end(signal.SIGKILL)
+    feed = room.feed(*words)
+    feed.sees("news adsplice 409 -: the channel is there already")
+    room.write("index.m3u8", listed(1, 6))
+    until(lambda: "s6.ts" in controller.shown("news"), 10, "the next list")
+    assert not any("Removed" in line for line in feed.lines), feed.lines
+
+
+def test_file_that_was_refused_is_not_given_again_by_a_later_feed(room):
+    words = ("--decisions", f"{room.path}/decisions", "--keep", f"{room.path}/kept")
+    origin, controller, feed = started(room, listed(0, 5), *words)
+    controller.refusals[("PUT", "decisions")] = [(422, "J2 Shape break 0\n")]
+    room.write("decisions/one.json", decided(("b1", 2)))
+    feed.sees("news decisions/one.json 422 J2 Shape")
+    until(lambda: "one.json" in kept_numbers(room), 20, "what a later feed has to know")
+    feed.end(signal.SIGKILL)
+    feed = room.feed("--channel", "news", "--origin", origin.url, "--at", controller.url, *words)
+    feed.sees("news adsplice 204 -: the list is taken")
+    assert len(controller.puts("decisions")) == 1
+    room.write("decisions/one.json", decided(("b1", 1)))
+    feed.sees("news decisions/one.json 204 -: decides b1")
+
+
+def test_a_new_channel_is_not_asked_to_forget_what_it_never_held(room):
+    path = f"{room.path}/decisions"
+    words = ("--decisions", path, "--keep", f"{room.path}/kept")
+    origin, controller, feed = started(room, listed(0, 5, [("b1", 40, 4)]), *words)
+    room.write("decisions/one.json", decided(("b1", 2)))
+    feed.sees("news decisions/one.json 204 -: decides b1")
+    until(lambda: "one.json" in kept_numbers(room), 20, "what a later feed has to know")
+    feed.end(signal.SIGKILL)
+    os.remove(f"{path}/one.json")
+    controller.channels.clear()
+    feed = room.feed("--channel", "news", "--origin", origin.url, "--at", controller.url, *words)
+    feed.sees("news adsplice 204 -: the list is taken")
+    assert controller.puts("decisions") == [decided(("b1", 2)).encode()], controller.puts("decisions")
+
+
+def test_breaks_that_never_began_leave_room_once_they_are_long_over(room):
+    controller = room.server(RulesController())
+    feed = room.feed("--channel", "news", "--origin", room.write("index.m3u8", listed(0, 5)), "--at", controller.url, "--base", "http://h/i.m3u8",
+                     "--decisions", f"{room.path}/decisions", "--keep", f"{room.path}/kept", "--signals", "no")
+    feed.sees("news adsplice 204 -: the list is taken")
+    for turn in range(20):  # (each is taken out of the list before it begins)
+        room.write(f"decisions/{turn}.json", decided((f"b{turn}", 1)))
+        feed.sees(f"204 -: decides b{turn}$")
+        room.write("index.m3u8", listed(turn, turn + 5, [(f"b{turn}", 2 * turn + 40, 4)]))
+        until(lambda turn=turn: f's{turn + 5}.ts' in controller.shown("news"), 10, "the list")
+    feed.sees("news breaks/b2 204 Over: it was decided, left the list and never began; takes its pod back")
+    assert {it.id for it in controller.edge.channels["news"].store.entries} == {f"b{turn}" for turn in range(3, 20)}, controller.edge.channels["news"].store
+    kept = Kept(Path(room.path, "kept", "news.events"))
+    kept.follow()
+    assert not kept.refused and not kept.reasons, (kept.refused, kept.reasons)
+
+
+def by_clock(first, last, breaks, ahead, is_each):
+    """A list of segments `first` to `last` whose clock, and that of its `breaks`, is `ahead` by so many seconds; `is_each`: each segment states
+    its instant, and not the first one alone."""
+    text = listed(first, last, [(name, start + ahead, length) for name, start, length in breaks])
+    text = text.replace(f"#EXT-X-PROGRAM-DATE-TIME:{instant(2 * first)}\n", "")
+    for number in range(first, last + 1 if is_each else first + 1):
+        text = text.replace(f"#EXTINF:2,\ns{number}.ts", f"#EXT-X-PROGRAM-DATE-TIME:{instant(2 * number + ahead)}\n#EXTINF:2,\ns{number}.ts")
+    return text
+
+
+def test_a_clock_that_changes_moves_announced_breaks_and_the_end_of_one_that_has_begun(room):
+    breaks = [("b0", 12, 8), ("b1", 28, 4)]
+    owed = [f"b0-{n - 6}.ts" if 6 <= n < 10 else f"b1-{n - 14}.ts" if 14 <= n < 16 else f"s{n}.ts" for n in range(22)]
+    cases = [(changes, ahead, is_each) for changes in (8, 11) for ahead in ((-180, 0), (0, -180), (0, 7)) for is_each in (True, False)]
+    controller, feeds = room.server(RulesController()), []
+    for place, (changes, ahead, is_each) in enumerate(cases):
+        room.write(f"c{place}/b.json", decided(("b0", 4), ("b1", 2)))
+        origin = room.write(f"c{place}.m3u8", by_clock(0, 4, breaks, ahead[0], is_each))
+        feeds.append(f"[c{place}]\norigin = {origin}\ndecisions = {room.path}/c{place}\n")
+    feed = room.feed("--config", room.write("feed.ini", f"[DEFAULT]\nat = {controller.url}\nbase = http://h/i.m3u8\nkeep = {room.path}/kept\n" + "".join(feeds)))
+    for newest in range(5, 22):  # (the clock changes with segment 8, within b0, or with segment 11, between both)
+        for place, (changes, ahead, is_each) in enumerate(cases):
+            room.write(f"c{place}.m3u8", by_clock(max(0, newest - 8), newest, breaks if newest < 18 else (), ahead[newest >= changes], is_each))
+        for place, case in enumerate(cases):
+            try:
+                until(lambda place=place: controller.shown(f"c{place}").rstrip("\n").endswith("/" + owed[newest]), 60, f"{owed[newest]} of {case}")
+            except AssertionError as fault:
+                lines = [line for line in feed.lines if f" c{place} " in line]
+                raise AssertionError("\n".join([str(fault), controller.shown(f"c{place}"), *lines])) from None
+    assert not any(" adsplice 4" in line for line in feed.lines), feed.lines
 
 
 def test_a_feed_shows_that_it_goes_on(room):

@@ -196,9 +196,29 @@ def test_what_a_user_may_not_read_or_write_is_told(room):
         for path in (folder, kept):
             os.chmod(path, 0o755)
     said = it.stdout.read()
-    for text in ("b1.json.*can't be read: Permission denied", "journal - -: .*/news.events: Permission denied", "numbers - Unkept: .*/news.numbers: Permission denied"):
+    for text in ("b1.json.*can't be read: Permission denied", "journal - Unkept: .*/news.events: Permission denied", "numbers - Unkept: .*/news.numbers: Permission denied"):
         assert len(re.findall(text, said)) == 1, (text, said)
     assert controller.puts("decisions") == [decided(("b2", 2)).encode()], controller.puts("decisions")
+
+
+def test_a_journal_that_cannot_be_written_is_told_each_time_that_it_begins_and_ends(room):
+    from adsplice_plant.channel import Channel
+    from adsplice_plant.settings import settings_of
+    from adsplice_plant.web import Answer, Client
+    lines = []
+    it = Channel(settings_of("news", {"origin": "http://h/i.m3u8", "at": "http://h", "keep": room.path}), Client(2), lines.append, 0.2, 7)
+    right = it.journal.put
+    for is_full in (False, True, True, False, False, True):
+        it.journal.put = refuse if is_full else right
+        it.note("read", Answer(0, why="no answer"))
+    told = [line.split(" ", 2)[2].replace(f"{room.path}/", "") for line in lines]
+    full, well = "journal - Unkept: news.events: No space left on device; goes on without it", "journal - -: news.events: events are kept again"
+    assert told == [full, well, full], told
+
+
+def refuse(*_):
+    """A full disk."""
+    raise OSError(28, "No space left on device")
 
 
 def test_a_fault_that_nobody_foresaw_begins_the_channel_anew(room):

@@ -110,13 +110,14 @@ def test_files_have_their_room(room, monkey=(("MAX_BYTES", 20_000), ("ROOM", 100
 def test_a_full_disk_is_a_hole_and_spoils_no_line(room):
     # (in a process whose files may have 6,000 bytes, for a while)
     code = ("import resource, signal, sys; sys.path.insert(0, sys.argv[1]); sys.path.insert(0, sys.argv[1] + '/tests')\n"
-            "from pathlib import Path; from adsplice_plant import journal; from tools import listed\n"
+            "from pathlib import Path; from adsplice_plant import journal; from tools import decided, listed\n"
             "signal.signal(signal.SIGXFSZ, signal.SIG_IGN)\n"
             "it, failed = journal.Journal(Path(sys.argv[2]), lambda: []), 0\n"
             "for n in range(40):\n"
             "    resource.setrlimit(resource.RLIMIT_FSIZE, (6000 if 10 <= n < 30 else -1, -1))\n"
-            "    try:\n        it.add('origin', 204, '', listed(n, n + 29).encode())\n"
-            "    except OSError:\n        failed += 1\n"
+            "    for what, text in (('decisions', decided((f'b{n}', 20))), ('origin', listed(n, n + 29))):\n"
+            "        try:\n            it.add(what, 204, '', text.encode())\n"
+            "        except OSError:\n            failed += what == 'origin'\n"
             "print(failed)\n")
     path = Path(room.path, "news.events")
     done = subprocess.run([PYTHON, "-c", code, PLANT, str(path)], capture_output=True, text=True, timeout=60, check=False)
@@ -125,6 +126,9 @@ def test_a_full_disk_is_a_hole_and_spoils_no_line(room):
     holes = [n for n, line in enumerate(lines) if line["what"] == "hole"]
     assert len(holes) == 1 and lines[holes[0]]["fault"] in ("File too large", "No space left on device") and "body" in lines[holes[0] + 1]
     assert [it.text() for it in journal.events(path)][-1] == listed(39, 68)
+    found = Kept(path)
+    found.follow()
+    assert list(found.pods) == [f"b{n}" for n in range(40)] and found.holes == 1, "a hole is of lists, and of no decision"
 
 
 def test_a_line_that_has_no_room_leaves_the_file_and_its_time(room):

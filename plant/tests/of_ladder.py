@@ -2,8 +2,10 @@
 import json
 import os
 import re
+import signal
 import urllib.request
 
+from of_feed import by_clock, kept_numbers
 from tools import FALLBACK, FakeController, FakeOrigin, RulesController, decided, free_port, get, instant, listed, put, until
 
 NEEDS = ("httpx",)
@@ -177,6 +179,27 @@ def test_ladder_removed_file_is_withdrawn_from_one_that_was_away_before_its_next
     assert found[0] == ("/channels/news-2/decisions", b'{"withdraw": "b1"}') and found[1][0] == "/channels/news-2/origin", found
 
 
+def test_ladder_file_that_is_removed_while_the_feed_is_down_is_withdrawn_unless_its_break_has_begun(room):
+    controller, breaks, kept = room.server(RulesController()), [("b1", 14, 4), ("b2", 40, 4)], ("--keep", f"{room.path}/kept")
+    ladder = Ladder(room, controller.url, listed(0, 5, breaks), *kept)
+    ladder.taken()
+    ladder.decide("one", decided(("b1", 2)))
+    ladder.decide("two", decided(("b2", 2)))
+    ladder.feed.sees("news decisions/one.json - -: decides b1 in all renditions")
+    ladder.feed.sees("news decisions/two.json - -: decides b2 in all renditions")
+    ladder.push(listed(0, 7, breaks), ("1",))  # (b1 has begun in one rendition)
+    until(lambda: "b1-0.ts" in controller.shown("news-1"), 10, "its break")
+    until(lambda: all("two.json" in kept_numbers(room, f"news-{it}") for it in NAMES), 20, "what a later feed has to know")
+    ladder.feed.end(signal.SIGKILL)
+    for name, file in (("2", "one"), ("3", "one"), ("1", "two"), ("2", "two"), ("3", "two")):
+        os.remove(f"{room.path}/{name}/decisions/{file}.json")
+    later = Ladder(room, controller.url, listed(0, 7, breaks), *kept)
+    later.feed.sees("news decisions/one.json - Removed: the file was removed from news-2, news-3; b1 has begun, and keeps its pod in all renditions")
+    later.feed.sees("news decisions/two.json - Removed: the file was removed from news-1, news-2, news-3; withdraws b2 in all renditions")
+    until(lambda: all("b1-0.ts" in controller.shown(f"news-{it}") for it in NAMES), 10, "the others' lists")
+    assert all([it.id for it in controller.edge.channels[f"news-{name}"].store.entries] == ["b1"] for name in NAMES)
+
+
 def test_ladder_pods_of_unequal_cuts_are_given_to_none(room):
     controller = room.server(FakeController())
     ladder = Ladder(room, controller.url, listed(0, 5, [("b1", 14, 4)]))
@@ -337,6 +360,39 @@ def test_ladder_that_came_apart_comes_together_though_a_break_is_always_listed(r
         assert [said["status"] for said in map(json.loads, it) if said["what"] == "apart"] == [1, 0]
 
 
+def test_ladder_whose_media_numbers_came_apart_has_equal_ones_once_the_lower_are_deleted(room):
+    controller, breaks = room.server(RulesController()), [("b1", 8, 4)]
+    ladder = Ladder(room, controller.url, listed(0, 3, breaks))
+    ladder.taken()
+    assert put(f"{controller.url}/channels/news-1/decisions", decided(("b1", 4), seconds="1").encode()) == 204  # (4 segments for 2, in one alone)
+    push_on(ladder, controller, [7], breaks)
+    after = ladder.feed.sees("news ladder - Apart: .*; media numbers stay so: DELETE news-2, news-3 while no break is listed")
+    push_on(ladder, controller, range(8, 15), ())
+    assert [media for media, _ in at_newest(controller)] == [16, 14, 14], at_newest(controller)
+    with controller.one_by_one:
+        del controller.edge.channels["news-2"], controller.edge.channels["news-3"]
+    push_on(ladder, controller, range(15, 18), ())
+    ladder.feed.sees("news ladder - -: the renditions' numbers are equal", 20, after)
+    assert at_newest(controller) == [(19, 2)] * 3 and sum("news-1 adsplice 201" in line for line in ladder.feed.lines) == 1, at_newest(controller)
+
+
+def test_ladder_one_that_is_made_anew_after_a_pod_of_another_cut_is_not_apart(room):
+    controller, breaks = room.server(RulesController()), [("b1", 8, 4)]
+    ladder = Ladder(room, controller.url, listed(0, 3, breaks), "--keep", f"{room.path}/kept")
+    ladder.taken()
+    ladder.decide("one", decided(("b1", 4), seconds="1"))
+    ladder.feed.sees("news decisions/one.json - -: decides b1 in all renditions")
+    push_on(ladder, controller, range(7, 18), breaks)
+    with controller.one_by_one:
+        del controller.edge.channels["news-2"]  # (whose list begins with greater numbers than the feed's from now on)
+    push_on(ladder, controller, range(18, 20), [("b2", 60, 4)])
+    ladder.push(listed(30, 30, name="t").replace("SEQUENCE:30", "SEQUENCE:0"), ("2",))  # (its packager was away, and begins again)
+    push_on(ladder, controller, range(20, 31), (), ("1", "3"))
+    until(lambda: "t30.ts" in controller.shown("news-2"), 20, "the list of news-2")
+    found = [media for media, _ in at_newest(controller)]
+    assert found == [32] * 3 and not any("media numbers stay so" in line for line in ladder.feed.lines), (found, ladder.feed.lines)
+
+
 def test_ladder_whose_way_to_one_is_cut_within_a_decision_has_equal_numbers(room):
     controller = room.server(RulesController())
     breaks = [("b1", 16, 4)]
@@ -367,6 +423,20 @@ def test_ladder_whose_packagers_clock_goes_back_is_given_its_decisions(room):
     until(lambda: all("s6.ts" in asked(controller, name, "origin")[-1] for name in NAMES), 10, "the lists")
     ladder.decide("one", decided(("b1", 2)))
     ladder.feed.sees("news decisions/one.json - -: decides b1 in all renditions")
+
+
+def test_ladder_whose_packagers_clock_goes_back_within_a_break_has_equal_numbers(room):
+    controller, breaks = room.server(RulesController()), [("b0", 12, 8), ("b1", 28, 4)]
+    ladder = Ladder(room, controller.url, by_clock(0, 4, breaks, 0, True), "--keep", f"{room.path}/kept")
+    ladder.taken()
+    ladder.decide("one", decided(("b0", 4), ("b1", 2)))
+    ladder.feed.sees("news decisions/one.json - -: decides b0, b1 in all renditions")
+    owed = [f"b0-{n - 6}.ts" if 6 <= n < 10 else f"b1-{n - 14}.ts" if 14 <= n < 16 else f"s{n}.ts" for n in range(20)]
+    for newest in range(5, 20):  # (one rendition's list comes later than the others')
+        for names in (("1", "3"), ("2",)):
+            ladder.push(by_clock(max(0, newest - 8), newest, breaks if newest < 18 else (), -180 if newest >= 8 else 0, True), names)
+            until(lambda: all(controller.shown(f"news-{it}").rstrip("\n").endswith("/" + owed[newest]) for it in names), 20, f"{owed[newest]} in {names}")
+    assert at_newest(controller) == [(19, 4)] * 3, at_newest(controller)
 
 
 def test_ladder_whose_packagers_count_from_other_numbers_has_equal_ones(room):

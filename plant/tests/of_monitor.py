@@ -10,7 +10,7 @@ import time
 import urllib.request
 from datetime import datetime, timedelta, timezone
 
-from tools import FALLBACK, PLANT, PYTHON, FakeServer, decided, free_port, get, instant, listed, until
+from tools import FALLBACK, OUT, PLANT, PYTHON, FakeServer, decided, free_port, get, instant, listed, until
 
 sys.path.insert(0, PLANT)
 from adsplice_plant.journal import Journal  # noqa: E402
@@ -105,6 +105,22 @@ def test_exporter_counts_what_the_feed_kept(room):
     until(lambda: count(409, "N5 Back") == 3, 5, "the next one")
     it.send_signal(signal.SIGTERM)
     assert it.wait(5) == 0 and it.stderr.read() == ""
+
+
+def test_a_date_range_without_a_signal_is_of_no_break_that_cannot_be_filled(room):
+    from pathlib import Path
+    server = room.server(FakeChannels())
+    server.lists, server.why = {"news": fresh(1)}, "b1\tDoesNotFit\nb2\tNoStart\nb3\tNotDecided\nn1\tNotSignalled\nn2\tNoStart\n"
+    os.makedirs(f"{room.path}/kept")
+    lines = [f'#EXT-X-DATERANGE:ID="b2",SCTE35-OUT={OUT}', f'#EXT-X-DATERANGE:ID="n1",CLASS="talk",START-DATE="{instant(4)}"', '#EXT-X-DATERANGE:ID="n2",CLASS="talk"']
+    text = listed(0, 5, [("b1", 4, 4), ("b3", 8, 4)]).replace("#EXTM3U\n", "\n".join(["#EXTM3U", *lines, ""]))
+    Journal(Path(room.path) / "kept" / "news.events", lambda: []).add("origin", 204, "", text.encode())
+    words = ("--at", f"http://127.0.0.1:{server.port}", "--channel", "news", "--once", "--interval", "0.1", "--still", "0.3")
+    found = figures(room.run("adsplice-monitor", *words, "--kept", f"{room.path}/kept")[1])
+    said = {word: found["adsplice_breaks_unfillable", f'channel="news",why="{word}"'] for word in ("DoesNotFit", "NoStart", "NotSignalled")}
+    assert said == {"DoesNotFit": 1, "NoStart": 1, "NotSignalled": 0}, said
+    assert found["adsplice_breaks", 'channel="news",why="NoStart"'] == 2 and found["adsplice_breaks", 'channel="news",why="NotSignalled"'] == 1, found
+    assert "adsplice_breaks_unfillable{" not in room.run("adsplice-monitor", *words)[1]  # (nothing is known of date ranges)
 
 
 def test_kept_events_are_followed_into_a_new_file(room):
@@ -421,22 +437,35 @@ def test_what_was_sold_is_held_against_what_was_shown(room):
         assert (found, out) == (status, "") and text in err, (words, found, err)
 
 
-def test_alerts_and_dashboard_name_figures_that_there_are(room):
+LEFT_OUT = {"adsplice_ended"}  # figures that the dashboard hasn't: a list that has ended is no fault
+
+
+def test_alerts_name_figures_that_there_are_and_the_dashboard_has_each(room):
     server = room.server(FakeChannels())
     server.lists = {"news": fresh(30)}
     os.makedirs(f"{room.path}/kept")
     out = room.run("adsplice-monitor", "--at", f"http://127.0.0.1:{server.port}", "--channel", "news", "--once", "--kept", f"{room.path}/kept",
                    "--process", f"http://127.0.0.1:{server.port}")[1]
-    there = set(re.findall(r"^# TYPE (\w+)", out, re.M)) | {f"{it}_total" for it in ("adsplice_feed_requests", "adsplice_feed_unread", "adsplice_as_run", "adsplice_breaks_begun")}
+    there = set(re.findall(r"^# TYPE (\w+)", out, re.M))
     for name in ("alerts.yml", "dashboard.json"):
         with open(f"{PLANT}/monitor/{name}", encoding="utf-8") as it:
             text = it.read()
         named = set(re.findall(r"\badsplice_\w+", text))
         assert named and named <= there, named - there
-    json.loads(text)
+    drawn = set(re.findall(r"\badsplice_\w+", " ".join(it["expr"] for panel in json.loads(text)["panels"] for it in panel["targets"])))
+    assert there - drawn == LEFT_OUT, there - drawn ^ LEFT_OUT
     for words in (["check", "rules", f"{PLANT}/monitor/alerts.yml"], ["test", "rules", f"{PLANT}/tests/alerts_test.yml"]) if shutil.which("promtool") else ():
         done = subprocess.run(["promtool", *words], capture_output=True, text=True, check=False)
         assert done.returncode == 0, done.stdout + done.stderr
+
+
+def test_a_trouble_that_lasts_is_told_once_and_when_it_is_over(room):
+    from adsplice_plant.monitor import Trouble
+    trouble, said = Trouble("as-run.jsonl"), []
+    trouble.say = said.append
+    for text in ("", "No space left on device", "No space left on device", "", "", "No space left on device"):
+        trouble.tell(text)
+    assert [line.split(" ", 1)[1] for line in said] == ["as-run.jsonl: No space left on device", "as-run.jsonl: all is well again", "as-run.jsonl: No space left on device"], said
 
 
 def test_wrong_words_are_one_line_and_a_status(room):

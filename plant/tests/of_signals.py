@@ -226,6 +226,18 @@ def test_each_style_with_a_feed_that_loses_its_state(room):
     check_styles(*((1, 0, 0, place) for place in (11, 14, 18)))
 
 
+def test_two_announced_breaks_that_touch_are_two_though_the_first_is_short(room):
+    import drawn
+    case = drawn.Case(random.Random(0))
+    case.begins, case.breaks, case.listed_count, case.has_each_time = [2000 * n for n in range(drawn.COUNT + 1)], [(14, 15), (15, 20)], 6, True
+    for turn, (begin, by) in enumerate(((14, 800), (15, -800))):  # (each states a time that is 0.8 s beside its segment: they are 0.4 s apart)
+        section = digits(splice_insert(1001 + turn, True, None))
+        case.ranges.append((f'ID="b{turn}",START-DATE="{instant((2000 * begin + by) / 1000)}",SCTE35-CMD={section}', begin, begin - 3, 20))
+    case.ranges.append((f'ID="in",START-DATE="{instant(40)}",SCTE35-CMD={digits(splice_insert(1002, False, None))}', 20, None, 20))
+    run = Run(case.lists(), 60, False)
+    assert (run.numbers(), len(run.ids())) == ([14, 15, 16, 17, 18, 19], 2), (run.numbers(), run.ids())
+
+
 def test_drawn_sequences_replace_what_they_mean(room):
     seed = random.randrange(10**6)
     print(f"plant: sequences of seed {seed} (plant/tests/drawn.py {seed} 40)", flush=True)

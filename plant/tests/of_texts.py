@@ -86,7 +86,7 @@ def test_levels_of_lines(room):
                        ("origin - -: no answer within 5 s", 4), ("origin 200 CutOff: the list is cut off", 4), ("list - Repaired: EXT-X-VERSION", 5), ("list - -: the lists go on", 6),
                        ("decisions/a b.json 422 J2 Shape break 0: a member is missing", 4), ("decisions/one.json - -: b1 is no longer listed; moves the file to done", 6), ("ask/b1 - Asked: x", 6),
                        ("decisions/one.json 204 -: decides b1", 6), ("decisions/one.json 409 J9 Used: b1 has begun", 4), ("origins - Second: the first origin fails", 4), ("origins - First: x", 6), ("decisions/one.json 204 Removed: x", 6), ("decisions/one.json - Removed: x", 6),
-                       ("feed - KeyError: 1; goes on with the next turn", 3), ("journal - -: /kept/news.events: No space left on device; goes on without it", 4), ("ladder - Apart: x", 4), ("", 6), ("x", 6)):
+                       ("feed - KeyError: 1; goes on with the next turn", 3), ("journal - Unkept: /kept/news.events: No space left on device; goes on without it", 4), ("journal - -: /kept/news.events: events are kept again", 6), ("ladder - Apart: x", 4), ("", 6), ("x", 6)):
         assert words.level_of(f"2026-11-27T04:10:00.512Z news {line}") == owed, line
 
 
