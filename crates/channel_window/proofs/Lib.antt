@@ -13,3 +13,4 @@ pub mod Sizes
 pub mod Starting
 pub mod TakenOver
 pub mod Few
+pub mod Since

@@ -12,6 +12,7 @@ use Rattle.channel_spec.specs.declared.fault.RefreshFault.TheVariants.{Changed}
 use Rattle.channel_spec.specs.Sound.{RiseFrom}
 use Rattle.channel_spec.specs.Successor.{first_number, first_changed, difference, fault_if}
 use Rattle.channel_spec.proofs.WrittenPods.{all_drop}
+use Rattle.playlist_parse.specs.Kept.{with_taken}
 use Rattle.channel_window.specs.Checked.{AreContiguous, AreTaken}
 
 abbrev has_number : ℕ → Segment → Bool
@@ -85,32 +86,19 @@ changed_in_two old (s ∷ front) back =
     ap (or_earlier (difference s (find (has_number s.media_sequence) old))) (changed_in_two old front back)
     ∙ earlier_twice (difference s (find (has_number s.media_sequence) old)) (first_changed old front) (first_changed old back)
 
-take_shorter : {A : Type 0} (n m : ℕ) (xs : List A) → n ≤ m → take n (take m xs) ≡ take n xs
-take_shorter zero m xs h = refl
-take_shorter (suc n) zero xs h = absurd (omega (arith, h))
-take_shorter (suc n) (suc m) [] h = refl
-take_shorter (suc n) (suc m) (x ∷ xs) h = ap (λ ys. x ∷ ys) (take_shorter n m xs (omega (arith, h)))
-
-in_three : {A : Type 0} (n m : ℕ) (xs : List A) → n ≤ m → xs ≡ take n xs ++ (drop n (take m xs) ++ drop m xs)
-in_three n m xs h =
-    sym (take-append-drop m xs) ∙ ap (λ ys. ys ++ drop m xs) (sym (take-append-drop n (take m xs)))
-    ∙ (append_assoc (take n (take m xs)) (drop n (take m xs)) (drop m xs) ∙ ap (λ ys. ys ++ (drop n (take m xs) ++ drop m xs)) (take_shorter n m xs h))
-
-module _ (old new : List Segment) (start end : ℕ) (contiguous : AreContiguous old) (taken : AreTaken old new start end) where
-  common_unchanged : first_changed old (drop start (take end new)) ≡ None
+module _ (old taken : List Segment) (contiguous : AreContiguous old) (a : AreTaken old taken) where
+  common_unchanged : first_changed old taken ≡ None
   common_unchanged =
-      sym (changed_of old (drop start (take end new)))
-      ∙ (ap (first_changed old) taken.same ∙ changed_of old (drop taken.from (take taken.till old)))
-      ∙ unchanged old (drop taken.from (take taken.till old))
-      (all_drop _ taken.from (take taken.till old) (all_take _ taken.till old (are_found (first_number old) [] old contiguous)))
+      sym (changed_of old taken)
+      ∙ (ap (first_changed old) a.same ∙ changed_of old (drop a.from (take a.till old)))
+      ∙ unchanged old (drop a.from (take a.till old))
+      (all_drop _ a.from (take a.till old) (all_take _ a.till old (are_found (first_number old) [] old contiguous)))
 
-  parts : first_changed old new ≡ or_earlier (first_changed old (take start new)) (first_changed old (drop end new))
-  parts =
-      ap (first_changed old) (in_three start end new taken.ordered)
-      ∙ (changed_in_two old (take start new) (drop start (take end new) ++ drop end new)
-      ∙ ap (or_earlier (first_changed old (take start new)))
-      (changed_in_two old (drop start (take end new)) (drop end new) ∙ ap (λ o. or_earlier o (first_changed old (drop end new))) common_unchanged))
-
-pub changed_apart : (old new : List Segment) (start end : ℕ) → AreContiguous old → AreTaken old new start end
-    → first_changed old new ≡ or_earlier (first_changed old (take start new)) (first_changed old (drop end new))
-changed_apart old new start end contiguous taken = parts old new start end contiguous taken
+-- the first that changed is the first of those that were read
+pub changed_apart : (old : List Segment) (front : ℕ) (read taken : List Segment) → AreContiguous old → AreTaken old taken
+    → first_changed old (with_taken front read taken) ≡ first_changed old read
+changed_apart old front read taken contiguous a =
+    changed_in_two old (take front read) (taken ++ drop front read)
+    ∙ (ap (or_earlier (first_changed old (take front read)))
+    (changed_in_two old taken (drop front read) ∙ ap (λ o. or_earlier o (first_changed old (drop front read))) (common_unchanged old taken contiguous a))
+    ∙ (sym (changed_in_two old (take front read) (drop front read)) ∙ ap (first_changed old) (take-append-drop front read)))

@@ -7,13 +7,15 @@ ghost use Rattle.stitcher.specs.StitchedSegments.{mark_in, IsDecided, AreDecided
 ghost use Rattle.channel_spec.specs.Marking.{newest_end, is_new};
 ghost use Rattle.channel_spec.specs.Live.{gone_before};
 ghost use Rattle.channel_spec.specs.Kept.{shown_from};
-ghost use Rattle.channel_window.specs.Checked.{AreContiguous};
+ghost use Rattle.playlist_parse.specs.Kept.{playlist_in};
+ghost use Rattle.channel_window.specs.Checked.{AreContiguous, AreTaken};
 ghost use Rattle.channel_window.specs.Marking.{so_far};
-ghost use Rattle.channel_window.specs.Listed.{AreRising, RiseByOne};
-ghost use Rattle.channel_window.specs.Inner.Listed.{IsFront, IsTail, is_after};
+ghost use Rattle.channel_window.specs.Listed.{AreRising, RiseByOne, segments_in};
+ghost use Rattle.channel_window.specs.Inner.Listed.{IsFront, IsTail, is_after, since};
+ghost use Rattle.channel_spec.specs.Successor.{first_number};
 
-use crate::successor::first_number;
 use playlist_model::{Items, Members, Segment, Shared};
+use playlist_parse::Read;
 use std::alloc::{AllocError, Global};
 use stitcher::{MarkedSegment, SharedMark};
 
@@ -43,7 +45,17 @@ pub fn newest_end(shown: &[MarkedSegment]) -> Option<i128>
     }
 }
 
-// Those of a playlist's segments that are numbered after this: its last ones.
+// The Media Sequence Number of the first of these; 0 if there is none.
+fn first_number(segments: &[Segment]) -> u64
+    ensures { result ≡ first_number segments.now }
+{
+    match segments.first() {
+        Some(segment) => segment.media_sequence,
+        None => 0,
+    }
+}
+
+// Those of these segments that are numbered after this: the last ones.
 fn after(number: u64, segments: &[Segment]) -> &[Segment]
     requires { AreContiguous segments.now }
     ensures value { result.now ≡ filter (is_after number) segments.now }
@@ -58,14 +70,29 @@ fn after(number: u64, segments: &[Segment]) -> &[Segment]
     segments.split_at(segments.len() - later).1
 }
 
-#[tactic(auto, using(crate::proofs::Listed::same_new, crate::proofs::Listed::all_new, crate::proofs::Listed::tail_whole))]
-/// Those `segments` of a playlist that aren't among the `shown` ones: its last ones.
-pub fn fresh_of<'a>(shown: &[MarkedSegment], segments: &'a [Segment]) -> &'a [Segment]
-    requires { AreContiguous segments.now }
-    ensures value { (store : Store) → result.now
-        ≡ filter (is_new (so_far store shown.now)) segments.now }
-    ensures last { IsTail result.now segments.now }
+// The segments that were read since others were taken over; all if none were.
+fn since_taken<'a>(read: &'a Read<'_>) -> &'a [Segment]
+    ensures { result.now ≡ since read.now }
 {
+    let segments = read.playlist.segments.as_slice();
+    if read.taken.is_empty() {
+        return segments;
+    }
+    segments.split_at(read.front.min(segments.len())).1
+}
+
+/// Those segments of the playlist that was `read` that aren't among the `shown` ones: its last ones. All of them were read,
+/// since those that were taken over are shown.
+pub fn fresh_of<'a>(shown: &[MarkedSegment], read: &'a Read<'_>) -> &'a [Segment]
+    requires contiguous { AreContiguous (playlist_in read.now).segments }
+    requires taken { AreTaken (segments_in shown.now) read.now.taken.now }
+    requires rising { AreRising shown.now }
+    requires front { read.now.front ≤ length read.now.playlist.segments }
+    ensures value { (store : Store) → result.now
+        ≡ filter (is_new (so_far store shown.now)) (playlist_in read.now).segments }
+    ensures last { IsTail result.now read.now.playlist.segments }
+{
+    let segments = since_taken(read);
     match shown.split_last() {
         Some((newest, _)) => after(newest.segment.media_sequence, segments),
         None => segments,

@@ -6,6 +6,7 @@ ghost use Rattle.pod_store.specs.Store.{is_empty};
 ghost use Rattle.break_finder.specs.Entering.{entered};
 ghost use Rattle.channel_spec.specs.Marking.{limits};
 ghost use Rattle.channel_spec.specs.Successor.{has_init_sections};
+ghost use Rattle.playlist_parse.specs.Kept.{playlist_in};
 ghost use Rattle.channel_window.specs.Marking.{next_id, mark_on, length_before, length_after};
 ghost use Rattle.channel_window.specs.Inner.Terms.{entered_after};
 ghost use Rattle.channel_window.specs.Inner.Terms.{AreTerms, IsExtended, IsRun, capped_at, stays_in};
@@ -14,7 +15,8 @@ use crate::state::Shown;
 use crate::successor::has_init_sections;
 use break_finder::{Entrances, Knowledge, Stay};
 use fixed_duration::Nanos;
-use playlist_model::{Instant, Member, Members, Playlist, Segment, Shared, Text};
+use playlist_model::{Instant, Member, Members, Segment, Shared, Text};
+use playlist_parse::Read;
 use pod_store::PodStore;
 use std::alloc::{AllocError, Global};
 use std::marker::Model;
@@ -152,21 +154,21 @@ fn marked_with(
 }
 
 impl<'a> Marker<'a> {
-    /// What decides the marks of about `segments` new segments of `playlist`: the breaks of `knowledge`, which have their
+    /// What decides the marks of about `segments` new segments of the playlist that was `read`: the breaks of `knowledge`, which have their
     /// pods in `store`. A break is entered by `tolerance`. Fails only if an allocation fails.
     pub fn new(
         alloc: Global,
         tolerance: Nanos,
-        playlist: &Playlist,
+        read: &Read<'_>,
         knowledge: &'a Knowledge,
         store: &'a PodStore,
         segments: usize,
     ) -> Result<Marker<'a>, AllocError>
         ensures { IfOk result
-            (λ marker. marker ≡ record { tolerance = tolerance; target_duration = playlist.now.target_duration; with_init_sections = has_init_sections playlist.now.segments; breaks = knowledge.now; store = store.now }) }
+            (λ marker. marker ≡ record { tolerance = tolerance; target_duration = read.now.playlist.target_duration; with_init_sections = has_init_sections (playlist_in read.now).segments; breaks = knowledge.now; store = store.now }) }
     {
-        let target_duration = playlist.target_duration;
-        let with_init_sections = has_init_sections(playlist.segments.as_slice());
+        let target_duration = read.playlist.target_duration;
+        let with_init_sections = has_init_sections(read);
         Ok(Marker {
             tolerance,
             target_duration,

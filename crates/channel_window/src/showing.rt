@@ -1,8 +1,9 @@
 //! The breaks that are known after a refresh, and the segments that are shown then.
-ghost use Rattle.std.specs.Prelude.{IfOk, ◌++◌};
+ghost use Rattle.std.specs.Prelude.{IfOk, ◌++◌, ◌≤◌, length};
 ghost use Rattle.stitcher.specs.StitchedSegments.{AreDecided};
-ghost use Rattle.channel_window.specs.Checked.{AreContiguous};
-ghost use Rattle.channel_window.specs.Listed.{RisesOn};
+ghost use Rattle.playlist_parse.specs.Kept.{playlist_in};
+ghost use Rattle.channel_window.specs.Checked.{AreContiguous, AreTaken};
+ghost use Rattle.channel_window.specs.Listed.{RisesOn, segments_in};
 ghost use Rattle.channel_window.specs.Showing.{IsLastEntered, IsShown, kept_in};
 
 use crate::listing::{fresh_of, last_members, list_with, newest_end, newest_mark};
@@ -10,7 +11,8 @@ use crate::marking::{Marker, text_in};
 use crate::state::ChannelState;
 use break_finder::Knowledge;
 use fixed_duration::Nanos;
-use playlist_model::{Playlist, Shared, Text};
+use playlist_model::{Shared, Text};
+use playlist_parse::Read;
 use std::alloc::{AllocError, Global};
 use stitcher::MarkedSegment;
 use timeline::Beginnings;
@@ -30,29 +32,31 @@ pub struct Showing {
     pub so_far: Nanos,
 }
 
-/// What the channel of `state` knows with the segments of `playlist`, and those of them that it shows for the first
-/// time, which enter breaks by `tolerance`. Fails only if an allocation fails.
+/// What the channel of `state` knows with the segments of the playlist that was `read`, and those of them that it shows
+/// for the first time, which enter breaks by `tolerance`. Fails only if an allocation fails.
 pub fn shown_with(
     alloc: Global,
     tolerance: Nanos,
     state: &ChannelState,
-    playlist: &Playlist,
+    read: &Read<'_>,
 ) -> Result<Showing, AllocError>
-    requires contiguous { AreContiguous playlist.now.segments }
+    requires contiguous { AreContiguous (playlist_in read.now).segments }
+    requires taken { AreTaken (segments_in state.now.list) read.now.taken.now }
+    requires front { read.now.front ≤ length read.now.playlist.segments }
     requires decided { AreDecided state.now.store state.now.list }
     requires entered { IsLastEntered (kept_in state.now) }
-    requires rising { RisesOn state.now.list playlist.now.segments }
+    requires rising { RisesOn state.now.list (playlist_in read.now).segments }
     ensures { IfOk result
-        (λ a. IsShown tolerance state.now playlist.now (state.now.list ++ a.come.items) a) }
+        (λ a. IsShown tolerance state.now (playlist_in read.now) (state.now.list ++ a.come.items) a) }
 {
     let shown = state.list.as_slice();
     let newest = newest_mark(alloc, shown)?;
     let known = &state.shown.knowledge;
-    let knowledge = known.carry(alloc, playlist, text_in(&newest))?;
-    let fresh = fresh_of(shown, playlist.segments.as_slice());
-    let segments = list_with(alloc, fresh, &playlist.segments)?;
+    let knowledge = known.carry(alloc, &read.playlist, text_in(&newest))?;
+    let fresh = fresh_of(shown, read);
+    let segments = list_with(alloc, fresh, &read.playlist.segments)?;
     let store = &state.store;
-    let marker = Marker::new(alloc, tolerance, playlist, &knowledge, store, fresh.len())?;
+    let marker = Marker::new(alloc, tolerance, read, &knowledge, store, fresh.len())?;
     let marks = marker.mark(
         alloc,
         &state.shown,

@@ -2,30 +2,32 @@
 ghost use Rattle.std.specs.Prelude.{◌≡◌, Bool, true, false, not, ◌&&◌, option_map, is_none};
 ghost use Rattle.channel_spec.specs.declared.fault.RefreshFault.TheVariants.{Changed};
 ghost use Rattle.channel_spec.specs.Successor.{are_different, end_number, first_changed, first_discontinuity, first_number, discontinuity_out_of_range, has_init_sections, is_same_window, kind_eq, last_discontinuity, answer_of, following_fault};
+ghost use Rattle.playlist_parse.specs.Kept.{playlist_in};
 ghost use Rattle.channel_window.specs.Checked.{AreContiguous, AreTaken};
 ghost use Rattle.channel_window.specs.Listed.{segments_in};
 ghost use Rattle.channel_window.specs.Inner.Checked.{is_as_before};
 
 use channel_spec::{Heading, RefreshFault};
-use playlist_model::{Playlist, PlaylistKind, Segment, Shared, same_segment};
-use std::ops::Range;
+use playlist_model::{PlaylistKind, Segment, Shared, same_segment};
+use playlist_parse::Read;
 use stitcher::MarkedSegment;
 
-/// The Media Sequence Number of the first of `segments` (RFC 8216, section 4.3.3.2); 0 if there is none.
-pub fn first_number(segments: &[Segment]) -> u64
-    ensures { result ≡ first_number segments.now }
+/// The Media Sequence Number of the first segment of the playlist that was `read` (RFC 8216, section 4.3.3.2); 0 if it has
+/// none.
+pub fn first_number(read: &Read<'_>) -> u64
+    ensures { result ≡ first_number (playlist_in read.now).segments }
 {
-    match segments.first() {
+    match read.first() {
         Some(segment) => segment.media_sequence,
         None => 0,
     }
 }
 
 // The number one past the last.
-fn end_number(segments: &[Segment]) -> u128
-    ensures { result ≡ end_number segments.now }
+fn end_number(read: &Read<'_>) -> u128
+    ensures { result ≡ end_number (playlist_in read.now).segments }
 {
-    u128::from(first_number(segments)) + segments.len() as u128
+    u128::from(first_number(read)) + read.count()
 }
 
 /// The Media Sequence Number of the first of the `shown` segments (RFC 8216, section 4.3.3.2); 0 if there is none.
@@ -46,10 +48,10 @@ fn end_shown(shown: &[MarkedSegment]) -> u128
     u128::from(first_shown(shown)) + shown.len() as u128
 }
 
-fn first_discontinuity(segments: &[Segment]) -> u64
-    ensures { result ≡ first_discontinuity segments.now }
+fn first_discontinuity(read: &Read<'_>) -> u64
+    ensures { result ≡ first_discontinuity (playlist_in read.now).segments }
 {
-    match segments.first() {
+    match read.first() {
         Some(segment) => segment.discontinuity_sequence,
         None => 0,
     }
@@ -65,11 +67,12 @@ fn last_discontinuity(shown: &[MarkedSegment]) -> u64
     }
 }
 
-/// Whether `segments` have initialisation sections (RFC 8216, section 4.3.2.5): whether the first one has.
-pub fn has_init_sections(segments: &[Segment]) -> bool
-    ensures { result ≡ has_init_sections segments.now }
+/// Whether the segments of the playlist that was `read` have initialisation sections (RFC 8216, section 4.3.2.5): whether
+/// the first one has.
+pub fn has_init_sections(read: &Read<'_>) -> bool
+    ensures { result ≡ has_init_sections (playlist_in read.now).segments }
 {
-    match segments.first() {
+    match read.first() {
         Some(segment) => segment.init_section.is_some(),
         None => false,
     }
@@ -127,39 +130,38 @@ fn first_changed_of(shown: &[MarkedSegment], new: &[Segment]) -> Option<u64>
 }
 
 #[tactic(auto, using(crate::proofs::TakenOver::changed_apart))]
-// The number of the first segment that isn't as it is shown, if those at the places `taken` are.
-fn first_changed(shown: &[MarkedSegment], new: &[Segment], taken: &Range<usize>) -> Option<u64>
+// The number of the first segment that isn't as it is shown. Those that were taken over are.
+fn first_changed(shown: &[MarkedSegment], read: &Read<'_>) -> Option<u64>
     requires contiguous { AreContiguous (segments_in shown.now) }
-    requires taken { AreTaken (segments_in shown.now) new.now taken.now.start taken.now.end }
-    ensures { option_map Changed result ≡ first_changed (segments_in shown.now) new.now }
+    requires taken { AreTaken (segments_in shown.now) read.now.taken.now }
+    ensures { option_map Changed result
+        ≡ first_changed (segments_in shown.now) (playlist_in read.now).segments }
 {
-    match first_changed_of(shown, &new[..taken.start]) {
-        Some(number) => Some(number),
-        None => first_changed_of(shown, &new[taken.end..]),
-    }
+    first_changed_of(shown, read.playlist.segments.as_slice())
 }
 
 // Whether the one starts directly after the other, with a discontinuity number that doesn't follow: it is less, or
 // more than 1,000 higher (RFC 8216, section 6.2.1).
-fn discontinuity_out_of_range(shown: &[MarkedSegment], new: &[Segment]) -> bool
-    ensures { result ≡ discontinuity_out_of_range (segments_in shown.now) new.now }
+fn discontinuity_out_of_range(shown: &[MarkedSegment], read: &Read<'_>) -> bool
+    ensures { result
+        ≡ discontinuity_out_of_range (segments_in shown.now) (playlist_in read.now).segments }
 {
-    if u128::from(first_number(new)) != end_shown(shown) {
+    if u128::from(first_number(read)) != end_shown(shown) {
         return false;
     }
-    let (last, next) = (last_discontinuity(shown), first_discontinuity(new));
+    let (last, next) = (last_discontinuity(shown), first_discontinuity(read));
     next < last || u128::from(last) + 1000 < u128::from(next)
 }
 
-fn is_same_window(shown: &[MarkedSegment], new: &[Segment]) -> bool
-    ensures { result ≡ is_same_window (segments_in shown.now) new.now }
+fn is_same_window(shown: &[MarkedSegment], read: &Read<'_>) -> bool
+    ensures { result ≡ is_same_window (segments_in shown.now) (playlist_in read.now).segments }
 {
-    first_number(new) == first_shown(shown) && end_number(new) == end_shown(shown)
+    first_number(read) == first_shown(shown) && end_number(read) == end_shown(shown)
 }
 
-/// Whether the playlist `new` may follow one of the heading `old` of which the segments `shown` are shown (RFC 8216,
-/// sections 6.2.1, 6.2.2 and 4.3.3.4): the first of the faults N1 to N9 if it may not. `taken` are the places of
-/// segments of `new` that are as they are shown, one after the other: they are not looked at. Takes no memory.
+/// Whether the playlist that was `read` may follow one of the heading `old` of which the segments `shown` are shown (RFC
+/// 8216, sections 6.2.1, 6.2.2 and 4.3.3.4): the first of the faults N1 to N9 if it may not. Those of its segments that
+/// were taken over are as they are shown, and are not looked at. Takes no memory.
 ///
 /// ```text
 /// shown: s3 s4 s5, new: s4 s5 s6    Ok(())
@@ -169,14 +171,14 @@ fn is_same_window(shown: &[MarkedSegment], new: &[Segment]) -> bool
 pub fn check_successor(
     old: &Heading,
     shown: &[MarkedSegment],
-    new: &Playlist,
-    taken: &Range<usize>,
+    read: &Read<'_>,
 ) -> Result<(), RefreshFault>
     requires contiguous { AreContiguous (segments_in shown.now) }
-    requires taken { AreTaken (segments_in shown.now) new.now.segments taken.now.start taken.now.end }
-    ensures { result ≡ answer_of (following_fault old.now (segments_in shown.now) new.now) }
+    requires taken { AreTaken (segments_in shown.now) read.now.taken.now }
+    ensures { result
+        ≡ answer_of (following_fault old.now (segments_in shown.now) (playlist_in read.now)) }
 {
-    let after = new.segments.as_slice();
+    let new = &read.playlist;
     if new.version != old.version {
         return Err(RefreshFault::VersionChanged);
     }
@@ -186,25 +188,25 @@ pub fn check_successor(
     if !is_same_kind(new.playlist_type, old.playlist_type) {
         return Err(RefreshFault::TypeChanged);
     }
-    if has_init_sections(after) != have_init_sections(shown) {
+    if has_init_sections(read) != have_init_sections(shown) {
         return Err(RefreshFault::MapsChanged);
     }
-    if first_number(after) < first_shown(shown) {
+    if first_number(read) < first_shown(shown) {
         return Err(RefreshFault::Back);
     }
-    if u128::from(first_number(after)) > end_shown(shown) {
+    if u128::from(first_number(read)) > end_shown(shown) {
         return Err(RefreshFault::Gap);
     }
-    if end_number(after) < end_shown(shown) {
+    if end_number(read) < end_shown(shown) {
         return Err(RefreshFault::Shrunk);
     }
-    if let Some(number) = first_changed(shown, after, taken) {
+    if let Some(number) = first_changed(shown, read) {
         return Err(RefreshFault::Changed(number));
     }
-    if discontinuity_out_of_range(shown, after) {
-        return Err(RefreshFault::Changed(first_number(after)));
+    if discontinuity_out_of_range(shown, read) {
+        return Err(RefreshFault::Changed(first_number(read)));
     }
-    if old.end_list && !(new.end_list && is_same_window(shown, after)) {
+    if old.end_list && !(new.end_list && is_same_window(shown, read)) {
         return Err(RefreshFault::Ended);
     }
     Ok(())

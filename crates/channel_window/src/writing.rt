@@ -11,6 +11,7 @@ ghost use Rattle.channel_spec.specs.Inner.Kept.{ends_of};
 ghost use Rattle.channel_spec.specs.LastWindow.{last_pieces};
 ghost use Rattle.channel_spec.specs.Live.{date_range_text, date_ranges_left, place_of, rest_over};
 ghost use Rattle.channel_spec.specs.Successor.{first_number};
+ghost use Rattle.playlist_parse.specs.Kept.{playlist_in};
 ghost use Rattle.channel_window.specs.Marking.{place_on, so_far};
 ghost use Rattle.channel_window.specs.Listed.{AreRising, IsRestDecided, RefusesList, head_of, states_time};
 ghost use Rattle.channel_window.specs.Inner.Listed.{first_alone, first_numbers_of, pod_keeps, texts_left, AreAmong};
@@ -25,7 +26,8 @@ use crate::state::Before;
 use crate::successor::{first_number, first_shown};
 use channel_spec::{Heading, RefreshFault};
 use fixed_duration::Nanos;
-use playlist_model::{DateRange, Playlist, Segment, Shared, Text};
+use playlist_model::{DateRange, Segment, Shared, Text};
+use playlist_parse::Read;
 use pod_store::{IdSet, PodStore};
 use std::alloc::{AllocError, Global};
 use std::hash::RandomState;
@@ -161,11 +163,11 @@ fn later_start(
     Ok(Start { place, rest })
 }
 
-// The start of the window of `playlist` in the stitched list of `list`, after the rest (RFC 8216, section 6.2.2). The last
+// The start of the window of the playlist that was `read` in the stitched list of `list`, after the rest (RFC 8216, section 6.2.2). The last
 // window had `stood` items.
 fn start_of(
     before: &Before<'_>,
-    playlist: &Playlist,
+    read: &Read<'_>,
     list: &[MarkedSegment],
     stood: usize,
 ) -> Result<Start, AllocError>
@@ -175,7 +177,7 @@ fn start_of(
     requires rest { IsRestDecided (kept_before before.now).store (kept_before before.now).shown.rest }
     requires stood { stood ≡ length (last_pieces (kept_before before.now).last (kept_in (kept_before before.now))) }
     ensures place { IfOk result
-        (λ s. s.place ≡ start_on (kept_before before.now).last (first_number playlist.now.segments)
+        (λ s. s.place ≡ start_on (kept_before before.now).last (first_number (playlist_in read.now).segments)
         (kept_in (kept_before before.now)) (so_far (kept_before before.now).store list.now)) }
     ensures within { IfOk result
         (λ s. (most : ℕ) → IsWithin (kept_before before.now).store (kept_before before.now).shown.rest list.now most
@@ -184,11 +186,11 @@ fn start_of(
     ensures rest { IfOk result
         (λ s. rest_in (kept_before before.now).store s.rest
         ≡ rest_on (kept_before before.now).last (first_number (listed (kept_in (kept_before before.now)).shown))
-        (first_number playlist.now.segments) s.place
+        (first_number (playlist_in read.now).segments) s.place
         (so_far (kept_before before.now).store list.now) (rest_in (kept_before before.now).store (kept_before before.now).shown.rest)) }
 {
     let (store, shown) = (&before.state.store, &before.state.shown);
-    let number = first_number(playlist.segments.as_slice());
+    let number = first_number(read);
     let Some(_) = &before.state.last else {
         let place = item_place(store, &shown.rest, number, list);
         return Ok(Start { place, rest: None });
@@ -211,7 +213,7 @@ pub struct PlacedList<'a> {
     pub rest: Option<Rest>,
 }
 
-/// The stitched list of the segments `list`, which a channel that kept `before` shows with `playlist`, and the place in
+/// The stitched list of the segments `list`, which a channel that kept `before` shows with the playlist that was `read`, and the place in
 /// it where the window starts (RFC 8216, section 6.2.2). The newest run of a break has lasted for `lasted`. The last
 /// window had `stood` items.
 /// `NumberRange` if a number would pass 2^64 - 1 (RFC 8216, sections 4.3.3.2 and 4.3.3.3); `OutOfMemory` only if an
@@ -219,7 +221,7 @@ pub struct PlacedList<'a> {
 pub fn placed_of<'a>(
     alloc: Global,
     before: &Before<'_>,
-    playlist: &Playlist,
+    read: &Read<'_>,
     list: &'a [MarkedSegment],
     lasted: Nanos,
     stood: usize,
@@ -230,30 +232,30 @@ pub fn placed_of<'a>(
     requires stood { stood ≡ length (last_pieces (kept_before before.now).last (kept_in (kept_before before.now))) }
     ensures whole { IfOk result
         (λ w. w.whole ≡ map written_item
-        (reverse (items_on (kept_in (kept_before before.now)) playlist.now
+        (reverse (items_on (kept_in (kept_before before.now)) (playlist_in read.now)
         (so_far (kept_before before.now).store list.now) lasted))) }
     ensures window { IfOk result
         (λ w. drop w.start w.whole
-        ≡ map written_item (window_on (kept_in (kept_before before.now)) playlist.now
+        ≡ map written_item (window_on (kept_in (kept_before before.now)) (playlist_in read.now)
         (so_far (kept_before before.now).store list.now) lasted)) }
     ensures left { IfOk result (λ w. IsRestDecided (kept_before before.now).store w.rest) }
     ensures rest { IfOk result
         (λ w. rest_in (kept_before before.now).store w.rest
-        ≡ rest_after (kept_in (kept_before before.now)) playlist.now (so_far (kept_before before.now).store list.now)) }
+        ≡ rest_after (kept_in (kept_before before.now)) (playlist_in read.now) (so_far (kept_before before.now).store list.now)) }
     ensures fit { IfOk result
-        (λ w. list_all fits (items_on (kept_in (kept_before before.now)) playlist.now
+        (λ w. list_all fits (items_on (kept_in (kept_before before.now)) (playlist_in read.now)
         (so_far (kept_before before.now).store list.now) lasted) ≡ true) }
     ensures err { IfErr result
         (λ e. RefusesList e (list_all fits
-        (items_on (kept_in (kept_before before.now)) playlist.now (so_far (kept_before before.now).store list.now) lasted)
+        (items_on (kept_in (kept_before before.now)) (playlist_in read.now) (so_far (kept_before before.now).store list.now) lasted)
         ≡ false)) }
 {
     let (store, shown) = (&before.state.store, &before.state.shown);
-    let ends = ends_of(&shown.rest, playlist.end_list, lasted)?;
+    let ends = ends_of(&shown.rest, read.playlist.end_list, lasted)?;
     let first = numbers_on(&before.state.last, shown.numbers, list, store, &ends)?;
     let cut = before.list.len();
     let whole = stitched(alloc, list, cut, store, first, &ends)?;
-    let start = start_of(before, playlist, list, stood)?;
+    let start = start_of(before, read, list, stood)?;
     Ok(PlacedList {
         whole,
         start: start.place,

@@ -10,3 +10,4 @@ pub mod LastEntered
 pub mod Rises
 pub mod LastText
 pub mod Listing
+pub mod Taking

@@ -1,5 +1,5 @@
 -- The segments that are held, and those of the playlist that was read last.
-use Rattle.std.proofs.Common.{◌≡◌, ℕ, ◌+◌, zero, suc, List, [], ◌∷◌, map, take, drop, refl, ap, sym, ◌∙◌, subst, arith}
+use Rattle.std.proofs.Common.{◌≡◌, ℕ, ◌+◌, zero, suc, List, [], ◌∷◌, map, take, drop, refl, ap, sym, ◌∙◌, subst}
 use Rattle.std.specs.Prelude.{Option, Some, None, Ok, option_map}
 use Rattle.std.specs.List.{AllByRecursion}
 use Rattle.url.specs.Parts.{Parts}
@@ -7,8 +7,6 @@ use Rattle.playlist_model.specs.declared.Playlist.{Playlist}
 use Rattle.playlist_model.specs.declared.Segment.{Segment}
 use Rattle.playlist_model.specs.Same.{kept_parts}
 use Rattle.playlist_model.specs.Reading.{reading, limited}
-use Rattle.pod_store.specs.Store.{Store}
-use Rattle.stitcher.specs.declared.marked.MarkedSegment.{MarkedSegment as Held}
 use Rattle.channel_spec.specs.Live.{Told, last_playlist, after_refresh, owed_for}
 use Rattle.channel_spec.specs.Sound.{RiseFrom}
 use Rattle.channel_spec.specs.Successor.{first_number}
@@ -17,12 +15,12 @@ use Rattle.channel_spec.proofs.Listed.{shown_are_listed}
 use Rattle.channel_spec.proofs.SameFault.{same_first}
 use Rattle.channel_window.specs.declared.state.ChannelState.{ChannelState}
 use Rattle.channel_window.specs.Checked.{AreContiguous, AreTaken}
-use Rattle.channel_window.specs.Marking.{so_far}
 use Rattle.channel_window.specs.Showing.{kept_in}
 use Rattle.channel_window.specs.Listed.{segments_in}
 use Rattle.channel_window.proofs.Found.{held_listed}
-use Rattle.playlist_parse.specs.Kept.{last_segments}
-use Rattle.playlist_parse.specs.Kept.{AreTaken as AreReadAgain}
+use Rattle.playlist_parse.specs.Kept.{IsTakenFrom, kept_segments}
+use Rattle.playlist_parse.specs.declared.read_playlist.Read.{Read}
+use Rattle.playlist_parse.specs.declared.source.Source.{Source}
 use Rattle.live_channel.specs.Channel.{Given, refreshed, events_of, told_by, IsAsTyped, IsListed}
 use Rattle.live_channel.proofs.Steps.{all_given}
 use Rattle.live_channel.proofs.LastText.{told_next}
@@ -52,44 +50,23 @@ drop_none : (n : ℕ) → ◌≡◌ {A = List Segment} (drop n []) []
 drop_none zero = refl
 drop_none (suc n) = refl
 
-pub taken_over : (last : Option Playlist) (state : ChannelState) (new : List Segment) (start end : ℕ) → IsListed last state.list → AreReadAgain (last_segments last) new start end
-    → AreTaken (segments_in state.list) new start end
-taken_over None state new start end h t = record {
-  from = 0;
-  till = 0;
-  ordered = t.ordered;
-  within = t.within;
-  same = ap (map kept_parts) (t.same ∙ (ap (drop t.from) (take_none t.till) ∙ drop_none t.from));
-}
-taken_over (Some p) state new start end h t =
+pub taken_over : (source : Option Source) (state : ChannelState) (read : Read) → IsListed source state.list → IsTakenFrom (kept_segments source) read → AreTaken (segments_in state.list) read.taken.now
+taken_over None state read h t = record { from = 0; till = 0; same = ap (map kept_parts) (t ∙ (ap (drop read.from) (take_none read.till) ∙ drop_none read.from)) }
+taken_over (Some source) state read h t =
     let held = segments_in state.list in
     record {
-      from = t.from;
-      till = t.till;
-      ordered = t.ordered;
-      within = t.within;
-      same = ap (map kept_parts) t.same ∙ (between t.from t.till p.segments ∙ (ap (λ xs. drop t.from (take t.till xs)) (sym h) ∙ sym (between t.from t.till held)));
+      from = read.from;
+      till = read.till;
+      same = ap (map kept_parts) t ∙ (between read.from read.till source.segments.items ∙ (ap (λ xs. drop read.from (take read.till xs)) (sym h) ∙ sym (between read.from read.till held)));
     }
 
-pub nothing_taken : (old new : List Segment) (start end : ℕ) → start ≡ 0 → end ≡ 0 → AreTaken old new start end
-nothing_taken old new start end e f = record {
-  from = 0;
-  till = 0;
-  ordered = omega (arith, e, f);
-  within = omega (arith, f);
-  same = ap (λ n. map kept_parts (drop start (take n new))) f ∙ ap (map kept_parts) (drop_none start);
-}
-
-pub as_listed : (store : Store) (held : List Held) (new : List Segment) (start end : ℕ) → AreTaken (segments_in held) new start end → AreTaken (listed (so_far store held)) new start end
-as_listed store held new start end t = subst (λ xs. AreTaken xs new start end) (sym (held_listed store held)) t
-
-pub as_held : (store : Store) (held : List Held) (new : List Segment) (start end : ℕ) → AreTaken (listed (so_far store held)) new start end → AreTaken (segments_in held) new start end
-as_held store held new start end t = subst (λ xs. AreTaken xs new start end) (held_listed store held) t
+pub nothing_taken : (old taken : List Segment) → taken ≡ [] → AreTaken old taken
+nothing_taken old taken none = record { from = 0; till = 0; same = ap (map kept_parts) none }
 
 -- ---- after an accepted refresh they are those of its playlist
 
 pub listed_next : (base : Parts) (tolerance : ℕ) (given : List Given) (bytes : List ℕ) (p : Playlist) (state : ChannelState) → AllByRecursion (IsAsTyped base) (refreshed bytes ∷ given) → reading limited base bytes ≡ Ok p
-    → kept_refusal tolerance (kept_of (told_by base tolerance given)) p ≡ None → kept_in state ≡ kept_of (told_by base tolerance (refreshed bytes ∷ given)) → IsListed (Some p) state.list
+    → kept_refusal tolerance (kept_of (told_by base tolerance given)) p ≡ None → kept_in state ≡ kept_of (told_by base tolerance (refreshed bytes ∷ given)) → map kept_parts (segments_in state.list) ≡ map kept_parts p.segments
 listed_next base tolerance given bytes p state typed read unrefused stands =
     let t = told_by base tolerance (refreshed bytes ∷ given) in
     let next : t ≡ after_refresh tolerance (told_by base tolerance given) p = told_next base tolerance given bytes p typed read unrefused in

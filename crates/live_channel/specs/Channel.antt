@@ -3,6 +3,7 @@ use Rattle.std.specs.Prelude.{◌≡◌, ◌≢◌, ℕ, Bool, true, false, List
 use Rattle.std.specs.List.{AllByRecursion, list_all}
 use Rattle.url.specs.Parts.{Parts}
 use Rattle.playlist_model.specs.declared.Playlist.{Playlist}
+use Rattle.playlist_parse.specs.declared.source.Source.{Source}
 use Rattle.playlist_model.specs.declared.PlaylistFault.{PlaylistFault}
 use Rattle.pod_store.specs.Marks.{Marked}
 use Rattle.playlist_model.specs.Reading.{reading, limited, Denotes}
@@ -272,9 +273,9 @@ abbrev pub Stands : Channel → Type 0
 Stands c = (given : List Given) × Represents c given
 
 -- the segments that are held are those of the playlist that was read last, number for number, in all but title, time and steps
-abbrev pub IsListed : Option Playlist → List Held → Type 0
+abbrev pub IsListed : Option Source → List Held → Type 0
 IsListed None held = Unit {0}
-IsListed (Some p) held = map kept_parts (segments_in held) ≡ map kept_parts p.segments
+IsListed (Some source) held = map kept_parts (segments_in held) ≡ map kept_parts source.segments.items
 
 -- the text of what was written last
 abbrev pub text_in : Option WrittenText → Option (List ℕ)

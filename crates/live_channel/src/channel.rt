@@ -3,11 +3,7 @@ ghost use Rattle.std.specs.Prelude.{◌≡◌, ◌<◌, ◌≤◌, ℕ, List, []
 ghost use Rattle.std.specs.Option.{option_copied};
 ghost use Rattle.playlist_model.specs.Uri.{base_of};
 ghost use Rattle.live_channel.specs.Channel.{decided, withdrawn, ChangesStore, ChangesStoreExactly, after_bytes, StandsOn, AlwaysStandsOn, Represents, Decides, Withdraws, Writes, Refreshes, Knows, Explains, explained};
-ghost use Rattle.live_channel.specs.Inner.Accepting.{IsRead, WasRead};
-ghost use Rattle.playlist_parse.specs.Kept.{IsSource};
-ghost use Rattle.channel_window.specs.Checked.{AreTaken};
 ghost use Rattle.channel_window.specs.Listed.{segments_in};
-ghost use Rattle.channel_spec.specs.Kept.{listed};
 ghost use Rattle.pod_store.specs.Store.{withdrawn as without_break};
 ghost use Rattle.pod_store.specs.Store.{is_used};
 ghost use Rattle.break_finder.specs.Entering.{id_of, why};
@@ -21,8 +17,8 @@ use channel_spec::{MAX_TOLERANCE, RefreshFault};
 use channel_window::{ChannelState, Row, Shown, have_init_sections};
 use decision_files::read_decisions;
 use fixed_duration::Nanos;
-use playlist_model::{Playlist, Shared, Text};
-use playlist_parse::{Read, Source};
+use playlist_model::{Shared, Text};
+use playlist_parse::Source;
 use playlist_write::resumed::WrittenText;
 use pod_store::{DecisionFault, PodStore};
 use std::alloc::{AllocError, Global};
@@ -52,8 +48,7 @@ pub struct Channel {
     state: ChannelState,
     // What was written last.
     written: Option<WrittenText>,
-    // The playlist that was read last, and what the next refresh may take over of its text: for reading alone.
-    last: Option<Playlist>,
+    // What is kept of the playlist that was read last, so that the next one is read by what they have in common.
     source: Option<Source>,
 }
 
@@ -71,7 +66,7 @@ impl Model for Channel {
     ghost use Rattle.channel_window.specs.Showing.{kept_in};
     ghost use Rattle.live_channel.specs.LastText.{IsLaidOut};
 
-    ghost invariant = { λ a. Stands (channel_with a.base a.tolerance a.state (text_in a.written)) × AreKept a.state.store a.state × (IsListed a.last a.state.list × AreContiguous (segments_in a.state.list)) × IsLaidOut (kept_in a.state) a.written × IsKept a.base a.last a.source };
+    ghost invariant = { λ a. Stands (channel_with a.base a.tolerance a.state (text_in a.written)) × AreKept a.state.store a.state × (IsListed a.source a.state.list × AreContiguous (segments_in a.state.list)) × IsLaidOut (kept_in a.state) a.written × IsKept a.base a.source };
 }
 
 /// Why a channel can't be made.
@@ -165,25 +160,8 @@ impl Channel {
                 shown,
             },
             written: None,
-            last: None,
             source: None,
         })
-    }
-
-    // Takes a playlist that was read: of whichever bytes, this is their refresh.
-    fn take(&mut self, alloc: Global, read: Read) -> Result<Refreshed, RefreshFault>
-        requires read { WasRead self.old.base read.playlist }
-        requires source { IsSource self.old.base read.playlist read.source }
-        requires taken { AreTaken
-            (listed self.old.kept.shown) read.playlist.segments read.taken.start read.taken.end }
-        ensures { (bytes : List ℕ) → IsRead self.old.base bytes read.playlist
-            → Refreshes self.old bytes result self.new }
-    {
-        let (state, written) = (&mut self.state, &mut self.written);
-        let refreshed = accept(alloc, self.tolerance, state, written, &read)?;
-        self.last = Some(read.playlist);
-        self.source = read.source;
-        Ok(refreshed)
     }
 
     /// Takes `bytes`, the origin's playlist as it is now. Either it is accepted, and the text that is written is the
@@ -201,9 +179,12 @@ impl Channel {
     pub fn refresh(&mut self, alloc: Global, bytes: &[u8]) -> Result<Refreshed, RefreshFault>
         ensures { Refreshes self.old bytes.now result self.new }
     {
-        let (last, source) = (&self.last, &self.source);
-        let read = playlist_after(alloc, bytes, &self.base, last, source)?;
-        self.take(alloc, read)
+        let read = playlist_after(alloc, bytes, &self.base, &self.source)?;
+        let (state, written) = (&mut self.state, &mut self.written);
+        let refreshed = accept(alloc, self.tolerance, state, written, &read)?;
+        let step = read.step();
+        self.source = step.after(alloc, self.source.take());
+        Ok(refreshed)
     }
 
     /// Takes `bytes` as `refresh` does, with its answers and its faults, and gives their memory back once they are
@@ -218,7 +199,10 @@ impl Channel {
     {
         let read = playlist_of(alloc, bytes.as_slice(), &self.base)?;
         drop(bytes);
-        self.take(alloc, read)
+        let (state, written) = (&mut self.state, &mut self.written);
+        let refreshed = accept(alloc, self.tolerance, state, written, &read)?;
+        self.source = None;
+        Ok(refreshed)
     }
 
     /// Takes `bytes`, a decision file. The faults, in this order: those of reading it (J1 to J7), then those of

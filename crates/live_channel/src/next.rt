@@ -2,6 +2,7 @@
 ghost use Rattle.std.specs.Prelude.{◌≡◌, IfOk, IfErr, false, drop, map};
 ghost use Rattle.std.specs.List.{list_all, list_any};
 ghost use Rattle.stitcher.specs.Stitched.{fits};
+ghost use Rattle.playlist_parse.specs.Kept.{playlist_in};
 ghost use Rattle.playlist_write.specs.Owed.{playlist_text};
 ghost use Rattle.stitcher.specs.StitchedSegments.{AreDecided};
 ghost use Rattle.playlist_model.specs.LookBack.{or_earlier};
@@ -24,6 +25,7 @@ use channel_window::{
     placed_of,
 };
 use playlist_model::{Items, Playlist, Shared, Text};
+use playlist_parse::Read;
 use playlist_write::OutPlaylist;
 use playlist_write::resumed::{WrittenText, front_length, laid_after, laid_out};
 use std::alloc::{AllocError, Global};
@@ -168,19 +170,19 @@ fn text_without(
     text_with(alloc, playlist, date_ranges, items, again)
 }
 
-/// What a channel that kept `before` comes to by the refresh `playlist`, if it shows the segments `list` then, of which
+/// What a channel that kept `before` comes to by the playlist that was `read`, if it shows the segments `list` then, of which
 /// those of `showing` came last. `written` is the text that it wrote last, of which lines are copied. `NumberRange` if a
 /// number would pass 2^64 - 1 (RFC 8216, sections 4.3.3.2 and 4.3.3.3); `OutOfMemory` only if an allocation fails.
 pub fn next_of(
     alloc: Global,
     before: &Before<'_>,
     written: &Option<WrittenText>,
-    playlist: &Playlist,
+    read: &Read<'_>,
     list: &[MarkedSegment],
     showing: Showing,
 ) -> Result<NextState, RefreshFault>
     requires stood { StoodIn (kept_in (kept_before before.now))
-        (items_on (kept_in (kept_before before.now)) playlist.now
+        (items_on (kept_in (kept_before before.now)) (playlist_in read.now)
         (so_far (kept_before before.now).store list.now) showing.so_far) written.now }
     requires decided { AreDecided (kept_before before.now).store list.now }
     requires rising { AreRising list.now }
@@ -188,19 +190,19 @@ pub fn next_of(
         ≡ or_earlier (last_entered (so_far (kept_before before.now).store list.now)) (kept_before before.now).shown.entered }
     requires rest { IsRestDecided (kept_before before.now).store (kept_before before.now).shown.rest }
     ensures ok { IfOk result
-        (λ next. IsNext (kept_in (kept_before before.now)) playlist.now showing.knowledge list.now
+        (λ next. IsNext (kept_in (kept_before before.now)) (playlist_in read.now) showing.knowledge list.now
         (so_far (kept_before before.now).store list.now) showing.so_far showing.fresh next) }
     ensures err { IfErr result
         (λ e. RefusesList e (list_all fits
-        (items_on (kept_in (kept_before before.now)) playlist.now
+        (items_on (kept_in (kept_before before.now)) (playlist_in read.now)
         (so_far (kept_before before.now).store list.now) showing.so_far) ≡ false)) }
 {
-    let number = first_number(playlist.segments.as_slice());
+    let number = first_number(read);
     let stood = count_in(written);
     let PlacedList { whole, start, rest } = placed_of(
         alloc,
         before,
-        playlist,
+        read,
         list,
         showing.so_far,
         stood,
@@ -216,7 +218,14 @@ pub fn next_of(
         fresh: showing.fresh,
     };
     let hashing = before.state.store.hashing();
-    let written = text_without(alloc, hashing, playlist, in_use.as_slice(), items, &again)?;
+    let written = text_without(
+        alloc,
+        hashing,
+        &read.playlist,
+        in_use.as_slice(),
+        items,
+        &again,
+    )?;
     let shown = Shown {
         knowledge: showing.knowledge,
         entered: showing.entered,

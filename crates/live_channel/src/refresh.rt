@@ -1,13 +1,12 @@
 //! A refresh in its phases: the playlist is read, it may follow the last one, it is shown, its text is written, and what the
 //! channel comes to is kept.
-ghost use Rattle.std.specs.Prelude.{◌≡◌, ◌≤◌, ℕ, Some, IfOk, IfErr, OnOk, OnErr, false, length};
+ghost use Rattle.std.specs.Prelude.{◌≡◌, ◌≤◌, ℕ, [], Some, IfOk, IfErr, OnOk, OnErr, false, length};
 ghost use Rattle.std.specs.List.{list_all};
 ghost use Rattle.stitcher.specs.Stitched.{fits};
 ghost use Rattle.channel_spec.specs.Kept.{kept_items, kept_refusal, kept_succession};
 ghost use Rattle.channel_spec.specs.Successor.{answer_of};
 ghost use Rattle.channel_window.specs.Checked.{AreContiguous, AreTaken};
-ghost use Rattle.playlist_parse.specs.Kept.{IsKept, IsSource, last_segments};
-ghost use Rattle.playlist_parse.specs.Kept.{AreTaken as AreReadAgain};
+ghost use Rattle.playlist_parse.specs.Kept.{AreKeptLines, IsKept, IsTakenFrom, kept_segments, playlist_in};
 ghost use Rattle.channel_window.specs.Showing.{AreKept, IsLastEntered, kept_in};
 ghost use Rattle.live_channel.specs.Inner.Accepting.{Accepts, Follows, HasGrown, IsAccepted, IsJudged, IsRead, Refused, RefusesNext, state_with};
 ghost use Rattle.channel_window.specs.Listed.{RefusesList, RisesOn, segments_in};
@@ -16,26 +15,24 @@ ghost use Rattle.channel_window.specs.declared.state.ChannelState.{ChannelState 
 
 use crate::channel::Refreshed;
 use crate::next::{NextState, next_of};
-use crate::type_facts::utf8_of_uris;
+use crate::type_facts::{utf8_of_members, utf8_of_uris};
 use channel_spec::{Heading, RefreshFault, heading_of};
 use channel_window::{ChannelState, check_successor, shown_with};
 use fixed_duration::Nanos;
-use playlist_model::Playlist;
 use playlist_parse::{Read, Source, read, read_after};
 use playlist_write::resumed::WrittenText;
 use std::alloc::Global;
 use uri_resolver::Base;
 
 // Whether the playlist that was read may follow what is shown.
-fn may_follow(state: &ChannelState, read: &Read) -> Result<(), RefreshFault>
+fn may_follow(state: &ChannelState, read: &Read<'_>) -> Result<(), RefreshFault>
     requires contiguous { AreContiguous (segments_in state.now.list) }
-    requires taken { AreTaken
-        (segments_in state.now.list) read.now.playlist.segments read.now.taken.start read.now.taken.end }
-    ensures { result ≡ answer_of (kept_succession (kept_in state.now) read.now.playlist) }
+    requires taken { AreTaken (segments_in state.now.list) read.now.taken.now }
+    ensures { result ≡ answer_of (kept_succession (kept_in state.now) (playlist_in read.now)) }
 {
     let shown = state.list.as_slice();
     match &state.last {
-        Some(last) => check_successor(last, shown, &read.playlist, &read.taken),
+        Some(last) => check_successor(last, shown, read),
         None => Ok(()),
     }
 }
@@ -47,26 +44,28 @@ fn next_kept(
     tolerance: Nanos,
     state: &mut ChannelState,
     written: &Option<WrittenText>,
-    playlist: &Playlist,
+    read: &Read<'_>,
 ) -> Result<NextState, RefreshFault>
     requires stood { StoodIn (kept_in state.old)
-        (kept_items tolerance (kept_in state.old) playlist.now) written.now }
-    requires contiguous { AreContiguous playlist.now.segments }
+        (kept_items tolerance (kept_in state.old) (playlist_in read.now)) written.now }
+    requires contiguous { AreContiguous (playlist_in read.now).segments }
     requires decided { AreKept state.old.store state.old }
     requires entered { IsLastEntered (kept_in state.old) }
-    requires rising { RisesOn state.old.list playlist.now.segments }
+    requires rising { RisesOn state.old.list (playlist_in read.now).segments }
+    requires taken { AreTaken (segments_in state.old.list) read.now.taken.now }
+    requires front { read.now.front ≤ length read.now.playlist.segments }
     ensures ok { IfOk result
-        (λ a. IsAccepted tolerance (kept_in state.old) playlist.now state.new.list a) }
+        (λ a. IsAccepted tolerance (kept_in state.old) (playlist_in read.now) state.new.list a) }
     ensures err { IfErr result
-        (λ e. RefusesList e (list_all fits (kept_items tolerance (kept_in state.old) playlist.now)
+        (λ e. RefusesList e (list_all fits (kept_items tolerance (kept_in state.old) (playlist_in read.now))
         ≡ false)) }
     ensures grown { HasGrown state.old state.new }
 {
     let stood = state.list.len();
-    let mut showing = shown_with(alloc, tolerance, state, playlist)?;
+    let mut showing = shown_with(alloc, tolerance, state, read)?;
     state.list.append(&mut showing.come)?;
     let (before, list) = (state.before(stood), state.list.as_slice());
-    next_of(alloc, &before, written, playlist, list, showing)
+    next_of(alloc, &before, written, read, list, showing)
 }
 
 // What the channel of `state` comes to by the playlist that was read, if that is accepted.
@@ -75,50 +74,49 @@ fn next_after(
     tolerance: Nanos,
     state: &mut ChannelState,
     written: &Option<WrittenText>,
-    read: &Read,
+    read: &Read<'_>,
 ) -> Result<NextState, RefreshFault>
     requires { IsJudged tolerance state.old written.now read.now }
     ensures ok { IfOk result
-        (λ a. Follows tolerance (kept_in state.old) read.now.playlist state.new.list a) }
+        (λ a. Follows tolerance (kept_in state.old) (playlist_in read.now) state.new.list a) }
     ensures err { IfErr result
-        (λ e. RefusesNext e (kept_refusal tolerance (kept_in state.old) read.now.playlist)) }
+        (λ e. RefusesNext e (kept_refusal tolerance (kept_in state.old) (playlist_in read.now))) }
     ensures grown { HasGrown state.old state.new }
 {
     may_follow(state, read)?;
-    next_kept(alloc, tolerance, state, written, &read.playlist)
+    next_kept(alloc, tolerance, state, written, read)
 }
 
-#[tactic(auto, using(crate::proofs::Refreshing::read_rises))]
-/// The playlist that `bytes` are read as under `base`. What they have in common with `source`, the lines that are
-/// kept of the playlist `last`, is taken from it. The faults are those of reading (P1 to P24); `OutOfMemory` only if
-/// an allocation fails.
-pub fn playlist_after(
+#[tactic(auto, using(crate::proofs::Taking::read_as))]
+/// The playlist that `bytes` are read as under `base`. What they have in common with the last text is taken over from
+/// `source`, what is kept of it. The faults are those of reading (P1 to P24); `OutOfMemory` only if an allocation fails.
+pub fn playlist_after<'a>(
     alloc: Global,
-    bytes: &[u8],
-    base: &Base,
-    last: &Option<Playlist>,
-    source: &Option<Source>,
-) -> Result<Read, RefreshFault>
-    requires { IsKept base.now last.now source.now }
-    ensures ok { IfOk result (λ read. IsRead base.now bytes.now read.playlist) }
-    ensures source { IfOk result (λ read. IsSource base.now read.playlist read.source) }
-    ensures taken { IfOk result
-        (λ read. AreReadAgain (last_segments last.now) read.playlist.segments read.taken.start read.taken.end) }
+    bytes: &'a [u8],
+    base: &'a Base,
+    source: &'a Option<Source>,
+) -> Result<Read<'a>, RefreshFault>
+    requires { IsKept base.now source.now }
+    ensures ok { IfOk result (λ read. IsRead base.now bytes.now (playlist_in read)) }
+    ensures lines { IfOk result (λ read. AreKeptLines base.now (playlist_in read) read.lines) }
+    ensures taken { IfOk result (IsTakenFrom (kept_segments source.now)) }
+    ensures front { IfOk result (λ read. read.front ≤ length read.playlist.segments) }
     ensures err { IfErr result
         (λ e. (tolerance : ℕ) (state : LiveState) → Refused base.now tolerance state bytes.now e) }
 {
-    let read = read_after(alloc, bytes, base, last, source)?;
+    let read = read_after(alloc, bytes, base, source)?;
     utf8_of_uris(read.playlist.segments.as_slice());
+    utf8_of_members(read.taken);
     Ok(read)
 }
 
 #[tactic(auto, using(crate::proofs::Refreshing::read_rises))]
 /// The playlist that `bytes` are read as under `base`, of whose text nothing is kept. The faults are those of
 /// `playlist_after`.
-pub fn playlist_of(alloc: Global, bytes: &[u8], base: &Base) -> Result<Read, RefreshFault>
-    ensures ok { IfOk result (λ read. IsRead base.now bytes.now read.playlist) }
-    ensures source { IfOk result (λ read. IsSource base.now read.playlist read.source) }
-    ensures taken { IfOk result (λ read. (read.taken.start ≡ 0) × (read.taken.end ≡ 0)) }
+pub fn playlist_of<'a>(alloc: Global, bytes: &[u8], base: &Base) -> Result<Read<'a>, RefreshFault>
+    ensures ok { IfOk result (λ read. IsRead base.now bytes.now (playlist_in read)) }
+    ensures taken { IfOk result (λ read. read.taken.now ≡ []) }
+    ensures front { IfOk result (λ read. read.front ≤ length read.playlist.segments) }
     ensures err { IfErr result
         (λ e. (tolerance : ℕ) (state : LiveState) → Refused base.now tolerance state bytes.now e) }
 {
@@ -126,8 +124,11 @@ pub fn playlist_of(alloc: Global, bytes: &[u8], base: &Base) -> Result<Read, Ref
     utf8_of_uris(playlist.segments.as_slice());
     Ok(Read {
         playlist,
-        taken: 0..0,
-        source: None,
+        front: 0,
+        taken: &[],
+        from: 0,
+        till: 0,
+        lines: None,
     })
 }
 
@@ -161,13 +162,13 @@ fn accept_or_grow(
     tolerance: Nanos,
     state: &mut ChannelState,
     written: &mut Option<WrittenText>,
-    read: &Read,
+    read: &Read<'_>,
 ) -> Result<Refreshed, RefreshFault>
     requires { IsJudged tolerance state.old written.old read.now }
     ensures ok { IfOk result
-        (λ done. Accepts tolerance state.old read.now.playlist state.new written.new done) }
+        (λ done. Accepts tolerance state.old (playlist_in read.now) state.new written.new done) }
     ensures err { IfErr result
-        (λ e. RefusesNext e (kept_refusal tolerance (kept_in state.old) read.now.playlist)) }
+        (λ e. RefusesNext e (kept_refusal tolerance (kept_in state.old) (playlist_in read.now))) }
     ensures grown { OnErr result (HasGrown state.old state.new) }
     ensures stays { OnErr result (written.new ≡ written.old) }
 {
@@ -183,13 +184,13 @@ pub fn accept(
     tolerance: Nanos,
     state: &mut ChannelState,
     written: &mut Option<WrittenText>,
-    read: &Read,
+    read: &Read<'_>,
 ) -> Result<Refreshed, RefreshFault>
     requires { IsJudged tolerance state.old written.old read.now }
     ensures ok { IfOk result
-        (λ done. Accepts tolerance state.old read.now.playlist state.new written.new done) }
+        (λ done. Accepts tolerance state.old (playlist_in read.now) state.new written.new done) }
     ensures err { IfErr result
-        (λ e. RefusesNext e (kept_refusal tolerance (kept_in state.old) read.now.playlist)) }
+        (λ e. RefusesNext e (kept_refusal tolerance (kept_in state.old) (playlist_in read.now))) }
     ensures state { OnErr result (state.new ≡ state.old) }
     ensures written { OnErr result (written.new ≡ written.old) }
 {

@@ -8,7 +8,7 @@ ghost use Rattle.owed_is_denoted.specs.Laws.{KeepsRules};
 ghost use Rattle.live_channel.specs.Inner.Typed.{keeps_rules};
 ghost use Rattle.read_is_writable.specs.Read.{key_is_text, init_section_is_text, uris_are_text};
 
-use playlist_model::{InitSection, Keys, Segment, Shared};
+use playlist_model::{InitSection, Keys, Member, Segment, Shared};
 use pod_store::{Decision, Decisions};
 
 fn know_keys(keys: &Keys)
@@ -42,6 +42,15 @@ pub fn utf8_of_uris(segments: &[Segment])
 {
     for segment in segments {
         know_segment(segment);
+    }
+}
+
+/// The same of the segments of a shared list.
+pub fn utf8_of_members(segments: &[Member<Segment>])
+    ensures { list_all uris_are_text segments.now ≡ true }
+{
+    for member in segments {
+        know_segment(member);
     }
 }
 

@@ -21,11 +21,14 @@ use Rattle.segment_state.specs.Continued.{Stop, IsStop, stopped_at}
 use Rattle.playlist_parse.specs.Inner.Progress.{Progress, progress_at}
 use Rattle.playlist_parse.specs.Inner.Reached.{Reached, left_in}
 use Rattle.playlist_parse.specs.declared.reader.Reading.{Reading}
-use Rattle.playlist_parse.specs.Kept.{AreTaken, IsSource}
+use Rattle.playlist_parse.specs.declared.read_playlist.Places.{Places}
+use Rattle.playlist_parse.specs.declared.source.Source.{Source}
+use Rattle.playlist_parse.specs.Inner.Places.{AreTaken}
+use Rattle.playlist_parse.specs.Kept.{AreKeptLines}
 use Rattle.playlist_parse.specs.Inner.Resumed.{Scene, scene_at, Alike, Resumed}
 use Rattle.playlist_parse.specs.Inner.LineViews.{is_free}
-use Rattle.playlist_parse.specs.Inner.Source.{Agree, TakesOver, IsSourceOf, Grown, heading_in, gone_to, gone_after}
-use Rattle.playlist_parse.specs.KeptLines.{Source, WasRead}
+use Rattle.playlist_parse.specs.Inner.Source.{Agree, TakesOver, AreLinesOf, Grown, heading_in, gone_to, gone_after}
+use Rattle.playlist_parse.specs.KeptLines.{KeptLines, WasRead}
 use Rattle.playlist_parse.proofs.GoingOn.{goes_on}
 
 -- ---- lines after lines
@@ -133,15 +136,15 @@ heading_ext : (a b c d : Option ℕ) (k l : Option PlaylistKind) (e f g h i j m 
     (record { version = b; target_duration = d; playlist_type = l; independent_segments = f; end_list = h; has_sequence = j; has_discontinuity_sequence = n; has_media = p })
 heading_ext a b c d k l e f g h i j m n o p e1 e2 e3 e4 e5 e6 e7 e8 = cc
 
-was_heading : (base : Parts) (source : Source) (last : Playlist) (was : WasRead base source last) → heading_at was.before ≡ heading_in source
-was_heading base source last was =
+was_heading : (base : Parts) (kept : KeptLines) (all : List Segment) (ranges : List DateRange) (was : WasRead base kept all ranges) → heading_at was.before ≡ heading_in kept
+was_heading base kept all ranges was =
     heading_ext _ _ _ _ _ _ _ _ _ _ _ _ _ _ _ _ was.version was.target_duration was.playlist_type was.independent_segments was.end_list was.has_sequence was.has_discontinuity_sequence was.has_media
 
-module _ (base : Parts) (p q new : Progress) (n m k : ℕ) (left left_now lines_here lines_there : List (List ℕ)) (common : List ℕ) (source : Source) (last : Playlist)
-    (here : Reached base p n left lines_here) (there : Reached base q m (lines common) lines_there) (was : WasRead base source last)
+module _ (base : Parts) (p q new : Progress) (n m k : ℕ) (left left_now lines_here lines_there : List (List ℕ)) (common : List ℕ) (source : KeptLines) (all : List Segment) (ranges : List DateRange)
+    (here : Reached base p n left lines_here) (there : Reached base q m (lines common) lines_there) (was : WasRead base source all ranges)
     (same : lines source.text ≡ lines_there) (stop : Stop) (stop_here : IsStop p.standing stop) (stop_there : IsStop q.standing stop)
     (heading : p.heading ≡ q.heading) (some : q.heading.has_media ≡ true) (fewer : length p.segments ≤ length q.segments)
-    (cut : left ≡ lines common ++ left_now) (is : new ≡ gone_to p (heading_in source) source.stop (drop (length q.date_ranges) (take source.date_ranges last.date_ranges)) (drop (length q.segments) (take source.segments last.segments)))
+    (cut : left ≡ lines common ++ left_now) (is : new ≡ gone_to p (heading_in source) source.stop (drop (length q.date_ranges) (take source.date_ranges ranges)) (drop (length q.segments) (take source.segments all)))
     (number : k + m ≡ n + source.next) where
   standing_here : p.standing ≡ standing_at here.before
   standing_here = ap (λ (x : Progress). x.standing) here.progress_is
@@ -172,7 +175,7 @@ module _ (base : Parts) (p q new : Progress) (n m k : ℕ) (left left_now lines_
   resumed = goes_on limited base there.before here.before (lines common) was.before alike read_there
 
   scene_now : scene_at resumed.said ≡ scene_of (heading_in source) source.stop
-  scene_now = sym resumed.alike.scene ∙ scene_is was.before (heading_in source) source.stop (was_heading base source last was) was.stop
+  scene_now = sym resumed.alike.scene ∙ scene_is was.before (heading_in source) source.stop (was_heading base source all ranges was) was.stop
 
   standing_now : stopped_at p.standing source.stop ≡ standing_at resumed.said
   standing_now =
@@ -183,10 +186,10 @@ module _ (base : Parts) (p q new : Progress) (n m k : ℕ) (left left_now lines_
   progress_now : new ≡ progress_at base resumed.said
   progress_now =
       is ∙ progress_ext _ _ _ _ _ _ _ _ _ _ (ap (λ (x : Progress). x.base) here.progress_is) (sym (ap (λ (s : Scene). s.heading) scene_now)) standing_now
-      (taken p.date_ranges q.date_ranges _ (take source.date_ranges last.date_ranges) (date_ranges_of here.before) (date_ranges_of there.before) resumed.date_ranges
+      (taken p.date_ranges q.date_ranges _ (take source.date_ranges ranges) (date_ranges_of here.before) (date_ranges_of there.before) resumed.date_ranges
       (ap (λ (x : Progress). x.date_ranges) here.progress_is) refl (ap (λ (x : Progress). x.date_ranges) there.progress_is) (sym was.date_ranges ∙ resumed.old_date_ranges)
       ∙ sym resumed.new_date_ranges)
-      (taken p.segments q.segments _ (take source.segments last.segments) (segments_of here.before) (segments_of there.before) resumed.segments
+      (taken p.segments q.segments _ (take source.segments all) (segments_of here.before) (segments_of there.before) resumed.segments
       (ap (λ (x : Progress). x.segments) here.progress_is) refl (ap (λ (x : Progress). x.segments) there.progress_is) (sym was.segments ∙ resumed.old_segments)
       ∙ sym resumed.new_segments)
 
@@ -203,31 +206,31 @@ module _ (base : Parts) (p q new : Progress) (n m k : ℕ) (left left_now lines_
       }
 
 -- the same, over what agrees
-pub took_over : (old front new : Reading) (common : List ℕ) (source : Source) (last : Playlist) → Agree old.progress front.progress → left_in front ≡ lines common
-    → left_in old ≡ lines common ++ left_in new → new.progress ≡ gone_after old.progress front.progress source last → new.number + front.number ≡ old.number + source.next → TakesOver front source last old new
-took_over old front new common source last agree same cut is number = λ base was there tail all here.
-    gone_on base old.progress front.progress new.progress old.number front.number new.number (left_in old ++ tail) (left_in new ++ tail) all (lines source.text) common source last here
-    (subst (λ ls. Reached base front.progress front.number ls (lines source.text)) same there) was refl agree.stop agree.here agree.there agree.heading agree.some agree.fewer
+pub took_over : (old front new : Reading) (common : List ℕ) (source : Source) → Agree old.progress front.progress → left_in front ≡ lines common
+    → left_in old ≡ lines common ++ left_in new → new.progress ≡ gone_after old.progress front.progress source → new.number + front.number ≡ old.number + source.lines.next → TakesOver front source old new
+took_over old front new common source agree same cut is number = λ base was there tail all here.
+    gone_on base old.progress front.progress new.progress old.number front.number new.number (left_in old ++ tail) (left_in new ++ tail) all (lines source.lines.text) common source.lines source.segments.items source.date_ranges here
+    (subst (λ ls. Reached base front.progress front.number ls (lines source.lines.text)) same there) was refl agree.stop agree.here agree.there agree.heading agree.some agree.fewer
     (ap (λ ls. ls ++ tail) cut ∙ append_assoc (lines common) (left_in new) tail) is number
 
 -- if nothing changed, nothing has to be shown
-pub stayed : (front old new : Reading) (source : Source) (last : Playlist) → new ≡ old → TakesOver front source last old new
-stayed front old new source last is = λ base was there tail all here. subst (λ (x : Reading). Reached base x.progress x.number (left_in x ++ tail) all) (sym is) here
+pub stayed : (front old new : Reading) (source : Source) → new ≡ old → TakesOver front source old new
+stayed front old new source is = λ base was there tail all here. subst (λ (x : Reading). Reached base x.progress x.number (left_in x ++ tail) all) (sym is) here
 
 -- what stands at these places was taken over
-pub taken_over : (old front new : Progress) (source : Source) (last : Playlist) → new ≡ gone_after old front source last → AreTaken last.segments new.segments (length old.segments) (length new.segments)
-taken_over old front new source last is =
-    let segments : new.segments ≡ old.segments ++ drop (length front.segments) (take source.segments last.segments) = ap (λ (x : Progress). x.segments) is in record {
-      from = length front.segments;
-      till = source.segments;
-      ordered = let size = ap length segments ∙ length-append old.segments _ in omega (arith, size);
-      within = omega arith;
-      same = ap (drop (length old.segments)) (take_all (length new.segments) new.segments (omega arith) ∙ segments) ∙ drop_front old.segments _;
+pub taken_over : (old front new : Progress) (source : Source) (places : Places) → new ≡ gone_after old front source → places.start ≡ length old.segments → places.end ≡ length new.segments
+    → places.from ≡ length front.segments → places.till ≡ source.lines.segments → AreTaken source.segments.items new.segments places
+taken_over old front new source places is start end from till =
+    let segments : new.segments ≡ old.segments ++ drop (length front.segments) (take source.lines.segments source.segments.items) = ap (λ (x : Progress). x.segments) is in record {
+      ordered = let size = ap length segments ∙ length-append old.segments _ in omega (arith, size, start, end);
+      within = omega (arith, end);
+      same = ap (λ n. drop n (take places.end new.segments)) start ∙ ap (drop (length old.segments)) (take_all places.end new.segments (omega (arith, end)) ∙ segments)
+          ∙ drop_front old.segments _ ∙ ap (λ n. drop n (take source.lines.segments source.segments.items)) (sym from) ∙ ap (λ n. drop places.from (take n source.segments.items)) (sym till);
     }
 
 -- nothing was taken over
-pub none_taken : (old new : List Segment) → AreTaken old new 0 0
-none_taken old new = record { from = 0; till = 0; ordered = omega arith; within = omega arith; same = refl }
+pub none_taken : (old new : List Segment) (places : Places) → places ≡ record { start = 0; end = 0; from = 0; till = 0 } → AreTaken old new places
+none_taken old new places none = subst (AreTaken old new) (sym none) (record { ordered = omega arith; within = omega arith; same = refl })
 
 pub plain_after : (front left later : List (List ℕ)) → left ≡ front ++ later → list_all is_free left ≡ true → list_all is_free later ≡ true
 plain_after front left later is h = dropped front later (ap (list_all is_free) (sym is) ∙ h)
@@ -312,22 +315,20 @@ further {base = base} here end =
     (f.segments, ap (λ (x : Progress). x.segments) end.progress_is ∙ f.segments_are ∙ ap (λ xs. xs ++ f.segments) (sym (ap (λ (x : Progress). x.segments) here.progress_is)))
 
 -- what was taken over of some segments is taken over of these and more
-pub taken_on : {old xs : List Segment} {start end : ℕ} (ys more : List Segment) → ys ≡ xs ++ more → AreTaken old xs start end → AreTaken old ys start end
-taken_on {xs = xs} {start = start} {end = end} ys more is a =
+pub taken_on : {old xs : List Segment} {places : Places} (ys more : List Segment) → ys ≡ xs ++ more → AreTaken old xs places → AreTaken old ys places
+taken_on {xs = xs} {places = places} ys more is a =
     let size : length ys ≡ length xs + length more = ap length is ∙ length-append xs more in record {
-      from = a.from;
-      till = a.till;
       ordered = a.ordered;
       within = omega (arith, a.within, size);
-      same = ap (drop start) (ap (take end) is ∙ take-append-le end xs more a.within) ∙ a.same;
+      same = ap (drop places.start) (ap (take places.end) is ∙ take-append-le places.end xs more a.within) ∙ a.same;
     }
 
 front_is : {A : Type 0} (all front more : List A) (n : ℕ) → all ≡ front ++ more → n ≡ length front → front ≡ take n all
 front_is all front more n is count = sym (take-append_seam front more) ∙ ap (λ k. take k (front ++ more)) (sym count) ∙ ap (take n) (sym is)
 
 -- what is kept of the lines that were read so far
-kept : {base : Parts} {p : Progress} {number : ℕ} (text : List ℕ) (source : Source) (playlist : Playlist) → Reached base p number [] (lines text)
-    → length (lines text) < 9223372036854775808 → IsSourceOf text p number source → Grown p playlist → WasRead base source playlist
+kept : {base : Parts} {p : Progress} {number : ℕ} (text : List ℕ) (source : KeptLines) (playlist : Playlist) → Reached base p number [] (lines text)
+    → length (lines text) < 9223372036854775808 → AreLinesOf text p number source → Grown p playlist → WasRead base source playlist.segments playlist.date_ranges
 kept {p = p} text source playlist r few is g =
     let ranges = ap (λ (x : Progress). x.date_ranges) r.progress_is in
     let segments = ap (λ (x : Progress). x.segments) r.progress_is in
@@ -350,7 +351,7 @@ kept {p = p} text source playlist r few is g =
       date_ranges = sym ranges ∙ front_is playlist.date_ranges p.date_ranges g.date_ranges source.date_ranges g.date_ranges_are is.date_ranges;
     }
 
-pub kept_source : {base : Parts} {p : Progress} {number : ℕ} (text : List ℕ) (source : Option Source) (playlist : Playlist) → Reached base p number [] (lines text)
-    → length (lines text) < 9223372036854775808 → MatchOption source (Unit {0}) (λ s. IsSourceOf text p number s) → Grown p playlist → IsSource base playlist source
+pub kept_source : {base : Parts} {p : Progress} {number : ℕ} (text : List ℕ) (source : Option KeptLines) (playlist : Playlist) → Reached base p number [] (lines text)
+    → length (lines text) < 9223372036854775808 → MatchOption source (Unit {0}) (λ s. AreLinesOf text p number s) → Grown p playlist → AreKeptLines base playlist source
 kept_source text None playlist r few is g = tt
 kept_source text (Some source) playlist r few is g = kept text source playlist r few is g

@@ -1,12 +1,13 @@
 -- What a source has of date ranges was read.
-use Rattle.std.proofs.Common.{[], ◌∷◌, take, subst}
+use Rattle.std.proofs.Common.{List, [], ◌∷◌, take, subst}
 use Rattle.std.specs.Str.Lines.{lines}
 use Rattle.url.specs.Parts.{Parts}
-use Rattle.playlist_model.specs.declared.Playlist.{Playlist}
+use Rattle.playlist_model.specs.declared.DateRange.{DateRange}
+use Rattle.playlist_model.specs.declared.Segment.{Segment}
 use Rattle.playlist_model.specs.Said.{nothing}
-use Rattle.playlist_parse.specs.KeptLines.{Source, WasRead}
+use Rattle.playlist_parse.specs.KeptLines.{KeptLines, WasRead}
 use Rattle.playlist_parse.specs.Inner.DateRanges.{AreSaid}
 use Rattle.playlist_parse.proofs.SaidAgain.{all_said}
 
-pub said_before : (base : Parts) (source : Source) (last : Playlist) → WasRead base source last → AreSaid (take source.date_ranges last.date_ranges)
-said_before base source last was = subst AreSaid was.date_ranges (all_said base (lines source.text) (nothing ∷ []) was.before was.read tt)
+pub said_before : (base : Parts) (kept : KeptLines) (all : List Segment) (ranges : List DateRange) → WasRead base kept all ranges → AreSaid (take kept.date_ranges ranges)
+said_before base kept all ranges was = subst AreSaid was.date_ranges (all_said base (lines kept.text) (nothing ∷ []) was.before was.read tt)

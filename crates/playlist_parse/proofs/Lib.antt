@@ -8,7 +8,6 @@ pub mod PlainLines
 pub mod Reached
 pub mod TagNames
 pub mod DateRangeLemmas
-pub mod WholeTexts
 pub mod OtherKinds
 pub mod SameAnswers
 pub mod Scenes
@@ -20,3 +19,5 @@ pub mod Light
 pub mod DateRanges
 pub mod SaidAgain
 pub mod KnownRanges
+pub mod Mixed
+pub mod Parts

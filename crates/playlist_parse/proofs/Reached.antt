@@ -16,6 +16,8 @@ use Rattle.playlist_parse.specs.Inner.Progress.{Progress, progress_at, Ends}
 use Rattle.playlist_parse.specs.Inner.LineViews.{line_text}
 use Rattle.playlist_parse.specs.Inner.Reached.{Reached, Faulted, left_in}
 use Rattle.playlist_parse.specs.declared.reader.Reading.{Reading}
+use Rattle.playlist_parse.specs.declared.read_playlist.Read.{Read}
+use Rattle.playlist_parse.specs.Kept.{playlist_in}
 
 pub own_base : (base : Parts) (progress : Progress) (before : List Said) → progress ≡ progress_at base before → progress ≡ progress_at progress.base before
 own_base base progress before e = e ∙ ap (λ b. progress_at b before) (sym (ap (λ (p : Progress). p.base) e))
@@ -73,8 +75,8 @@ refused {base = base} {number = number} {line = line} {left = left} {lines = lin
     ∙ ap (λ k. Err (record { kind = e; line = k })) r.count in
     ap and_whole (sym r.rest ∙ at))
 
-pub ends : {base : Parts} {progress : Progress} {number : ℕ} {left lines : List (List ℕ)} (result : Result Playlist FaultKind) (r : Reached base progress number left lines) → Ends progress result
-    → MatchResult result (λ playlist. (whole_fault r.before ≡ None) × (playlist ≡ playlist_of r.before)) (λ e. e ≢ OutOfMemory → whole_fault r.before ≡ Some e)
+pub ends : {base : Parts} {progress : Progress} {number : ℕ} {left lines : List (List ℕ)} (result : Result Read FaultKind) (r : Reached base progress number left lines) → Ends progress result
+    → MatchResult result (λ read. (whole_fault r.before ≡ None) × (playlist_in read ≡ playlist_of r.before)) (λ e. e ≢ OutOfMemory → whole_fault r.before ≡ Some e)
 ends {base = base} {progress = progress} result r h = h r.before (own_base base progress r.before r.progress_is)
 
 -- what a refused line ensures, at what is reached
@@ -90,10 +92,10 @@ line_refused {base = base} {number = number} {line = line} {lines = lines} e fau
     subst (λ (f : Fault). Faulted base f lines) (sym is) (refused e r (taken_err line e r refuses))
 
 -- if no line is left, the text is the playlist
-pub ended : {base : Parts} {progress : Progress} {number : ℕ} {lines : List (List ℕ)} (playlist : Playlist) (r : Reached base progress number [] lines) → Ends progress (Ok playlist)
-    → and_whole (said_from (said_by limited base) (nothing ∷ []) lines) ≡ Ok playlist
-ended {base = base} {progress = progress} playlist r h =
-    let e : (whole_fault r.before ≡ None) × (playlist ≡ playlist_of r.before) = h r.before (own_base base progress r.before r.progress_is) in
+pub ended : {base : Parts} {progress : Progress} {number : ℕ} {lines : List (List ℕ)} (read : Read) (r : Reached base progress number [] lines) → Ends progress (Ok read)
+    → and_whole (said_from (said_by limited base) (nothing ∷ []) lines) ≡ Ok (playlist_in read)
+ended {base = base} {progress = progress} read r h =
+    let e : (whole_fault r.before ≡ None) × (playlist_in read ≡ playlist_of r.before) = h r.before (own_base base progress r.before r.progress_is) in
     ap and_whole (sym r.rest) ∙ ap (λ o. whole o r.before) e.0 ∙ ap Ok (sym e.1)
 
 -- a failed allocation says nothing of the text
@@ -101,9 +103,9 @@ pub unread : (fault : Fault) (outcome : Result Playlist Fault) → fault ≡ fau
 unread fault outcome is = subst (λ (f : Fault). Answers (Err f) outcome) (sym is) (failed OutOfMemory 0 outcome (λ some. absurd (some refl)))
 
 -- a whole text is what its lines said
-pub told_whole : {base : Parts} {progress : Progress} {number : ℕ} {left lines : List (List ℕ)} (playlist : Playlist) (r : Reached base progress number left lines) → Ends progress (Ok playlist) → playlist ≡ playlist_of r.before
-told_whole {base = base} {progress = progress} playlist r h =
-    let e : (whole_fault r.before ≡ None) × (playlist ≡ playlist_of r.before) = h r.before (own_base base progress r.before r.progress_is) in e.1
+pub told_whole : {base : Parts} {progress : Progress} {number : ℕ} {left lines : List (List ℕ)} (read : Read) (r : Reached base progress number left lines) → Ends progress (Ok read) → playlist_in read ≡ playlist_of r.before
+told_whole {base = base} {progress = progress} read r h =
+    let e : (whole_fault r.before ≡ None) × (playlist_in read ≡ playlist_of r.before) = h r.before (own_base base progress r.before r.progress_is) in e.1
 
 -- ---- a reading
 

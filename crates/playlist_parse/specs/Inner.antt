@@ -1,4 +1,5 @@
 pub mod LineViews
+pub mod Places
 pub mod Progress
 pub mod Views
 pub mod Answers

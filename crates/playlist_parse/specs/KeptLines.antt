@@ -2,8 +2,9 @@
 use Rattle.std.specs.Prelude.{◌≡◌, ℕ, ◌+◌, ◌^◌, ◌<◌, Bool, List, [], ◌∷◌, take, length, Option, Ok}
 use Rattle.std.specs.Str.Lines.{lines}
 use Rattle.url.specs.Parts.{Parts}
-use Rattle.playlist_model.specs.declared.Playlist.{Playlist}
+use Rattle.playlist_model.specs.declared.DateRange.{DateRange}
 use Rattle.playlist_model.specs.declared.PlaylistKind.{PlaylistKind}
+use Rattle.playlist_model.specs.declared.Segment.{Segment}
 use Rattle.playlist_model.specs.Said.{Said, nothing}
 use Rattle.playlist_model.specs.LookBack.{latest, the_version, the_target, the_sequence, the_discontinuity_sequence, the_type, is_media, is_independent, is_ended, standing_at, segments_of, date_ranges_of}
 use Rattle.playlist_model.specs.Reading.{said_by, said_from, limited, is_set, has}
@@ -11,7 +12,7 @@ use Rattle.segment_state.specs.Continued.{Stop, IsStop}
 
 -- the lines of a text after its header, up to one that names a segment; the number of the line after them, what stands after
 -- them, how many segments and date ranges they have, and what the tags of the whole playlist say in them
-pub record Source : Type 0 where
+pub record KeptLines : Type 0 where
   pub text : List ℕ
   pub next : ℕ
   pub stop : Stop
@@ -26,20 +27,20 @@ pub record Source : Type 0 where
   pub has_discontinuity_sequence : Bool
   pub has_media : Bool
 
--- these lines were read under this base, and a playlist that begins with their segments and date ranges came of it
-pub record WasRead (base : Parts) (source : Source) (playlist : Playlist) : Type 0 where
+-- these lines were read under this base; their segments and date ranges are the first of these
+pub record WasRead (base : Parts) (kept : KeptLines) (all : List Segment) (ranges : List DateRange) : Type 0 where
   pub before : List Said
-  pub few : length (lines source.text) < 2 ^ 63
-  pub read : said_from (said_by limited base) (nothing ∷ []) (lines source.text) ≡ Ok before
-  pub next : length before + 1 ≡ source.next
-  pub stop : IsStop (standing_at before) source.stop
-  pub segments : segments_of before ≡ take source.segments playlist.segments
-  pub date_ranges : date_ranges_of before ≡ take source.date_ranges playlist.date_ranges
-  pub version : latest the_version before ≡ source.version
-  pub target_duration : latest the_target before ≡ source.target_duration
-  pub playlist_type : latest the_type before ≡ source.playlist_type
-  pub independent_segments : has is_independent before ≡ source.independent_segments
-  pub end_list : has is_ended before ≡ source.end_list
-  pub has_sequence : is_set the_sequence before ≡ source.has_sequence
-  pub has_discontinuity_sequence : is_set the_discontinuity_sequence before ≡ source.has_discontinuity_sequence
-  pub has_media : has is_media before ≡ source.has_media
+  pub few : length (lines kept.text) < 2 ^ 63
+  pub read : said_from (said_by limited base) (nothing ∷ []) (lines kept.text) ≡ Ok before
+  pub next : length before + 1 ≡ kept.next
+  pub stop : IsStop (standing_at before) kept.stop
+  pub segments : segments_of before ≡ take kept.segments all
+  pub date_ranges : date_ranges_of before ≡ take kept.date_ranges ranges
+  pub version : latest the_version before ≡ kept.version
+  pub target_duration : latest the_target before ≡ kept.target_duration
+  pub playlist_type : latest the_type before ≡ kept.playlist_type
+  pub independent_segments : has is_independent before ≡ kept.independent_segments
+  pub end_list : has is_ended before ≡ kept.end_list
+  pub has_sequence : is_set the_sequence before ≡ kept.has_sequence
+  pub has_discontinuity_sequence : is_set the_discontinuity_sequence before ≡ kept.has_discontinuity_sequence
+  pub has_media : has is_media before ≡ kept.has_media

@@ -5,11 +5,15 @@ mod date_range;
 mod date_ranges;
 mod line;
 mod progress;
+mod read_playlist;
 mod reader;
 mod source;
+mod step;
 mod tag;
 
 pub use line::{Line, LineKind, Lines, kind_of};
 pub use playlist_model::MAX_BYTES;
+pub use read_playlist::Read;
 pub use reader::read;
-pub use source::{Read, Source, read_after};
+pub use source::{KeptLines, Source, read_after};
+pub use step::Step;

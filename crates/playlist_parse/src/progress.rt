@@ -1,5 +1,5 @@
 //! A playlist as far as it has been read, and what each tag adds to it.
-ghost use Rattle.std.specs.Prelude.{◌≡◌, [], ◌∷◌, ◌++◌, true, false, length, Some, None, Ok, Err, IfOk, OnOk, MatchOption};
+ghost use Rattle.std.specs.Prelude.{◌≡◌, ◌<◌, ◌≤◌, ◌^◌, [], ◌∷◌, ◌++◌, true, false, length, Some, None, Ok, Err, IfOk, OnOk, MatchOption};
 ghost use Rattle.std.specs.List.{list_any, list_all};
 ghost use Rattle.playlist_model.specs.Reading.{said_by, name_of, said_by_kind, said_by_uri, has_init_section, are_mixed};
 ghost use Rattle.playlist_model.specs.Lines as kinds;
@@ -11,17 +11,20 @@ ghost use Rattle.segment_state.specs.Continued.{IsStop};
 ghost use Rattle.playlist_parse.specs.Light.{IsOfWhole, IsLight};
 ghost use Rattle.playlist_parse.specs.Inner.Progress.{progress_at, playlist_from, target_owed, IsLineAgain, TakesLine, TakesLineExactly, TakesTag, TakesTagExactly, Ends};
 ghost use Rattle.playlist_parse.specs.Inner.Source.{gone_to};
+ghost use Rattle.playlist_parse.specs.Kept.{playlist_in};
 
 use crate::date_ranges::{DateRanges, Known};
 use crate::line::{LineKind, Lines, kind_of, stated_in, whole_line};
+use crate::read_playlist::Read;
 use crate::tag::{Tag, tag_of};
 use attr_list::read_decimal;
 use playlist_model::{
-    DateRange, FaultKind, Items, Playlist, PlaylistKind, Segment, Shared, has_control,
+    DateRange, FaultKind, Items, Member, Playlist, PlaylistKind, Segment, Shared, has_control,
 };
 use segment_state::{ReaderState, Stop};
 use std::alloc::{AllocError, Global};
 use std::marker::Model;
+use std::mem::swap;
 use uri_resolver::Base;
 
 /// A playlist as far as it has been read.
@@ -38,7 +41,10 @@ pub struct Progress<'a> {
     has_media: bool,
     state: ReaderState<'a>,
     date_ranges: DateRanges<'a>,
-    segments: Vec<Segment>,
+    // The segments: those that were read before others were taken over, these, and those that were read since.
+    front: Vec<Segment>,
+    taken: &'a [Member<Segment>],
+    back: Vec<Segment>,
 }
 
 impl<'a> Model for Progress<'a> {
@@ -147,17 +153,16 @@ impl ReadHeading {
     }
 }
 
-// Puts copies of these after a list: each shares all but a short URI.
-fn copy_segments(list: &mut Vec<Segment>, more: &[Segment]) -> Result<(), AllocError>
-    ensures { OnOk result (list.new.items ≡ list.old.items ++ more.now) }
+// The values of the one after those of the other, which stay where they are if nothing is before them.
+fn joined(front: Vec<Segment>, back: Vec<Segment>) -> Result<Vec<Segment>, AllocError>
+    ensures { IfOk result (λ all. all.items ≡ front.items ++ back.items) }
 {
-    list.reserve(more.len())?;
-    let mut rest = more;
-    while let Some((segment, later)) = rest.split_first() {
-        list.push(segment.clone()?)?;
-        rest = later;
+    if front.is_empty() {
+        return Ok(back);
     }
-    Ok(())
+    let (mut all, mut back) = (front, back);
+    all.append(&mut back)?;
+    Ok(all)
 }
 
 impl<'a> Progress<'a> {
@@ -178,7 +183,9 @@ impl<'a> Progress<'a> {
             has_media: false,
             state: ReaderState::new(alloc, base),
             date_ranges: DateRanges::new(alloc, known),
-            segments: Vec::new(alloc),
+            front: Vec::new(alloc),
+            taken: &[],
+            back: Vec::new(alloc),
         }
     }
 
@@ -263,7 +270,7 @@ impl<'a> Progress<'a> {
     {
         let segment = self.state.take_segment(reference)?;
         self.has_media = true;
-        self.segments.push(segment)?;
+        self.back.push(segment)?;
         Ok(())
     }
 
@@ -434,32 +441,65 @@ impl<'a> Progress<'a> {
         if !self.has_media {
             return Err(FaultKind::NoSegments);
         }
-        if are_mixed(self.segments.as_slice()) {
+        if are_mixed(self.front.as_slice(), self.taken, self.back.as_slice()) {
             return Err(FaultKind::MixedMaps);
         }
         Ok(target)
     }
 
     // The playlist of this target duration, whose segments are shared from here on.
-    fn with_target(self, target: u64) -> Result<Playlist, AllocError>
-        ensures { IfOk result (λ playlist. playlist ≡ playlist_from self.entry target) }
+    fn with_target(self, target: u64) -> Result<Read<'a>, AllocError>
+        ensures playlist { IfOk result (λ read. playlist_in read ≡ playlist_from self.entry target) }
+        ensures front { IfOk result (λ read. read.front ≤ length read.playlist.segments) }
     {
-        Ok(Playlist {
-            version: self.version.unwrap_or(1),
-            target_duration: target,
-            playlist_type: self.playlist_type,
-            independent_segments: self.independent_segments,
-            end_list: self.end_list,
-            date_ranges: self.date_ranges.into_items(self.alloc)?,
-            segments: Shared::new(self.alloc, Items::from_vec(self.segments))?,
+        let front = self.front.len();
+        let segments = joined(self.front, self.back)?;
+        Ok(Read {
+            playlist: Playlist {
+                version: self.version.unwrap_or(1),
+                target_duration: target,
+                playlist_type: self.playlist_type,
+                independent_segments: self.independent_segments,
+                end_list: self.end_list,
+                date_ranges: self.date_ranges.into_items(self.alloc)?,
+                segments: Shared::new(self.alloc, Items::from_vec(segments))?,
+            },
+            front,
+            taken: self.taken,
+            from: 0,
+            till: 0,
+            lines: None,
         })
     }
 
-    /// How many segments are read.
-    pub fn segment_count(&self) -> usize
-        ensures { result ≡ length self.now.segments }
+    /// How many segments are read, with those that were taken over; none if that is 2^64 or more.
+    pub fn segment_count(&self) -> Option<usize>
+        ensures { MatchOption result (2 ^ 64 ≤ length self.now.segments)
+            (λ count. count ≡ length self.now.segments) }
     {
-        self.segments.len()
+        let before = self.front.len().checked_add(self.taken.len())?;
+        before.checked_add(self.back.len())
+    }
+
+    /// Whether fewer than `most` segments are read.
+    pub fn has_fewer_than(&self, most: usize) -> bool
+        ensures fewer { result ≡ true → length self.now.segments < most }
+        ensures enough { result ≡ false → most ≤ length self.now.segments }
+    {
+        match self.segment_count() {
+            Some(count) => count < most,
+            None => false,
+        }
+    }
+
+    /// Whether no more segments are read than by `other`. False if they are too many to be counted.
+    pub fn has_no_more_than(&self, other: &Progress<'_>) -> bool
+        ensures { result ≡ true → length self.now.segments ≤ length other.now.segments }
+    {
+        match (self.segment_count(), other.segment_count()) {
+            (Some(here), Some(there)) => here <= there,
+            _ => false,
+        }
     }
 
     /// How many date ranges are read.
@@ -469,9 +509,9 @@ impl<'a> Progress<'a> {
         self.date_ranges.len()
     }
 
-    /// The number of the first segment, if one is read.
+    /// The number of the first segment, if one is read and none was taken over.
     pub fn first_number(&self) -> Option<u64> {
-        match self.segments.as_slice().first() {
+        match self.back.as_slice().first() {
             Some(segment) => Some(segment.media_sequence),
             None => None,
         }
@@ -508,25 +548,30 @@ impl<'a> Progress<'a> {
         self.state.stands_at(stop)
     }
 
-    /// Goes to `stop`, under `heading` and with the `date_ranges` and the `segments` up to it. False if the first
-    /// numbers of this playlist don't lead there; all is then as it was. Fails only if an allocation fails.
+    /// Goes to `stop`, under `heading` and with the `date_ranges` and the `segments` up to it, of which the former are copied.
+    /// False if the first numbers of this playlist don't lead there, or if segments were taken over before; all is then as
+    /// it was. Fails only if an allocation fails.
     pub fn go_to(
         &mut self,
         heading: &ReadHeading,
         stop: &Stop,
         date_ranges: &[DateRange],
-        segments: &[Segment],
+        segments: &'a [Member<Segment>],
     ) -> Result<bool, AllocError>
         ensures gone { IfOk result
             (λ done. done ≡ true
             → self.new ≡ gone_to self.old heading.now stop.now date_ranges.now segments.now) }
         ensures kept { IfOk result (λ done. done ≡ false → self.new ≡ self.old) }
     {
+        if !self.front.is_empty() || !self.taken.is_empty() {
+            return Ok(false);
+        }
         if !self.state.go_to(stop)? {
             return Ok(false);
         }
         self.date_ranges.append_copies(date_ranges)?;
-        copy_segments(&mut self.segments, segments)?;
+        swap(&mut self.front, &mut self.back);
+        self.taken = segments;
         self.version = heading.version;
         self.target_duration = heading.target_duration;
         self.playlist_type = heading.playlist_type;
@@ -539,8 +584,9 @@ impl<'a> Progress<'a> {
     }
 
     /// The playlist, if the text as a whole has no fault: `NoTarget`, `NoSegments`, `MixedMaps`.
-    pub fn playlist(self) -> Result<Playlist, FaultKind>
-        ensures { Ends self.entry result }
+    pub fn read(self) -> Result<Read<'a>, FaultKind>
+        ensures ends { Ends self.entry result }
+        ensures front { IfOk result (λ read. read.front ≤ length read.playlist.segments) }
     {
         match self.target_of_whole() {
             Ok(target) => Ok(self.with_target(target)?),
@@ -601,9 +647,32 @@ fn all_have_init_sections(segments: &[Segment]) -> bool
     segments.iter().all(|s: &Segment| s.init_section.is_some())
 }
 
-// Whether some segments have an initialisation section, and others have none (RFC 8216, section 4.3.2.5).
-fn are_mixed(segments: &[Segment]) -> bool
-    ensures { result ≡ are_mixed segments.now }
+fn some_taken_have_init_sections(segments: &[Member<Segment>]) -> bool
+    ensures { result ≡ list_any has_init_section segments.now }
 {
-    some_have_init_sections(segments) && !all_have_init_sections(segments)
+    segments
+        .iter()
+        .any(|s: &Member<Segment>| s.init_section.is_some())
+}
+
+fn all_taken_have_init_sections(segments: &[Member<Segment>]) -> bool
+    ensures { result ≡ list_all has_init_section segments.now }
+{
+    segments
+        .iter()
+        .all(|s: &Member<Segment>| s.init_section.is_some())
+}
+
+#[tactic(auto, using(crate::proofs::Mixed::any_of_three, crate::proofs::Mixed::all_of_three))]
+// Whether some of these segments have an initialisation section, and others have none (RFC 8216, section 4.3.2.5).
+fn are_mixed(front: &[Segment], taken: &[Member<Segment>], back: &[Segment]) -> bool
+    ensures { result ≡ are_mixed (front.now ++ (taken.now ++ back.now)) }
+{
+    let some = some_have_init_sections(front)
+        || some_taken_have_init_sections(taken)
+        || some_have_init_sections(back);
+    let all = all_have_init_sections(front)
+        && all_taken_have_init_sections(taken)
+        && all_have_init_sections(back);
+    some && !all
 }

@@ -13,11 +13,13 @@ ghost use Rattle.playlist_model.specs.Reading.{Fault};
 ghost use Rattle.playlist_parse.specs.Light.{AreLight};
 ghost use Rattle.playlist_parse.specs.Inner.Answers.{fault_at};
 ghost use Rattle.playlist_parse.specs.Inner.Progress.{Ends};
+ghost use Rattle.playlist_parse.specs.Kept.{AnswersRead};
 ghost use Rattle.playlist_parse.specs.Inner.Reached.{Reached, Telling, IsToBeTold, Faulted, Reads, Tells, left_in};
 
 use crate::date_ranges::Known;
 use crate::line::{Lines, has_plain_bytes};
 use crate::progress::Progress;
+use crate::read_playlist::{Read, whole_of};
 use playlist_model::{FaultKind, MAX_BYTES, Playlist, PlaylistFault, text_of};
 use std::alloc::Global;
 use uri_resolver::Base;
@@ -79,7 +81,7 @@ pub fn read_some<'a>(
     ensures none_left { OnOk result
         (length reading.new.progress.segments < most → reading.new.lines ≡ []) }
 {
-    'lines: while reading.progress.segment_count() < most {
+    'lines: while reading.progress.has_fewer_than(most) {
         let Some(line) = reading.lines.next() else {
             return Ok(());
         };
@@ -112,14 +114,15 @@ pub fn read_all<'a>(reading: &mut Reading<'a>, is_plain: bool) -> Result<(), Pla
 
 /// The playlist of `reading`, whose lines are all read, or a fault of the whole text (RFC 8216, sections 4.3.2.5 and
 /// 4.3.3.1), at the line 0.
-pub fn playlist_of(reading: Reading<'_>) -> Result<Playlist, PlaylistFault>
+pub fn whole_reading(reading: Reading<'_>) -> Result<Read<'_>, PlaylistFault>
     ensures answer { (base : Parts) (all : List (List ℕ))
         → Reached base reading.entry.progress reading.entry.number [] all
-        → Answers result (and_whole (said_from (said_by limited base) (nothing ∷ []) all)) }
-    ensures whole { IfOk result (λ playlist. Ends reading.entry.progress (Ok playlist)) }
+        → AnswersRead result (and_whole (said_from (said_by limited base) (nothing ∷ []) all)) }
+    ensures whole { IfOk result (λ read. Ends reading.entry.progress (Ok read)) }
+    ensures front { IfOk result (λ read. read.front ≤ length read.playlist.segments) }
 {
-    match reading.progress.playlist() {
-        Ok(playlist) => Ok(playlist),
+    match reading.progress.read() {
+        Ok(read) => Ok(read),
         Err(kind) => Err(fault_at(kind, 0)),
     }
 }
@@ -169,9 +172,13 @@ fn read_lines<'a>(
         }
         number += pass_again(&mut progress, &mut lines, is_plain);
     }
-    match progress.playlist() {
+    let read = match progress.read() {
+        Ok(read) => read,
+        Err(kind) => return Err(fault_at(kind, 0)),
+    };
+    match whole_of(alloc, read) {
         Ok(playlist) => Ok(playlist),
-        Err(kind) => Err(fault_at(kind, 0)),
+        Err(_) => Err(fault_at(FaultKind::OutOfMemory, 0)),
     }
 }
 

@@ -11,24 +11,26 @@ ghost use Rattle.playlist_parse.specs.Light.{AreLight};
 ghost use Rattle.playlist_parse.specs.Inner.Reached.{Reached, Telling, LeadsTo, Reads, Tells, left_in};
 ghost use Rattle.playlist_parse.specs.Answers.{Answers, HasNoHeader};
 ghost use Rattle.playlist_parse.specs.KeptLines.{WasRead};
-ghost use Rattle.playlist_parse.specs.Inner.Source.{Agree, TakesOver, IsSourceOf, Grown, gone_after};
-ghost use Rattle.playlist_parse.specs.Kept.{AnswersRead, AreTaken, IsSource, IsKept, last_segments};
+ghost use Rattle.playlist_parse.specs.Inner.Source.{Agree, TakesOver, AreLinesOf, Grown, gone_after};
+ghost use Rattle.playlist_parse.specs.Inner.Places.{AreTaken};
+ghost use Rattle.playlist_parse.specs.Kept.{AnswersRead, AreKeptLines, IsKept, IsTakenFrom, kept_segments, playlist_in};
 
 use crate::date_ranges::Known;
 use crate::line::{Lines, cut_after_segments, has_plain_bytes};
 use crate::progress::{Progress, ReadHeading};
-use crate::reader::{Reading, fault_at, playlist_of, read_all, read_some, reading_of};
-use playlist_model::{FaultKind, MAX_BYTES, Playlist, PlaylistFault, Text, text_of};
+use crate::read_playlist::{Places, Read, placed};
+use crate::reader::{Reading, fault_at, read_all, read_some, reading_of, whole_reading};
+use playlist_model::{
+    DateRange, FaultKind, Items, MAX_BYTES, Member, PlaylistFault, Segment, Text, text_of,
+};
 use segment_state::Stop;
 use std::alloc::{AllocError, Global};
 use std::marker::Model;
-use std::ops::Range;
 use uri_resolver::Base;
 
-/// What is kept of a text that was read: its lines after the header up to the last one that names a segment, and what stands
-/// after them.
+/// The lines of a text after its header up to the last one that names a segment, and what stands after them.
 #[derive(Drop)]
-pub struct Source {
+pub struct KeptLines {
     text: Text,
     next: u64,
     heading: ReadHeading,
@@ -37,10 +39,10 @@ pub struct Source {
     date_ranges: usize,
 }
 
-impl Model for Source {
-    ghost use Rattle.playlist_parse.specs.KeptLines.{Source};
+impl Model for KeptLines {
+    ghost use Rattle.playlist_parse.specs.KeptLines.{KeptLines};
 
-    ghost Value = { Source };
+    ghost Value = { KeptLines };
 
     ghost view = { λ a. record {
       text = a.text;
@@ -59,15 +61,15 @@ impl Model for Source {
     } };
 }
 
-/// A playlist that was read, and what the next reading may take over from it.
+/// What is kept of the playlist that was read last, so that the next text can be read by what they have in common.
 #[derive(Drop)]
-pub struct Read {
-    /// The playlist.
-    pub playlist: Playlist,
-    /// The places of those of its segments that were taken over from the last playlist.
-    pub taken: Range<usize>,
-    /// What is kept of its text; none if it has no line that names a segment and ends with a line feed.
-    pub source: Option<Source>,
+pub struct Source {
+    /// The lines of its text.
+    pub lines: KeptLines,
+    /// Its segments.
+    pub segments: Vec<Member<Segment>>,
+    /// Its date ranges.
+    pub date_ranges: Items<DateRange>,
 }
 
 #[tactic(auto, using(crate::proofs::GoingTo::dropped_all))]
@@ -93,21 +95,18 @@ pub(crate) fn up_to<T>(list: &[T], place: usize) -> &[T]
 }
 
 // The date ranges that a source has.
-fn known_in<'a>(base: &Base, source: &Source, last: &'a Playlist) -> Known<'a>
-    requires { WasRead base.now source.now last.now }
+fn known_in<'a>(base: &Base, source: &'a Source) -> Known<'a>
+    requires { WasRead base.now source.now.lines source.now.segments.items source.now.date_ranges }
 {
-    Known::of(up_to(last.date_ranges.as_slice(), source.date_ranges))
+    Known::of(up_to(source.date_ranges.as_slice(), source.lines.date_ranges))
 }
 
 // The same, if something is kept.
-fn known_of<'a>(base: &Base, source: &Option<Source>, last: &'a Option<Playlist>) -> Known<'a>
-    requires { IsKept base.now last.now source.now }
+fn known_of<'a>(base: &Base, source: &'a Option<Source>) -> Known<'a>
+    requires { IsKept base.now source.now }
 {
-    let Some(last) = last else {
-        return Known::none();
-    };
     match source {
-        Some(source) => known_in(base, source, last),
+        Some(source) => known_in(base, source),
         None => Known::none(),
     }
 }
@@ -117,12 +116,12 @@ const SMALL_PART: usize = 8;
 
 // How many segments of the last playlist stand up to the first one that is read here, by its number; none if little is left to
 // read. It has no contract: `agrees` decides, whatever it answers.
-fn place_in(last: &Playlist, source: &Source, reading: &Reading<'_>) -> Option<usize> {
-    if reading.lines.left().len() < source.text.as_str().len() / SMALL_PART {
+fn place_in(source: &Source, reading: &Reading<'_>) -> Option<usize> {
+    if reading.lines.left().len() < source.lines.text.as_str().len() / SMALL_PART {
         return None;
     }
     let first = reading.progress.first_number()?;
-    let before = last.segments.as_slice().first()?.media_sequence;
+    let before = source.segments.as_slice().first()?.media_sequence;
     let place = first.checked_sub(before)? as usize;
     place.checked_add(1)
 }
@@ -160,7 +159,7 @@ fn front_of<'a>(
 fn agrees(here: &Progress<'_>, there: &Progress<'_>) -> Result<bool, AllocError>
     ensures { IfOk result (λ agrees. agrees ≡ true → Agree here.now there.now) }
 {
-    if here.segment_count() > there.segment_count() {
+    if !here.has_no_more_than(there) {
         return Ok(false);
     }
     let heading = there.heading();
@@ -176,22 +175,29 @@ fn agrees(here: &Progress<'_>, there: &Progress<'_>) -> Result<bool, AllocError>
     }
 }
 
-// Copies what a source has after what is read there. False if that can't be told; then all is as it was.
-fn copy_after(
-    here: &mut Progress<'_>,
+// Takes over what a source has after what is read there, of which the segments come from the place `from` on. False if
+// that can't be told; then all is as it was.
+fn go_after<'a>(
+    here: &mut Progress<'a>,
     there: &Progress<'_>,
-    source: &Source,
-    last: &Playlist,
+    source: &'a Source,
+    from: usize,
 ) -> Result<bool, AllocError>
+    requires { from ≡ length there.now.segments }
     ensures gone { IfOk result
-        (λ done. done ≡ true → here.new ≡ gone_after here.old there.now source.now last.now) }
+        (λ done. done ≡ true → here.new ≡ gone_after here.old there.now source.now) }
     ensures kept { IfOk result (λ done. done ≡ false → here.new ≡ here.old) }
 {
-    let date_ranges = up_to(last.date_ranges.as_slice(), source.date_ranges);
-    let segments = up_to(last.segments.as_slice(), source.segments);
+    let date_ranges = up_to(source.date_ranges.as_slice(), source.lines.date_ranges);
+    let segments = up_to(source.segments.as_slice(), source.lines.segments);
     let new_ranges = from_place(date_ranges, there.date_range_count());
-    let new_segments = from_place(segments, there.segment_count());
-    here.go_to(&source.heading, &source.stop, new_ranges, new_segments)
+    let new_segments = from_place(segments, from);
+    here.go_to(
+        &source.lines.heading,
+        &source.lines.stop,
+        new_ranges,
+        new_segments,
+    )
 }
 
 #[tactic(none)]
@@ -200,32 +206,44 @@ fn copy_after(
 fn take_over<'a>(
     reading: &mut Reading<'a>,
     front: &Reading<'_>,
-    source: &Source,
-    last: &Playlist,
-) -> Result<Range<usize>, AllocError>
+    source: &'a Source,
+) -> Result<Places, AllocError>
     ensures reached { OnOk result
-        (TakesOver front.now source.now last.now reading.old reading.new) }
+        (TakesOver front.now source.now reading.old reading.new) }
     ensures plain { OnOk result (list_all is_free (left_in reading.old) ≡ true
         → list_all is_free (left_in reading.new) ≡ true) }
     ensures taken { IfOk result
-        (λ taken. AreTaken last.now.segments reading.new.progress.segments taken.start taken.end) }
+        (AreTaken source.now.segments.items reading.new.progress.segments) }
 {
     if !agrees(&reading.progress, &front.progress)? {
-        return Ok(0..0);
+        return Ok(Places::none());
     }
     let Some(later) = reading.lines.after(front.lines.left()) else {
-        return Ok(0..0);
+        return Ok(Places::none());
     };
-    let Some(next) = number_after(reading.number, front.number, source.next) else {
-        return Ok(0..0);
+    let Some(next) = number_after(reading.number, front.number, source.lines.next) else {
+        return Ok(Places::none());
     };
-    let start = reading.progress.segment_count();
-    if !copy_after(&mut reading.progress, &front.progress, source, last)? {
-        return Ok(0..0);
+    let (Some(start), Some(from)) = (
+        reading.progress.segment_count(),
+        front.progress.segment_count(),
+    ) else {
+        return Ok(Places::none());
+    };
+    if !go_after(&mut reading.progress, &front.progress, source, from)? {
+        return Ok(Places::none());
     }
     reading.lines = later;
     reading.number = next;
-    Ok(start..reading.progress.segment_count())
+    match reading.progress.segment_count() {
+        Some(end) => Ok(Places {
+            start,
+            end,
+            from,
+            till: source.lines.segments,
+        }),
+        None => Ok(Places::none()),
+    }
 }
 
 #[tactic(none)]
@@ -234,78 +252,60 @@ fn take_over_from<'a>(
     alloc: Global,
     reading: &mut Reading<'a>,
     base: &Base,
-    source: &Source,
-    last: &Playlist,
-) -> Result<Range<usize>, AllocError>
-    requires { WasRead base.now source.now last.now }
+    source: &'a Source,
+) -> Result<Places, AllocError>
+    requires { WasRead base.now source.now.lines source.now.segments.items source.now.date_ranges }
     ensures reached { OnOk result (LeadsTo base.now reading.old reading.new) }
     ensures plain { OnOk result (list_all is_free (left_in reading.old) ≡ true
         → list_all is_free (left_in reading.new) ≡ true) }
     ensures taken { IfOk result
-        (λ taken. AreTaken last.now.segments reading.new.progress.segments taken.start taken.end) }
+        (AreTaken source.now.segments.items reading.new.progress.segments) }
 {
-    let Some(most) = place_in(last, source, reading) else {
-        return Ok(0..0);
+    let Some(most) = place_in(source, reading) else {
+        return Ok(Places::none());
     };
-    let known = known_in(base, source, last);
-    match front_of(alloc, source.text.as_str(), base, known, most) {
-        Some(front) => take_over(reading, &front, source, last),
-        None => Ok(0..0),
+    let known = known_in(base, source);
+    match front_of(alloc, source.lines.text.as_str(), base, known, most) {
+        Some(front) => take_over(reading, &front, source),
+        None => Ok(Places::none()),
     }
 }
 
 #[tactic(none)]
-// The same, if something is kept with this playlist.
+// The same, if something is kept of the last playlist.
 fn take_over_kept<'a>(
     alloc: Global,
     reading: &mut Reading<'a>,
     base: &Base,
-    source: &Option<Source>,
-    last: &Playlist,
-) -> Result<Range<usize>, AllocError>
-    requires { IsSource base.now last.now source.now }
+    source: &'a Option<Source>,
+) -> Result<Places, AllocError>
+    requires { IsKept base.now source.now }
     ensures reached { OnOk result (LeadsTo base.now reading.old reading.new) }
     ensures plain { OnOk result (list_all is_free (left_in reading.old) ≡ true
         → list_all is_free (left_in reading.new) ≡ true) }
     ensures taken { IfOk result
-        (λ taken. AreTaken last.now.segments reading.new.progress.segments taken.start taken.end) }
+        (AreTaken (kept_segments source.now) reading.new.progress.segments) }
 {
     match source {
-        Some(source) => take_over_from(alloc, reading, base, source, last),
-        None => Ok(0..0),
-    }
-}
-
-#[tactic(none)]
-// The same, if there is a last playlist.
-fn take_over_last<'a>(
-    alloc: Global,
-    reading: &mut Reading<'a>,
-    base: &Base,
-    source: &Option<Source>,
-    last: &Option<Playlist>,
-) -> Result<Range<usize>, AllocError>
-    requires { IsKept base.now last.now source.now }
-    ensures reached { OnOk result (LeadsTo base.now reading.old reading.new) }
-    ensures plain { OnOk result (list_all is_free (left_in reading.old) ≡ true
-        → list_all is_free (left_in reading.new) ≡ true) }
-    ensures taken { IfOk result
-        (λ taken. AreTaken (last_segments last.now) reading.new.progress.segments taken.start taken.end) }
-{
-    match last {
-        Some(last) => take_over_kept(alloc, reading, base, source, last),
-        None => Ok(0..0),
+        Some(source) => take_over_from(alloc, reading, base, source),
+        None => Ok(Places::none()),
     }
 }
 
 // What is kept of a text, all of whose lines are read; none if it has no segment, or tags of a further one at its end.
-fn source_of(alloc: Global, text: &str, reading: &Reading<'_>) -> Result<Option<Source>, AllocError>
-    ensures source { IfOk result
-        (λ source. MatchOption source (Unit {0})
-        (λ source. IsSourceOf text.now reading.now.progress reading.now.number source)) }
+fn lines_of(
+    alloc: Global,
+    text: &str,
+    reading: &Reading<'_>,
+) -> Result<Option<KeptLines>, AllocError>
+    ensures lines { IfOk result
+        (λ lines. MatchOption lines (Unit {0})
+        (λ kept. AreLinesOf text.now reading.now.progress reading.now.number kept)) }
     ensures none { reading.now.progress.segments ≡ [] → result ≡ Ok None }
 {
-    let segments = reading.progress.segment_count();
+    let Some(segments) = reading.progress.segment_count() else {
+        return Ok(None);
+    };
     if segments == 0 {
         return Ok(None);
     }
@@ -315,7 +315,7 @@ fn source_of(alloc: Global, text: &str, reading: &Reading<'_>) -> Result<Option<
     let heading = reading.progress.heading();
     let date_ranges = reading.progress.date_range_count();
     let text = Text::copy_of(alloc, text)?;
-    Ok(Some(Source {
+    Ok(Some(KeptLines {
         text,
         next: reading.number,
         heading,
@@ -332,34 +332,33 @@ fn read_front<'a>(
     reading: &mut Reading<'a>,
     is_plain: bool,
     base: &Base,
-    source: &Option<Source>,
-    last: &Option<Playlist>,
-) -> Result<Range<usize>, PlaylistFault>
+    source: &'a Option<Source>,
+) -> Result<Places, PlaylistFault>
     requires few { length (left_in reading.old) < 2 ^ 63 }
     requires plain { is_plain ≡ true → list_all is_free (left_in reading.old) ≡ true }
     requires begun { (all : List (List ℕ))
         → Reached base.now reading.old.progress reading.old.number all all }
-    requires kept { IsKept base.now last.now source.now }
+    requires kept { IsKept base.now source.now }
     ensures reached { Reads base.now reading.old result reading.new }
     ensures light { Tells base.now reading.old result reading.new }
     ensures none_left { OnOk result (reading.new.lines ≡ []) }
     ensures taken { IfOk result
-        (λ taken. AreTaken (last_segments last.now) reading.new.progress.segments taken.start taken.end) }
+        (AreTaken (kept_segments source.now) reading.new.progress.segments) }
 {
     match read_some(reading, is_plain, 1) {
         Ok(()) => {}
         Err(fault) => return Err(fault),
     }
     // (a text without a segment takes nothing over, so the faults of its tags need no memory)
-    if reading.progress.segment_count() == 0 {
-        return Ok(0..0);
+    if reading.progress.has_fewer_than(1) {
+        return Ok(Places::none());
     }
-    let taken = match take_over_last(alloc, reading, base, source, last) {
-        Ok(taken) => taken,
+    let places = match take_over_kept(alloc, reading, base, source) {
+        Ok(places) => places,
         Err(_) => return Err(fault_at(FaultKind::OutOfMemory, 0)),
     };
     match read_all(reading, is_plain) {
-        Ok(()) => Ok(taken),
+        Ok(()) => Ok(places),
         Err(fault) => Err(fault),
     }
 }
@@ -370,23 +369,24 @@ fn read_tail<'a>(
     reading: Reading<'a>,
     tail: &'a str,
     is_plain: bool,
-) -> Result<Playlist, PlaylistFault>
+) -> Result<Read<'a>, PlaylistFault>
     requires few { reading.number + length (lines tail.now) < 2 ^ 64 }
     requires plain { is_plain ≡ true → list_all is_free (lines tail.now) ≡ true }
     ensures answer { (base : Parts) (all : List (List ℕ))
         → Reached base reading.entry.progress reading.entry.number (lines tail.entry.now) all
-        → Answers result (and_whole (said_from (said_by limited base) (nothing ∷ []) all)) }
+        → AnswersRead result (and_whole (said_from (said_by limited base) (nothing ∷ []) all)) }
     ensures light { (base : Parts) (e : Fault)
         → Telling base reading.entry.progress reading.entry.number (lines tail.entry.now) e
         → result ≡ Err e }
     ensures grown { (base : Parts) (all : List (List ℕ))
         → Reached base reading.entry.progress reading.entry.number (lines tail.entry.now) all
-        → IfOk result (Grown reading.entry.progress) }
+        → IfOk result (λ read. Grown reading.entry.progress (playlist_in read)) }
+    ensures front { IfOk result (λ read. read.front ≤ length read.playlist.segments) }
 {
     let mut reading = reading;
     reading.lines = Lines::new(tail);
     match read_all(&mut reading, is_plain) {
-        Ok(()) => playlist_of(reading),
+        Ok(()) => whole_reading(reading),
         Err(fault) => Err(fault),
     }
 }
@@ -398,54 +398,51 @@ fn read_body<'a>(
     body: &'a str,
     is_plain: bool,
     base: &'a Base,
-    source: &Option<Source>,
-    last: &'a Option<Playlist>,
-) -> Result<Read, PlaylistFault>
+    source: &'a Option<Source>,
+) -> Result<Read<'a>, PlaylistFault>
     requires few { length (lines body.now) < 2 ^ 63 }
     requires plain { is_plain ≡ true → list_all is_free (lines body.now) ≡ true }
-    requires kept { IsKept base.now last.now source.now }
+    requires kept { IsKept base.now source.now }
     ensures answer { AnswersRead result (and_whole (said_from (said_by limited base.now) (nothing
         ∷ []) (lines body.entry.now))) }
     ensures light { (front later : List (List ℕ)) (e : Fault)
         → lines body.entry.now ≡ front ++ later → AreLight front
         → said_from (said_by limited base.now) (nothing ∷ []) front ≡ Err e → result ≡ Err e }
-    ensures source { IfOk result (λ read. IsSource base.now read.playlist read.source) }
-    ensures taken { IfOk result
-        (λ read. AreTaken (last_segments last.now) read.playlist.segments read.taken.start read.taken.end) }
+    ensures lines { IfOk result (λ read. AreKeptLines base.now (playlist_in read) read.lines) }
+    ensures taken { IfOk result (IsTakenFrom (kept_segments source.now)) }
+    ensures front { IfOk result (λ read. read.front ≤ length read.playlist.segments) }
 {
     let cut = cut_after_segments(body);
-    let known = known_of(base, source, last);
+    let known = known_of(base, source);
     let mut reading = reading_of(alloc, base, known, Lines::new(cut.front));
-    let taken = match read_front(alloc, &mut reading, is_plain, base, source, last) {
-        Ok(taken) => taken,
+    let places = match read_front(alloc, &mut reading, is_plain, base, source) {
+        Ok(places) => places,
         Err(fault) => return Err(fault),
     };
-    let source = match source_of(alloc, cut.front, &reading) {
-        Ok(source) => source,
+    let lines = match lines_of(alloc, cut.front, &reading) {
+        Ok(lines) => lines,
         Err(_) => return Err(fault_at(FaultKind::OutOfMemory, 0)),
     };
-    match read_tail(reading, cut.tail, is_plain) {
-        Ok(playlist) => Ok(Read {
-            playlist,
-            taken,
-            source,
-        }),
-        Err(fault) => Err(fault),
+    let read = match read_tail(reading, cut.tail, is_plain) {
+        Ok(read) => read,
+        Err(fault) => return Err(fault),
+    };
+    match placed(alloc, read, places, lines) {
+        Ok(read) => Ok(read),
+        Err(_) => Err(fault_at(FaultKind::OutOfMemory, 0)),
     }
 }
 
 /// The playlist that `bytes` denote under `base`, or its first fault and the line of that: the answers of `read` (RFC
-/// 8216, section 4). `last` is the last playlist, and `source` what was kept of its text. What both texts have in
-/// common is taken over from there, and `taken` says at which places of the new playlist that is. What is kept of
-/// this text serves the next reading. `OutOfMemory` only if an allocation fails.
-pub fn read_after(
+/// 8216, section 4). `source` is what was kept of the last playlist. What both texts have in common is taken over from
+/// there. `OutOfMemory` only if an allocation fails.
+pub fn read_after<'a>(
     alloc: Global,
-    bytes: &[u8],
-    base: &Base,
-    last: &Option<Playlist>,
-    source: &Option<Source>,
-) -> Result<Read, PlaylistFault>
-    requires { IsKept base.now last.now source.now }
+    bytes: &'a [u8],
+    base: &'a Base,
+    source: &'a Option<Source>,
+) -> Result<Read<'a>, PlaylistFault>
+    requires { IsKept base.now source.now }
     ensures answer { AnswersRead result (reading limited base.now bytes.now) }
 
     // These faults are answered whatever memory there is.
@@ -462,9 +459,9 @@ pub fn read_after(
         → lines bytes.now ≡ codes "#EXTM3U" ∷ (front ++ later) → AreLight front
         → said_from (said_by limited base.now) (nothing ∷ []) front ≡ Err e → result ≡ Err e }
 
-    ensures source { IfOk result (λ read. IsSource base.now read.playlist read.source) }
-    ensures taken { IfOk result
-        (λ read. AreTaken (last_segments last.now) read.playlist.segments read.taken.start read.taken.end) }
+    ensures lines { IfOk result (λ read. AreKeptLines base.now (playlist_in read) read.lines) }
+    ensures taken { IfOk result (IsTakenFrom (kept_segments source.now)) }
+    ensures front { IfOk result (λ read. read.front ≤ length read.playlist.segments) }
 {
     let text = match text_of(bytes) {
         Ok(text) => text,
@@ -481,5 +478,5 @@ pub fn read_after(
         return Err(fault_at(FaultKind::NoHeader, 1));
     }
     let is_plain = has_plain_bytes(bytes);
-    read_body(alloc, lines.left(), is_plain, base, source, last)
+    read_body(alloc, lines.left(), is_plain, base, source)
 }

@@ -1,6 +1,7 @@
 -- What proofs and inner functions say with the definitions of `Listed`.
 use Rattle.std.specs.Prelude.{◌≡◌, ℕ, ◌+◌, ◌-◌, ◌++◌, drop, length, if◌then◌else◌, Some, None, true, Bool, not, nat_lt, map, filter, List, ◌∷◌, [], Option, is_some}
 use Rattle.playlist_model.specs.declared.Segment.{Segment}
+use Rattle.playlist_parse.specs.declared.read_playlist.Read.{Read}
 use Rattle.stitcher.specs.Stitched.{Numbers}
 use Rattle.pod_store.specs.Rules.{ads_keep}
 use Rattle.pod_store.specs.Pods.{Pod}
@@ -16,6 +17,14 @@ IsFront front list = (tail : List Held) × (list ≡ front ++ tail)
 -- a list ends with these
 abbrev pub IsTail : List Segment → List Segment → Type 0
 IsTail tail segments = drop (length segments - length tail) segments ≡ tail
+
+-- the segments that were read since others were taken over; all if none were
+abbrev pub since_with : ℕ → List Segment → List Segment → List Segment
+since_with front read [] = read
+since_with front read (t ∷ taken) = drop front read
+
+abbrev pub since : Read → List Segment
+since read = since_with read.front read.playlist.segments read.taken.now
 
 -- the segment is numbered after this one
 abbrev pub is_after : ℕ → Segment → Bool

@@ -33,7 +33,8 @@ use Rattle.channel_window.specs.Marking.{so_far}
 use Rattle.channel_window.specs.Showing.{AreKept, IsLastEntered, kept_in}
 use Rattle.channel_window.specs.Listed.{IsRestDecided, RisesOn, segments_in}
 use Rattle.channel_window.specs.Checked.{AreContiguous, AreTaken}
-use Rattle.playlist_parse.specs.declared.source.Read.{Read}
+use Rattle.playlist_parse.specs.Kept.{playlist_in}
+use Rattle.playlist_parse.specs.declared.read_playlist.Read.{Read}
 use Rattle.live_channel.specs.Inner.LastText.{StoodBefore}
 use Rattle.live_channel.specs.Channel.{refreshed_with, fresh_after, channel_with, Steps}
 use Rattle.channel_window.specs.declared.state.ChannelState.{ChannelState}
@@ -112,13 +113,14 @@ accepted_state state p next = state_with state (heading_of p) next
 -- the last text has the lines of the last window; the playlist's numbers rise by one, and go on those that are shown if it may
 -- follow; what was taken over from the last one is shown; and what is kept is sound
 pub record IsJudged (tolerance : ℕ) (state : ChannelState) (written : Option WrittenText) (read : Read) : Type 0 where
-  pub stood : StoodBefore tolerance (kept_in state) read.playlist written
-  pub contiguous : AreContiguous read.playlist.segments
+  pub stood : StoodBefore tolerance (kept_in state) (playlist_in read) written
+  pub contiguous : AreContiguous (playlist_in read).segments
   pub decided : AreKept state.store state
   pub entered : IsLastEntered (kept_in state)
-  pub rising : RisesNext state read.playlist
+  pub rising : RisesNext state (playlist_in read)
   pub last : AreContiguous (segments_in state.list)
-  pub taken : AreTaken (segments_in state.list) read.playlist.segments read.taken.start read.taken.end
+  pub taken : AreTaken (segments_in state.list) read.taken.now
+  pub front : read.front ≤ length read.playlist.segments
 
 -- ---- the segments that are shown, before a refresh is accepted
 

@@ -13,6 +13,8 @@ use Rattle.playlist_model.specs.LookBack.{Standing, standing_at, segments_of, da
 use Rattle.playlist_model.specs.Lines.{has_control}
 use Rattle.playlist_model.specs.Reading.{limited, said_by, said_by_tag, are_mixed, whole_fault, playlist_of}
 use Rattle.playlist_parse.specs.Light.{IsLight}
+use Rattle.playlist_parse.specs.declared.read_playlist.Read.{Read}
+use Rattle.playlist_parse.specs.Kept.{playlist_in}
 use Rattle.playlist_parse.specs.Inner.LineViews.{line_text}
 use Rattle.playlist_model.specs.Inner.Heading.{Heading, heading_at}
 
@@ -86,7 +88,7 @@ playlist_from p target = record {
 }
 
 -- the whole text's own fault, a failed allocation apart, or the playlist
-abbrev pub Ends : Progress → Result Playlist FaultKind → Type 0
+abbrev pub Ends : Progress → Result Read FaultKind → Type 0
 Ends progress result =
     (before : List Said) → progress ≡ progress_at progress.base before →
-    MatchResult result (λ playlist. (whole_fault before ≡ None) × (playlist ≡ playlist_of before)) (λ e. e ≢ OutOfMemory → whole_fault before ≡ Some e)
+    MatchResult result (λ read. (whole_fault before ≡ None) × (playlist_in read ≡ playlist_of before)) (λ e. e ≢ OutOfMemory → whole_fault before ≡ Some e)

@@ -1,5 +1,5 @@
 -- What is kept of a text that was read up to a URI line, and how lines that stand in it go on elsewhere.
-use Rattle.std.specs.Prelude.{◌≡◌, ℕ, ◌+◌, ◌≤◌, true, List, [], ◌∷◌, ◌++◌, take, drop, length}
+use Rattle.std.specs.Prelude.{◌≡◌, ℕ, ◌≤◌, true, List, [], ◌∷◌, ◌++◌, take, drop, length}
 use Rattle.std.specs.Str.Lines.{lines}
 use Rattle.spec_words.specs.Bytes.{line_feed}
 use Rattle.url.specs.Parts.{Parts}
@@ -9,7 +9,8 @@ use Rattle.playlist_model.specs.declared.Segment.{Segment}
 use Rattle.playlist_model.specs.Inner.Heading.{Heading}
 use Rattle.segment_state.specs.Continued.{Stop, IsStop, stopped_at}
 use Rattle.playlist_parse.specs.Inner.Progress.{Progress}
-use Rattle.playlist_parse.specs.KeptLines.{Source, WasRead}
+use Rattle.playlist_parse.specs.KeptLines.{KeptLines, WasRead}
+use Rattle.playlist_parse.specs.declared.source.Source.{Source}
 use Rattle.playlist_parse.specs.Inner.Reached.{Reached, left_in, LeadsTo}
 use Rattle.playlist_parse.specs.declared.reader.Reading.{Reading}
 
@@ -19,16 +20,16 @@ pub record EndsInFeed (text : List ℕ) : Type 0 where
   pub is : text ≡ front ++ line_feed ∷ []
 
 -- what the tags of the whole playlist say in kept lines
-abbrev pub heading_in : Source → Heading
-heading_in source = record {
-  version = source.version;
-  target_duration = source.target_duration;
-  playlist_type = source.playlist_type;
-  independent_segments = source.independent_segments;
-  end_list = source.end_list;
-  has_sequence = source.has_sequence;
-  has_discontinuity_sequence = source.has_discontinuity_sequence;
-  has_media = source.has_media;
+abbrev pub heading_in : KeptLines → Heading
+heading_in kept = record {
+  version = kept.version;
+  target_duration = kept.target_duration;
+  playlist_type = kept.playlist_type;
+  independent_segments = kept.independent_segments;
+  end_list = kept.end_list;
+  has_sequence = kept.has_sequence;
+  has_discontinuity_sequence = kept.has_discontinuity_sequence;
+  has_media = kept.has_media;
 }
 
 -- how far a playlist is read if these segments and date ranges were taken over, up to a stop under this heading
@@ -52,23 +53,24 @@ pub record Agree (p q : Progress) : Type 0 where
   pub fewer : length p.segments ≤ length q.segments
 
 -- what is read here with what a source has after what is read there
-abbrev pub gone_after : Progress → Progress → Source → Playlist → Progress
-gone_after p q source playlist =
-    gone_to p (heading_in source) source.stop (drop (length q.date_ranges) (take source.date_ranges playlist.date_ranges)) (drop (length q.segments) (take source.segments playlist.segments))
+abbrev pub gone_after : Progress → Progress → Source → Progress
+gone_after p q source =
+    gone_to p (heading_in source.lines) source.lines.stop (drop (length q.date_ranges) (take source.lines.date_ranges source.date_ranges)) (drop (length q.segments) (take source.lines.segments source.segments.items))
 
 -- if a front of a source's lines is read there, what is read here goes on: it leads to the same
-abbrev pub TakesOver : Reading → Source → Playlist → Reading → Reading → Type 0
-TakesOver front source playlist old new =
-    (base : Parts) → WasRead base source playlist → Reached base front.progress front.number (left_in front) (lines source.text) → LeadsTo base old new
+abbrev pub TakesOver : Reading → Source → Reading → Reading → Type 0
+TakesOver front source old new =
+    (base : Parts) → WasRead base source.lines source.segments.items source.date_ranges
+    → Reached base front.progress front.number (left_in front) (lines source.lines.text) → LeadsTo base old new
 
 -- this is what is kept of a text, all of whose lines are read so
-pub record IsSourceOf (text : List ℕ) (p : Progress) (number : ℕ) (source : Source) : Type 0 where
-  pub text_is : source.text ≡ text
-  pub next : source.next ≡ number
-  pub heading : heading_in source ≡ p.heading
-  pub stop : IsStop p.standing source.stop
-  pub segments : source.segments ≡ length p.segments
-  pub date_ranges : source.date_ranges ≡ length p.date_ranges
+pub record AreLinesOf (text : List ℕ) (p : Progress) (number : ℕ) (kept : KeptLines) : Type 0 where
+  pub text_is : kept.text ≡ text
+  pub next : kept.next ≡ number
+  pub heading : heading_in kept ≡ p.heading
+  pub stop : IsStop p.standing kept.stop
+  pub segments : kept.segments ≡ length p.segments
+  pub date_ranges : kept.date_ranges ≡ length p.date_ranges
 
 -- a playlist begins with the segments and the date ranges that were read so far
 pub record Grown (p : Progress) (playlist : Playlist) : Type 0 where

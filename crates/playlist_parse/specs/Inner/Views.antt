@@ -1,4 +1,5 @@
 -- What the fields of a reading mean.
+use Rattle.std.specs.Prelude.{◌++◌}
 use Rattle.playlist_parse.specs.declared.progress.Progress.TheInside.{Inside}
 use Rattle.playlist_parse.specs.Inner.Progress.{Progress}
 
@@ -17,5 +18,5 @@ progress_of a = record {
   };
   standing = a.state.standing;
   date_ranges = a.date_ranges;
-  segments = a.segments.items;
+  segments = a.front.items ++ (a.taken.now ++ a.back.items);
 }

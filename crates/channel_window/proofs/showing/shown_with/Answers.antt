@@ -1,7 +1,9 @@
 use Rattle.std.proofs.Common.{rules, refl, length, ◌≡◌, ◌∙◌, ◌++◌, ap, sym}
-use Rattle.std.specs.Prelude.{filter}
-use Rattle.channel_spec.specs.Marking.{Moment, is_new}
+use Rattle.std.specs.Option.{option_copied}
+use Rattle.break_finder.specs.Known.{carry}
+use Rattle.channel_spec.specs.Marking.{Moment}
 use Rattle.channel_spec.specs.Successor.{has_init_sections}
+use Rattle.playlist_parse.specs.Kept.{playlist_in}
 use Rattle.channel_window.specs.declared.showing.Showing.{Showing}
 use Rattle.channel_window.specs.Marking.{so_far, mark_on, length_after}
 use Rattle.channel_window.proofs.ShownWith.{newest_entered, shown_is}
@@ -15,7 +17,7 @@ mark-requires c =
 pub returns : goal.returns
 returns c =
     let s = c.args.state.now in
-    let p = c.args.playlist.now in
+    let p = (playlist_in c.args.read.now) in
     let newest = c.in_ok-newest.newest in
     let marks = c.in_ok-marks.marks in
     let marked = marks.list.items in
@@ -24,6 +26,9 @@ returns c =
     let marked_are : marked ≡ mark_on moment newest s.shown.entered fresh c.new-2.result = search rules in
     let a : Showing = record { knowledge = c.in_ok-knowledge.knowledge; come = marks.list; fresh = length c.fresh_of-fresh.result.now; entered = marks.entered; so_far = marks.so_far } in
     let long : marks.so_far ≡ length_after s.store newest s.shown.so_far marked = search rules in
+    let named : option_copied c.text_in.result ≡ newest = search rules in
+    let carried : c.in_ok-knowledge.knowledge ≡ carry (record { playlist = p; carried = newest }) s.shown.knowledge =
+    c.in_ok-knowledge.ensures.carried ∙ ap (λ o. carry (record { playlist = p; carried = o }) s.shown.knowledge) named in
     shown_is c.args.tolerance s p c.as_slice-shown.result.now newest c.fresh_of-fresh.result.now c.newest_end.result c.new-2.result marked a c.requires.decided c.requires.entered c.as_slice-shown.ensures
-    (c.in_ok-newest.ensures.mark s.store) (c.in_ok-newest.ensures.decided s.store) (search rules) (c.fresh_of-fresh.ensures.value s.store ∙ ap (filter (is_new (so_far s.store c.as_slice-shown.result.now))) (c.as_slice.ensures ∙ c.deref-2.ensures)) (c.newest_end.ensures s.store) c.new-2.ensures marked_are (s.list ++ marked) (ap (λ xs. xs ++ marked) (sym c.as_slice-shown.ensures))
+    (c.in_ok-newest.ensures.mark s.store) (c.in_ok-newest.ensures.decided s.store) carried (c.fresh_of-fresh.ensures.value s.store) (c.newest_end.ensures s.store) c.new-2.ensures marked_are (s.list ++ marked) (ap (λ xs. xs ++ marked) (sym c.as_slice-shown.ensures))
     c.requires.contiguous c.requires.rising c.in_ok-marks.ensures.entered refl long

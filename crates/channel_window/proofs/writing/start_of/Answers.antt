@@ -1,9 +1,9 @@
-use Rattle.std.proofs.Common.{◌+◌, ◌≡◌, List, min, sym, ap, ◌∙◌}
-use Rattle.playlist_model.specs.declared.Segment.{Segment}
+use Rattle.std.proofs.Common.{◌+◌, ◌≡◌, min, sym, ap, ◌∙◌}
 use Rattle.stitcher.specs.StitchedSegments.{rest_in}
 use Rattle.channel_spec.specs.Live.{place_of, rest_over}
 use Rattle.channel_spec.specs.Successor.{first_number}
 use Rattle.channel_spec.specs.Kept.{listed}
+use Rattle.playlist_parse.specs.Kept.{playlist_in}
 use Rattle.channel_window.specs.Marking.{so_far}
 use Rattle.channel_window.specs.Listed.{segments_in}
 use Rattle.channel_window.specs.Inner.Placing.{rest_count}
@@ -20,25 +20,25 @@ first_here s = ap first_number (sym (held_listed s.store s.list))
 pub returns-then-number-first_shown-clause-place : goal.returns-then-number-first_shown-clause-place
 returns-then-number-first_shown-clause-place c =
     let s = kept_before c.args.before.now in
-    let p = c.args.playlist.now in
-    let n = c.first_number-number.ensures ∙ ap (λ (ss : List Segment). first_number ss) (c.as_slice.ensures ∙ c.deref.ensures) in
+    let p = (playlist_in c.args.read.now) in
+    let n = c.first_number-number.ensures in
     let k = c.first_shown.ensures ∙ first_here s in
     start_same s (first_number p.segments) c.args.list.now c.in-Some.field-0 c.in-Some.is (sym n ∙ (c.if-number-first_shown.true ∙ k))
 
 pub returns-then-number-first_shown-clause-rest : goal.returns-then-number-first_shown-clause-rest
 returns-then-number-first_shown-clause-rest c =
     let s = kept_before c.args.before.now in
-    let p = c.args.playlist.now in
-    let n = c.first_number-number.ensures ∙ ap (λ (ss : List Segment). first_number ss) (c.as_slice.ensures ∙ c.deref.ensures) in
+    let p = (playlist_in c.args.read.now) in
+    let n = c.first_number-number.ensures in
     let k = c.first_shown.ensures ∙ first_here s in
     ap (rest_in s.store) c.in_ok-rest.ensures ∙ rest_same s (first_number p.segments) c.args.list.now c.in-Some.field-0 0 c.in-Some.is (sym n ∙ (c.if-number-first_shown.true ∙ k))
 
 pub returns-clause-place : goal.returns-clause-place
 returns-clause-place c =
     let s = kept_before c.args.before.now in
-    let p = c.args.playlist.now in
+    let p = (playlist_in c.args.read.now) in
     let list = c.args.list.now in
-    let n = c.first_number-number.ensures ∙ ap (λ (ss : List Segment). first_number ss) (c.as_slice.ensures ∙ c.deref.ensures) in
+    let n = c.first_number-number.ensures in
     let k = c.first_shown.ensures ∙ first_here s in
     let other = not_equal (first_number p.segments) (first_number (listed (kept_in s).shown)) (λ e. c.if-number-first_shown.false (n ∙ (e ∙ sym k))) in
     start_later s (first_number p.segments) list c.in-Some.field-0 c.args.stood c.in_ok-later_start.field-0.place c.in-Some.is other c.requires.stood
@@ -47,10 +47,10 @@ returns-clause-place c =
 pub returns-clause-rest : goal.returns-clause-rest
 returns-clause-rest c =
     let s = kept_before c.args.before.now in
-    let p = c.args.playlist.now in
+    let p = (playlist_in c.args.read.now) in
     let list = c.args.list.now in
     let start = c.in_ok-later_start.field-0.place in
-    let n = c.first_number-number.ensures ∙ ap (λ (ss : List Segment). first_number ss) (c.as_slice.ensures ∙ c.deref.ensures) in
+    let n = c.first_number-number.ensures in
     let k = c.first_shown.ensures ∙ first_here s in
     let other = not_equal (first_number p.segments) (first_number (listed (kept_in s).shown)) (λ e. c.if-number-first_shown.false (n ∙ (e ∙ sym k))) in
     c.in_ok-later_start.ensures.rest

@@ -3,6 +3,7 @@ use Rattle.playlist_model.specs.LookBack.{or_earlier}
 use Rattle.pod_store.specs.Inner.Store.{NameTheSame}
 use Rattle.stitcher.specs.Stitched.{Numbers}
 use Rattle.stitcher.specs.Written.{written_item}
+use Rattle.playlist_parse.specs.Kept.{playlist_in}
 use Rattle.channel_window.specs.Listed.{head_of}
 use Rattle.channel_spec.specs.Kept.{shown_from, window_on}
 use Rattle.channel_spec.specs.Marking.{last_entered}
@@ -21,7 +22,7 @@ use Rattle.live_channel.proofs.next.next_of.Goals as goal
 pub returns-clause-ok : goal.returns-clause-ok
 returns-clause-ok c =
     let s = kept_before c.args.before.now in
-    let p = c.args.playlist.now in
+    let p = (playlist_in c.args.read.now) in
     let n = c.args.showing.so_far in
     let held = c.args.list.now in
     let seen = so_far s.store held in

@@ -1,6 +1,7 @@
 use Rattle.std.proofs.Common.{ap, sym, ◌∙◌}
 use Rattle.channel_spec.specs.Successor.{answer_of, following_fault}
 use Rattle.channel_spec.specs.Kept.{succession_on, listed}
+use Rattle.playlist_parse.specs.Kept.{playlist_in}
 use Rattle.channel_window.specs.Listed.{segments_in}
 use Rattle.channel_window.specs.Showing.{kept_in}
 use Rattle.channel_window.proofs.Found.{held_listed}
@@ -9,7 +10,7 @@ use Rattle.live_channel.proofs.refresh.may_follow.Goals as goal
 pub returns-in-Some : goal.returns-in-Some
 returns-in-Some c =
     let s = c.args.state.now in
-    let p = c.args.read.now.playlist in
+    let p = (playlist_in c.args.read.now) in
     let last = c.in-Some.last in
     c.check_successor.ensures
     ∙ (ap (λ held. answer_of (following_fault last (segments_in held) p)) c.as_slice-shown.ensures

@@ -4,6 +4,7 @@ use Rattle.std.specs.List.{list_all}
 use Rattle.stitcher.specs.Stitched.{fits}
 use Rattle.stitcher.specs.declared.marked.MarkedSegment.{MarkedSegment as Held}
 use Rattle.channel_spec.specs.Kept.{items_on}
+use Rattle.playlist_parse.specs.Kept.{playlist_in}
 use Rattle.channel_window.specs.declared.state.ChannelState.{ChannelState}
 use Rattle.channel_window.specs.Listed.{RefusesList}
 use Rattle.channel_window.specs.Marking.{so_far}
@@ -16,7 +17,7 @@ use Rattle.live_channel.proofs.refresh.next_kept.Goals as goal
 pub next_of-requires-clause-stood : goal.next_of-requires-clause-stood
 next_of-requires-clause-stood c =
     let s = c.args.state.now in
-    let p = c.args.playlist.now in
+    let p = (playlist_in c.args.read.now) in
     let showing = c.in_ok-showing.showing in
     let long = showing.so_far in
     let come = showing.come.items in
@@ -31,7 +32,7 @@ next_of-requires-clause-stood c =
 pub returns-clause-ok : goal.returns-clause-ok
 returns-clause-ok c =
     let s = c.args.state.now in
-    let p = c.args.playlist.now in
+    let p = (playlist_in c.args.read.now) in
     let showing = c.in_ok-showing.showing in
     let come = showing.come.items in
     let list = c.as_slice-list.result.now in
@@ -43,7 +44,7 @@ returns-clause-ok c =
 pub returns-clause-err : goal.returns-clause-err
 returns-clause-err c =
     let s = c.args.state.now in
-    let p = c.args.playlist.now in
+    let p = (playlist_in c.args.read.now) in
     let showing = c.in_ok-showing.showing in
     let long = showing.so_far in
     let come = showing.come.items in

@@ -45,15 +45,22 @@ returns-in-Err-clause-light c = λ front later e all_is light said.
     let same = is_told c.args.base.now c.loop-line.progress c.line.new.self c.loop-line.number line (map line_text c.next.new.self) e c.in-Err.kind c.in-Err.ensures.light t in
     cc
 
-pub returns-in-Ok-playlist-clause-light : goal.returns-in-Ok-playlist-clause-light
-returns-in-Ok-playlist-clause-light c = λ front later e all_is light said.
+pub returns-in-Err-read-clause-light : goal.returns-in-Err-read-clause-light
+returns-in-Err-read-clause-light c = λ front later e all_is light said.
     let none : c.loop-line.lines ≡ [] = search rules in
     let t : Telling c.args.base.now c.loop-line.progress c.loop-line.number [] e =
     subst (λ ls. Telling c.args.base.now c.loop-line.progress c.loop-line.number (map line_text ls) e) none (c.loop-line.invariant.2 front later e all_is light said) in
     absurd (is_over t)
 
-pub returns-in-Err-playlist-clause-light : goal.returns-in-Err-playlist-clause-light
-returns-in-Err-playlist-clause-light c = λ front later e all_is light said.
+pub returns-in-Ok-whole_of-clause-light : goal.returns-in-Ok-whole_of-clause-light
+returns-in-Ok-whole_of-clause-light c = λ front later e all_is light said.
+    let none : c.loop-line.lines ≡ [] = search rules in
+    let t : Telling c.args.base.now c.loop-line.progress c.loop-line.number [] e =
+    subst (λ ls. Telling c.args.base.now c.loop-line.progress c.loop-line.number (map line_text ls) e) none (c.loop-line.invariant.2 front later e all_is light said) in
+    absurd (is_over t)
+
+pub returns-in-Err-whole_of-clause-light : goal.returns-in-Err-whole_of-clause-light
+returns-in-Err-whole_of-clause-light c = λ front later e all_is light said.
     let none : c.loop-line.lines ≡ [] = search rules in
     let t : Telling c.args.base.now c.loop-line.progress c.loop-line.number [] e =
     subst (λ ls. Telling c.args.base.now c.loop-line.progress c.loop-line.number (map line_text ls) e) none (c.loop-line.invariant.2 front later e all_is light said) in

@@ -1,10 +1,10 @@
-use Rattle.std.proofs.Common.{rules, ◌≡◌, true, arith, ap, sym, ◌∙◌}
+use Rattle.std.proofs.Common.{rules, ◌≡◌, true, ap, sym, ◌∙◌}
 use Rattle.playlist_model.specs.Inner.Heading.{Heading}
 use Rattle.segment_state.specs.Continued.{IsStop}
 use Rattle.playlist_parse.proofs.source.agrees.Goals as goal
 
-pub returns-then-segment_count : goal.returns-then-segment_count
-returns-then-segment_count c = λ no. absurd (cc no)
+pub returns-then-not-has_no_more_than : goal.returns-then-not-has_no_more_than
+returns-then-not-has_no_more_than c = λ no. absurd (cc no)
 
 pub returns-then-not-has_media : goal.returns-then-not-has_media
 returns-then-not-has_media c = λ no. absurd (cc no)
@@ -25,7 +25,7 @@ returns-in-Some c = λ yes.
       there = there;
       heading = sym c.heading.ensures ∙ c.is.ensures same ∙ c.heading-heading.ensures;
       some = ap (λ (h : Heading). h.has_media) (sym c.heading-heading.ensures) ∙ sym c.has_media.ensures ∙ media;
-      fewer = omega (arith, c.if-segment_count.false, c.segment_count.ensures, c.segment_count-2.ensures);
+      fewer = let counted : c.has_no_more_than.result ≡ true = search rules in c.has_no_more_than.ensures counted;
     }
 
 pub returns-in-None : goal.returns-in-None

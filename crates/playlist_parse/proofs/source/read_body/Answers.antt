@@ -4,11 +4,12 @@ use Rattle.std.specs.Str.Lines.{lines}
 use Rattle.std.specs.Prelude.{Result, Ok, Err}
 use Rattle.std.proofs.lemmas.List.{append-nil}
 use Rattle.playlist_model.specs.Said.{nothing}
-use Rattle.playlist_model.specs.declared.Playlist.{Playlist}
 use Rattle.playlist_model.specs.Reading.{said_by, said_from, and_whole, limited, Fault}
 use Rattle.playlist_parse.specs.Inner.LineViews.{is_free}
 use Rattle.playlist_parse.specs.Inner.Reached.{Reached, Faulted, left_in}
 use Rattle.playlist_parse.specs.declared.reader.Reading.{Reading}
+use Rattle.playlist_parse.specs.declared.read_playlist.Read.{Read}
+use Rattle.playlist_parse.specs.Kept.{AreKeptLines, kept_segments, playlist_in}
 use Rattle.playlist_parse.proofs.Light.{none_read, told_at, told_after}
 use Rattle.playlist_parse.proofs.Reached.{begun_at, none_more, unread}
 use Rattle.playlist_parse.proofs.GoingTo.{few_reached, plain_front, plain_after, kept_source, taken_on}
@@ -18,7 +19,7 @@ use Rattle.playlist_parse.proofs.source.read_body.Goals as goal
 whole_is : (old : Reading) (front tail body : List (List ℕ)) → left_in old ≡ front → body ≡ front ++ tail → left_in old ++ tail ≡ body
 whole_is old front tail body here cut = ap (λ ls. ls ++ tail) here ∙ sym cut
 
-same_fault : {a e : Fault} → (let answer : Result Playlist Fault = Err a in answer) ≡ Err e → a ≡ e
+same_fault : {a e : Fault} → (let answer : Result Read Fault = Err a in answer) ≡ Err e → a ≡ e
 same_fault h = cc
 
 -- a front has no more lines than the whole
@@ -55,11 +56,11 @@ returns-in-Err-clause-answer c =
     subst (λ ls. Faulted base c.in-Err.fault ls) whole
     (c.in-Err.ensures.reached (lines cut.tail.now) (left_in old ++ lines cut.tail.now) (begun_at base old (lines cut.tail.now) c.reading_of-reading.ensures.number c.reading_of-reading.ensures.begun))
 
-pub source_of-requires : goal.source_of-requires
-source_of-requires c = tt
+pub lines_of-requires : goal.lines_of-requires
+lines_of-requires c = tt
 
-pub returns-in-Err-source_of-clause-answer : goal.returns-in-Err-source_of-clause-answer
-returns-in-Err-source_of-clause-answer c = unread c.fault_at.result _ c.fault_at.ensures
+pub returns-in-Err-lines_of-clause-answer : goal.returns-in-Err-lines_of-clause-answer
+returns-in-Err-lines_of-clause-answer c = unread c.fault_at.result _ c.fault_at.ensures
 
 pub read_tail-requires-clause-few : goal.read_tail-requires-clause-few
 read_tail-requires-clause-few c =
@@ -79,8 +80,11 @@ read_tail-requires-clause-plain c = λ plain.
     let cut = c.cut_after_segments-cut.result in
     plain_after (lines cut.front.now) (lines c.args.body.now) (lines cut.tail.now) c.cut_after_segments-cut.ensures (c.requires.plain plain)
 
-pub returns-in-Ok-read_tail-clause-answer : goal.returns-in-Ok-read_tail-clause-answer
-returns-in-Ok-read_tail-clause-answer c =
+pub placed-requires : goal.placed-requires
+placed-requires c = c.in-Ok-read_tail.ensures.front
+
+pub returns-in-Ok-placed-clause-answer : goal.returns-in-Ok-placed-clause-answer
+returns-in-Ok-placed-clause-answer c =
     let base = c.args.base.now in
     let cut = c.cut_after_segments-cut.result in
     let old = c.reading_of-reading.result in
@@ -90,10 +94,14 @@ returns-in-Ok-read_tail-clause-answer c =
     let whole = whole_is old (lines cut.front.now) tail (lines c.args.body.now) left c.cut_after_segments-cut.ensures in
     let here = none_more new tail (left_in old ++ tail) c.in-Ok.ensures.none_left
     (c.in-Ok.ensures.reached tail (left_in old ++ tail) (begun_at base old tail c.reading_of-reading.ensures.number c.reading_of-reading.ensures.begun)) in
-    subst (λ ls. and_whole (said_from (said_by limited base) (nothing ∷ []) ls) ≡ Ok c.in-Ok-read_tail.playlist) whole (c.in-Ok-read_tail.ensures.answer base (left_in old ++ tail) here)
+    subst (λ ls. and_whole (said_from (said_by limited base) (nothing ∷ []) ls) ≡ Ok (playlist_in c.in-Ok-placed.read)) whole
+    (c.in-Ok-read_tail.ensures.answer base (left_in old ++ tail) here ∙ ap Ok (sym c.in-Ok-placed.ensures.playlist))
 
-pub returns-in-Ok-read_tail-clause-source : goal.returns-in-Ok-read_tail-clause-source
-returns-in-Ok-read_tail-clause-source c =
+pub returns-in-Err-placed-clause-answer : goal.returns-in-Err-placed-clause-answer
+returns-in-Err-placed-clause-answer c = unread c.fault_at-in-Err-placed.result _ c.fault_at-in-Err-placed.ensures
+
+pub returns-in-Ok-placed-clause-lines : goal.returns-in-Ok-placed-clause-lines
+returns-in-Ok-placed-clause-lines c =
     let base = c.args.base.now in
     let cut = c.cut_after_segments-cut.result in
     let old = c.reading_of-reading.result in
@@ -104,22 +112,28 @@ returns-in-Ok-read_tail-clause-source c =
     (c.in-Ok.ensures.reached tail (left_in old ++ tail) (begun_at base old tail c.reading_of-reading.ensures.number c.reading_of-reading.ensures.begun)) in
     let front = none_more new [] (left_in old ++ []) c.in-Ok.ensures.none_left
     (c.in-Ok.ensures.reached [] (left_in old ++ []) (begun_at base old [] c.reading_of-reading.ensures.number c.reading_of-reading.ensures.begun)) in
-    kept_source cut.front.now c.in-Ok-source_of.source c.in-Ok-read_tail.playlist
+    let kept = kept_source cut.front.now c.in-Ok-lines_of.lines (playlist_in c.in-Ok-read_tail.read)
     (subst (λ ls. Reached base new.progress new.number [] ls) (append-nil (left_in old) ∙ left) front)
     (fewer (lines cut.front.now) tail (lines c.args.body.now) c.cut_after_segments-cut.ensures c.requires.few)
-    c.in-Ok-source_of.ensures.source (c.in-Ok-read_tail.ensures.grown base (left_in old ++ tail) here)
+    c.in-Ok-lines_of.ensures.lines (c.in-Ok-read_tail.ensures.grown base (left_in old ++ tail) here) in
+    subst (λ ls. AreKeptLines base (playlist_in c.in-Ok-placed.read) ls) (sym c.in-Ok-placed.ensures.lines)
+    (subst (λ p. AreKeptLines base p c.in-Ok-lines_of.lines) (sym c.in-Ok-placed.ensures.playlist) kept)
 
-pub returns-in-Ok-read_tail-clause-taken : goal.returns-in-Ok-read_tail-clause-taken
-returns-in-Ok-read_tail-clause-taken c =
+pub returns-in-Ok-placed-clause-front : goal.returns-in-Ok-placed-clause-front
+returns-in-Ok-placed-clause-front c = c.in-Ok-placed.ensures.front
+
+pub returns-in-Ok-placed-clause-taken : goal.returns-in-Ok-placed-clause-taken
+returns-in-Ok-placed-clause-taken c =
     let base = c.args.base.now in
     let cut = c.cut_after_segments-cut.result in
     let old = c.reading_of-reading.result in
     let new = c.read_front.new.reading in
     let tail = lines cut.tail.now in
+    let left : left_in old ≡ lines cut.front.now = ap (λ ls. left_in (record old { lines = ls })) c.reading_of-reading.ensures.lines ∙ c.new.ensures.texts in
     let here = none_more new tail (left_in old ++ tail) c.in-Ok.ensures.none_left
     (c.in-Ok.ensures.reached tail (left_in old ++ tail) (begun_at base old tail c.reading_of-reading.ensures.number c.reading_of-reading.ensures.begun)) in
     let grown = c.in-Ok-read_tail.ensures.grown base (left_in old ++ tail) here in
-    taken_on c.in-Ok-read_tail.playlist.segments grown.segments grown.segments_are c.in-Ok.ensures.taken
+    c.in-Ok-placed.ensures.taken (kept_segments c.args.source.now) (taken_on (playlist_in c.in-Ok-read_tail.read).segments grown.segments grown.segments_are c.in-Ok.ensures.taken)
 
 pub returns-in-Err-read_tail-clause-answer : goal.returns-in-Err-read_tail-clause-answer
 returns-in-Err-read_tail-clause-answer c =
@@ -137,8 +151,8 @@ returns-in-Err-read_tail-clause-answer c =
 pub new-requires-text-text : goal.new-requires-text-text
 new-requires-text-text c = search rules
 
-pub source_of-requires-text-text : goal.source_of-requires-text-text
-source_of-requires-text-text c = search rules
+pub lines_of-requires-text-text : goal.lines_of-requires-text-text
+lines_of-requires-text-text c = search rules
 
 pub read_tail-requires-text-tail : goal.read_tail-requires-text-tail
 read_tail-requires-text-tail c = search rules
@@ -154,8 +168,8 @@ returns-in-Err-clause-light c = λ front later e is light said.
     let told = told_at base old tail (lines c.args.body.now) whole c.reading_of-reading.ensures.number c.reading_of-reading.ensures.light front later e is light said in
     ap Err (c.in-Err.ensures.light tail e told)
 
-pub returns-in-Err-source_of-clause-light : goal.returns-in-Err-source_of-clause-light
-returns-in-Err-source_of-clause-light c = λ front later e is light said.
+pub returns-in-Err-lines_of-clause-light : goal.returns-in-Err-lines_of-clause-light
+returns-in-Err-lines_of-clause-light c = λ front later e is light said.
     let base = c.args.base.now in
     let cut = c.cut_after_segments-cut.result in
     let old = c.reading_of-reading.result in
@@ -164,10 +178,22 @@ returns-in-Err-source_of-clause-light c = λ front later e is light said.
     let whole = whole_is old (lines cut.front.now) tail (lines c.args.body.now) left c.cut_after_segments-cut.ensures in
     let told = told_at base old tail (lines c.args.body.now) whole c.reading_of-reading.ensures.number c.reading_of-reading.ensures.light front later e is light said in
     let left_told = told_after tail c.read_front.new.reading c.in-Ok.ensures.none_left (c.in-Ok.ensures.light tail e told) in
-    absurd (cc (c.in-Err-source_of.ensures.none (none_read left_told)))
+    absurd (cc (c.in-Err-lines_of.ensures.none (none_read left_told)))
 
-pub returns-in-Ok-read_tail-clause-light : goal.returns-in-Ok-read_tail-clause-light
-returns-in-Ok-read_tail-clause-light c = λ front later e is light said.
+pub returns-in-Ok-placed-clause-light : goal.returns-in-Ok-placed-clause-light
+returns-in-Ok-placed-clause-light c = λ front later e is light said.
+    let base = c.args.base.now in
+    let cut = c.cut_after_segments-cut.result in
+    let old = c.reading_of-reading.result in
+    let tail = lines cut.tail.now in
+    let left : left_in old ≡ lines cut.front.now = ap (λ ls. left_in (record old { lines = ls })) c.reading_of-reading.ensures.lines ∙ c.new.ensures.texts in
+    let whole = whole_is old (lines cut.front.now) tail (lines c.args.body.now) left c.cut_after_segments-cut.ensures in
+    let told = told_at base old tail (lines c.args.body.now) whole c.reading_of-reading.ensures.number c.reading_of-reading.ensures.light front later e is light said in
+    let left_told = told_after tail c.read_front.new.reading c.in-Ok.ensures.none_left (c.in-Ok.ensures.light tail e told) in
+    absurd (cc (c.in-Ok-read_tail.ensures.light base e left_told))
+
+pub returns-in-Err-placed-clause-light : goal.returns-in-Err-placed-clause-light
+returns-in-Err-placed-clause-light c = λ front later e is light said.
     let base = c.args.base.now in
     let cut = c.cut_after_segments-cut.result in
     let old = c.reading_of-reading.result in

@@ -4,6 +4,7 @@ use Rattle.std.specs.Str.Lines.{lines}
 use Rattle.std.proofs.lemmas.List.{append-nil, length-map}
 use Rattle.playlist_parse.specs.Inner.LineViews.{is_free, line_text}
 use Rattle.playlist_parse.specs.Inner.Reached.{Reached, Telling}
+use Rattle.playlist_parse.specs.Kept.{playlist_in}
 use Rattle.playlist_parse.proofs.Light.{is_over, told_after}
 use Rattle.playlist_parse.proofs.Reached.{none_more, told_whole}
 use Rattle.playlist_parse.proofs.GoingTo.{grown, if_ok}
@@ -23,7 +24,7 @@ returns-in-Ok-clause-answer c = λ base all here.
     let left : lines c.args.tail.now ≡ map line_text c.new-reading.result ++ [] = sym (append-nil (map line_text c.new-reading.result) ∙ c.new-reading.ensures.texts) in
     let begun = subst (λ ls. Reached base c.args.reading.progress c.args.reading.number ls all) left here in
     let new = c.read_all.new.reading in
-    c.playlist_of.ensures.answer base all (none_more new [] all c.in-Ok.ensures.none_left (c.in-Ok.ensures.reached base [] all begun))
+    c.whole_reading.ensures.answer base all (none_more new [] all c.in-Ok.ensures.none_left (c.in-Ok.ensures.reached base [] all begun))
 
 pub returns-in-Ok-clause-grown : goal.returns-in-Ok-clause-grown
 returns-in-Ok-clause-grown c = λ base all here.
@@ -31,10 +32,13 @@ returns-in-Ok-clause-grown c = λ base all here.
     let begun = subst (λ ls. Reached base c.args.reading.progress c.args.reading.number ls all) left here in
     let new = c.read_all.new.reading in
     let end = none_more new [] all c.in-Ok.ensures.none_left (c.in-Ok.ensures.reached base [] all begun) in
-    if_ok c.playlist_of.result _ _ (λ playlist ends. grown playlist here end (told_whole playlist end ends)) c.playlist_of.ensures.whole
+    if_ok c.whole_reading.result _ _ (λ read ends. grown (playlist_in read) here end (told_whole read end ends)) c.whole_reading.ensures.whole
 
-pub returns-in-Err-clause-answer : goal.returns-in-Err-clause-answer
-returns-in-Err-clause-answer c = λ base all here.
+pub returns-in-Ok-clause-front : goal.returns-in-Ok-clause-front
+returns-in-Ok-clause-front c = c.whole_reading.ensures.front
+
+pub returns-clause-answer : goal.returns-clause-answer
+returns-clause-answer c = λ base all here.
     let left : lines c.args.tail.now ≡ map line_text c.new-reading.result ++ [] = sym (append-nil (map line_text c.new-reading.result) ∙ c.new-reading.ensures.texts) in
     c.in-Err.ensures.reached base [] all (subst (λ ls. Reached base c.args.reading.progress c.args.reading.number ls all) left here)
 
@@ -44,7 +48,7 @@ returns-in-Ok-clause-light c = λ base e told.
     let begun = subst (λ ls. Telling base c.args.reading.progress c.args.reading.number ls e) left told in
     absurd (is_over (told_after [] c.read_all.new.reading c.in-Ok.ensures.none_left (c.in-Ok.ensures.light base [] e begun)))
 
-pub returns-in-Err-clause-light : goal.returns-in-Err-clause-light
-returns-in-Err-clause-light c = λ base e told.
+pub returns-clause-light : goal.returns-clause-light
+returns-clause-light c = λ base e told.
     let left : lines c.args.tail.now ≡ map line_text c.new-reading.result ++ [] = sym (append-nil (map line_text c.new-reading.result) ∙ c.new-reading.ensures.texts) in
     ap Err (c.in-Err.ensures.light base [] e (subst (λ ls. Telling base c.args.reading.progress c.args.reading.number ls e) left told))

@@ -1,0 +1,132 @@
+-- A channel that takes a playlist that was read.
+use Rattle.std.proofs.Common.{◌≡◌, ◌≤◌, ◌++◌, ℕ, Bool, true, List, map, length, Ok, ap, sym, ◌∙◌, subst, take, drop, arith}
+use Rattle.std.specs.Prelude.{◌&&◌, Option, None, Some, MatchOption}
+use Rattle.std.specs.List.{list_all}
+use Rattle.std.proofs.lemmas.Bool.{and_parts}
+use Rattle.std.proofs.lemmas.List.{take-append-drop}
+use Rattle.std.proofs.lemmas.List.Folds.{list_all-append}
+use Rattle.url.specs.Parts.{Parts}
+use Rattle.playlist_model.specs.declared.Segment.{Segment}
+use Rattle.playlist_model.specs.declared.DateRange.{DateRange}
+use Rattle.playlist_model.specs.Same.{kept_parts}
+use Rattle.playlist_model.specs.Reading.{reading, limited}
+use Rattle.read_is_writable.specs.Read.{uris_are_text}
+use Rattle.channel_spec.specs.Kept.{kept_refusal}
+use Rattle.channel_window.specs.Showing.{AreKept, IsLastEntered, kept_in}
+use Rattle.channel_window.specs.declared.state.ChannelState.{ChannelState}
+use Rattle.channel_window.specs.Checked.{AreContiguous, AreTaken}
+use Rattle.channel_window.specs.Listed.{segments_in}
+use Rattle.playlist_parse.specs.KeptLines.{KeptLines, WasRead}
+use Rattle.playlist_parse.specs.Kept.{AreKeptLines, IsAfter, IsKept, IsTakenFrom, kept_segments, playlist_in, with_taken}
+use Rattle.playlist_parse.specs.declared.read_playlist.Read.{Read}
+use Rattle.playlist_parse.specs.declared.source.Source.{Source}
+use Rattle.playlist_parse.specs.declared.step.Step.{Step}
+use Rattle.playlist_write.specs.declared.resumed.WrittenText.{WrittenText}
+use Rattle.live_channel.specs.declared.channel.Refreshed.{Refreshed}
+use Rattle.live_channel.specs.Channel.{Stands, IsListed, channel_with, told_by, text_in, Refreshes}
+use Rattle.live_channel.specs.Inner.Accepting.{Accepts, IsJudged, IsRead}
+use Rattle.live_channel.specs.LastText.{IsLaidOut}
+use Rattle.live_channel.proofs.Listing.{listed_next, contiguous_too}
+use Rattle.live_channel.proofs.LastEntered.{is_last_entered}
+use Rattle.live_channel.proofs.Rises.{rises_next}
+use Rattle.live_channel.proofs.Refreshing.{goes, read_rises, unrefused}
+use Rattle.live_channel.proofs.LastText.{stood_before, laid_next}
+
+-- what holds of a channel, but for what it keeps of the text that was read
+pub record IsSound (base : Parts) (tolerance : ℕ) (state : ChannelState) (written : Option WrittenText) : Type 0 where
+  pub stands : Stands (channel_with base tolerance state (text_in written))
+  pub kept : AreKept state.store state
+  pub contiguous : AreContiguous (segments_in state.list)
+  pub laid : IsLaidOut (kept_in state) written
+
+module _ (base : Parts) (tolerance : ℕ) (state : ChannelState) (written : Option WrittenText) (bytes : List ℕ) (read : Read) (sound : IsSound base tolerance state written)
+    (here : IsRead base bytes (playlist_in read)) where
+  pub judged : AreTaken (segments_in state.list) read.taken.now → read.front ≤ length read.playlist.segments → IsJudged tolerance state written read
+  judged taken front =
+      let s = sound.stands in
+      let p = playlist_in read in
+      record {
+        stood = stood_before base tolerance s.0 bytes p (kept_in state) written s.1.kept s.1.typed here.read sound.laid;
+        contiguous = here.numbers;
+        decided = sound.kept;
+        entered = subst IsLastEntered (sym s.1.kept) (is_last_entered (told_by base tolerance s.0));
+        rising = rises_next base tolerance s.0 bytes state p here.read s.1.kept s.1.typed;
+        last = sound.contiguous;
+        taken = taken;
+        front = front;
+      }
+
+  module _ (new : ChannelState) (text : Option WrittenText) (done : Refreshed) (taken : Accepts tolerance state (playlist_in read) new text done) where
+    pub is_listed : map kept_parts (segments_in new.list) ≡ map kept_parts (playlist_in read).segments
+    is_listed =
+        let s = sound.stands in
+        let p = playlist_in read in
+        let g = goes base tolerance state (text_in written) bytes p taken.held taken.next here taken.follows new done taken.state_is taken.done_is s in
+        let r = (g.refreshes s.0 s.1).stands in
+        let refused = unrefused base tolerance state (text_in written) bytes p taken.held taken.next here taken.follows in
+        listed_next base tolerance s.0 bytes p new r.typed here.read (ap (λ k. kept_refusal tolerance k p) (sym s.1.kept) ∙ refused) r.kept
+
+    pub is_sound : IsSound base tolerance new text
+    is_sound =
+        let s = sound.stands in
+        let p = playlist_in read in
+        let f = taken.follows in
+        let g = goes base tolerance state (text_in written) bytes p taken.held taken.next here f new done taken.state_is taken.done_is s in
+        let r = (g.refreshes s.0 s.1).stands in
+        let laid = laid_next base tolerance s.0 bytes p (kept_in state) (kept_in new) taken.next.written s.1.kept r.kept r.typed here.read f.succeeds f.accepted.fit f.accepted.laid in
+        subst (IsSound base tolerance new) (sym taken.written_is)
+        (record { stands = g.stands; kept = g.decided; contiguous = contiguous_too (segments_in new.list) p.segments is_listed here.numbers; laid = laid })
+
+    pub refreshes : Refreshes (channel_with base tolerance state (text_in written)) bytes (Ok done) (channel_with base tolerance new (text_in text))
+    refreshes =
+        let g = goes base tolerance state (text_in written) bytes (playlist_in read) taken.held taken.next here taken.follows new done taken.state_is taken.done_is sound.stands in
+        subst (λ w. Refreshes (channel_with base tolerance state (text_in written)) bytes (Ok done) (channel_with base tolerance new (text_in w))) (sym taken.written_is) g.refreshes
+
+-- ---- the texts of what was read and of what was taken over
+
+both : {a b : Bool} → a ≡ true → b ≡ true → (a && b) ≡ true
+both e f = grind (arith, e, f)
+
+texts_of : (front : ℕ) (read taken : List Segment) → list_all uris_are_text read ≡ true → list_all uris_are_text taken ≡ true → list_all uris_are_text (with_taken front read taken) ≡ true
+texts_of front read taken here there =
+    let parts = and_parts _ _ (sym (list_all-append uris_are_text (take front read) (drop front read)) ∙ ap (list_all uris_are_text) (take-append-drop front read) ∙ here) in
+    list_all-append uris_are_text (take front read) (taken ++ drop front read)
+    ∙ both parts.0 (list_all-append uris_are_text taken (drop front read) ∙ both there parts.1)
+
+pub read_as : (base : Parts) (bytes : List ℕ) (read : Read) → reading limited base bytes ≡ Ok (playlist_in read) → list_all uris_are_text read.playlist.segments ≡ true → list_all uris_are_text read.taken.now ≡ true
+    → IsRead base bytes (playlist_in read)
+read_as base bytes read is here there = record {
+  read = is;
+  texts = texts_of read.front read.playlist.segments read.taken.now here there;
+  numbers = read_rises base bytes (playlist_in read) is;
+}
+
+-- ---- what is kept of the text
+
+-- the step of a playlist that was read
+abbrev pub step_of : Read → Step
+step_of read = record { playlist = read.playlist; front = read.front; from = read.from; till = read.till; lines = read.lines }
+
+lines_kept : (base : Parts) (segments : List Segment) (ranges : List DateRange) (lines : Option KeptLines) (kept : KeptLines) → lines ≡ Some kept
+    → MatchOption lines (Unit {0}) (λ k. WasRead base k segments ranges) → WasRead base kept segments ranges
+lines_kept base segments ranges lines kept is h = subst (λ o. MatchOption o (Unit {0}) (λ k. WasRead base k segments ranges)) is h
+
+as_match : (base : Parts) (read : Read) (lines : Option KeptLines) → AreKeptLines base (playlist_in read) lines → MatchOption lines (Unit {0}) (λ k. WasRead base k (playlist_in read).segments (playlist_in read).date_ranges)
+as_match base read None h = h
+as_match base read (Some kept) h = h
+
+module _ (base : Parts) (read : Read) (last : Option Source) (taken : IsTakenFrom (kept_segments last) read) (lines : AreKeptLines base (playlist_in read) read.lines) where
+  segments_are : (source : Source) → IsAfter (step_of read) last source → source.segments.items ≡ (playlist_in read).segments
+  segments_are source a = a.segments ∙ ap (with_taken read.front read.playlist.segments) (sym taken)
+
+  pub kept_after : (next : Option Source) → MatchOption next (Unit {0}) (IsAfter (step_of read) last) → IsKept base next
+  kept_after None a = tt
+  kept_after (Some source) a =
+      let was = lines_kept base (playlist_in read).segments (playlist_in read).date_ranges read.lines source.lines a.lines (as_match base read read.lines lines) in
+      subst (λ xs. WasRead base source.lines xs source.date_ranges) (sym (segments_are source a))
+      (subst (WasRead base source.lines (playlist_in read).segments) (sym a.date_ranges) was)
+
+  pub listed_after : (next : Option Source) (new : ChannelState) → MatchOption next (Unit {0}) (IsAfter (step_of read) last) → map kept_parts (segments_in new.list) ≡ map kept_parts (playlist_in read).segments
+      → IsListed next new.list
+  listed_after None new a h = tt
+  listed_after (Some source) new a h = h ∙ ap (map kept_parts) (sym (segments_are source a))
