@@ -10,7 +10,7 @@ from dataclasses import dataclass
 
 import media
 from configured_lists import last_number
-from day_plant import Day, channels_of
+from day_plant import PROGRAMMES, Day
 from tools import write_aside
 
 STILL, LATE, AWAY = "AdspliceChannelStandsStill", "AdspliceChannelLate", "AdspliceChannelAway"
@@ -26,7 +26,7 @@ WAIT = 35.0  # seconds that a fault waits for its place in a break, at the most
 class Fault:
     """A fault: its name, the `programme` that it hits (all, if it is empty), a sentence, what does it and undoes it again, the alarms
     that may name it, whether one of them is due (else it heals before that), and how many seconds the packager's list has of the next
-    break when it begins (less than 0: before that; none: at any time)."""
+    break when it begins (less than 0: before that; none: at any time). `is_of_process`: it hits the other programmes of its process, too."""
 
     name: str
     programme: str
@@ -35,10 +35,13 @@ class Fault:
     alarms: tuple[str, ...] = ()
     into: float | None = None
     is_due: bool = True
+    is_of_process: bool = False
 
-    def channels(self) -> list[str]:
-        """The channels that it hits; none if it hits all."""
-        return channels_of(self.programme) if self.programme else []
+    def programmes(self, day: Day) -> list[str]:
+        """The programmes that it hits."""
+        if self.is_of_process:
+            return [it for it in PROGRAMMES if day.port_of(it) == day.port_of(self.programme)]
+        return [self.programme] if self.programme else list(PROGRAMMES)
 
     def happen(self, day: Day) -> float:
         """Lets it happen in its place, and ends it; answers when it began."""
@@ -150,8 +153,8 @@ FAULTS = (
     Fault("cut-way", "sport", "the way to one rendition is cut for 9 s, with a decision meanwhile", origin("first", "sport", "away", 9, range(2, 3)),
           (STILL, LATE, APART), -12),
     Fault("packager", "film", "the packager is away for 3 s, and begins again with number 0", packager_begins_again("film", 3), (STILL, LATE), is_due=False),
-    Fault("killed-in-break", "news", "adsplice is killed within a break, and started again after 1 s", lambda day: day.kill_adsplice("news", 1), (), 4, False),
-    Fault("stopped", "sport", "adsplice is stopped for 20 s", stopped(lambda day: day.plant.running[day.port_of("sport")].pid, 20), (PROCESS, STILL, LATE)),
+    Fault("killed-in-break", "news", "adsplice is killed within a break, and started again after 1 s", lambda day: day.kill_adsplice("news", 1), (), 4, False, True),
+    Fault("stopped", "sport", "adsplice is stopped for 20 s", stopped(lambda day: day.plant.running[day.port_of("sport")].pid, 20), (PROCESS, STILL, LATE), is_of_process=True),
     Fault("disk", "", "the disk of the as-run log and the journal is full for 25 s", disk_is_full, (UNWRITTEN, UNKEPT)),
     Fault("clock-back", "sport", "the packager's clock is 180 s behind for 25 s", relays("sport", 25, {"clock": -180.0}, {"clock": 0.0}), CLOCK),
     Fault("late-decision", "news", "a decision comes when its break has begun", decision("news", "late"), DECISIONS),

@@ -6,7 +6,6 @@ from dataclasses import dataclass, field
 
 from day_faults import Fault
 from day_measures import Alarm, Alarms, Audience, Lists, Story
-from day_plant import PROGRAMMES
 
 EQUAL = 10.0  # seconds after a fault's end in which renditions have to be equal
 NAMED = 30.0  # seconds in which an alarm has to name a fault
@@ -17,10 +16,12 @@ HEAD = """| What happened | Lists right again | Wrong with lists meanwhile | Pla
 
 @dataclass
 class Row:
-    """What was seen of a fault from its `begin` to the next one's (`next`): it was undone at `end`, and all lists were right `healed`
-    seconds later, renditions equal `equal` seconds later. `named` is the first of its alarms, with the seconds after its begin."""
+    """What was seen of a fault of the `programmes` from its `begin` to the next one's (`next`): it was undone at `end`, and all lists were
+    right `healed` seconds later, renditions equal `equal` seconds later. `named` is the first of its alarms, with the seconds after its
+    begin."""
 
     fault: Fault
+    programmes: list[str]
     begin: float
     end: float
     next: float
@@ -44,29 +45,33 @@ def rows_of(done: list[tuple[Fault, float, float]], over: float, lists: Lists, a
     """The rows of the faults that were `done`, each with its begin and end; the day was `over` at a moment."""
     rows = []
     for (fault, begin, end), following in zip(done, [*(it[1] for it in done[1:]), over]):
-        programmes = [fault.programme] if fault.programme else list(PROGRAMMES)
-        row = Row(fault, begin, end, following)
+        programmes = fault.programmes(lists.day)
+        row = Row(fault, programmes, begin, end, following)
         row.healed = lists.healed(programmes, end, following) - end
         row.equal = lists.healed(programmes, end, following, "apart") - end
         row.words = lists.words(programmes, begin, following)
         row.stories = audience.stories(programmes, begin, following)
-        rang = [it for it in (alarms.rang if alarms else []) if is_of(it, fault) and begin <= it.begin <= end + NAMED]
+        rang = [it for it in (alarms.rang if alarms else []) if is_of(it, row) and begin <= it.begin <= end + NAMED]
         first = min(rang, key=lambda it: it.begin, default=None)
         row.named = (first.name, first.begin - begin) if first else None
         rows.append(row)
     return rows
 
 
-def is_of(alarm: Alarm, fault: Fault) -> bool:
-    """Whether an alarm may be of a fault: it is one of its alarms, and names one of its channels, or a process."""
-    channels = fault.channels()
-    return alarm.name in fault.alarms and (not channels or alarm.label in channels or alarm.label == fault.programme or ":" in alarm.label)
+def is_of(alarm: Alarm, row: Row) -> bool:
+    """Whether an alarm may be of the fault of a row: it is one of its alarms, and names one of its channels, or a process."""
+    return alarm.name in row.fault.alarms and (alarm.label.partition("-")[0] in row.programmes or ":" in alarm.label)
 
 
 def false_ones(rows: Iterable[Row], alarms: Alarms) -> list[str]:
-    """The alarms that rang though no fault had them to."""
-    return [f"{it.name} of {it.label}" for it in alarms.rang
-            if not any(is_of(it, row.fault) and row.begin <= it.begin <= row.end + RINGS for row in rows)]
+    """The alarms that rang though no fault had them to, each with the fault before it."""
+    found, known = [], list(rows)
+    for it in alarms.rang:
+        if not any(is_of(it, row) and row.begin <= it.begin <= row.end + RINGS for row in known):
+            before = max((row for row in known if row.begin <= it.begin), key=lambda row: row.begin, default=None)
+            after = f"{it.begin - before.begin:.0f} s after the begin of {before.fault.name}" if before else "before any fault"
+            found.append(f"{it.name} of {it.label}, {after}")
+    return found
 
 
 def faults_of(rows: Iterable[Row], has_alarms: bool) -> list[str]:

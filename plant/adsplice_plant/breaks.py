@@ -27,7 +27,8 @@ class Break:
     (`is_ended`). What began it: its `name` by the standard, the segmentation `type` (none for a splice_insert and for a tag), the
     `event` and the `upid`. `number`: of its first segment. `latest`: the instant of the newest signal that spoke of it.
     `is_in_step`: its SCTE35-IN came before any segment after it. `others`: further attributes of its tag. `is_told`: its end was
-    told. `clock`: the media number of the last segment before the packager's clock changed, if it was put on the new clock."""
+    told. `clock`: the media number of the last segment before the packager's clock changed, if it was put on the new clock.
+    `said`: its start by the old one, if it had begun by that."""
 
     id: str
     start: int
@@ -45,6 +46,7 @@ class Break:
     others: str = ""
     is_told: bool = False
     clock: int | None = None
+    said: int | None = None
 
     def end(self) -> int | None:
         """Where it ends as far as that is known, by a signal or else by its planned duration."""
@@ -274,6 +276,7 @@ class Breaks:
             end = one.end()
             if end is not None and end > at:
                 one.until, one.is_ended = end, True
+            one.said = one.start if one.said is None else one.said
             one.start, one.latest, one.until, one.clock = one.start + by, one.latest + by, None if one.until is None else one.until + by, number
         self.known.sort(key=lambda it: it.start)
 

@@ -240,7 +240,7 @@ class Folder:
         """Moves away the files whose breaks have all been listed and are no more, of which `listed` are the IDs that are. One whose
         breaks haven't come stays, however old it is, and one that was refused."""
         gone = []
-        for it in [it for it in self.decisions.values() if it.kind == "breaks" and it.state in ("given", "new")]:
+        for it in [it for it in self.decisions.values() if it.kind == "breaks" and (it.state == "given" or it.state == "new" and it.ids)]:
             it.listed |= listed & set(it.ids)
             if not listed & set(it.ids) and it.listed >= set(it.ids):
                 if it.state == "given":

@@ -46,10 +46,20 @@ class Rendition(Channel):
     def put(self, what: str, body: bytes) -> Answer:
         """PUTs `body` to the channel (`what` is ``), or to its `origin` or `decisions`; those who wait for that go on."""
         answer = super().put(what, body)
+        self.beat_others()
+        return answer
+
+    def withdraw(self, name: str, why: str = "") -> Answer:
+        """As in Channel; those who wait for that go on."""
+        answer = super().withdraw(name, why)
+        self.beat_others()
+        return answer
+
+    def beat_others(self) -> None:
+        """Shows that the renditions which wait for this one go on."""
         for it in self.ladder.members:
             if it.waits:
                 it.beat()
-        return answer
 
     def answered(self) -> None:
         """The answer to a question is in the renditions' folders: gives it at once."""

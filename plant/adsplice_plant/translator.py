@@ -204,7 +204,7 @@ class Translator:
         """The EXT-X-DATERANGE of the break `one` in the list of `line`, which may be one from before the packager's clock changed."""
         end = one.end()
         planned = None if end is None else one.planned if one.planned is not None else end - one.start
-        text = f'ID="{one.id}",START-DATE="{instant_text(one.start)}"' + one.others
+        text = f'ID="{one.id}",START-DATE="{instant_text(one.start if one.said is None else one.said)}"' + one.others
         is_ended = one.is_ended and (one.clock is None or line.last > one.clock)
         text += f',END-DATE="{instant_text(one.until)}"' if is_ended and one.until is not None else ""
         text += f",PLANNED-DURATION={seconds_text(planned)}" if planned is not None else ""

@@ -78,7 +78,7 @@ class Asking:
 
     def sees(self, word):
         """Waits for a line that has `word`."""
-        return until(lambda: next((it for it in self.told if word in it), None), 10, f"{word} in {self.told}")
+        return until(lambda: next((it for it in self.told if word in it), None), 40, f"{word} in {self.told}")
 
     def lines(self):
         """What was told of questions, without the times of day."""
@@ -118,26 +118,26 @@ def test_a_break_that_was_decided_before_is_not_asked_for(room):
 
 
 def test_a_slow_server_is_waited_for_as_long_as_a_list_may_wait(room):
-    server = room.server(Decider(pause=1.0))
-    it = Asking(room, server.url)
-    assert 0.4 <= it.give(12) < 0.8
-    assert it.give(13) < 0.2 and not os.path.exists(f"{room.path}/1001.json")
-    it.sees("ask/1001 200 Late: answered after 1.")
-    assert it.answered.wait(1) and os.path.exists(f"{room.path}/1001.json") and len(server.questions) == 1
+    server = room.server(Decider(pause=4.0))
+    it = Asking(room, server.url, hold=0.9, timeout=20.0)
+    assert 0.9 <= it.give(12) < 3.5
+    assert it.give(13) < 0.9 and not os.path.exists(f"{room.path}/1001.json")
+    it.sees("ask/1001 200 Late: answered after ")
+    assert it.answered.wait(10) and os.path.exists(f"{room.path}/1001.json") and len(server.questions) == 1
 
 
 def test_a_list_waits_for_less_than_half_its_target_duration(room):
-    it = Asking(room, room.server(Decider(pause=3)).url, hold=60, timeout=1.5)
-    assert 0.8 <= it.give(12) < 1.4
+    it = Asking(room, room.server(Decider(pause=8)).url, hold=60, timeout=10)
+    assert 0.8 <= it.give(12) < 7
 
 
 def test_an_announced_break_holds_no_list(room):
     server = room.server(Decider(pause=1.5))
-    it = Asking(room, server.url, hold=0.9, timeout=5.0)
+    it = Asking(room, server.url, hold=0.9, timeout=20.0)
     style = named("dr-announced")
-    assert it.give(9, style=style) < 0.5 and until(lambda: server.questions, 2)
-    assert it.give(10, style=style) < 0.5
-    it.sees("ask/1001 200 -: answered after 1.")
+    assert it.give(9, style=style) < 0.9 and until(lambda: server.questions, 10)
+    assert it.give(10, style=style) < 0.9
+    it.sees(": answered after ")
 
 
 def test_what_a_server_may_do_wrong_is_one_line_each(room):
@@ -193,15 +193,17 @@ def test_whoever_watches_the_folder_answers_there(room):
 
     def watch():
         path = f"{room.path}/asked/1001.json"
-        until(lambda: os.path.exists(path), 5)
+        until(lambda: os.path.exists(path), 20)
         with open(path, encoding="utf-8") as file:
             room.write("whatever.json", decided((json.load(file)["id"], 5)))
 
     threading.Thread(target=watch, daemon=True).start()
-    assert it.give(11) < 0.5 and it.give(12) < 0.8 and it.signalling.asker.is_decided("1001")
+    it.give(11)
+    it.give(12)
+    until(lambda: it.signalling.asker.is_decided("1001"), 20, "its decision")
     assert it.lines() == ["news ask/1001 - Asked: asked/1001.json is there; its decision is expected in the folder"]
-    silent = Asking(room, "folder", hold=0.3)
-    assert 0.3 <= silent.give(12, style=named("cue-elemental")) < 0.8 and silent.give(13, style=named("cue-elemental")) < 0.2
+    silent = Asking(room, "folder", hold=0.9)
+    assert 0.9 <= silent.give(12, style=named("cue-elemental")) and silent.give(13, style=named("cue-elemental")) < 0.9
 
 
 def test_a_programme_is_asked_for_once_and_each_rendition_gets_its_own_uris(room):

@@ -535,6 +535,9 @@ def test_a_clock_that_changes_moves_announced_breaks_and_the_end_of_one_that_has
                 lines = [line for line in feed.lines if f" c{place} " in line]
                 raise AssertionError("\n".join([str(fault), controller.shown(f"c{place}"), *lines])) from None
     assert not any(" adsplice 4" in line for line in feed.lines), feed.lines
+    for place in range(6):  # (what has begun keeps its START-DATE, by which the as-run log finds it)
+        bodies = b"".join(body for method, path, body in controller.asked if path == f"/channels/c{place}/origin")
+        assert len(set(re.findall(rb'ID="b0",START-DATE="([^"]+)"', bodies))) == 1, cases[place]
 
 
 def test_a_feed_shows_that_it_goes_on(room):
