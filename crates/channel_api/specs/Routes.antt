@@ -8,11 +8,9 @@ use Rattle.matchit.specs.Router.{RouteOf}
 use Rattle.matchit.specs.Seek.{first}
 use Rattle.matchit.specs.declared.error.InsertError.{InsertError}
 use Rattle.matchit.specs.declared.error.InsertError.TheVariants.{OutOfMemory}
+use Rattle.spec_words.specs.Bytes.{hyphen}
 use Rattle.channel_api.specs.declared.routes.Resource.{Resource}
 use Rattle.channel_api.specs.declared.routes.Resource.TheVariants.{Channel, Origin, Decisions, Live, Why}
-
-abbrev pub hyphen : ℕ
-hyphen = 45
 
 abbrev pub slash : ℕ
 slash = 47

@@ -1,7 +1,6 @@
 //! The text of a playlist as it is written: made whole, or from the text that was written last. The lines of a segment depend on
 //! the segment before it alone, so those of segments that stood there are copied in one piece.
 ghost use Rattle.std.specs.Prelude.{◌≡◌, ◌++◌, ◌+◌, drop, take, length, IfOk, OnOk, IfSome, string_bytes};
-ghost use Rattle.std.specs.Option.{option_copied};
 ghost use Rattle.playlist_model.specs.LookBack.{or_earlier};
 ghost use Rattle.playlist_write.specs.Owed.{none_yet, said_text, segment_owed, segments_owed, after_segment, ended_owed, playlist_text};
 ghost use Rattle.playlist_write.specs.Laid.{after_segments, states_all, current_of, IsLaid, IsFrontLength, StandsAgain};
@@ -10,7 +9,7 @@ ghost use Rattle.playlist_write.specs.Inner.Laid.{front_text};
 use crate::header::{push_date_ranges, push_end};
 use crate::last_duration::LastDuration;
 use crate::room::room_for;
-use crate::segments::push_segment;
+use crate::segments::{init_section_in, push_segment};
 use crate::{OutPlaylist, front_of};
 use date_times::TimeWriter;
 use playlist_model::{InitSection, Keys, Segment, Shared, Text};
@@ -49,15 +48,6 @@ impl<'a> Model for InForce<'a> {
     ghost Value = { Current };
 
     ghost view = { λ a. record { keys = a.keys.now; init_section = a.init_section.now } };
-}
-
-fn init_section_in<'a>(init_section: &'a Option<Shared<InitSection>>) -> Option<&'a InitSection>
-    ensures { option_copied result ≡ init_section.now }
-{
-    match init_section {
-        Some(init_section) => Some(init_section),
-        None => None,
-    }
 }
 
 fn force_after<'a>(before: &InForce<'a>, segment: &'a Segment) -> InForce<'a>

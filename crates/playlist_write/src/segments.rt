@@ -200,11 +200,11 @@ pub fn push_segment<'a>(
     Ok(())
 }
 
-/// The initialisation section of `segment`, if it has one.
-pub fn init_section_of(segment: &Segment) -> Option<&InitSection>
-    ensures { option_copied result ≡ segment.now.init_section }
+/// What `init_section`, a segment's, holds, if it has one.
+pub fn init_section_in(init_section: &Option<Shared<InitSection>>) -> Option<&InitSection>
+    ensures { option_copied result ≡ init_section.now }
 {
-    match &segment.init_section {
+    match init_section {
         Some(init_section) => Some(init_section),
         None => None,
     }
