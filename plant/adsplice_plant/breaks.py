@@ -135,6 +135,15 @@ class Timeline:
         """Whether a segment is listed that begins at the `instant` or after it, or within half a segment before it."""
         return self.begins[-1] >= instant or self.nearest(instant) is self.segments[-1]
 
+    def will_have(self, instant: int) -> bool:
+        """Whether the `instant` is after the listed segments."""
+        return instant >= self.end - TOLERANCE
+
+    def place_of(self, instant: int) -> int:
+        """The segment to come that begins nearest to the `instant`, counted from the list's end, if they go on as the last one is."""
+        duration = max(1, self.segments[-1].duration)
+        return (instant - self.end + duration // 2) // duration
+
     def will_begin(self, instant: int) -> bool:
         """Whether a segment begins at the `instant` after the listed ones, if these go on as they are: it isn't known of segments
         that differ in their durations."""
@@ -143,7 +152,7 @@ class Timeline:
         if not duration or max(durations) - min(durations) > TOLERANCE // 2:
             return False
         rest = (instant - self.end) % duration
-        return instant >= self.end - TOLERANCE and min(rest, duration - rest) <= TOLERANCE
+        return self.will_have(instant) and min(rest, duration - rest) <= TOLERANCE
 
 
 def shown(text: str) -> str:
@@ -202,7 +211,7 @@ class Breaks:
         planned = self.duration_of(it)
         if self.named(it.id) or it.id in self.cancelled or planned is not None and start + planned <= line.first:
             return None  # (it is known, or was over before this list)
-        if before is not None and self.is_spoken_of(before, it, start, half, planned):
+        if before is not None and not self.is_next(before, it, start, line) and self.is_spoken_of(before, it, start, half, planned):
             return None
         if len(self.known) == MOST:
             self.too_many()
@@ -219,14 +228,20 @@ class Breaks:
             return None
         return planned
 
+    @staticmethod
+    def is_next(before: Break, it: Placed, start: int, line: Timeline) -> bool:
+        """Whether the signal `it` announces a break of an event of its own that begins at `start`, in another segment to come than the
+        announced break `before`: two that touch may be stated less than half a segment apart."""
+        event = it.signal.message.event
+        is_own = it.signal.message.type == before.type and event and before.event and event != before.event
+        return bool(is_own) and line.will_have(before.start) and line.place_of(start) != line.place_of(before.start)
+
     def is_spoken_of(self, before: Break, it: Placed, start: int, half: int, planned: int | None) -> bool:
         """Whether the signal `it`, at `start`, says once more that the break `before` begins or is open, or is of a span within it.
-        Then that break isn't over: with the same event, or without one, it is the same; with another type it is an inner one. (Two breaks
-        that are announced may touch, and the first one be short: each has its event.)"""
+        Then that break isn't over: with the same event, or without one, it is the same; with another type it is an inner one."""
         message = it.signal.message
         is_same = message.type == before.type and message.event in (0, before.event) or it.signal.is_cue and message.event == 0
-        is_other = message.type == before.type and message.event and before.event and not is_same and start - before.start > TOLERANCE
-        if start - before.start <= half and not is_other:
+        if start - before.start <= half:
             before.planned = planned if before.planned is None and before.until is None and is_same else before.planned
         elif before.is_over(start + half):
             return False

@@ -97,6 +97,7 @@ def test_a_break_is_asked_for_once_and_its_list_waits_for_the_answer(room):
     it.give(11)
     assert not server.questions
     assert 0.2 <= it.give(12)
+    until(lambda: os.path.exists(f"{room.path}/1001.json"), 20, "the answer")
     assert server.questions == [{"channel": "news", "id": "1001", "start": instant(24), "planned": 10, "event": 1001, "type": 0x34,
                                  "name": "Provider Placement Opportunity Start", "upid": "000000002CA0A18A", "target": 2, "renditions": []}]
     with open(f"{room.path}/1001.json", encoding="utf-8") as file:

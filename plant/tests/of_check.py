@@ -44,7 +44,7 @@ def checked(room, **settings):
             "fallback": room.write("fallback.json", FALLBACK)} | settings
     path = room.write("feed.ini", "[news]\n" + "".join(f"{name} = {value}\n" for name, value in said.items() if value))
     before = files(room.path)
-    status, out, err = room.run("adsplice-feed", "--check", "--config", path, "--timeout", "1.5")
+    status, out, err = room.run("adsplice-feed", "--check", "--config", path, "--timeout", "2.5")
     assert err == "" and files(room.path) == before, (err, set(files(room.path).items()) ^ set(before.items()))
     assert not ads.asked and not [it for it in controller.asked if it[0] != "GET"], (ads.asked, controller.asked)
     assert origin.count("GET", "/index.m3u8") <= 1
@@ -82,7 +82,7 @@ def test_each_fault_is_a_line(room):
     away = free_port()
     for settings, line in (
             ({"origin": f"http://127.0.0.1:{away}/i.m3u8"}, f"news origin wrong: http://127.0.0.1:{away}/i.m3u8: Connection refused"),
-            ({"origin": silent.url}, f"news origin wrong: {silent.url}: no answer within 1.5 s"),
+            ({"origin": silent.url}, f"news origin wrong: {silent.url}: no answer within 2.5 s"),
             ({"origin": error.url}, f"news origin wrong: {error.url}: the origin answers 503"),
             ({"origin": master.url}, f"news origin wrong: {master.url}: adsplice would refuse the list: P19 "),
             ({"origin": cut, "base": "http://h/i"}, f"news origin wrong: {cut}: the list is cut off within its last line"),

@@ -342,7 +342,7 @@ def push_on(ladder, controller, numbers, breaks, names=NAMES):
     """Writes lists of eight segments that end with each of `numbers`, for the renditions `names`, one after the other."""
     for newest in numbers:
         ladder.push(listed(max(0, newest - 7), newest, breaks), names)
-        until(lambda newest=newest: all(f"s{newest}.ts" in controller.shown(f"news-{name}") for name in names), 10, f"segment {newest}")
+        until(lambda newest=newest: all(f"s{newest}.ts" in controller.shown(f"news-{name}") for name in names), 60, f"segment {newest}")
 
 
 def test_ladder_that_came_apart_comes_together_though_a_break_is_always_listed(room):
@@ -386,9 +386,9 @@ def test_ladder_one_that_is_made_anew_after_a_pod_of_another_cut_is_not_apart(ro
     with controller.one_by_one:
         del controller.edge.channels["news-2"]  # (whose list begins with greater numbers than the feed's from now on)
     push_on(ladder, controller, range(18, 20), [("b2", 60, 4)])
-    ladder.push(listed(30, 30, name="t").replace("SEQUENCE:30", "SEQUENCE:0"), ("2",))  # (its packager was away, and begins again)
     push_on(ladder, controller, range(20, 31), (), ("1", "3"))
-    until(lambda: "t30.ts" in controller.shown("news-2"), 20, "the list of news-2")
+    ladder.push(listed(30, 30, name="t").replace("SEQUENCE:30", "SEQUENCE:0"), ("2",))  # (its packager was away, and begins again)
+    until(lambda: "t30.ts" in controller.shown("news-2"), 40, "the list of news-2")
     found = [media for media, _ in at_newest(controller)]
     assert found == [32] * 3 and not any("media numbers stay so" in line for line in ladder.feed.lines), (found, ladder.feed.lines)
 
@@ -435,7 +435,7 @@ def test_ladder_whose_packagers_clock_goes_back_within_a_break_has_equal_numbers
     for newest in range(5, 20):  # (one rendition's list comes later than the others')
         for names in (("1", "3"), ("2",)):
             ladder.push(by_clock(max(0, newest - 8), newest, breaks if newest < 18 else (), -180 if newest >= 8 else 0, True), names)
-            until(lambda: all(controller.shown(f"news-{it}").rstrip("\n").endswith("/" + owed[newest]) for it in names), 20, f"{owed[newest]} in {names}")
+            until(lambda: all(controller.shown(f"news-{it}").rstrip("\n").endswith("/" + owed[newest]) for it in names), 60, f"{owed[newest]} in {names}")
     assert at_newest(controller) == [(19, 4)] * 3, at_newest(controller)
 
 
