@@ -85,8 +85,9 @@ class Translator:
             names = {name for name, start in moved.items() if abs(start - before[name] - by) <= line.half(at)}
             self.breaks.turn_clock(at, by, number, names)
         for name, start in moved.items():
-            if (one := self.breaks.named(name)) is not None and (one.clock is None or one.clock != self.breaks.clock):
-                self.breaks.move(one, start, line, fresh)
+            one = self.breaks.named(name)
+            if one is not None and abs(one.start - start) > line.half(start) and not self.breaks.move(one, start, line, fresh):
+                self.stated[rendition][name] = before[name]  # (the segments of the new clock are still to come)
 
     def first_new(self, found: PackagedList, rendition: str) -> int:
         """The place of the first segment of the list `found` that the `rendition` hasn't listed before; past the last one if none is."""
