@@ -262,7 +262,7 @@ class Breaks:
         name = message.name() if is_section or not it.signal.is_cue else "a tag without a section"
         number = found.number if found else it.number
         new = Break(it.id or f"{message.event or 'cue'}-{number}", start, number, name, message.type, message.event, message.upid, planned,
-                    is_settled=found is not None or start < line.first or not line.aligns, latest=start, others=it.others)
+                    is_settled=found is not None or start < line.first or not line.aligns, latest=start, others=it.others, clock=self.clock)
         insort(self.known, new, key=lambda one: one.start)
         length = "without a duration" if planned is None else f"planned for {seconds_text(planned)} s"
         self.tell(f"breaks/{shown(new.id)}", "Begins", f"at {instant_text(start)}, {length} ({name})")

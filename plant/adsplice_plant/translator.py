@@ -194,7 +194,7 @@ class Translator:
             said[it.id] = it.said | said.get(it.id, {})
         if said.keys() & (self.breaks.cancelled | {it.id for it in self.breaks.known if not it.is_settled and it not in listed}):
             return False
-        if any(it.clock is not None for it in listed):
+        if any(it.said is not None for it in listed):
             return False
         earliest = line.first - TOLERANCE
         begun = {name for name, it in said.items() if is_leaving(it) and (packaged.instant_of(it["START-DATE"]) or 0) >= earliest}
