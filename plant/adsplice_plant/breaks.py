@@ -262,18 +262,19 @@ class Breaks:
         name = message.name() if is_section or not it.signal.is_cue else "a tag without a section"
         number = found.number if found else it.number
         new = Break(it.id or f"{message.event or 'cue'}-{number}", start, number, name, message.type, message.event, message.upid, planned,
-                    is_settled=found is not None or start < line.first or not line.aligns, latest=start, others=it.others)
+                    is_settled=found is not None or start < line.first or not line.aligns, latest=start, others=it.others, clock=self.clock)
         insort(self.known, new, key=lambda one: one.start)
         length = "without a duration" if planned is None else f"planned for {seconds_text(planned)} s"
         self.tell(f"breaks/{shown(new.id)}", "Begins", f"at {instant_text(start)}, {length} ({name})")
         return new
 
-    def move(self, one: Break, start: int, line: Timeline, fresh: int) -> None:
+    def move(self, one: Break, start: int, line: Timeline, fresh: int) -> bool:
         """The break `one` is said to begin at `start`, perhaps by another clock than before. It does, unless it has begun on `line` before
-        the place `fresh`, or in segments that have left it."""
-        half, begins = line.half(one.start), line.begins[:fresh]
-        if not begins or one.start < begins[0] - half or any(abs(it - one.start) <= half for it in begins):
-            return
+        the place `fresh`, or in segments that have left it, or would have begun by then. Whether it does."""
+        low = next((n for n in range(fresh - 1, 0, -1) if line.begins[n] < line.begins[n - 1]), 0)
+        half, begins = line.half(one.start), line.begins[low:fresh]
+        if not begins or one.start < begins[0] - half or any(abs(it - one.start) <= half for it in begins) or start < line.begins[-1] - half:
+            return False
         found, by = line.nearest(start), line.aligned(start) - one.start
         one.is_settled = found is not None or not line.aligns
         one.number = found.number if found else one.number
@@ -281,6 +282,7 @@ class Breaks:
         self.known.sort(key=lambda it: it.start)
         if by:
             self.tell(f"breaks/{shown(one.id)}", "Moved", f"to {instant_text(one.start)}: the packager states another START-DATE before it has begun")
+        return True
 
     def turn_clock(self, at: int, by: int, number: int, names: set[str]) -> None:
         """The packager's clock changed `by` so much at the instant `at`, after the segment of the media number `number`. What began before

@@ -85,8 +85,9 @@ class Translator:
             names = {name for name, start in moved.items() if abs(start - before[name] - by) <= line.half(at)}
             self.breaks.turn_clock(at, by, number, names)
         for name, start in moved.items():
-            if (one := self.breaks.named(name)) is not None and (one.clock is None or one.clock != self.breaks.clock):
-                self.breaks.move(one, start, line, fresh)
+            one = self.breaks.named(name)
+            if one is not None and abs(one.start - start) > line.half(start) and not self.breaks.move(one, start, line, fresh):
+                self.stated[rendition][name] = before[name]  # (the segments of the new clock are still to come)
 
     def first_new(self, found: PackagedList, rendition: str) -> int:
         """The place of the first segment of the list `found` that the `rendition` hasn't listed before; past the last one if none is."""
@@ -193,7 +194,7 @@ class Translator:
             said[it.id] = it.said | said.get(it.id, {})
         if said.keys() & (self.breaks.cancelled | {it.id for it in self.breaks.known if not it.is_settled and it not in listed}):
             return False
-        if any(it.clock is not None for it in listed):
+        if any(it.said is not None for it in listed):
             return False
         earliest = line.first - TOLERANCE
         begun = {name for name, it in said.items() if is_leaving(it) and (packaged.instant_of(it["START-DATE"]) or 0) >= earliest}

@@ -527,6 +527,9 @@ def test_a_clock_that_changes_moves_announced_breaks_and_the_end_of_one_that_has
     feed = room.feed("--config", room.write("feed.ini", f"[DEFAULT]\nat = {controller.url}\nbase = http://h/i.m3u8\nkeep = {room.path}/kept\n" + "".join(feeds)))
     for newest in range(5, 22):  # (the clock changes with segment 8, within b0, or with segment 11, between both)
         for place, (changes, ahead, is_each) in enumerate(cases):
+            if newest == changes and is_each:  # (the list is stated anew before its next segment comes; it is looked at four times in a second)
+                room.write(f"c{place}.m3u8", by_clock(max(0, newest - 9), newest - 1, breaks, ahead[1], is_each))
+                time.sleep(0.5)
             room.write(f"c{place}.m3u8", by_clock(max(0, newest - 8), newest, breaks if newest < 18 else (), ahead[newest >= changes], is_each))
         for place, case in enumerate(cases):
             try:
