@@ -1,5 +1,5 @@
 -- A run over one playlist, and what a channel was given.
-use Rattle.std.specs.Prelude.{ℕ, ◌-◌, ◌^◌, true, false, List, [], ◌∷◌, ◌++◌, map, replicate, codes, pos, Option, Some, None, option_map, Result, Ok, Err}
+use Rattle.std.specs.Prelude.{ℕ, ◌-◌, ◌^◌, Bool, true, false, List, [], ◌∷◌, ◌++◌, map, replicate, codes, pos, Option, Some, None, option_map, Result, Ok, Err}
 use Rattle.url.specs.Parts.{Parts}
 use Rattle.byte_streams.specs.Devices.{next_count}
 use Rattle.pod_store.specs.declared.Decisions.TheVariants.{Breaks, Withdraw}
@@ -71,8 +71,11 @@ UrisAreText = Gives uris_are_text (
     ∷ (record segment { keys = key (codes "a:k") ∷ key (codes "a:k") ∷ key (codes "a:k") ∷ key (codes "a:k") ∷ key (255 ∷ []) ∷ [] }, false) ∷ [])
 
 -- a whole URI without a control character is read, and between quotes one without a quote (4.2, 4.3.2.4)
+abbrev pub are_read : List ℕ → Bool × Bool
+are_read uri = (uri_reads uri, quoted_uri_reads uri)
+
 abbrev pub ReadUrisAreWhole : Type 0
-ReadUrisAreWhole = Gives (λ (uri : List ℕ). (uri_reads uri, quoted_uri_reads uri)) (
+ReadUrisAreWhole = Gives are_read (
     (codes "http://h/a", (true, true)) ∷ (codes "s0.ts", (false, false)) ∷ (codes "http://h/" ++ (127 ∷ []), (false, false)) ∷ (codes "http://h/\"", (true, false)) ∷ [])
 
 -- 4.3.3.2 and 4.3.3.3: a playlist has a segment, and numbers go up by one and by the discontinuities between
@@ -86,8 +89,11 @@ ReadNumbersRise = Gives numbers_read (
 
 -- whether such a segment is read, and whether it can be written: its URI is whole, its byte range ends below 2^64, and it lasts
 -- less than 1,000,000 s; what is written is UTF-8 too
+abbrev pub is_read_and_written : Segment → Bool × Bool
+is_read_and_written s = (segment_reads s, segment_can_be_written s)
+
 abbrev pub ReadSegmentsAreWritten : Type 0
-ReadSegmentsAreWritten = Gives (λ (s : Segment). (segment_reads s, segment_can_be_written s)) (
+ReadSegmentsAreWritten = Gives is_read_and_written (
     (segment, (true, true))
     ∷ (record segment { byte_range = Some (record { length = 5; offset = 3 }); keys = key (codes "a:k") ∷ []; title = codes "first"; program_date_time = Some (pos 0) }, (true, true))
     ∷ (record segment { uri = codes "s" }, (false, false))
