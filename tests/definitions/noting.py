@@ -5,7 +5,7 @@ import time
 from collections import defaultdict
 from typing import Any, Iterable
 
-MOST = 500  # (so many calls of an equation are noted in a row)
+MOST = 512  # (so many calls of an equation are noted in a row)
 WORTH = 3e-5  # (from so many seconds a call on it is quicker to look up what it gave)
 
 
