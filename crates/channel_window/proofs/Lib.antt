@@ -14,3 +14,5 @@ pub mod Starting
 pub mod TakenOver
 pub mod Few
 pub mod Since
+pub mod ListEnds
+pub mod NewItems

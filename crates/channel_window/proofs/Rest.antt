@@ -36,7 +36,7 @@ window_is_stitched store first ends marked place h =
     let size : length (stitched_segments store first ends marked) ≡ length items = length-map (reverse items) written_item ∙ length-reverse items in
     ap (map written_item) (reverse-take place items (omega (arith, h, size))) ∙ sym (drop-map written_item place (reverse items))
 
-written_fit : (items : List Item) → list_all item_fits (map written_item items) ≡ list_all fits items
+pub written_fit : (items : List Item) → list_all item_fits (map written_item items) ≡ list_all fits items
 written_fit [] = refl
 written_fit (item ∷ items) = ap (λ b. fits item && b) (written_fit items)
 

@@ -1,4 +1,5 @@
 pub mod Checked
+pub mod NewItems
 pub mod Listed
 pub mod Placing
 pub mod Terms

@@ -9,6 +9,7 @@ mod placing;
 mod row;
 mod showing;
 mod state;
+mod stepping;
 mod successor;
 mod writing;
 
@@ -17,8 +18,9 @@ pub use marking::text_in;
 pub use placing::place_of;
 pub use row::Row;
 pub use showing::{Showing, shown_with};
-pub use state::{Before, ChannelState, Shown};
+pub use state::{Before, ChannelState, Ending, Shown};
+pub use stepping::{SteppedList, end_within, run_end, stepped_of};
 pub use successor::{
     check_successor, first_number, first_shown, has_init_sections, have_init_sections,
 };
-pub use writing::{PlacedList, date_ranges_left, head_of, placed_of};
+pub use writing::{PlacedList, date_ranges_left, head_of, is_any_timed, placed_of};

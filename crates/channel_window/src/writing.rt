@@ -31,7 +31,10 @@ use playlist_parse::Read;
 use pod_store::{IdSet, PodStore};
 use std::alloc::{AllocError, Global};
 use std::hash::RandomState;
-use stitcher::{Ends, MarkedSegment, Numbers, Rest, StitchFault, StitchedList, TextRef, stitch_at};
+use stitcher::{
+    Ends, MarkedSegment, Numbers, Rest, StitchFault, StitchedItems, StitchedList, TextRef,
+    stitch_at,
+};
 
 // The stitched list of these segments between these ends, whose first item has these numbers.
 fn stitched<'a>(
@@ -58,8 +61,8 @@ fn stitched<'a>(
     }
 }
 
-// Another owner of a rest.
-fn copied_rest(rest: &Option<Rest>) -> Result<Option<Rest>, AllocError>
+/// Another owner of `rest`. Fails only if an allocation fails.
+pub(crate) fn copied_rest(rest: &Option<Rest>) -> Result<Option<Rest>, AllocError>
     ensures { IfOk result (λ r. r ≡ rest.now) }
 {
     let Some(rest) = rest else {
@@ -121,11 +124,13 @@ fn rest_of(
     }))
 }
 
-// Where a window starts in a stitched list, from 0, and the rest of a pod that it starts with.
+/// Where a window starts in a stitched list.
 #[derive(Drop)]
-struct Start {
-    place: usize,
-    rest: Option<Rest>,
+pub(crate) struct Start {
+    /// The place of its first item, from 0.
+    pub place: usize,
+    /// The rest of a pod that it starts with.
+    pub rest: Option<Rest>,
 }
 
 // The start of a window whose first segment has the number `number`, if the last window, of `stood` items, began with
@@ -163,9 +168,9 @@ fn later_start(
     Ok(Start { place, rest })
 }
 
-// The start of the window of the playlist that was `read` in the stitched list of `list`, after the rest (RFC 8216, section 6.2.2). The last
-// window had `stood` items.
-fn start_of(
+/// The start of the window of the playlist that was `read` in the stitched list of `list`, after the rest that a channel kept in
+/// `before` (RFC 8216, section 6.2.2). The last window had `stood` items. Fails only if an allocation fails.
+pub(crate) fn start_of(
     before: &Before<'_>,
     read: &Read<'_>,
     list: &[MarkedSegment],
@@ -267,7 +272,15 @@ pub fn placed_of<'a>(
 pub fn head_of(items: &StitchedList<'_>) -> Numbers
     ensures { result ≡ head_of items.now }
 {
-    match items.items().next() {
+    first_numbers_in(items.items())
+}
+
+/// The numbers of the first of `items`, which are still to come; all are 0 if there is none.
+pub(crate) fn first_numbers_in(items: StitchedItems<'_>) -> Numbers
+    ensures { result ≡ head_of items.entry }
+{
+    let mut items = items;
+    match items.next() {
         Some(first) => Numbers {
             media_sequence: first.media_sequence,
             discontinuity_sequence: first.discontinuity_sequence,
@@ -281,8 +294,8 @@ pub fn head_of(items: &StitchedList<'_>) -> Numbers
     }
 }
 
-// Mostly the first one states a time, if one does.
-fn is_any_timed(items: &StitchedList<'_>) -> bool
+/// Whether one of `items` states a time. Mostly the first one does, if one does.
+pub fn is_any_timed(items: &StitchedList<'_>) -> bool
     ensures { result ≡ list_any states_time items.now }
 {
     let mut items = items.items();

@@ -23,7 +23,8 @@ use Rattle.channel_spec.specs.Live.{states_instant, date_ranges_left}
 use Rattle.channel_spec.specs.Kept.{Kept, head_numbers, window_on, items_on, kept_items, kept_list, kept_length}
 use Rattle.channel_spec.specs.Live.{date_range_text}
 use Rattle.channel_window.specs.Marking.{so_far}
-use Rattle.channel_window.specs.Showing.{kept_in, IsShown}
+use Rattle.channel_window.specs.ListEnd.{IsLastEnding}
+use Rattle.channel_window.specs.Showing.{AreKept, kept_in, IsShown}
 use Rattle.channel_window.specs.declared.showing.Showing.{Showing}
 use Rattle.channel_window.specs.declared.state.ChannelState.{ChannelState}
 use Rattle.channel_window.specs.Listed.{head_of, states_time}
@@ -32,7 +33,8 @@ use Rattle.break_finder.specs.Breaks.{Break}
 use Rattle.live_channel.specs.declared.channel.Refreshed.{Refreshed}
 use Rattle.live_channel.specs.declared.next.NextState.{NextState}
 use Rattle.live_channel.specs.Channel.{refreshed_with, fresh_after}
-use Rattle.live_channel.specs.Inner.Accepting.{breaks_after, text_with_window, state_with, accepted_state, Accepts, Follows, HasGrown, IsNext, IsAccepted}
+use Rattle.live_channel.specs.Inner.Accepting.{breaks_after, text_with_window, state_with, accepted_state, Accepts, Follows, HasGrown, IsNext, IsReady, IsAccepted}
+use Rattle.live_channel.specs.Inner.LastText.{StoodIn}
 
 -- ---- items
 
@@ -109,6 +111,21 @@ accepted_as tolerance state before p held list showing (Err fault) shown e f n =
 pub before_is : (state before : ChannelState) (come list : List Held) (stood : ℕ) → stood ≡ length state.list → list ≡ state.list ++ come → before ≡ record state { list = take stood list } → before ≡ state
 before_is state before come list stood long list_is is =
     is ∙ ap (λ (xs : List Held). record state { list = xs }) (ap (take stood) list_is ∙ take_at state.list come stood (sym long))
+
+-- what is to hold when the window is written holds if these segments were put behind those that are shown
+pub ready : (tolerance : ℕ) (state before : ChannelState) (p : Playlist) (come list : List Held) (showing : Showing) (written : Option WrittenText) → before ≡ state → list ≡ state.list ++ come → IsShown tolerance state p (state.list ++ come) showing
+    → StoodIn (kept_in state) (kept_items tolerance (kept_in state) p) written → AreKept state.store state → IsLastEnding (kept_in state) state.shown.ending → IsReady before written p list showing.entered showing.so_far
+ready tolerance state before p come list showing written e f shown stood kept ending =
+    subst (λ (s : ChannelState). IsReady s written p list showing.entered showing.so_far) (sym e)
+    (subst (λ xs. IsReady state written p xs showing.entered showing.so_far) (sym f) (record {
+      stood = subst (λ items. StoodIn (kept_in state) items written) (sym (items_kept tolerance state p (state.list ++ come) showing shown)) stood;
+      stands = take_at state.list come (length state.list) refl;
+      decided = shown.decided;
+      rising = shown.rising;
+      entered_is = shown.entered;
+      rest = kept.1;
+      ending = ending;
+    }))
 
 -- the later ones of decided segments
 pub later_decided : (store : Store) (n : ℕ) (held : List Held) → AreDecided store held → AreDecided store (drop n held)

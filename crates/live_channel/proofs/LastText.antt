@@ -2,7 +2,7 @@
 use Rattle.std.proofs.Common.{◌≡◌, ℕ, ◌+◌, ◌-◌, ◌<◌, true, not, cond, List, [], ◌∷◌, ◌++◌, map, reverse, length, take, drop, refl, ap, sym, ◌∙◌, subst, arith}
 use Rattle.std.specs.Prelude.{Option, Some, None, Ok, Err, Result, is_none}
 use Rattle.std.specs.List.{AllByRecursion, list_all}
-use Rattle.std.proofs.lemmas.List.{map-append, reverse-append, take_at, length-map, length-reverse}
+use Rattle.std.proofs.lemmas.List.{append-nil, map-append, reverse-append, take_at, length-map, length-reverse}
 use Rattle.url.specs.Parts.{Parts}
 use Rattle.playlist_model.specs.declared.Playlist.{Playlist}
 use Rattle.channel_spec.specs.declared.heading.Heading.{Heading}
@@ -23,11 +23,17 @@ use Rattle.channel_spec.specs.Successor.{fault_if}
 use Rattle.channel_spec.specs.LiveLaws.{GoesOn}
 use Rattle.channel_spec.specs.Live.{Told, told, refusal, last_playlist, after_refresh, window_after}
 use Rattle.channel_spec.specs.Live as live
-use Rattle.channel_spec.specs.Kept.{Kept, kept_of, kept_succession, kept_items, kept_window, kept_refusal, window_by}
+use Rattle.channel_spec.specs.Kept.{Kept, kept_of, kept_succession, kept_after, kept_items, kept_length, kept_list, kept_window, kept_refusal, shown_from, window_by}
+use Rattle.channel_spec.specs.Successor.{first_number}
+use Rattle.pod_store.specs.Marks.{Marked}
+use Rattle.channel_window.specs.ListEnd.{IsEndingOf, IsLastEnding, has_ended, last_window}
+use Rattle.channel_window.specs.Showing.{kept_in}
+use Rattle.channel_window.specs.declared.state.ChannelState.{ChannelState}
+use Rattle.channel_window.specs.declared.state.Ending.{Ending}
 use Rattle.channel_spec.specs.LastWindow.{last_pieces, last_items}
 use Rattle.channel_spec.proofs.KeptWhole.{kept_follows, items_go_on}
 use Rattle.live_channel.specs.Channel.{Channel, Given, refreshed, readable, events_of, told_by, IsAsTyped, with_store, ChangesStore, ChangesStoreExactly}
-use Rattle.live_channel.specs.LastText.{IsLaidOut}
+use Rattle.live_channel.specs.LastText.{IsLaidOut, IsLast}
 use Rattle.live_channel.specs.Inner.LastText.{StoodIn, StoodBefore}
 use Rattle.live_channel.proofs.Steps.{all_given}
 
@@ -51,13 +57,21 @@ stood_by k items w (more, is) h =
     let turned : map written_item (reverse items) ≡ last ++ map written_item (reverse more) =
     ap (λ xs. map written_item (reverse xs)) is ∙ (ap (map written_item) (reverse-append more (last_items k)) ∙ map-append written_item (reverse (last_items k)) (reverse more)) in
     record {
+      on = (more, is);
       count = h.count ∙ long;
       stood = subst (λ xs. IsLaid xs w) (sym (ap (take w.count) turned ∙ take_at last (map written_item (reverse more)) w.count (sym h.count))) h;
     }
 
+nothing_before : (k : Kept) (items : List Item) → k.last ≡ None → GoesOn (last_items k) items
+nothing_before k items e = (items, sym (append-nil items) ∙ sym (ap (λ o. items ++ numbered k.numbers (last_pieces o k)) e))
+
 pub stood_before : (base : Parts) (tolerance : ℕ) (given : List Given) (bytes : List ℕ) (p : Playlist) (k : Kept) (written : Option WrittenText) → k ≡ kept_of (told_by base tolerance given) → AllByRecursion (IsAsTyped base) given
     → reading limited base bytes ≡ Ok p → IsLaidOut k written → StoodBefore tolerance k p written
-stood_before base tolerance given bytes p k None e typed read h = λ f. record { count = sym (ap (λ o. length (last_pieces o k)) h); stood = tt }
+stood_before base tolerance given bytes p k None e typed read h = λ f. record {
+  count = sym (ap (λ o. length (last_pieces o k)) h);
+  stood = tt;
+  on = nothing_before k (kept_items tolerance k p) h;
+}
 stood_before base tolerance given bytes p k (Some w) e typed read h =
     let there = kept_of (told_by base tolerance given) in
     let sound = is_read p (can_be_written limited base bytes p read) in
@@ -100,6 +114,25 @@ laid_next base tolerance given bytes p k k' w e e' typed read follows fit laid =
     let is = window_written base tolerance given bytes p typed read (ap (λ x. kept_refusal tolerance x p) (sym e) ∙ unrefused) in
     subst (λ xs. IsLaid (map written_item xs) w) (ap (λ x. kept_window tolerance x p) e ∙ (sym is ∙ ap (λ x. reverse (last_items x)) (sym e'))) laid
 
+-- and the end is known from which the list goes on then
+pub ending_next : (base : Parts) (tolerance : ℕ) (given : List Given) (bytes : List ℕ) (p : Playlist) (k k' : Kept) (e : Option Ending) → k ≡ kept_of (told_by base tolerance given) → k' ≡ kept_of (told_by base tolerance (refreshed bytes ∷ given))
+    → AllByRecursion (IsAsTyped base) (refreshed bytes ∷ given) → reading limited base bytes ≡ Ok p → kept_succession k p ≡ None → list_all fits (kept_items tolerance k p) ≡ true
+    → IsEndingOf (shown_from (first_number p.segments) (kept_list tolerance k p)) p.end_list (kept_length tolerance k p) (map written_item (kept_window tolerance k p)) e → IsLastEnding k' e
+ending_next base tolerance given bytes p k k' ending e e' typed read follows fit end =
+    let t = told_by base tolerance given in
+    let unrefused : kept_refusal tolerance k p ≡ None = ap (λ o. or_earlier o (fault_if (not (list_all fits (kept_items tolerance k p))) NumberRange)) follows ∙ ap (λ b. fault_if (not b) NumberRange) fit in
+    let there : kept_refusal tolerance (kept_of t) p ≡ None = ap (λ x. kept_refusal tolerance x p) (sym e) ∙ unrefused in
+    let sound = is_read p (can_be_written limited base bytes p read) in
+    let f = kept_follows tolerance p (events_of base given) (sound, all_given base given typed.1) in
+    let none : refusal tolerance t p ≡ None = sym f.refused ∙ there in
+    let is = window_written base tolerance given bytes p typed read there in
+    let now : told_by base tolerance (refreshed bytes ∷ given) ≡ told tolerance (live.refreshed p ∷ events_of base given) = ap (λ r. told tolerance (readable r ++ events_of base given)) read in
+    let after : k' ≡ kept_after tolerance k p = e' ∙ (ap kept_of now ∙ (sym (f.kept none) ∙ ap (λ x. kept_after tolerance x p) (sym e))) in
+    let window : map written_item (kept_window tolerance k p) ≡ last_window k' =
+    ap (map written_item) (ap (λ x. kept_window tolerance x p) e ∙ (sym is ∙ ap (λ x. reverse (last_items x)) (sym e'))) in
+    subst (λ (x : Kept). IsEndingOf x.shown (has_ended x.last) x.so_far (last_window k') ending) (sym after)
+    (subst (λ w. IsEndingOf (shown_from (first_number p.segments) (kept_list tolerance k p)) p.end_list (kept_length tolerance k p) w ending) window end)
+
 -- ---- decisions leave it
 
 pub laid_still : (old new : Kept) (written : Option WrittenText) → new.last ≡ old.last → last_items new ≡ last_items old → IsLaidOut old written → IsLaidOut new written
@@ -120,3 +153,19 @@ still old new (Err e) outcome h = ap (λ (c : Channel). last_items c.kept) h.0
 pub still_exactly : (old new : Channel) (result : Result (Unit {0}) DecisionFault) (outcome : Outcome Store) → ChangesStoreExactly old new result outcome → last_items new.kept ≡ last_items old.kept
 still_exactly old new (Ok u) outcome h = ap (λ (c : Channel). last_items c.kept) h.1 ∙ items_still old new.kept.store
 still_exactly old new (Err e) outcome h = ap (λ (c : Channel). last_items c.kept) h.0
+
+pub shown_still : (old new : Channel) (result : Result (Unit {0}) DecisionFault) (outcome : Outcome Store) → ChangesStore old new result outcome → new.kept.shown ≡ old.kept.shown
+shown_still old new (Ok u) outcome h = ap (λ (c : Channel). c.kept.shown) h.1
+shown_still old new (Err e) outcome h = ap (λ (c : Channel). c.kept.shown) h.0
+
+pub shown_exactly : (old new : Channel) (result : Result (Unit {0}) DecisionFault) (outcome : Outcome Store) → ChangesStoreExactly old new result outcome → new.kept.shown ≡ old.kept.shown
+shown_exactly old new (Ok u) outcome h = ap (λ (c : Channel). c.kept.shown) h.1
+shown_exactly old new (Err e) outcome h = ap (λ (c : Channel). c.kept.shown) h.0
+
+pub last_still : (old : ChannelState) (store : Store) (written : Option WrittenText) → (kept_in (record old { store = store })).shown ≡ (kept_in old).shown
+    → last_items (kept_in (record old { store = store })) ≡ last_items (kept_in old) → IsLast old written → IsLast (record old { store = store }) written
+last_still old store written s e h = record {
+  text = laid_still (kept_in old) (kept_in (record old { store = store })) written refl e h.text;
+  ending = subst (λ (xs : List Marked). IsEndingOf xs (has_ended old.last) old.shown.so_far (last_window (kept_in (record old { store = store }))) old.shown.ending) (sym s)
+      (subst (λ (xs : List Item). IsEndingOf (kept_in old).shown (has_ended old.last) old.shown.so_far (map written_item (reverse xs)) old.shown.ending) (sym e) h.ending);
+}

@@ -11,3 +11,4 @@ pub mod Rises
 pub mod LastText
 pub mod Listing
 pub mod Taking
+pub mod Windows

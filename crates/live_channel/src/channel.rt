@@ -64,9 +64,9 @@ impl Model for Channel {
     ghost use Rattle.channel_window.specs.Checked.{AreContiguous};
     ghost use Rattle.channel_window.specs.Listed.{segments_in};
     ghost use Rattle.channel_window.specs.Showing.{kept_in};
-    ghost use Rattle.live_channel.specs.LastText.{IsLaidOut};
+    ghost use Rattle.live_channel.specs.LastText.{IsLast};
 
-    ghost invariant = { λ a. Stands (channel_with a.base a.tolerance a.state (text_in a.written)) × AreKept a.state.store a.state × (IsListed a.source a.state.list × AreContiguous (segments_in a.state.list)) × IsLaidOut (kept_in a.state) a.written × IsKept a.base a.source };
+    ghost invariant = { λ a. Stands (channel_with a.base a.tolerance a.state (text_in a.written)) × AreKept a.state.store a.state × (IsListed a.source a.state.list × AreContiguous (segments_in a.state.list)) × IsLast a.state a.written × IsKept a.base a.source };
 }
 
 /// Why a channel can't be made.

@@ -1,5 +1,5 @@
 //! What a channel comes to by a refresh that shows these segments: what it keeps then, and the text that it writes.
-ghost use Rattle.std.specs.Prelude.{◌≡◌, IfOk, IfErr, false, drop, map};
+ghost use Rattle.std.specs.Prelude.{◌≡◌, ◌⊎◌, [], IfOk, IfErr, IfSome, true, false, drop, map};
 ghost use Rattle.std.specs.List.{list_all, list_any};
 ghost use Rattle.stitcher.specs.Stitched.{fits};
 ghost use Rattle.playlist_parse.specs.Kept.{playlist_in};
@@ -14,23 +14,25 @@ ghost use Rattle.channel_window.specs.Showing.{kept_before, kept_in};
 ghost use Rattle.channel_window.specs.Listed.{AreRising, IsRestDecided, RefusesList, states_time};
 ghost use Rattle.owed_is_denoted.specs.Owed.{out_playlist};
 ghost use Rattle.playlist_write.specs.Laid.{IsLaid};
-ghost use Rattle.live_channel.specs.Inner.Accepting.{IsNext};
+ghost use Rattle.channel_window.specs.Inner.NewItems.{IsEndOf};
+ghost use Rattle.live_channel.specs.Inner.Accepting.{IsNext, IsReady, IsWindow};
 ghost use Rattle.live_channel.specs.Inner.LastText.{Stood, StoodIn, StandIn, count_in};
 
 use crate::channel::Refreshed;
 use crate::in_use::breaks_in_use;
 use channel_spec::RefreshFault;
 use channel_window::{
-    Before, PlacedList, Showing, Shown, date_ranges_left, first_number, head_of, place_of_number,
-    placed_of,
+    Before, Ending, PlacedList, Showing, Shown, SteppedList, date_ranges_left, end_within,
+    first_number, head_of, is_any_timed, place_of_number, placed_of, run_end, stepped_of,
 };
+use fixed_duration::Nanos;
 use playlist_model::{Items, Playlist, Shared, Text};
 use playlist_parse::Read;
 use playlist_write::OutPlaylist;
-use playlist_write::resumed::{WrittenText, front_length, laid_after, laid_out};
+use playlist_write::resumed::{WrittenText, front_length, laid_after, laid_on, laid_out};
 use std::alloc::{AllocError, Global};
 use std::hash::RandomState;
-use stitcher::{MarkedSegment, StitchedList, TextRef};
+use stitcher::{MarkedSegment, Numbers, Rest, StitchedList, TextRef};
 
 /// What a channel comes to by an accepted refresh.
 #[derive(Drop)]
@@ -116,22 +118,16 @@ fn text_of(
     }
 }
 
-// The text of `playlist` with these date ranges and items in place of its own, and of the version 6 or more (RFC
-// 8216, section 7).
-fn text_with<'a>(
-    alloc: Global,
+// The playlist that is written of `playlist`, with these date ranges and items in place of its own, and of the version 6 or more
+// (RFC 8216, section 7).
+fn out_of<'a>(
     playlist: &Playlist,
     date_ranges: Vec<TextRef<'a>>,
     items: StitchedList<'a>,
-    again: &Option<Again<'_>>,
-) -> Result<WrittenText, AllocError>
-    requires { StandIn items again.now }
-    ensures text { IfOk result
-        (λ w. w.text ≡ playlist_text
-        (out_playlist playlist.now date_ranges.entry.items items.entry)) }
-    ensures laid { IfOk result (IsLaid items.entry) }
+) -> OutPlaylist<'a>
+    ensures { result ≡ out_playlist playlist.now date_ranges.entry.items items.entry }
 {
-    let out = OutPlaylist {
+    OutPlaylist {
         version: playlist.version.max(6),
         target_duration: playlist.target_duration,
         playlist_type: playlist.playlist_type,
@@ -139,26 +135,21 @@ fn text_with<'a>(
         end_list: playlist.end_list,
         date_ranges: Items::from_vec(date_ranges),
         segments: items,
-    };
-    text_of(alloc, &out, again)
+    }
 }
 
-// The text of a playlist with these items in place of its segments, without the date ranges of the breaks in use.
-fn text_without(
+// What is written of `playlist` with these items in place of its segments, without the date ranges of the breaks in use.
+fn written_of<'a>(
     alloc: Global,
     hashing: RandomState,
-    playlist: &Playlist,
+    playlist: &'a Playlist,
     in_use: &[Shared<Text>],
-    items: StitchedList<'_>,
-    again: &Option<Again<'_>>,
-) -> Result<WrittenText, AllocError>
-    requires { StandIn items again.now }
-    ensures text { IfOk result
-        (λ w. w.text ≡ playlist_text
-        (out_playlist playlist.now
+    items: StitchedList<'a>,
+) -> Result<OutPlaylist<'a>, AllocError>
+    ensures { IfOk result
+        (λ out. out ≡ out_playlist playlist.now
         (map date_range_text (date_ranges_left
-        (list_any states_time items.entry) in_use.now playlist.now.date_ranges)) items.entry)) }
-    ensures laid { IfOk result (IsLaid items.entry) }
+        (list_any states_time items.entry) in_use.now playlist.now.date_ranges)) items.entry) }
 {
     let date_ranges = date_ranges_left(
         alloc,
@@ -167,7 +158,181 @@ fn text_without(
         in_use,
         playlist.date_ranges.as_slice(),
     )?;
-    text_with(alloc, playlist, date_ranges, items, again)
+    Ok(out_of(playlist, date_ranges, items))
+}
+
+/// The window that is written after a refresh.
+#[derive(Drop)]
+pub struct NextWindow {
+    /// The numbers of its first item.
+    pub numbers: Numbers,
+    /// How many items it has.
+    pub count: usize,
+    /// The rest of a pod that it starts with.
+    pub rest: Option<Rest>,
+    /// The end from which the stitched list goes on with the next refresh, if one is known.
+    pub ending: Option<Ending>,
+    /// The breaks in use.
+    pub in_use: Vec<Shared<Text>>,
+    /// Its text.
+    pub written: WrittenText,
+}
+
+// Whether the date ranges that are written can be told from these items, the first of a window.
+fn tells_times(playlist: &Playlist, first: &StitchedList<'_>) -> bool
+    ensures { result ≡ true → (playlist.now.date_ranges ≡ [])
+        ⊎ (list_any states_time first.now ≡ true) }
+{
+    playlist.date_ranges.as_slice().is_empty() || is_any_timed(first)
+}
+
+// The window, if most of its text stands in the last one: its first segment, and what is new of the stitched list, are written.
+fn stepped_window(
+    alloc: Global,
+    before: &Before<'_>,
+    written: &Option<WrittenText>,
+    read: &Read<'_>,
+    list: &[MarkedSegment],
+    entered: &Option<Shared<Text>>,
+    lasted: Nanos,
+) -> Result<Option<NextWindow>, AllocError>
+    requires { IsReady (kept_before before.now) written.now (playlist_in read.now) list.now entered.now lasted }
+    ensures { IfOk result
+        (λ some. IfSome some
+        (IsWindow (kept_in (kept_before before.now)) (playlist_in read.now)
+        (so_far (kept_before before.now).store list.now) lasted)) }
+{
+    let Some(last) = written else {
+        return Ok(None);
+    };
+    let Some(ending) = &before.state.shown.ending else {
+        return Ok(None);
+    };
+    let Some(stepped) = stepped_of(alloc, before, read, list, lasted, last.count, ending)? else {
+        return Ok(None);
+    };
+    let SteppedList {
+        front,
+        start,
+        rest,
+        fresh,
+        count,
+        ending,
+    } = stepped;
+    let Some(length) = front_length(alloc, &front, start)? else {
+        return Ok(None);
+    };
+    let mut first = front;
+    first.leave_out(start);
+    if !tells_times(&read.playlist, &first) {
+        return Ok(None);
+    }
+    let numbers = head_of(&first);
+    let in_use = breaks_in_use(alloc, first_number(read), list, entered, &rest)?;
+    let hashing = before.state.store.hashing();
+    let out = written_of(alloc, hashing, &read.playlist, in_use.as_slice(), first)?;
+    let again = last.count - start;
+    let Some(written) = laid_on(alloc, &out, last, length, again, &fresh, count)? else {
+        return Ok(None);
+    };
+    Ok(Some(NextWindow {
+        numbers,
+        count,
+        rest,
+        ending,
+        in_use,
+        written,
+    }))
+}
+
+// The end from which a list goes on that was made whole. It is sought from the second refresh on: the first one's list would have to
+// be walked through.
+fn whole_end(
+    alloc: Global,
+    before: &Before<'_>,
+    read: &Read<'_>,
+    list: &[MarkedSegment],
+    lasted: Nanos,
+    items: &StitchedList<'_>,
+) -> Result<Option<Ending>, AllocError>
+    requires { AreDecided (kept_before before.now).store list.now }
+    ensures { IfOk result
+        (λ some. IfSome some
+        (IsEndOf (kept_before before.now).store (playlist_in read.now).end_list lasted list.now items.now)) }
+{
+    if before.list.is_empty() {
+        return Ok(None);
+    }
+    let (store, ended) = (&before.state.store, read.playlist.end_list);
+    run_end(alloc, store, list, ended, lasted, items)
+}
+
+// The window, of a stitched list that is made whole.
+fn whole_window(
+    alloc: Global,
+    before: &Before<'_>,
+    written: &Option<WrittenText>,
+    read: &Read<'_>,
+    list: &[MarkedSegment],
+    entered: &Option<Shared<Text>>,
+    lasted: Nanos,
+) -> Result<NextWindow, RefreshFault>
+    requires { IsReady (kept_before before.now) written.now (playlist_in read.now) list.now entered.now lasted }
+    ensures ok { IfOk result
+        (IsWindow (kept_in (kept_before before.now)) (playlist_in read.now)
+        (so_far (kept_before before.now).store list.now) lasted) }
+    ensures err { IfErr result
+        (λ e. RefusesList e (list_all fits
+        (items_on (kept_in (kept_before before.now)) (playlist_in read.now)
+        (so_far (kept_before before.now).store list.now) lasted)
+        ≡ false)) }
+{
+    let number = first_number(read);
+    let stood = count_in(written);
+    let PlacedList { whole, start, rest } = placed_of(alloc, before, read, list, lasted, stood)?;
+    let again = standing(alloc, written, &whole, start)?;
+    let end = whole_end(alloc, before, read, list, lasted, &whole)?;
+    let mut items = whole;
+    items.leave_out(start);
+    let in_use = breaks_in_use(alloc, number, list, entered, &rest)?;
+    let (numbers, count) = (head_of(&items), items.count());
+    let gone = place_of_number(number, list);
+    let hashing = before.state.store.hashing();
+    let out = written_of(alloc, hashing, &read.playlist, in_use.as_slice(), items)?;
+    Ok(NextWindow {
+        numbers,
+        count,
+        rest,
+        ending: end_within(end, list.len() - gone, count),
+        in_use,
+        written: text_of(alloc, &out, &again)?,
+    })
+}
+
+// The window, whichever way it is made.
+fn next_window(
+    alloc: Global,
+    before: &Before<'_>,
+    written: &Option<WrittenText>,
+    read: &Read<'_>,
+    list: &[MarkedSegment],
+    entered: &Option<Shared<Text>>,
+    lasted: Nanos,
+) -> Result<NextWindow, RefreshFault>
+    requires { IsReady (kept_before before.now) written.now (playlist_in read.now) list.now entered.now lasted }
+    ensures ok { IfOk result
+        (IsWindow (kept_in (kept_before before.now)) (playlist_in read.now)
+        (so_far (kept_before before.now).store list.now) lasted) }
+    ensures err { IfErr result
+        (λ e. RefusesList e (list_all fits
+        (items_on (kept_in (kept_before before.now)) (playlist_in read.now)
+        (so_far (kept_before before.now).store list.now) lasted)
+        ≡ false)) }
+{
+    match stepped_window(alloc, before, written, read, list, entered, lasted)? {
+        Some(window) => Ok(window),
+        None => whole_window(alloc, before, written, read, list, entered, lasted),
+    }
 }
 
 /// What a channel that kept `before` comes to by the playlist that was `read`, if it shows the segments `list` then, of which
@@ -181,14 +346,7 @@ pub fn next_of(
     list: &[MarkedSegment],
     showing: Showing,
 ) -> Result<NextState, RefreshFault>
-    requires stood { StoodIn (kept_in (kept_before before.now))
-        (items_on (kept_in (kept_before before.now)) (playlist_in read.now)
-        (so_far (kept_before before.now).store list.now) showing.so_far) written.now }
-    requires decided { AreDecided (kept_before before.now).store list.now }
-    requires rising { AreRising list.now }
-    requires entered { showing.entered
-        ≡ or_earlier (last_entered (so_far (kept_before before.now).store list.now)) (kept_before before.now).shown.entered }
-    requires rest { IsRestDecided (kept_before before.now).store (kept_before before.now).shown.rest }
+    requires { IsReady (kept_before before.now) written.now (playlist_in read.now) list.now showing.entered showing.so_far }
     ensures ok { IfOk result
         (λ next. IsNext (kept_in (kept_before before.now)) (playlist_in read.now) showing.knowledge list.now
         (so_far (kept_before before.now).store list.now) showing.so_far showing.fresh next) }
@@ -197,47 +355,26 @@ pub fn next_of(
         (items_on (kept_in (kept_before before.now)) (playlist_in read.now)
         (so_far (kept_before before.now).store list.now) showing.so_far) ≡ false)) }
 {
-    let number = first_number(read);
-    let stood = count_in(written);
-    let PlacedList { whole, start, rest } = placed_of(
-        alloc,
-        before,
-        read,
-        list,
-        showing.so_far,
-        stood,
-    )?;
-    let again = standing(alloc, written, &whole, start)?;
-    let mut items = whole;
-    items.leave_out(start);
-    let in_use = breaks_in_use(alloc, number, list, &showing.entered, &rest)?;
-    let numbers = head_of(&items);
+    let (entered, lasted) = (&showing.entered, showing.so_far);
+    let window = next_window(alloc, before, written, read, list, entered, lasted)?;
     let refreshed = Refreshed {
-        media_sequence: numbers.media_sequence,
-        segments: items.count(),
+        media_sequence: window.numbers.media_sequence,
+        segments: window.count,
         fresh: showing.fresh,
     };
-    let hashing = before.state.store.hashing();
-    let written = text_without(
-        alloc,
-        hashing,
-        &read.playlist,
-        in_use.as_slice(),
-        items,
-        &again,
-    )?;
     let shown = Shown {
         knowledge: showing.knowledge,
         entered: showing.entered,
-        numbers,
+        numbers: window.numbers,
         so_far: showing.so_far,
-        rest,
+        rest: window.rest,
+        ending: window.ending,
     };
     Ok(NextState {
-        gone: place_of_number(number, list),
+        gone: place_of_number(first_number(read), list),
         shown,
-        in_use,
+        in_use: window.in_use,
         refreshed,
-        written,
+        written: window.written,
     })
 }

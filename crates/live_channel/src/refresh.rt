@@ -7,6 +7,7 @@ ghost use Rattle.channel_spec.specs.Kept.{kept_items, kept_refusal, kept_success
 ghost use Rattle.channel_spec.specs.Successor.{answer_of};
 ghost use Rattle.channel_window.specs.Checked.{AreContiguous, AreTaken};
 ghost use Rattle.playlist_parse.specs.Kept.{AreKeptLines, IsKept, IsTakenFrom, kept_segments, playlist_in};
+ghost use Rattle.channel_window.specs.ListEnd.{IsLastEnding};
 ghost use Rattle.channel_window.specs.Showing.{AreKept, IsLastEntered, kept_in};
 ghost use Rattle.live_channel.specs.Inner.Accepting.{Accepts, Follows, HasGrown, IsAccepted, IsJudged, IsRead, Refused, RefusesNext, state_with};
 ghost use Rattle.channel_window.specs.Listed.{RefusesList, RisesOn, segments_in};
@@ -54,6 +55,7 @@ fn next_kept(
     requires rising { RisesOn state.old.list (playlist_in read.now).segments }
     requires taken { AreTaken (segments_in state.old.list) read.now.taken.now }
     requires front { read.now.front ≤ length read.now.playlist.segments }
+    requires ending { IsLastEnding (kept_in state.old) state.old.shown.ending }
     ensures ok { IfOk result
         (λ a. IsAccepted tolerance (kept_in state.old) (playlist_in read.now) state.new.list a) }
     ensures err { IfErr result

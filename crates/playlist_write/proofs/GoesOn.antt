@@ -104,6 +104,17 @@ kept_lines text front body back a kept from till t b f l =
     ∙ (ap (λ u. drop (length front + length a) (take (length front + length body) u)) t
     ∙ (ap (λ u. drop (length front + length a) (take (length front + length u) (front ++ (u ++ back)))) b ∙ cut front a kept back)))
 
+-- the lines before the segments tell of the first of these alone
+one_alone : {A : Type 0} (f : List OutSegment → A) → ((x : OutSegment) (xs : List OutSegment) → f (x ∷ xs) ≡ f (x ∷ [])) → (xs ys : List OutSegment) → take 1 xs ≡ take 1 ys → f xs ≡ f ys
+one_alone f h [] [] e = refl
+one_alone f h [] (y ∷ ys) e = absurd (cc)
+one_alone f h (x ∷ xs) [] e = absurd (cc)
+one_alone f h (x ∷ xs) (y ∷ ys) e = h x xs ∙ (ap f e ∙ sym (h y ys))
+
+pub front_with : (p : OutPlaylist) (segments : List OutSegment) → take 1 segments ≡ take 1 p.segments → front_text (record p { segments = segments }) ≡ front_text p
+unfolding front_text
+front_with p segments e = one_alone (λ xs. front_text (record p { segments = xs })) (λ x xs. refl) segments p.segments e
+
 whole_text : (p : OutPlaylist) (body : List ℕ) → front_text p ++ (body ++ said_text (ended_owed p.end_list)) ≡ with_feed (codes "#EXTM3U") ++ (said_text (header_owed p) ++ (date_ranges_text p.date_ranges ++ (body ++ said_text (ended_owed p.end_list))))
 unfolding front_text
 whole_text p body =

@@ -1,9 +1,10 @@
 //! The text of a playlist as it is written: made whole, or from the text that was written last. The lines of a segment depend on
 //! the segment before it alone, so those of segments that stood there are copied in one piece.
-ghost use Rattle.std.specs.Prelude.{◌≡◌, ◌++◌, ◌+◌, drop, take, length, IfOk, OnOk, IfSome, string_bytes};
+ghost use Rattle.std.specs.Prelude.{◌≡◌, ◌++◌, ◌+◌, List, drop, take, length, IfOk, OnOk, IfSome, string_bytes};
+ghost use Rattle.stitcher.specs.declared.OutSegment.{OutSegment};
 ghost use Rattle.playlist_model.specs.LookBack.{or_earlier};
 ghost use Rattle.playlist_write.specs.Owed.{none_yet, said_text, segment_owed, segments_owed, after_segment, ended_owed, playlist_text};
-ghost use Rattle.playlist_write.specs.Laid.{after_segments, states_all, current_of, IsLaid, IsFrontLength, StandsAgain};
+ghost use Rattle.playlist_write.specs.Laid.{after_segments, states_all, current_of, IsLaid, IsFrontLength, StandsAgain, HasEnds, IsTextWith};
 ghost use Rattle.playlist_write.specs.Inner.Laid.{front_text};
 
 use crate::header::{push_date_ranges, push_end};
@@ -182,11 +183,11 @@ fn length_of(text: &String) -> usize
 }
 
 #[tactic(auto, unfolding(crate::specs::Inner::Laid::front_text))]
-// The lines before the segments, in a text with room for all of the playlist.
-fn all_before(alloc: Global, playlist: &OutPlaylist<'_>) -> Result<String, AllocError>
+// The lines before the segments, in a text with so much room.
+fn all_before(alloc: Global, room: usize, playlist: &OutPlaylist<'_>) -> Result<String, AllocError>
     ensures { IfOk result (λ text. string_bytes text ≡ front_text playlist.now) }
 {
-    let mut text = front_of(alloc, room_for(playlist), playlist)?;
+    let mut text = front_of(alloc, room, playlist)?;
     push_date_ranges(&mut text, playlist.date_ranges.as_slice())?;
     Ok(text)
 }
@@ -197,7 +198,7 @@ pub fn laid_out(alloc: Global, playlist: &OutPlaylist<'_>) -> Result<WrittenText
     ensures text { IfOk result (λ w. w.text ≡ playlist_text playlist.now) }
     ensures laid { IfOk result (IsLaid playlist.now.segments) }
 {
-    let mut text = all_before(alloc, playlist)?;
+    let mut text = all_before(alloc, room_for(playlist), playlist)?;
     let from = length_of(&text);
     let (no_keys, no_init_section) = (Keys::none(), None);
     let nothing = InForce {
@@ -260,13 +261,15 @@ fn lines_after(last: &WrittenText, length: usize) -> Option<&str>
 }
 
 // The text of a playlist in three parts: its first segment is written, `lines` are copied, and `fresh` is written, with what
-// was in force at the end of the last text.
+// was in force at the end of the last text. It has `count` segments, and is given so much room.
 fn joined(
     alloc: Global,
+    room: usize,
     playlist: &OutPlaylist<'_>,
     last: &WrittenText,
     lines: &str,
     fresh: StitchedItems<'_>,
+    count: usize,
 ) -> Result<WrittenText, AllocError>
     ensures text { IfOk result
         (λ w. w.text ≡ front_text playlist.now
@@ -278,11 +281,11 @@ fn joined(
         (λ w. w.till ≡ length (front_text playlist.now
         ++ (said_text (segments_owed none_yet (take 1 playlist.now.segments))
         ++ (lines.now ++ said_text (segments_owed (current_of last.now) fresh.entry))))) }
-    ensures count { IfOk result (λ w. w.count ≡ length playlist.now.segments) }
+    ensures count { IfOk result (λ w. w.count ≡ count) }
     ensures end { IfOk result
         (λ w. current_of w ≡ after_segments (current_of last.now) fresh.entry) }
 {
-    let mut text = all_before(alloc, playlist)?;
+    let mut text = all_before(alloc, room, playlist)?;
     let from = length_of(&text);
     let (no_keys, no_init_section) = (Keys::none(), None);
     let nothing = InForce {
@@ -294,7 +297,6 @@ fn joined(
     let end = push_all(alloc, &mut text, force_at_end(last), fresh)?;
     let till = length_of(&text);
     push_end(&mut text, playlist.end_list)?;
-    let count = playlist.segments.count();
     with_end(alloc, text, from, till, count, &end)
 }
 
@@ -316,5 +318,32 @@ pub fn laid_after(
         return laid_out(alloc, playlist);
     };
     let fresh = playlist.segments.items_from(again);
-    Ok(joined(alloc, playlist, last, lines, fresh)?)
+    let (room, count) = (room_for(playlist), playlist.segments.count());
+    Ok(joined(alloc, room, playlist, last, lines, fresh, count)?)
+}
+
+/// The text of a playlist of `count` segments, of which lines are copied from `last`, the text that was written last. It is
+/// `playlist` with more segments: the first one is that of `playlist`, the first `again` are the last ones of `last`, and
+/// `fresh` come after these. `length` is what `front_length` gives for those in front of them, in bytes. None if `last`
+/// hasn't so many bytes. Fails only if an allocation fails.
+pub fn laid_on(
+    alloc: Global,
+    playlist: &OutPlaylist<'_>,
+    last: &WrittenText,
+    length: usize,
+    again: usize,
+    fresh: &StitchedList<'_>,
+    count: usize,
+) -> Result<Option<WrittenText>, AllocError>
+    ensures { IfOk result
+        (λ some. IfSome some (λ w. (segments : List OutSegment)
+        → HasEnds playlist.now last.now length again fresh.now count segments
+        → IsTextWith playlist.now segments w)) }
+{
+    let Some(lines) = lines_after(last, length) else {
+        return Ok(None);
+    };
+    let room = last.text.as_str().len().saturating_add(room_for(playlist));
+    let text = joined(alloc, room, playlist, last, lines, fresh.items(), count)?;
+    Ok(Some(text))
 }

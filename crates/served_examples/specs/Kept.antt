@@ -36,6 +36,7 @@ state = record {
     numbers = record { media_sequence = 8; discontinuity_sequence = 4; discontinuities = 2 };
     so_far = 7;
     rest = Some (record { id = codes "b"; place = 3 });
+    ending = None;
   };
 }
 

@@ -1,5 +1,5 @@
 -- What an accepted refresh comes to, as a channel holds it.
-use Rattle.std.specs.Prelude.{◌≡◌, ◌≢◌, ◌≤◌, ◌++◌, ℕ, List, true, drop, length, map, Option, Some, None, Ok, Err}
+use Rattle.std.specs.Prelude.{◌≡◌, ◌≢◌, ◌≤◌, ◌++◌, ℕ, List, true, drop, take, length, map, Option, Some, None, Ok, Err}
 use Rattle.std.specs.List.{list_all, list_any}
 use Rattle.playlist_model.specs.declared.Playlist.{Playlist}
 use Rattle.channel_spec.specs.declared.heading.Heading.{Heading}
@@ -29,13 +29,15 @@ use Rattle.channel_spec.specs.Successor.{heading_of, first_number}
 use Rattle.channel_spec.specs.Marking.{last_entered}
 use Rattle.channel_spec.specs.Kept.{Kept, kept_succession, shown_from, head_numbers, items_on, window_on, rest_after, kept_acceptance, kept_list, kept_length}
 use Rattle.live_channel.specs.declared.next.NextState.{NextState}
+use Rattle.live_channel.specs.declared.next.NextWindow.{NextWindow}
 use Rattle.channel_window.specs.Marking.{so_far}
 use Rattle.channel_window.specs.Showing.{AreKept, IsLastEntered, kept_in}
-use Rattle.channel_window.specs.Listed.{IsRestDecided, RisesOn, segments_in}
+use Rattle.channel_window.specs.Listed.{AreRising, IsRestDecided, RisesOn, segments_in}
+use Rattle.channel_window.specs.ListEnd.{IsEndingOf, IsLastEnding}
 use Rattle.channel_window.specs.Checked.{AreContiguous, AreTaken}
 use Rattle.playlist_parse.specs.Kept.{playlist_in}
 use Rattle.playlist_parse.specs.declared.read_playlist.Read.{Read}
-use Rattle.live_channel.specs.Inner.LastText.{StoodBefore}
+use Rattle.live_channel.specs.Inner.LastText.{StoodBefore, StoodIn}
 use Rattle.live_channel.specs.Channel.{refreshed_with, fresh_after, channel_with, Steps}
 use Rattle.channel_window.specs.declared.state.ChannelState.{ChannelState}
 
@@ -64,6 +66,31 @@ pub record IsNext (kept : Kept) (p : Playlist) (known : List Break) (held : List
   pub refreshed : next.refreshed ≡ refreshed_with (window_on kept p list so_long) fresh
   pub text : next.written.text ≡ text_with_window p (breaks_after kept p list) (window_on kept p list so_long)
   pub laid : IsLaid (map written_item (window_on kept p list so_long)) next.written
+  pub ending : IsEndingOf (shown_from (first_number p.segments) list) p.end_list so_long (map written_item (window_on kept p list so_long)) next.shown.ending
+
+-- the window of the stitched list of these segments, the newest run of which has lasted so long: its text is written, and each number
+-- of the list fits
+pub record IsWindow (kept : Kept) (p : Playlist) (list : List Marked) (so_long : ℕ) (w : NextWindow) : Type 0 where
+  pub fit : list_all fits (items_on kept p list so_long) ≡ true
+  pub in_use : NameTheSame w.in_use.items (breaks_after kept p list)
+  pub numbers : w.numbers ≡ head_numbers (window_on kept p list so_long)
+  pub count : w.count ≡ length (window_on kept p list so_long)
+  pub rest : rest_in kept.store w.rest ≡ rest_after kept p list
+  pub rest_decided : IsRestDecided kept.store w.rest
+  pub text : w.written.text ≡ text_with_window p (breaks_after kept p list) (window_on kept p list so_long)
+  pub laid : IsLaid (map written_item (window_on kept p list so_long)) w.written
+  pub ending : IsEndingOf (shown_from (first_number p.segments) list) p.end_list so_long (map written_item (window_on kept p list so_long)) w.ending
+
+-- what holds when the window of these segments is to be written: some of them stood in the last text, this break was entered last, and the
+-- newest run has lasted so long
+pub record IsReady (state : ChannelState) (written : Option WrittenText) (p : Playlist) (held : List Held) (entered : Option (List ℕ)) (lasted : ℕ) : Type 0 where
+  pub stood : StoodIn (kept_in state) (items_on (kept_in state) p (so_far state.store held) lasted) written
+  pub stands : take (length state.list) held ≡ state.list
+  pub decided : AreDecided state.store held
+  pub rising : AreRising held
+  pub entered_is : entered ≡ or_earlier (last_entered (so_far state.store held)) state.shown.entered
+  pub rest : IsRestDecided state.store state.shown.rest
+  pub ending : IsLastEnding (kept_in state) state.shown.ending
 
 -- what it comes to by an accepted refresh, after which these segments are shown
 abbrev pub IsAccepted : ℕ → Kept → Playlist → List Held → NextState → Type 0
@@ -121,6 +148,7 @@ pub record IsJudged (tolerance : ℕ) (state : ChannelState) (written : Option W
   pub last : AreContiguous (segments_in state.list)
   pub taken : AreTaken (segments_in state.list) read.taken.now
   pub front : read.front ≤ length read.playlist.segments
+  pub ending : IsLastEnding (kept_in state) state.shown.ending
 
 -- ---- the segments that are shown, before a refresh is accepted
 

@@ -5,7 +5,8 @@ use Rattle.stitcher.specs.Stitched.{Item}
 use Rattle.stitcher.specs.Written.{written_item}
 use Rattle.stitcher.specs.declared.OutSegment.{OutSegment}
 use Rattle.channel_spec.specs.Kept.{Kept, kept_succession, kept_items}
-use Rattle.channel_spec.specs.LastWindow.{last_pieces}
+use Rattle.channel_spec.specs.LastWindow.{last_items, last_pieces}
+use Rattle.channel_spec.specs.LiveLaws.{GoesOn}
 use Rattle.playlist_write.specs.declared.resumed.WrittenText.{WrittenText}
 use Rattle.playlist_write.specs.Laid.{IsLaid, StandsAgain}
 use Rattle.live_channel.specs.declared.next.Again.{Again}
@@ -24,6 +25,7 @@ Stood segments (Some w) = IsLaid (take w.count segments) w
 pub record StoodIn (kept : Kept) (items : List Item) (written : Option WrittenText) : Type 0 where
   pub count : count_in written ≡ length (last_pieces kept.last kept)
   pub stood : Stood (map written_item (reverse items)) written
+  pub on : GoesOn (last_items kept) items
 
 -- the same of a refresh, if it may follow the last one
 abbrev pub StoodBefore : ℕ → Kept → Playlist → Option WrittenText → Type 0

@@ -5,7 +5,7 @@ use Rattle.channel_spec.specs.Marking.{Moment}
 use Rattle.channel_spec.specs.Successor.{has_init_sections}
 use Rattle.playlist_parse.specs.Kept.{playlist_in}
 use Rattle.channel_window.specs.declared.showing.Showing.{Showing}
-use Rattle.channel_window.specs.Marking.{so_far, mark_on, length_after}
+use Rattle.channel_window.specs.Marking.{mark_on, length_after}
 use Rattle.channel_window.proofs.ShownWith.{newest_entered, shown_is}
 use Rattle.channel_window.proofs.showing.shown_with.Goals as goal
 

@@ -10,24 +10,18 @@ use Rattle.channel_window.specs.Listed.{RefusesList}
 use Rattle.channel_window.specs.Marking.{so_far}
 use Rattle.channel_window.specs.Showing.{kept_before, kept_in}
 use Rattle.live_channel.specs.Inner.Accepting.{IsAccepted}
-use Rattle.live_channel.specs.Inner.LastText.{StoodIn}
-use Rattle.live_channel.proofs.Accepting.{accepted_as, before_is, items_kept}
+use Rattle.live_channel.proofs.Accepting.{accepted_as, before_is, items_kept, ready}
 use Rattle.live_channel.proofs.refresh.next_kept.Goals as goal
 
-pub next_of-requires-clause-stood : goal.next_of-requires-clause-stood
-next_of-requires-clause-stood c =
+pub next_of-requires : goal.next_of-requires
+next_of-requires c =
     let s = c.args.state.now in
     let p = (playlist_in c.args.read.now) in
-    let showing = c.in_ok-showing.showing in
-    let long = showing.so_far in
-    let come = showing.come.items in
+    let come = c.in_ok-showing.showing.come.items in
     let list = c.as_slice-list.result.now in
-    let written = c.args.written.now in
     let list_is : list ≡ s.list ++ come = c.as_slice-list.ensures ∙ c.in_ok-append.ensures.ok in
     let before : kept_before c.before-before.result ≡ s = before_is s (kept_before c.before-before.result) come c.append.new.self c.len-stood.result c.len-stood.ensures c.in_ok-append.ensures.ok c.before-before.ensures in
-    subst (λ (x : ChannelState). StoodIn (kept_in x) (items_on (kept_in x) p (so_far x.store list) long) written) (sym before)
-    (subst (λ (xs : List Held). StoodIn (kept_in s) (items_on (kept_in s) p (so_far s.store xs) long) written) (sym list_is)
-    (subst (λ items. StoodIn (kept_in s) items written) (sym (items_kept c.args.tolerance s p (s.list ++ come) showing c.in_ok-showing.ensures)) c.requires.stood))
+    ready c.args.tolerance s (kept_before c.before-before.result) p come list c.in_ok-showing.showing c.args.written.now before list_is c.in_ok-showing.ensures c.requires.stood c.requires.decided c.requires.ending
 
 pub returns-clause-ok : goal.returns-clause-ok
 returns-clause-ok c =

@@ -1,10 +1,9 @@
-use Rattle.std.proofs.Common.{refl, subst}
+use Rattle.std.proofs.Common.{subst}
 use Rattle.live_channel.specs.Channel.{Channel, channel_with, Decides, decided, after_bytes, ChangesStore, StandsOn, text_in}
 use Rattle.live_channel.proofs.Typed.{said_alone}
 use Rattle.live_channel.proofs.Owed.{decides}
 use Rattle.live_channel.proofs.Deciding.{decide_answered}
-use Rattle.channel_window.specs.Showing.{kept_in}
-use Rattle.live_channel.proofs.LastText.{still, laid_still}
+use Rattle.live_channel.proofs.LastText.{last_still, shown_still, still}
 use Rattle.live_channel.proofs.channel.Channel.decide.Goals as goal
 
 pub invariant_of-self : goal.invariant_of-self
@@ -14,7 +13,8 @@ invariant_of-self c =
     let a = decide_answered i.base i.tolerance i.state (text_in i.written) i.state.store c.decide.new.self c.args.bytes.now c.in_ok-decisions.decisions c.decide.result g c.in_ok-decisions.ensures.said c.decide.ensures.changes c.self.invariant.0 c.self.invariant.1 in
     let new = record i.state { store = c.decide.new.self } in
     let same = still (channel_with i.base i.tolerance i.state (text_in i.written)) (channel_with i.base i.tolerance new (text_in i.written)) c.decide.result (after_bytes i.state.store c.args.bytes.now) a.changes in
-    (a.stands, a.decided, c.self.invariant.2, laid_still (kept_in i.state) (kept_in new) i.written refl same c.self.invariant.3, c.self.invariant.4)
+    let shown = shown_still (channel_with i.base i.tolerance i.state (text_in i.written)) (channel_with i.base i.tolerance new (text_in i.written)) c.decide.result (after_bytes i.state.store c.args.bytes.now) a.changes in
+    (a.stands, a.decided, c.self.invariant.2, last_still i.state c.decide.new.self i.written shown same c.self.invariant.3, c.self.invariant.4)
 
 pub returns-clause-changes : goal.returns-clause-changes
 returns-clause-changes c =

@@ -1,10 +1,9 @@
-use Rattle.std.proofs.Common.{refl, subst}
+use Rattle.std.proofs.Common.{subst}
 use Rattle.pod_store.specs.Store as store
 use Rattle.live_channel.specs.Channel.{Channel, channel_with, Withdraws, withdrawn, ChangesStoreExactly, AlwaysStandsOn, text_in}
 use Rattle.live_channel.proofs.Owed.{withdraws}
 use Rattle.live_channel.proofs.Deciding.{withdraw_answered}
-use Rattle.channel_window.specs.Showing.{kept_in}
-use Rattle.live_channel.proofs.LastText.{still_exactly, laid_still}
+use Rattle.live_channel.proofs.LastText.{last_still, shown_exactly, still_exactly}
 use Rattle.live_channel.proofs.channel.Channel.withdraw.Goals as goal
 
 pub invariant_of-self : goal.invariant_of-self
@@ -13,7 +12,8 @@ invariant_of-self c =
     let a = withdraw_answered i.base i.tolerance i.state (text_in i.written) i.state.store c.withdraw.new.self c.args.id.now c.withdraw.result c.withdraw.ensures c.self.invariant.0 c.self.invariant.1 in
     let new = record i.state { store = c.withdraw.new.self } in
     let same = still_exactly (channel_with i.base i.tolerance i.state (text_in i.written)) (channel_with i.base i.tolerance new (text_in i.written)) c.withdraw.result (store.withdrawn i.state.store c.args.id.now) a.changes in
-    (a.stands, a.decided, c.self.invariant.2, laid_still (kept_in i.state) (kept_in new) i.written refl same c.self.invariant.3, c.self.invariant.4)
+    let shown = shown_exactly (channel_with i.base i.tolerance i.state (text_in i.written)) (channel_with i.base i.tolerance new (text_in i.written)) c.withdraw.result (store.withdrawn i.state.store c.args.id.now) a.changes in
+    (a.stands, a.decided, c.self.invariant.2, last_still i.state c.withdraw.new.self i.written shown same c.self.invariant.3, c.self.invariant.4)
 
 pub returns-clause-changes : goal.returns-clause-changes
 returns-clause-changes c =
