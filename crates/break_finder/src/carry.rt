@@ -13,7 +13,7 @@ ghost use Rattle.break_finder.specs.Inner.Known.{break_stands, with_tag, AreSaid
 use crate::described::{Described, and_tag, nothing_said, says_nothing_new};
 use crate::kept::{Breaks, kept_for};
 use indexmap::IndexMap;
-use playlist_model::DateRange;
+use playlist_model::{DateRange, Shared};
 use pod_store::IdSet;
 use std::alloc::{AllocError, Global};
 use std::hash::RandomState;
@@ -40,7 +40,7 @@ fn add_id<'a>(ids: &mut IdSet<'a>, tag: &'a DateRange) -> Result<(), AllocError>
 fn ids_of<'a>(
     alloc: Global,
     hashing: RandomState,
-    date_ranges: &'a [DateRange],
+    date_ranges: &'a [Shared<DateRange>],
 ) -> Result<IdSet<'a>, AllocError>
     ensures { IfOk result
         (λ ids. (id : List ℕ) → is_one_of ids id ≡ list_any (is_tag_of id) date_ranges.now) }
@@ -102,7 +102,7 @@ fn add_tag(alloc: Global, breaks: &mut Breaks, tag: &DateRange) -> Result<(), Al
 pub fn add_tags(
     alloc: Global,
     breaks: &mut Breaks,
-    date_ranges: &[DateRange],
+    date_ranges: &[Shared<DateRange>],
 ) -> Result<(), AllocError>
     ensures { OnOk result (map break_at breaks.new.entries
         ≡ fold with_tag (map break_at breaks.old.entries) date_ranges.now) }
@@ -128,7 +128,7 @@ fn is_said(id: &str, said: &Described, tag: &DateRange) -> bool
 
 /// Whether each of `date_ranges` is a tag of the break at its place among `breaks`, and says nothing that isn't said of it
 /// already. So it mostly is from refresh to refresh. Takes no memory.
-pub fn are_said(breaks: &Breaks, date_ranges: &[DateRange]) -> bool
+pub fn are_said(breaks: &Breaks, date_ranges: &[Shared<DateRange>]) -> bool
     ensures said { result ≡ true → AreSaid (map break_at breaks.now.entries) date_ranges.now }
     ensures unique { IsUnique string_eq breaks.now }
 {
@@ -153,7 +153,7 @@ pub fn are_said(breaks: &Breaks, date_ranges: &[DateRange]) -> bool
 pub fn standing(
     alloc: Global,
     breaks: &Breaks,
-    date_ranges: &[DateRange],
+    date_ranges: &[Shared<DateRange>],
     carried: Option<&str>,
 ) -> Result<Breaks, AllocError>
     ensures standing { IfOk result

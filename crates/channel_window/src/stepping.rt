@@ -289,7 +289,7 @@ fn next_end(
     }
 }
 
-/// An end, if its segments are among the last `segments`, and its items among the last `items`.
+/// The end `end`, if its segments are among the last `segments`, and its items among the last `items`.
 pub fn end_within(end: Option<Ending>, segments: usize, items: usize) -> Option<Ending>
     ensures { IfSome result
         (λ e. (end ≡ Some e) × (e.segments ≤ segments) × (e.items ≤ items)) }

@@ -391,7 +391,7 @@ fn numbers_on(
 fn texts_left<'a>(
     alloc: Global,
     set: &IdSet<'_>,
-    date_ranges: &'a [DateRange],
+    date_ranges: &'a [Shared<DateRange>],
 ) -> Result<Vec<TextRef<'a>>, AllocError>
     ensures { IfOk result (λ v. v.items ≡ texts_left set.now date_ranges.now) }
 {
@@ -461,7 +461,7 @@ fn push_other<'a, 'b>(
 fn texts_of_others<'a>(
     alloc: Global,
     ids: &[Shared<Text>],
-    date_ranges: &'a [DateRange],
+    date_ranges: &'a [Shared<DateRange>],
 ) -> Result<Vec<TextRef<'a>>, AllocError>
     ensures { IfOk result (λ v. v.items ≡ texts_left ids.now date_ranges.now) }
 {
@@ -485,7 +485,7 @@ pub fn date_ranges_left<'a>(
     hashing: RandomState,
     items: &StitchedList<'_>,
     ids: &[Shared<Text>],
-    date_ranges: &'a [DateRange],
+    date_ranges: &'a [Shared<DateRange>],
 ) -> Result<Vec<TextRef<'a>>, AllocError>
     ensures { IfOk result
         (λ v. v.items ≡ map date_range_text

@@ -127,12 +127,6 @@ ready tolerance state before p come list showing written e f shown stood kept en
       ending = ending;
     }))
 
--- the later ones of decided segments
-pub later_decided : (store : Store) (n : ℕ) (held : List Held) → AreDecided store held → AreDecided store (drop n held)
-later_decided store zero held h = h
-later_decided store (suc n) [] h = tt
-later_decided store (suc n) (m ∷ later) h = later_decided store n later h.1
-
 -- ---- a refresh is accepted
 
 pub accepts : (tolerance : ℕ) (old grown new : ChannelState) (p : Playlist) (last : Heading) (next : NextState) (written : Option WrittenText) (result : Result Refreshed RefreshFault) → HasGrown old grown → Follows tolerance (kept_in old) p grown.list next → last ≡ heading_of p

@@ -255,8 +255,8 @@ pub struct Playlist {
     pub independent_segments: bool,
     /// Whether no segment will follow: EXT-X-ENDLIST.
     pub end_list: bool,
-    /// The date ranges, in their order.
-    pub date_ranges: Items<DateRange>,
+    /// The date ranges, in their order. One that the next playlist states again has two owners.
+    pub date_ranges: Items<Shared<DateRange>>,
     /// The segments, in their order. The list has several owners: the playlist in which it was read, and each of its segments
     /// that is shown.
     pub segments: Shared<Items<Segment>>,

@@ -7,7 +7,7 @@ ghost use Rattle.playlist_parse.specs.Inner.DateRanges.{Adds, AreSaid, StandsAt}
 
 use crate::date_range::date_range_of;
 use crate::source::up_to;
-use playlist_model::{DateRange, FaultKind, Items, Text};
+use playlist_model::{DateRange, FaultKind, Items, Shared};
 use std::alloc::{AllocError, Global};
 use std::marker::Model;
 
@@ -17,7 +17,7 @@ const FEW: usize = 8;
 /// Date ranges that were read: each is what its attributes say.
 #[derive(Drop)]
 pub struct Known<'a> {
-    list: &'a [DateRange],
+    list: &'a [Shared<DateRange>],
 }
 
 impl<'a> Model for Known<'a> {
@@ -34,7 +34,7 @@ impl<'a> Model for Known<'a> {
 
 impl<'a> Known<'a> {
     /// The date ranges of `list`.
-    pub fn of(list: &'a [DateRange]) -> Known<'a>
+    pub fn of(list: &'a [Shared<DateRange>]) -> Known<'a>
         requires { AreSaid list.now }
     {
         Known { list }
@@ -46,44 +46,23 @@ impl<'a> Known<'a> {
     }
 }
 
-fn copied_text(text: &Option<Text>) -> Result<Option<Text>, AllocError>
-    ensures { IfOk result (λ copy. copy ≡ text.now) }
-{
-    match text {
-        Some(text) => Ok(Some(text.clone()?)),
-        None => Ok(None),
-    }
-}
-
-fn copied_date_range(date_range: &DateRange) -> Result<DateRange, AllocError>
-    ensures { IfOk result (λ copy. copy ≡ date_range.now) }
-{
-    Ok(DateRange {
-        id: date_range.id.clone()?,
-        start: date_range.start,
-        end: date_range.end,
-        duration: date_range.duration,
-        planned_duration: date_range.planned_duration,
-        scte35_out: copied_text(&date_range.scte35_out)?,
-        scte35_in: copied_text(&date_range.scte35_in)?,
-        attributes: date_range.attributes.clone()?,
-    })
-}
-
-// Puts copies of these after a list.
-fn copy_date_ranges(list: &mut Vec<DateRange>, more: &[DateRange]) -> Result<(), AllocError>
+// Puts these after a list, which is an owner of each then.
+fn share_date_ranges(
+    list: &mut Vec<Shared<DateRange>>,
+    more: &[Shared<DateRange>],
+) -> Result<(), AllocError>
     ensures { OnOk result (list.new.items ≡ list.old.items ++ more.now) }
 {
     let mut rest = more;
     while let Some((date_range, later)) = rest.split_first() {
-        list.push(copied_date_range(date_range)?)?;
+        list.push(date_range.clone()?)?;
         rest = later;
     }
     Ok(())
 }
 
 // Whether the date range at a place has these attributes, word for word.
-fn stands_at(known: &[DateRange], place: usize, rest: &str) -> bool
+fn stands_at(known: &[Shared<DateRange>], place: usize, rest: &str) -> bool
     ensures { result ≡ true → StandsAt known.now place rest.now }
 {
     match known.get(place) {
@@ -94,7 +73,7 @@ fn stands_at(known: &[DateRange], place: usize, rest: &str) -> bool
 
 #[tactic(auto, using(crate::proofs::DateRanges::said_later))]
 // The known date ranges from the first of the next few that has these attributes, or all of them.
-fn from_next<'a>(known: &'a [DateRange], rest: &str) -> &'a [DateRange]
+fn from_next<'a>(known: &'a [Shared<DateRange>], rest: &str) -> &'a [Shared<DateRange>]
     requires { AreSaid known.now }
     ensures { AreSaid result.now }
 {
@@ -112,7 +91,7 @@ fn from_next<'a>(known: &'a [DateRange], rest: &str) -> &'a [DateRange]
 }
 
 // The known date ranges, so many of which are met: before one is, some that don't stand again may be passed over.
-fn to_meet<'a>(known: &'a [DateRange], met: usize, rest: &str) -> &'a [DateRange]
+fn to_meet<'a>(known: &'a [Shared<DateRange>], met: usize, rest: &str) -> &'a [Shared<DateRange>]
     requires { AreSaid known.now }
     ensures said { AreSaid result.now }
     ensures met { take met result.now ≡ take met known.now }
@@ -126,11 +105,11 @@ fn to_meet<'a>(known: &'a [DateRange], met: usize, rest: &str) -> &'a [DateRange
 /// The date ranges of a text as far as it is read.
 #[derive(Drop)]
 pub struct DateRanges<'a> {
-    // Known ones, the first of which are met in the text: they aren't copied before the text is read.
-    known: &'a [DateRange],
+    // Known ones, the first of which are met in the text: they have no owner more before the text is read.
+    known: &'a [Shared<DateRange>],
     met: usize,
     // Those that were read after them.
-    list: Vec<DateRange>,
+    list: Vec<Shared<DateRange>>,
 }
 
 impl<'a> Model for DateRanges<'a> {
@@ -193,19 +172,19 @@ impl<'a> DateRanges<'a> {
             return Ok(());
         }
         let date_range = date_range_of(alloc, rest)?;
-        self.list.push(date_range)?;
+        self.list.push(Shared::new(alloc, date_range)?)?;
         Ok(())
     }
 
-    /// Puts copies of `more` after them. Fails only if an allocation fails.
-    pub fn append_copies(&mut self, more: &[DateRange]) -> Result<(), AllocError>
+    /// Puts `more` after them, each with an owner more. Fails only if an allocation fails.
+    pub fn append_shared(&mut self, more: &[Shared<DateRange>]) -> Result<(), AllocError>
         ensures { OnOk result (self.new ≡ self.old ++ more.now) }
     {
-        copy_date_ranges(&mut self.list, more)
+        share_date_ranges(&mut self.list, more)
     }
 
     /// A list of them. Fails only if an allocation fails.
-    pub fn into_items(self, alloc: Global) -> Result<Items<DateRange>, AllocError>
+    pub fn into_items(self, alloc: Global) -> Result<Items<Shared<DateRange>>, AllocError>
         ensures { IfOk result (λ items. items ≡ self.entry) }
     {
         let DateRanges { known, met, list } = self;
@@ -214,7 +193,7 @@ impl<'a> DateRanges<'a> {
         }
         let mut list = list;
         let mut all = Vec::with_capacity(alloc, met.saturating_add(list.len()))?;
-        copy_date_ranges(&mut all, up_to(known, met))?;
+        share_date_ranges(&mut all, up_to(known, met))?;
         all.append(&mut list)?;
         Ok(Items::from_vec(all))
     }

@@ -548,14 +548,14 @@ impl<'a> Progress<'a> {
         self.state.stands_at(stop)
     }
 
-    /// Goes to `stop`, under `heading` and with the `date_ranges` and the `segments` up to it, of which the former are copied.
+    /// Goes to `stop`, under `heading` and with the `date_ranges` and the `segments` up to it, of which the former have an owner more.
     /// False if the first numbers of this playlist don't lead there, or if segments were taken over before; all is then as
     /// it was. Fails only if an allocation fails.
     pub fn go_to(
         &mut self,
         heading: &ReadHeading,
         stop: &Stop,
-        date_ranges: &[DateRange],
+        date_ranges: &[Shared<DateRange>],
         segments: &'a [Member<Segment>],
     ) -> Result<bool, AllocError>
         ensures gone { IfOk result
@@ -569,7 +569,7 @@ impl<'a> Progress<'a> {
         if !self.state.go_to(stop)? {
             return Ok(false);
         }
-        self.date_ranges.append_copies(date_ranges)?;
+        self.date_ranges.append_shared(date_ranges)?;
         swap(&mut self.front, &mut self.back);
         self.taken = segments;
         self.version = heading.version;

@@ -69,7 +69,7 @@ pub struct Source {
     /// Its segments.
     pub segments: Vec<Member<Segment>>,
     /// Its date ranges.
-    pub date_ranges: Items<DateRange>,
+    pub date_ranges: Items<Shared<DateRange>>,
 }
 
 #[tactic(auto, using(crate::proofs::GoingTo::dropped_all))]
