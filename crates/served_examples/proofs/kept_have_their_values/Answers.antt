@@ -33,3 +33,19 @@ returns-clause-segments_are_held c = refl
 pub returns-clause-shown_are_meant : goal.returns-clause-shown_are_meant
 unfolding on_literals
 returns-clause-shown_are_meant c = λ it. refl
+
+pub returns-clause-runs_begin : goal.returns-clause-runs_begin
+unfolding on_literals
+returns-clause-runs_begin c = refl
+
+pub returns-clause-ends_are_told : goal.returns-clause-ends_are_told
+unfolding on_literals
+returns-clause-ends_are_told c = refl
+
+pub returns-clause-first_numbers_are_told : goal.returns-clause-first_numbers_are_told
+unfolding on_literals
+returns-clause-first_numbers_are_told c = refl
+
+pub returns-clause-last_windows_are_told : goal.returns-clause-last_windows_are_told
+unfolding on_literals
+returns-clause-last_windows_are_told c = refl
