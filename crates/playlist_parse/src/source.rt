@@ -21,7 +21,7 @@ use crate::progress::{Progress, ReadHeading};
 use crate::read_playlist::{Places, Read, placed};
 use crate::reader::{Reading, fault_at, read_all, read_some, reading_of, whole_reading};
 use playlist_model::{
-    DateRange, FaultKind, Items, MAX_BYTES, Member, PlaylistFault, Segment, Text, text_of,
+    DateRange, FaultKind, Items, MAX_BYTES, Member, PlaylistFault, Segment, Shared, Text, text_of,
 };
 use segment_state::Stop;
 use std::alloc::{AllocError, Global};
