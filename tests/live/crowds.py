@@ -17,10 +17,12 @@ import threading
 import time
 
 MAX_SECONDS = 1.0  # that a good client waits, on a busy machine
+MAX_BEHIND_PUSHES = 0.1  # and a viewer beside clients that push, at the best of three tries
 # Seconds until a request was sent. A client that the machine holds up for longer is silent meanwhile: if no place is left, the
 # server gives it up for those that came after it, without a reply.
 LATE = 0.001
 WHY = b"/channels/a/why"
+LIVE = b"/channels/a/live.m3u8"
 EVERYBODY = "4294967295"
 
 
@@ -152,6 +154,30 @@ def large_bodies(server):
     return them
 
 
+def asking(server, count, request, seconds=1.0):
+    """So many clients, which ask this again and again."""
+    end = time.monotonic() + seconds
+
+    def again():
+        while time.monotonic() < end:
+            try:
+                server.ask(request)
+            except OSError:
+                pass  # (it was given up)
+
+    them = [threading.Thread(target=again, daemon=True) for _ in range(count)]
+    for it in them:
+        it.start()
+    for it in them:
+        it.join()
+
+
+# It is refused, as its version is another one than that of the channel's list.
+SMALL = b"#EXTM3U\n#EXT-X-VERSION:7\n#EXT-X-TARGETDURATION:10\n#EXT-X-MEDIA-SEQUENCE:9999\n#EXTINF:10,\nx\n"
+PUSH = b"PUT /channels/large/origin HTTP/1.1\r\nContent-Length: %d\r\n\r\n%s" % (len(SMALL), SMALL)
+REASONS = b"GET /channels/ranges/why HTTP/1.1\r\n\r\n"
+PUSHES = {"128 that push small texts": (128, PUSH), "32 that ask why of 24,000 breaks": (32, REASONS)}
+
 CROWDS = {"600 silent clients": silent, "200 that send a byte at a time": byte_at_a_time,
           "100 that read nothing of 4 MB": reading_nothing, "351 that reset at each stage": resetting,
           "a flood of 20,000": flooding, "40 bodies of 4 MiB less a byte": large_bodies}
@@ -165,6 +191,27 @@ def begun(run_live, program, **given):
     if made != (run_live.CREATED, run_live.CREATED) or server.put(b"/channels/large/origin", window) != run_live.NO_CONTENT:
         raise OSError("the server didn't take its channels")
     return server
+
+
+def behind_pushes(run_live, program, name):
+    """How long a viewer's read of a list waits beside these."""
+    server = begun(run_live, program, stderr=subprocess.DEVNULL)
+    try:
+        list_of_one = b"#EXTM3U\n#EXT-X-TARGETDURATION:10\n#EXTINF:10,\na.ts\n"
+        tags = b"".join(b'#EXT-X-DATERANGE:ID="%05d",START-DATE="2024-05-01T12:00:00Z"\n' % number for number in range(24_000))
+        made = [server.put(b"/channels/ranges", run_live.BASE), server.put(b"/channels/a/origin", list_of_one),
+                server.put(b"/channels/ranges/origin", list_of_one.replace(b"#EXTINF", tags + b"#EXTINF"))]
+        if made != [run_live.CREATED, run_live.NO_CONTENT, run_live.NO_CONTENT]:
+            return ["the server didn't take its lists"]
+        for _ in range(3):
+            with Beside(server, LIVE) as good:
+                asking(server, *PUSHES[name])
+            found = good.differences(name)
+            if found or good.longest <= MAX_BEHIND_PUSHES:
+                return found
+        return [f"a viewer waited {good.longest:.3f} s"]
+    finally:
+        server.stop()
 
 
 def beside(run_live, program, name):
@@ -214,6 +261,7 @@ def unread_faults(run_live, program):
 def cases(run_live, program):
     """The crowds by name, each a function that gives what is wrong."""
     found = {f"beside {name}": lambda name=name: beside(run_live, program, name) for name in CROWDS}
+    found |= {f"a viewer beside {name}": lambda name=name: behind_pushes(run_live, program, name) for name in PUSHES}
     found["no files left"] = lambda: no_files(run_live, program)
     found["faults that nobody reads"] = lambda: unread_faults(run_live, program)
     return found

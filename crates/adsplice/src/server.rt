@@ -7,8 +7,8 @@ ghost use Rattle.connections.specs.Runs.{HasRun};
 use crate::client::{fault_at, was_granted};
 use crate::faults::Faults;
 use connections::{
-    Admission, Arrivals, Client, Connections, NonBlocking, PLACES, Phase, Seat, Socket, Turn,
-    ending_deadline, has_come, serving_deadline,
+    Admission, Arrivals, Call, Client, Connections, Line, NonBlocking, PLACES, Phase, Seat, Socket,
+    Turn, When, ending_deadline, has_come, serving_deadline,
 };
 use http_edge::EdgeFault;
 use mio::net::{TcpListener, TcpStream};
@@ -54,6 +54,8 @@ pub struct Clients {
     // Those that ask or are answered, and those whose reply is gone.
     served: Arrivals,
     ending: Arrivals,
+    // Those that are ready, and whose requests may take long.
+    line: Line,
 }
 
 impl Clients {
@@ -64,6 +66,7 @@ impl Clients {
             vacant: seats,
             served: Arrivals::new(alloc, PLACES)?,
             ending: Arrivals::new(alloc, PLACES)?,
+            line: Line::new(alloc, PLACES)?,
         })
     }
 }
@@ -158,6 +161,9 @@ impl Server {
 
     // How long may be waited for the next event.
     fn patience(&self) -> Option<Duration> {
+        if self.clients.line.len() > 0 {
+            return Some(Duration::from_millis(0));
+        }
         match self.door {
             Door::Open => Some(Duration::from_millis(0)),
             Door::Quiet if self.present() == 0 => None,
@@ -191,6 +197,7 @@ impl Server {
         self.leave(connections, place);
         self.clients.served.remove(place);
         self.clients.ending.remove(place);
+        self.clients.line.leave(place);
         self.give_back(place);
     }
 
@@ -227,6 +234,7 @@ impl Server {
     {
         self.leave(connections, place);
         self.clients.served.remove(place);
+        self.clients.line.leave(place);
         let Some(Some(client)) = self.clients.at.get_mut(place) else {
             return;
         };
@@ -304,8 +312,37 @@ impl Server {
         self.give_up(rt, connections, other);
     }
 
-    // Gives a client its turn.
-    fn serve_place(
+    // Gives the client its turn that is called, and whose it is.
+    fn serve(
+        &mut self,
+        rt: &HostRuntime,
+        connections: &mut Connections,
+        call: &Call,
+        block: &mut [u8],
+    )
+        requires { 0 < length block.old }
+        ensures { HasRun connections.old connections.new }
+    {
+        let place = call.place();
+        for _ in 0..PLACES {
+            let Some(Some(client)) = self.clients.at.get_mut(place) else {
+                return;
+            };
+            if client.place() != place {
+                return;
+            }
+            let was_ending = client.is_ending();
+            let turn = client.take_turn(call, connections, block);
+            if !matches!(turn, Turn::Full) {
+                self.settle(rt, connections, place, turn, was_ending);
+                return;
+            }
+            self.make_room(rt, connections, place);
+        }
+    }
+
+    // A client is ready: it has its turn at once if that is short, and else stands in line.
+    fn on_ready(
         &mut self,
         rt: &HostRuntime,
         connections: &mut Connections,
@@ -315,17 +352,42 @@ impl Server {
         requires { 0 < length block.old }
         ensures { HasRun connections.old connections.new }
     {
-        for _ in 0..PLACES {
-            let Some(Some(client)) = self.clients.at.get_mut(place) else {
+        let Some(Some(client)) = self.clients.at.get_mut(place) else {
+            return;
+        };
+        match client.when(connections, block) {
+            When::AtOnce(call) => {
+                self.clients.line.leave(place);
+                self.serve(rt, connections, &call, block);
+            }
+            When::InLine => self.stand_in_line(rt, connections, place),
+            When::NotYet => self.watch(connections, place, false),
+        }
+    }
+
+    // Has a client stand in line, or gives it up if there is no memory for that.
+    fn stand_in_line(&mut self, rt: &HostRuntime, connections: &mut Connections, place: usize)
+        ensures { HasRun connections.old connections.new }
+    {
+        if self.clients.line.join(place).is_err() {
+            self.faults.tell(rt, EdgeFault::OutOfMemory.text());
+            self.close(connections, place);
+        }
+    }
+
+    // Calls those that stand in line, until the request of one is answered: at most one in a round. None is called twice.
+    fn call_line(&mut self, rt: &HostRuntime, connections: &mut Connections, block: &mut [u8])
+        requires { 0 < length block.old }
+        ensures { HasRun connections.old connections.new }
+    {
+        for _ in 0..self.clients.line.len() {
+            let Some(call) = self.clients.line.call_first() else {
                 return;
             };
-            let was_ending = client.is_ending();
-            let turn = client.take_turn(connections, block);
-            if !matches!(turn, Turn::Full) {
-                self.settle(rt, connections, place, turn, was_ending);
+            self.serve(rt, connections, &call, block);
+            if !connections.is_asking(call.place()) {
                 return;
             }
-            self.make_room(rt, connections, place);
         }
     }
 
@@ -343,10 +405,10 @@ impl Server {
             self.on_somebody(rt, connections);
             return;
         }
-        self.serve_place(rt, connections, place, block);
+        self.on_ready(rt, connections, place, block);
     }
 
-    // Gives each client its turn of which something was told.
+    // Looks at each client of which something was told.
     fn serve_events(
         &mut self,
         rt: &HostRuntime,
@@ -372,11 +434,23 @@ impl Server {
             return;
         }
         match self.clients.served.asked_longest(connections) {
-            Some(place) => {
+            Some(place) if !self.clients.line.has(place) => {
                 self.evict(rt, connections, place);
                 self.door = Door::Open;
             }
-            None => self.door = Door::Shut,
+            _ => self.door = Door::Shut,
+        }
+    }
+
+    // Whether there is no place for another client before one has its turn: who has asked longest stands in line, and waits
+    // for the server.
+    fn is_full(&self, connections: &Connections) -> bool {
+        if !self.clients.vacant.is_empty() {
+            return false;
+        }
+        match self.clients.served.asked_longest(connections) {
+            Some(place) => self.clients.line.has(place),
+            None => false,
         }
     }
 
@@ -457,7 +531,7 @@ impl Server {
         }
     }
 
-    // Lets a client in, and gives it its first turn.
+    // Lets a client in, which is ready if it sent something.
     fn admit(
         &mut self,
         rt: &HostRuntime,
@@ -474,7 +548,7 @@ impl Server {
         let Some(place) = self.seat(rt, connections, stream) else {
             return;
         };
-        self.serve_place(rt, connections, place, block);
+        self.on_ready(rt, connections, place, block);
     }
 
     // Lets in those who wait, up to so many.
@@ -483,7 +557,7 @@ impl Server {
         ensures { HasRun connections.old connections.new }
     {
         for _ in 0..LET_IN {
-            if self.door != Door::Open {
+            if self.door != Door::Open || self.is_full(connections) {
                 return;
             }
             if !self.admission.is_open() {
@@ -536,8 +610,9 @@ impl Server {
         self.give_up_late(rt, connections);
     }
 
-    /// A round over `connections`: the clients that `events` name have their turn, then those that wait are let in,
-    /// and then those are ended whose time is up. `block` is room for a read.
+    /// A round over `connections`: of the clients that `events` name, and of those that are let in then, each has its
+    /// turn if it reads what stands, or is answered. Of all others one request is applied, whose client became ready
+    /// first. Then those are ended whose time is up. `block` is room for a read.
     pub fn round(
         &mut self,
         rt: &HostRuntime,
@@ -550,6 +625,7 @@ impl Server {
     {
         self.serve_events(rt, connections, events, block);
         self.let_in(rt, connections, block);
+        self.call_line(rt, connections, block);
         self.tick(rt, connections);
     }
 }

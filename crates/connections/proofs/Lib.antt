@@ -5,3 +5,5 @@ pub mod Seated
 pub mod Turning
 mod Isolated
 mod Sent
+mod Lined
+mod FirstBytes

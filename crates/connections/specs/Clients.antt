@@ -1,12 +1,17 @@
 -- A client, and what its turn came to.
-use Rattle.std.specs.Prelude.{◌≡◌, ◌≢◌, ℕ, zero, suc, ◌+◌, ◌*◌, ◌≤◌, Bool, true, List, [], ◌∷◌, length, Option, Some, ◌⊎◌}
+use Rattle.std.specs.Prelude.{◌≡◌, ◌≢◌, ℕ, zero, suc, ◌+◌, ◌*◌, ◌≤◌, Bool, true, false, List, [], ◌∷◌, length, Option, Some, ◌⊎◌}
 use Rattle.http_edge.specs.declared.serving.EdgeFault.{EdgeFault}
+use Rattle.http_edge.specs.Served.{BeginsWithRead}
+use Rattle.connections.specs.declared.line.When.{When}
+use Rattle.connections.specs.declared.line.When.TheVariants.{AtOnce, InLine, NotYet}
+use Rattle.connections.specs.declared.conversation.Conversation.{Conversation}
 use Rattle.connections.specs.declared.devices.Passage.{Passage}
 use Rattle.connections.specs.declared.devices.Passage.TheVariants.{WouldWait}
-use Rattle.connections.specs.Devices.{DeviceStand}
+use Rattle.connections.specs.Arrivals.{is_asking}
+use Rattle.connections.specs.Devices.{DeviceStand, AreNext}
 use Rattle.connections.specs.Limits.{reads_in_turn, writes_in_turn}
 use Rattle.connections.specs.Runs.{IsRun}
-use Rattle.connections.specs.Table.{State, ClientEvent, arrival, request_bytes, reply_bytes, departure, at, left_of}
+use Rattle.connections.specs.Table.{State, ClientEvent, arrival, request_bytes, reply_bytes, departure, at, held_of, left_of}
 use Rattle.connections.specs.Turns.{MovedEach, HasListened, HasListenedUntil, HasNoMore, HasSpoken, HasSpokenUntil, is_read_out}
 
 -- its device, its place, whether its end alone is awaited, and whether the system was asked to tell of it
@@ -15,6 +20,24 @@ pub record ClientAt (X : Type 0) : Type 0 where
   pub place : ℕ
   pub is_ending : Bool
   pub is_watched : Bool
+
+-- ---- when it has its turn
+
+abbrev pub IfAtOnce : When → (ℕ → Type 0) → Type 0
+IfAtOnce (AtOnce call) P = P call
+IfAtOnce InLine P = Unit {0}
+IfAtOnce NotYet P = Unit {0}
+
+-- nothing of its request was read yet, and what it sends begins with a whole request that reads a playlist that stands
+abbrev pub SendsRead : DeviceStand → Option Conversation → Type 0
+SendsRead reader it = (held_of it ≡ 0) × ((bytes : List ℕ) × AreNext bytes reader.bytes × BeginsWithRead bytes)
+
+-- it can't hold the others: its end alone is awaited, or it is answered, or it reads what stands
+abbrev pub IsShort : {X : Type 0} → (X → DeviceStand) → ClientAt X → State → Type 0
+IsShort incoming client s =
+    (client.is_ending ≡ true) ⊎ (is_asking (at s client.place) ≡ false) ⊎ SendsRead (incoming client.device) (at s client.place)
+
+-- ---- a turn
 
 -- its device before a turn and after it, and how it stands as what is read and as what is written to
 module _ {X : Type 0} (incoming outgoing : X → DeviceStand) (place : ℕ) (before after : X) (old new : State) where

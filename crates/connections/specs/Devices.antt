@@ -5,6 +5,10 @@ use Rattle.byte_streams.specs.Devices.{next_count}
 use Rattle.connections.specs.declared.devices.Passage.{Passage}
 use Rattle.connections.specs.declared.devices.Passage.TheVariants.{Bytes, WouldWait, HasFailed}
 
+-- a read may give these
+abbrev pub AreNext : List ℕ → Option (List ℕ) → Type 0
+AreNext bytes left = (rest : Option (List ℕ)) × Consumes left rest bytes
+
 -- ---- what a call comes to
 
 -- at most so many bytes went through
@@ -24,6 +28,12 @@ abbrev pub WritePasses : Option (List ℕ) → Option (List ℕ) → Passage →
 WritePasses old new (Bytes n) buf = Appends old new (take n buf)
 WritePasses old new WouldWait buf = Keeps old new
 WritePasses old new HasFailed buf = Keeps old new
+
+-- a look gave so many bytes, which are the next ones
+abbrev pub LookPasses : Option (List ℕ) → Passage → List ℕ → Type 0
+LookPasses left (Bytes n) buf = AreNext (take n buf) left
+LookPasses left WouldWait buf = Unit {0}
+LookPasses left HasFailed buf = Unit {0}
 
 -- ---- how a device stands
 

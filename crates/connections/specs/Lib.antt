@@ -8,5 +8,6 @@ pub mod Wires
 pub mod Turns
 pub mod Clients
 pub mod Arrivals
+pub mod Lines
 pub mod Isolation
 pub mod Inner

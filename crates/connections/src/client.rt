@@ -1,14 +1,17 @@
 //! A client, from its first byte to its end. Its device is read and written to here alone.
-ghost use Rattle.std.specs.Prelude.{◌≡◌, ◌<◌, ◌+◌, ◌≢◌, [], Some, length, true, false};
+ghost use Rattle.std.specs.Prelude.{◌≡◌, ◌<◌, ◌+◌, ◌≢◌, ℕ, List, [], Some, length, true, false};
 ghost use Rattle.connections.specs.declared.devices.Passage.TheVariants.{WouldWait};
 ghost use Rattle.connections.specs.Arrivals.{is_asking};
-ghost use Rattle.connections.specs.Clients.{AreSent, HasEnded, HasMoved, HasToWait, HasTurned, HasTurnedUntil};
+ghost use Rattle.http_edge.specs.Served.{BeginsWithRead};
+ghost use Rattle.connections.specs.Clients.{AreSent, HasEnded, HasMoved, HasToWait, HasTurned, HasTurnedUntil, IfAtOnce, IsShort};
+ghost use Rattle.connections.specs.Devices.{AreNext};
 ghost use Rattle.connections.specs.Limits.{most_held, drains_in_turn, writes_in_turn};
 ghost use Rattle.connections.specs.Runs.{HasRun};
 ghost use Rattle.connections.specs.Table.{Happens, at, departure, held_in, left_of};
 ghost use Rattle.connections.specs.Turns.{HasNoMore, IfGone, MovedEach, Stays};
 
-use crate::devices::{Ending, Incoming, Outgoing, Socket};
+use crate::devices::{Ending, Incoming, Looking, Outgoing, Passage, Socket};
+use crate::line::{Call, When};
 use crate::seats::Seat;
 use crate::table::Connections;
 use crate::turns::{Turn, drain, is_read_out, listen, speak};
@@ -47,6 +50,13 @@ impl<T> Client<T> {
         }
     }
 
+    /// The client's place.
+    pub fn place(&self) -> usize
+        ensures { result ≡ self.now.place }
+    {
+        self.seat.place()
+    }
+
     /// Whether its end alone is awaited.
     pub fn is_ending(&self) -> bool
         ensures { result ≡ self.now.is_ending }
@@ -73,13 +83,72 @@ impl<T: Drop> Client<T> {
     }
 }
 
+impl<T: Looking> Client<T> {
+    // When a client that asks has its turn, of whose request nothing was read.
+    fn when_it_sends(&mut self, connections: &Connections, block: &mut [u8]) -> When
+        requires { 0 < length block.old }
+        ensures place { self.new.place ≡ self.old.place }
+        ensures is_ending { self.new.is_ending ≡ self.old.is_ending }
+        ensures is_watched { self.new.is_watched ≡ self.old.is_watched }
+        ensures unread { (T.stand self.new.device).bytes ≡ (T.stand self.old.device).bytes }
+        ensures at_once { IfAtOnce result (λ call. (call ≡ self.old.place)
+            × (bytes : List ℕ) × AreNext bytes (T.stand self.old.device).bytes
+            × BeginsWithRead bytes) }
+        ensures not_yet { result ≡ When.NotYet →
+            (T.stand self.new.device).calls.last ≡ Some WouldWait }
+    {
+        let count = match self.device.look(block) {
+            Passage::Bytes(count) => count,
+            Passage::WouldWait => return When::NotYet,
+            Passage::HasFailed => return When::InLine,
+        };
+        match connections.begins_with_read(&block[..count]) {
+            Ok(true) => When::AtOnce(Call::new(self.seat.place())),
+            _ => When::InLine,
+        }
+    }
+
+    /// When the client has its turn. `AtOnce` only if it can't hold the others: its end alone is awaited, or it is
+    /// answered, or nothing of its request was read yet and what it sends begins with a whole request that reads a
+    /// playlist that stands. That is looked at, by `block`, and left unread. `NotYet` if it sends nothing. `connections`
+    /// have what it said.
+    pub fn when(&mut self, connections: &Connections, block: &mut [u8]) -> When
+        requires { 0 < length block.old }
+        ensures place { self.new.place ≡ self.old.place }
+        ensures is_ending { self.new.is_ending ≡ self.old.is_ending }
+        ensures is_watched { self.new.is_watched ≡ self.old.is_watched }
+        ensures unread { (T.stand self.new.device).bytes ≡ (T.stand self.old.device).bytes }
+        ensures at_once { IfAtOnce result (λ call. (call ≡ self.old.place)
+            × IsShort T.stand self.old connections.now) }
+        ensures in_line { result ≡ When.InLine → (self.old.is_ending ≡ false)
+            × (is_asking (at connections.now self.old.place) ≡ true) }
+        ensures not_yet { result ≡ When.NotYet →
+            (T.stand self.new.device).calls.last ≡ Some WouldWait }
+    {
+        let place = self.seat.place();
+        if self.is_ending || !connections.is_asking(place) {
+            return When::AtOnce(Call::new(place));
+        }
+        if connections.held_at(place) > 0 {
+            return When::InLine;
+        }
+        self.when_it_sends(connections, block)
+    }
+}
+
 impl<T: Incoming + Outgoing> Client<T> {
     #[tactic(auto, using(crate::proofs::Leading::and_then))]
-    /// Gives the client its turn: it is heard until its request is whole, then its reply is written, and once it is
+    /// Gives the client its turn, to which it has a `call`: it is heard until its request is whole, then its reply is written, and once it is
     /// ending what it sends is passed over. `connections` have what it said and what is left of its reply; `block` is room
     /// for a read.
-    pub fn take_turn(&mut self, connections: &mut Connections, block: &mut [u8]) -> Turn
-        requires { 0 < length block.old }
+    pub fn take_turn(
+        &mut self,
+        call: &Call,
+        connections: &mut Connections,
+        block: &mut [u8],
+    ) -> Turn
+        requires called { call.now ≡ self.old.place }
+        requires room { 0 < length block.old }
         ensures place { self.new.place ≡ self.old.place }
         ensures is_ending { self.new.is_ending ≡ self.old.is_ending }
         ensures is_watched { self.new.is_watched ≡ self.old.is_watched }
@@ -121,7 +190,7 @@ impl<T: Incoming + Outgoing> Client<T> {
         if self.is_ending {
             return drain(&mut self.device);
         }
-        if connections.is_asking(self.seat.place()) {
+        if connections.is_asking(call.place()) {
             match listen(&mut self.device, connections, &self.seat, block) {
                 Turn::Done => {}
                 other => return other,

@@ -1,7 +1,7 @@
 //! What comes from a client and what goes to it, by calls that never wait.
 ghost use Rattle.std.specs.Prelude.{◌≡◌, ◌<◌, length};
 ghost use Rattle.std.specs.IoError.{error_kind};
-ghost use Rattle.connections.specs.Devices.{DeviceStand, no_calls, one_call, PassesAtMost, ReadPasses, WritePasses};
+ghost use Rattle.connections.specs.Devices.{DeviceStand, no_calls, one_call, PassesAtMost, LookPasses, ReadPasses, WritePasses};
 ghost use Rattle.connections.specs.Inner.Passages.{would_wait, passage_of};
 
 use mio::net::TcpStream;
@@ -34,6 +34,19 @@ pub trait Incoming {
         ensures bound { PassesAtMost result (length buf.new) }
         ensures bytes { ReadPasses (stand self.old).bytes (stand self.new).bytes result buf.new }
         ensures calls { (stand self.new).calls ≡ one_call result (stand self.old).calls };
+}
+
+/// What comes from a client, and can be looked at before it is read.
+pub trait Looking: Incoming {
+    /// Puts a front of the bytes that are left into `buf`, which has room for at least one, and says how many. All are
+    /// left for the next read.
+    fn look(&mut self, buf: &mut [u8]) -> Passage
+        requires { 0 < length buf.old }
+        ensures bound { PassesAtMost result (length buf.new) }
+        ensures bytes { LookPasses (Self.stand self.old).bytes result buf.new }
+        ensures kept { (Self.stand self.new).bytes ≡ (Self.stand self.old).bytes }
+        ensures calls { (Self.stand self.new).calls
+            ≡ one_call result (Self.stand self.old).calls };
 }
 
 /// What goes to a client. Its count of calls stays at 2^64 - 1.
@@ -145,6 +158,13 @@ impl<W: Write> Outgoing for NonBlocking<W> {
 
 /// A client's socket.
 pub type Socket = NonBlocking<TcpStream>;
+
+impl Looking for Socket {
+    fn look(&mut self, buf: &mut [u8]) -> Passage {
+        let answer = self.inner.peek(buf);
+        self.note(answer)
+    }
+}
 
 impl Ending for Socket {
     fn end_output(&mut self) {

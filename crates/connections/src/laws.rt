@@ -2,6 +2,7 @@
 ghost use Rattle.connections.specs.Clients.{RepliesAreSent};
 ghost use Rattle.connections.specs.Runs.{ConnectionsAreServed};
 ghost use Rattle.connections.specs.Isolation.{ClientsAreIsolated};
+ghost use Rattle.connections.specs.Lines.{LineIsKept};
 
 /// Whatever clients come, say, take and leave, in any order: each is answered as `serve` answers what it said itself, in
 /// the order in which the requests became whole, and is sent that reply from its begin on and nothing else.
@@ -21,4 +22,10 @@ pub fn clients_are_isolated()
 /// reply, waits for its own socket, or is gone.
 pub fn replies_are_sent()
     ensures { RepliesAreSent }
+{}
+
+/// Whoever stands in line is called after those that stood before it, and before all that join later: while it waits no
+/// more are called than stood before it. So nobody is passed over twice, nor once by one that came later.
+pub fn line_is_kept()
+    ensures { LineIsKept }
 {}

@@ -1,9 +1,11 @@
 //! The connections by their places.
-ghost use Rattle.std.specs.Prelude.{◌≡◌, ◌<◌, ◌≤◌, ◌+◌, ◌++◌, [], None, Some, length, replicate, IfOk, IfErr, OnOk, OnErr, IsErrOf};
+ghost use Rattle.std.specs.Prelude.{◌≡◌, ◌<◌, ◌≤◌, ◌+◌, ◌++◌, [], None, Some, Decides, length, replicate, IfOk, IfErr, OnOk, OnErr, IsErrOf};
 ghost use Rattle.http_edge.specs.Edges.{RepresentsRequests};
+ghost use Rattle.http_edge.specs.Served.{BeginsWithRead};
 ghost use Rattle.http_edge.specs.declared.serving.EdgeFault.TheVariants.{TooManyReads};
 ghost use Rattle.connections.specs.Conversing.{HasTooManyAt};
 ghost use Rattle.connections.specs.Inner.Giving.{IsFaultOfGiving};
+ghost use Rattle.connections.specs.Inner.Reads.{is_read};
 ghost use Rattle.connections.specs.Limits.{most_held, place_count};
 ghost use Rattle.connections.specs.Arrivals.{is_asking};
 ghost use Rattle.connections.specs.Table.{at, held_of, held_in, left_of, taken_of, phase_of, Puts, Happens};
@@ -13,7 +15,7 @@ ghost use Rattle.connections.specs.Seats.{places_below};
 use crate::conversation::{Conversation, give};
 use crate::seats::{Seat, all_seats};
 use http_edge::{Edge, EdgeFault};
-use http_messages::Arriving;
+use http_messages::{Arrived, Arriving, Asked};
 use std::alloc::{AllocError, Global};
 use std::hash::RandomState;
 use std::marker::Model;
@@ -155,6 +157,17 @@ impl Connections {
         }
     }
 
+    /// Whether `bytes`, the first ones of a client, begin with a whole request that reads the playlist that a channel wrote
+    /// last. Fails only if an allocation fails.
+    pub(crate) fn begins_with_read(&self, bytes: &[u8]) -> Result<bool, AllocError>
+        ensures { IfOk result (λ it. Decides it (BeginsWithRead bytes.now)) }
+    {
+        match Arriving::new(self.alloc).take(self.alloc, bytes)? {
+            Arrived::Whole(asked) => Ok(is_read(&self.edge, &asked)),
+            Arrived::More(_) => Ok(false),
+        }
+    }
+
     // Takes away what is at a place.
     fn take_out(&mut self, place: usize) -> Option<Conversation>
         requires { place < length self.old.places }
@@ -242,6 +255,16 @@ impl Connections {
     {
         self.has_all();
         let _ = self.take_out(seat.place());
+    }
+}
+
+// Whether what was asked reads a playlist that stands.
+fn is_read(edge: &Edge, asked: &Asked) -> bool
+    ensures { result ≡ is_read asked.now }
+{
+    match asked {
+        Asked::Request(request) => edge.reads_playlist(request),
+        Asked::Refused(_) => false,
     }
 }
 

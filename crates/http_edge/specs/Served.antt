@@ -13,6 +13,7 @@ use Rattle.http_messages.specs.declared.receiving.ReceiveFault.{ReceiveFault}
 use Rattle.http_messages.specs.declared.receiving.ReceiveFault.TheVariants as receiving
 use Rattle.http_edge.specs.declared.serving.EdgeFault.{EdgeFault}
 use Rattle.http_edge.specs.declared.serving.EdgeFault.TheVariants.{Read, TooManyReads, Ended, OutOfMemory}
+use Rattle.http_edge.specs.Table.{reads_playlist}
 use Rattle.http_edge.specs.Edges.{NamedChannel, AnswersRequest}
 
 -- a fault of reading a request
@@ -46,6 +47,12 @@ pub record IsTurnedAway (bytes : List ℕ) (old new : List NamedChannel) (text :
 
 abbrev pub IsServed : List ℕ → List NamedChannel → List NamedChannel → List ℕ → ℕ → Type 0
 IsServed bytes old new text status = IsAnswered bytes old new text status ⊎ IsTurnedAway bytes old new text status
+
+-- they begin with a whole request that reads the playlist that a channel wrote last
+pub record BeginsWithRead (bytes : List ℕ) : Type 0 where
+  pub request : Request
+  pub asks : Asks bytes request
+  pub reads : reads_playlist request ≡ true
 
 -- the source gave these bytes, and the sink took the text
 pub record HasServed (source_old source_new : SourceStand) (sink_old sink_new : SinkStand) (old new : List NamedChannel) (status : ℕ) : Type 0 where

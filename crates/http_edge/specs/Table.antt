@@ -1,5 +1,5 @@
 -- The channels, and what is owed for a request.
-use Rattle.std.specs.Prelude.{ℕ, Bool, nat_le, nat_lt, List, [], ◌∷◌, ◌++◌, codes, length, bytes_eq, Option, Some, None, is_some, Result, Ok, Err, if◌then◌else◌}
+use Rattle.std.specs.Prelude.{ℕ, Bool, true, false, ◌&&◌, nat_le, nat_lt, List, [], ◌∷◌, ◌++◌, codes, length, bytes_eq, Option, Some, None, is_some, Result, Ok, Err, if◌then◌else◌}
 use Rattle.url.specs.Parts.{Parts}
 use Rattle.playlist_model.specs.Uri.{base_of}
 use Rattle.channel_spec.specs.Limits.{max_tolerance}
@@ -114,6 +114,23 @@ routed table r (Some route) = turn_at table r route.0 route.1
 -- what a request is answered, and what the table is afterwards
 abbrev pub turn : Table → Request → Turn
 turn table r = routed table r (route_of (path_of r.target))
+
+-- ---- what stands already
+
+abbrev pub is_live : Resource → Bool
+is_live Channel = false
+is_live Origin = false
+is_live Decisions = false
+is_live Live = true
+is_live Why = false
+
+abbrev pub is_to_live : Option (List ℕ × Resource) → Bool
+is_to_live None = false
+is_to_live (Some route) = is_live route.1
+
+-- it reads the playlist that a channel wrote last, which stands there already
+abbrev pub reads_playlist : Request → Bool
+reads_playlist r = is_method (codes "GET") r && is_to_live (route_of (path_of r.target))
 
 -- ---- lists of requests, the newest first
 

@@ -1,10 +1,10 @@
 //! The edge: requests on channels, each applied as a whole.
-ghost use Rattle.std.specs.Prelude.{[], IfOk};
-ghost use Rattle.http_edge.specs.Table.{turn};
+ghost use Rattle.std.specs.Prelude.{◌≡◌, [], IfOk};
+ghost use Rattle.http_edge.specs.Table.{turn, is_live, reads_playlist};
 ghost use Rattle.http_edge.specs.Edges.{RepresentsRequests, AnswersRequest, TakesTurnOf};
 
 use crate::channels::Channels;
-use channel_api::{Routes, not_found};
+use channel_api::{Resource, Routes, not_found};
 use http::StatusCode;
 use http_messages::{Reply, Request};
 use std::alloc::{AllocError, Global};
@@ -28,6 +28,12 @@ impl Model for Edge {
     ghost view = { λ e. e.channels };
 
     ghost invariant = { λ e. RepresentsSome e.channels };
+}
+
+fn is_live(resource: Resource) -> bool
+    ensures { result ≡ is_live resource }
+{
+    resource == Resource::Live
 }
 
 impl Edge {
@@ -61,6 +67,20 @@ impl Edge {
         match self.answered(request) {
             Ok(reply) => reply,
             Err(_) => Reply::bare(StatusCode::SERVICE_UNAVAILABLE),
+        }
+    }
+
+    /// Whether `request` reads the playlist that a channel wrote last: its reply is there already, and nothing is changed
+    /// by it.
+    pub fn reads_playlist(&self, request: &Request) -> bool
+        ensures { result ≡ reads_playlist request.now }
+    {
+        if request.method.as_str() != "GET" {
+            return false;
+        }
+        match self.routes.find(request.target.as_str()) {
+            Some((_, resource)) => is_live(resource),
+            None => false,
         }
     }
 
