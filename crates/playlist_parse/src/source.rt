@@ -111,13 +111,16 @@ fn known_of<'a>(base: &Base, source: &'a Option<Source>) -> Known<'a>
     }
 }
 
-// A text of which less is left than this part of what is kept is read whole: that takes less than to read what is kept again.
+// A text of which less is left than this part of what is kept behind as many bytes is read whole: that takes less than to read
+// what is kept again.
 const SMALL_PART: usize = 8;
 
 // How many segments of the last playlist stand up to the first one that is read here, by its number; none if little is left to
 // read. It has no contract: `agrees` decides, whatever it answers.
 fn place_in(source: &Source, reading: &Reading<'_>) -> Option<usize> {
-    if reading.lines.left().len() < source.lines.text.as_str().len() / SMALL_PART {
+    let (here, left) = reading.lines.stand();
+    let kept = source.lines.text.as_str().len().saturating_sub(here);
+    if left.len() < kept / SMALL_PART {
         return None;
     }
     let first = reading.progress.first_number()?;
