@@ -9,7 +9,7 @@ import time
 import urllib.request
 from pathlib import Path
 
-from tools import FALLBACK, PLANT, PYTHON, FakeController, FakeOrigin, RulesController, decided, free_port, get, instant, listed, until
+from tools import FALLBACK, PLANT, PYTHON, FakeController, FakeOrigin, RulesController, SlowController, decided, free_port, get, instant, listed, until
 
 sys.path.insert(0, PLANT)
 from adsplice_plant.kept import Kept  # noqa: E402
@@ -313,7 +313,7 @@ def test_decisions_of_breaks_that_are_not_listed_wait_for_room(room):
     for it in range(210):
         room.write(f"decisions/b{it:03}.json", decided((f"b{it:03}", 1)))
     origin, controller, feed = started(room, listed(0, 5), "--decisions", path)
-    until(lambda: len(controller.puts("decisions")) == 200, 10, "200 decisions")
+    until(lambda: len(controller.puts("decisions")) == 200, 60, "200 decisions")
     time.sleep(1.2)
     assert len(controller.puts("decisions")) == 200
     origin.text = listed(1, 6, [("b209", 40, 4)])
@@ -337,6 +337,45 @@ def test_two_thousand_decisions_are_given_once_each_as_there_is_room(room):
     assert len(given) == len(set(given)) == 200 + 29 and len(os.listdir(f"{room.path}/d")) == 2000, len(given)
 
 
+def test_a_list_waits_for_the_decisions_that_it_needs_and_for_few_others(room):
+    names = [f"b{n:02}" for n in range(60)]
+    for it in names:
+        room.write(f"decisions/{it}.json", decided((it, 1)))
+    controller, path = room.server(SlowController()), room.write("index.m3u8", listed(0, 5, [("b59", 14, 4)]))
+    feed = room.feed("--channel", "news", "--origin", path, "--at", controller.url, "--base", "http://h/i.m3u8", "--decisions", f"{room.path}/decisions")
+    feed.sees("news adsplice 204 -: the list is taken")
+    given = controller.puts("decisions")
+    assert b'"b59"' in given[0] and len(given) <= 30, len(given)
+    until(lambda: len(controller.puts("decisions")) == 60, 30, "all decisions")
+    for it in names[:59]:
+        os.remove(f"{room.path}/decisions/{it}.json")
+    room.write("index.m3u8", text := listed(1, 6, [("b59", 14, 4)]))
+    until(lambda: text.encode() in controller.puts("origin"), 30, "the next list")
+    with controller.lock:
+        before = [body for _, path, body in controller.asked if path.endswith(("/decisions", "/origin"))]
+    withdrawn = sum(b"withdraw" in it for it in before[:before.index(text.encode())])
+    assert withdrawn <= 40, withdrawn
+    until(lambda: sum(b"withdraw" in it for it in controller.puts("decisions")) == 59, 30, "all that was removed is withdrawn")
+
+
+def test_decisions_that_no_listed_break_needs_come_as_long_as_there_is_time(room):
+    from adsplice_plant import decisions
+    clock = [0.0]
+    found = [decisions.Decision(Path(f"{n}.json"), (0, 0, 0), b"", *said) for n, said in enumerate(
+        [("breaks", ["b1"]), ("breaks", ["b2", "b9"]), ("breaks", ["b3"]), ("fallback", []), ("breaks", ["b9"]), ("", [])])]
+    monotonic = decisions.time.monotonic
+    decisions.time.monotonic = lambda: clock[0]
+    try:
+        for until_, owed in ((0.0, "1345"), (0.1, "13450"), (9.0, "134502")):
+            clock[0], names = 0.0, ""
+            for it in decisions.in_time(found, {"b9"}, until_):
+                names += it.path.stem
+                clock[0] += 0.1 if not it.is_needed({"b9"}) else 0.0
+            assert names == owed, (until_, names)
+    finally:
+        decisions.time.monotonic = monotonic
+
+
 def test_removed_files_leave_room_for_other_decisions(room):
     controller, path = room.server(RulesController()), f"{room.path}/decisions"
     names = [f"later-{it:03}" for it in range(400)]
@@ -347,7 +386,7 @@ def test_removed_files_leave_room_for_other_decisions(room):
     def told(word):
         return [line for line in feed.lines if f" {word} later-" in line]
 
-    until(lambda: len(told("decides")) == 200, 30, "200 decisions")
+    until(lambda: len(told("decides")) == 200, 90, "200 decisions")
     for it in names[:200]:
         os.remove(f"{path}/{it}.json")
     until(lambda: len(told("decides")) == 400, 30, "the 200 others")
