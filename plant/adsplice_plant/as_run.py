@@ -143,7 +143,8 @@ class AsRun:
             if it.word == "Filled":
                 self.place(name, it, listed, kept)
                 self.count(it, listed)
-            self.tell_begun(it, listed)
+            if name in words:  # (else its channel is being made anew, and has no list yet: its word is one from before)
+                self.tell_begun(it, listed)
         for name, it in list(self.breaks.items()):
             if self.has_left(name, it, listed, words, kept):
                 self.over(name, it, kept)
