@@ -237,7 +237,7 @@ class Channel:
 
     def decide(self) -> bool:
         """Takes back the decisions whose files were removed, and gives those that wait; whether the feed may go on. A list that enters a
-        break comes after them, and waits for no more than SPARE for those of breaks that aren't listed yet."""
+        break comes after them. No list waits for those of breaks that aren't listed yet once SPARE is over."""
         listed, until = self.lists.breaks(), time.monotonic() + decisions.SPARE
         if not all(self.take_back(it) for it in decisions.in_time(self.folder.removed.values(), listed, until)):
             return False

@@ -208,8 +208,8 @@ class Ladder:
 
     def decide(self, is_anew: bool = False) -> bool:
         """Takes back the decisions whose files were removed, and gives the fallback if it changed or `is_anew`, and each decision file that
-        waits, to all renditions or to none; whether the feed may go on. A list that enters a break comes after them. All renditions' lists
-        together wait for no more than SPARE for those of breaks that aren't listed yet."""
+        waits, to all renditions or to none; whether the feed may go on. A list that enters a break comes after them. No
+        list waits for those of breaks that aren't listed yet once its rendition's part of SPARE is over."""
         for it in self.members:
             it.folder.look()
         listed, until = set[str]().union(*(it.lists.breaks() for it in self.members)), time.monotonic() + SPARE / len(self.members)

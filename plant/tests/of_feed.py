@@ -598,6 +598,20 @@ def test_a_feed_shows_that_it_goes_on(room):
     until(lambda: path.stat().st_mtime > before + 2, 10, "a sign")
 
 
+def test_a_new_file_of_events_begins_with_what_holds(room):
+    from adsplice_plant.channel import Channel
+    from adsplice_plant.settings import ladder_of
+    from adsplice_plant.web import Client
+    words = {"origin": "http://a.example/i.m3u8 http://b.example/i.m3u8", "at": "http://h.example", "decisions": f"{room.path}/d", "keep": room.path}
+    room.write("d/one.json", decided(("b1", 1)))
+    it = Channel(ladder_of("news", words)[0], Client(1), lambda line: None, 5, 7)
+    it.folder.look()
+    it.folder.given(it.folder.named("one.json"))
+    it.is_apart, it.origin.place = True, 1
+    found = [(one.what, one.status, one.body) for one in it.opening()]
+    assert found == [("channel", 201, '{"base": "http://a.example/i.m3u8"}'), ("place", 2, ""), ("apart", 1, ""), ("decisions", 204, decided(("b1", 1)))], found
+
+
 def test_signals_end_it_at_once_with_status_0(room):
     for number in (signal.SIGTERM, signal.SIGINT, signal.SIGHUP):
         origin, controller, feed = started(room, listed(0, 5))

@@ -382,6 +382,7 @@ def test_ladder_whose_media_numbers_came_apart_has_equal_ones_once_the_lower_are
     after = ladder.feed.sees("news ladder - Apart: .*; media numbers stay so: DELETE news-2, news-3 while no break is listed")
     push_on(ladder, controller, range(8, 15), ())
     assert [media for media, _ in at_newest(controller)] == [16, 14, 14], at_newest(controller)
+    assert sum(" Apart: " in line for line in ladder.feed.lines) == 1, "a state is told once"
     with controller.one_by_one:
         del controller.edge.channels["news-2"], controller.edge.channels["news-3"]
     push_on(ladder, controller, range(15, 18), ())
