@@ -707,6 +707,7 @@ def test_goes_on_without_what_it_kept(room):
     feed.sees("204 -: the list is taken")
     room.write("index.m3u8", listed(0, 5, name="t"))
     feed.sees("goes on at 56 with one discontinuity")
+    until(lambda: "/t5.ts" in get(f"http://127.0.0.1:{port}/channels/news/live.m3u8")[1], 10, "the list of which that is told")
     feed.end(signal.SIGKILL)
     room.write("index.m3u8", listed(1, 6, name="t"))
     feed = room.feed(*words)
