@@ -376,6 +376,23 @@ def test_decisions_that_no_listed_break_needs_come_as_long_as_there_is_time(room
         decisions.time.monotonic = monotonic
 
 
+def test_removed_files_have_their_room_until_they_are_taken_back(room):
+    from adsplice_plant.decisions import Folder
+    folder = Folder(Path(room.path, "d"), 7)
+    for n in range(250):
+        room.write(f"d/{n:03}.json", decided((f"b{n:03}", 1)))
+    folder.look()
+    for it in folder.next_up(()):
+        folder.given(it)
+    for it in folder.open():
+        os.remove(it.path)
+    folder.look()
+    assert (len(folder.removed), len(folder.next_up(()))) == (200, 0), "adsplice holds what was removed"
+    for n in range(30):
+        del folder.removed[f"{n:03}.json"]
+    assert len(folder.next_up(())) == 30
+
+
 def test_removed_files_leave_room_for_other_decisions(room):
     controller, path = room.server(RulesController()), f"{room.path}/decisions"
     names = [f"later-{it:03}" for it in range(400)]
