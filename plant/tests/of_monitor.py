@@ -368,6 +368,13 @@ def test_time_of_which_the_feed_kept_nothing_is_a_gap(room):
     with open(f"{room.path}/as-run.jsonl", encoding="utf-8") as it:
         said = [json.loads(line) for line in it]
     assert [(it["gap"], it["why"]) for it in said] == [({"from": instant(3), "to": instant(60)}, "the feed could keep nothing")], said
+    for state, is_there in ((None, True), (run.state(), True), (run.state(), False)):  # (a monitor that is started anew reads all that was kept)
+        again, kept = made_run(Path(room.path) / ("as-run.jsonl" if is_there else "moved.jsonl"))[0], Kept(path)
+        again.resume(state)
+        kept.follow()
+        shown_to(again, kept, 0, range(5), {}, {})
+    with open(f"{room.path}/as-run.jsonl", encoding="utf-8") as it:
+        assert [json.loads(line) for line in it] == said and not os.path.exists(f"{room.path}/moved.jsonl")
 
 
 def test_once_judges_each_channel_when_it_was_looked_at(room):
