@@ -11,7 +11,7 @@ from typing import Any
 
 from . import playlist, unfinished
 from .journal import append, is_torn
-from .kept import Kept, Pod
+from .kept import Kept, Pod, seconds_of
 from .playlist import Listed, instant_text
 from .records import Record
 from .unfinished import Seen
@@ -19,7 +19,8 @@ from .words import now_text, time_text
 
 NEAR = 10 * playlist.SECOND  # how far a pod may begin from its break: the greatest tolerance
 MOST = 5000  # places at which a pod may begin that are looked at
-REMEMBERED_BYTES = 1 << 20  # of a file that were written before: no break of these lines is written again
+REMEMBERED_BYTES = 1 << 20  # of a file that were written before: none of these lines is written again
+RECENT = 60.0  # seconds before an earlier monitor's last look, of which only the file says which gaps it has told
 UNWRITTEN = 1000  # lines that wait until they can be written
 BEAT = 5.0  # seconds between two signs that a monitor runs
 SETTLED = 2  # target durations after a break's begin, after which it is filled or stays empty
@@ -29,22 +30,28 @@ PODS = {"own": ("Filled",), "fallback": ("Filled", USUAL), "none": ("NotDecided"
 KEYS = [(pod, why) for pod, words in PODS.items() for why in words]
 
 
+def key_of(line: dict[str, Any]) -> tuple[str, str, str] | None:
+    """By what the `line` is known that is there once: a break's channel, ID and start, or a gap's channel, begin and end."""
+    if "id" in line:
+        return str(line.get("channel")), str(line["id"]), str(line.get("start"))
+    gap = line.get("gap")
+    return (str(line.get("channel")), str(gap.get("from")), str(gap.get("to"))) if isinstance(gap, dict) else None
+
+
 class Log:
-    """The file `path`, to which lines are added; each break once. A line is whole or not there."""
+    """The file `path`, to which lines are added; each break and each gap once. A line is whole or not there."""
 
     def __init__(self, path: Path) -> None:
-        """Takes in the breaks of the newest lines, of which none is written again."""
+        """Takes in the newest lines, of which none is written again."""
         self.path, self.lock, self.written = path, threading.Lock(), set[tuple[str, str, str]]()
         self.seen = path.with_name(f"{path.name}.seen")
         self.record, self.state = Record(self.seen), unfinished.read(self.seen)
         self.end = "\n" if is_torn(path) else ""  # of a line that was left unfinished
-        for said in lines_of(path, REMEMBERED_BYTES):
-            if "id" in said:
-                self.written.add((str(said.get("channel")), str(said["id"]), str(said.get("start"))))
+        self.written |= {key for said in lines_of(path, REMEMBERED_BYTES) if (key := key_of(said)) is not None}
 
     def add(self, line: dict[str, object]) -> bool:
-        """Adds `line`, unless it is of a break that is there already; whether it was added. Raises OSError if it can't be written."""
-        key = (str(line["channel"]), str(line["id"]), str(line["start"])) if "id" in line else None
+        """Adds `line`, unless it is there already; whether it was added. Raises OSError if it can't be written."""
+        key = key_of(line)
         with self.lock:
             if key in self.written:
                 return False
@@ -101,6 +108,7 @@ class AsRun:
     waiting: list[dict[str, object]] = field(default_factory=list)
     lost: int = 0
     lost_since: str = ""
+    known_until: float = 0.0  # gaps that ended before it, in seconds since 1970, an earlier monitor has told
     counts: Counter[tuple[str, str]] = field(default_factory=Counter)
     begun: Counter[tuple[str, str]] = field(default_factory=Counter)
     is_decided: bool = True
@@ -113,6 +121,7 @@ class AsRun:
         """Goes on from what an earlier monitor has `said` of the channel."""
         if (found := unfinished.load(said)) is not None:
             self.breaks, self.first, self.last, self.seen_at, self.waiting = found
+            self.known_until = seconds_of(self.seen_at) - RECENT
 
     def state(self) -> object:
         """What a later monitor has to know of the channel."""
@@ -127,7 +136,8 @@ class AsRun:
                 it.first, it.counted = None, -1
         now = now_text()
         for since, until in kept.gaps:
-            self.put({"at": now, "channel": self.channel, "gap": {"from": since, "to": until}, "why": "the feed could keep nothing"})
+            if not 0 < seconds_of(until) < self.known_until:
+                self.put({"at": now, "channel": self.channel, "gap": {"from": since, "to": until}, "why": "the feed could keep nothing"})
         kept.gaps = []
         if self.last is not None and listed.first > self.last + 1:
             self.put({"at": now, "channel": self.channel, "gap": {"from": self.seen_at, "to": now}, "why": f"segments {self.last + 1} to {listed.first - 1} weren't seen"})
@@ -143,7 +153,8 @@ class AsRun:
             if it.word == "Filled":
                 self.place(name, it, listed, kept)
                 self.count(it, listed)
-            self.tell_begun(it, listed)
+            if name in words:  # (else its channel is being made anew, and has no list yet: its word is one from before)
+                self.tell_begun(it, listed)
         for name, it in list(self.breaks.items()):
             if self.has_left(name, it, listed, words, kept):
                 self.over(name, it, kept)

@@ -237,13 +237,14 @@ class Channel:
 
     def decide(self) -> bool:
         """Takes back the decisions whose files were removed, and gives those that wait; whether the feed may go on. A list that enters a
-        break comes after them."""
-        if not all(self.take_back(it) for it in list(self.folder.removed.values())):
+        break comes after them. No list waits for those of breaks that aren't listed yet once SPARE is over."""
+        listed, until = self.lists.breaks(), time.monotonic() + decisions.SPARE
+        if not all(self.take_back(it) for it in decisions.in_time(self.folder.removed.values(), listed, until)):
             return False
         if not self.make_room():
             return False
         self.is_full = False
-        for it in self.folder.next_up(self.lists.listed or ()):
+        for it in decisions.in_time(self.folder.next_up(listed), listed, until):
             if not self.give(it):
                 return False
             if self.is_full:
@@ -324,7 +325,9 @@ class Channel:
 
     def begun(self, ids: list[str]) -> list[str]:
         """Those of the breaks `ids` that have begun in a list that was taken since the channel was made."""
-        starts, newest = self.starts() if self.reached else {}, self.lists.newest.segments
+        if not self.reached or not any(it in (self.lists.listed or ()) for it in ids):
+            return []
+        starts, newest = self.starts(), self.lists.newest.segments
         reached = min(self.reached, (newest[-1].begins or self.reached) if newest else self.reached)  # (the newest may be of a clock that went back)
         return [it for it in dict.fromkeys(ids) if it in starts and reached >= starts[it] - (self.tolerance or 0)]
 

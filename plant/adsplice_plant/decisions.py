@@ -7,7 +7,7 @@ the folder `done` in it.
 import json
 import os
 import time
-from collections.abc import Collection, Iterable
+from collections.abc import Collection, Iterable, Iterator
 from dataclasses import dataclass, field, replace
 from pathlib import Path
 from typing import Any
@@ -18,9 +18,12 @@ LASTING = ("breaks", "fallback")  # the kinds that adsplice holds on to
 MOST_TOLD = 100  # names of what isn't taken
 MAX_BYTES = 4_194_304  # adsplice takes no longer file
 ROOM = 200  # decided breaks that aren't listed yet: adsplice holds 256, and the others are for those that are listed
+SPARE = 0.25  # seconds for which decisions that no listed break needs may hold a list up: the rest of them come after it
 MOST_OVER = 16  # breaks that left the list and may come back: those before them are withdrawn if they never began
 OVER = "over"  # why such a one is withdrawn
 NO_FALLBACK = b'{"fallback":null}'  # the decision file that takes the fallback away
+
+Stamp = tuple[int, int, int]  # of a file: when it was written, its size, and its inode
 
 
 @dataclass
@@ -30,7 +33,7 @@ class Decision:
     had begun with another pod when they were decided, which they keep for good."""
 
     path: Path
-    stamp: tuple[int, int, int]
+    stamp: Stamp
     body: bytes
     kind: str
     ids: list[str]
@@ -38,11 +41,15 @@ class Decision:
     listed: set[str] = field(default_factory=set)
     late: set[str] = field(default_factory=set)
 
+    def is_needed(self, listed: Collection[str]) -> bool:
+        """Whether a list with the breaks that are `listed` needs it: it decides one of them, or isn't of breaks."""
+        return self.kind != "breaks" or any(it in listed for it in self.ids)
 
-def stamp_of(path: Path) -> tuple[int, int, int] | None:
-    """What shows that the file `path` changed: when it was written, its size, and its inode; none if it isn't there."""
+
+def stamp_of(file: Path | os.DirEntry[str]) -> Stamp | None:
+    """What shows that the `file` changed; none if it isn't there."""
     try:
-        found = path.stat()
+        found = file.stat()
     except OSError:
         return None
     return found.st_mtime_ns, found.st_size, found.st_ino
@@ -74,6 +81,18 @@ def without(decision: Decision, ids: Collection[str]) -> Decision:
     return replace(decision, body=json.dumps({"breaks": rest}).encode(), ids=[it["id"] for it in rest])
 
 
+def in_time(found: Iterable[Decision], listed: Collection[str], until: float) -> Iterator[Decision]:
+    """Those of `found` which a break that is `listed` needs, and which aren't of breaks; then the others, as long as the moment `until` of
+    the monotonic clock hasn't come."""
+    waiting = list(found)
+    yield from (it for it in waiting if it.is_needed(listed))
+    for it in waiting:
+        if not it.is_needed(listed):
+            if time.monotonic() >= until:
+                return
+            yield it
+
+
 def withdrawal(name: str) -> bytes:
     """The decision file that takes the pod of the break `name` back."""
     return json.dumps({"withdraw": name}).encode()
@@ -95,7 +114,7 @@ class Folder:
 
     def __init__(self, path: Path | None, keep_days: float) -> None:
         self.path, self.keep_days = path, keep_days
-        self.decisions: dict[Path, Decision] = {}
+        self.decisions: dict[str, Decision] = {}  # by the files' names
         self.removed: dict[str, Decision] = {}  # what adsplice holds though its file was taken away, by the files' names
         self.over: list[str] = []  # decided breaks that left the list, the oldest first
         self.passed_over: dict[str, str] = {}  # what of the folder isn't taken, by its name, and why
@@ -112,14 +131,14 @@ class Folder:
             return
         found = dict(files)
         self.find_removed()
-        for path in [it for it in self.decisions if it not in found and not os.path.lexists(it)]:  # (a file that is replaced may be missed)
-            decision = self.decisions.pop(path)
+        for name in [it for it in self.decisions if it not in found and not os.path.lexists(self.path / it)]:  # (a file that is replaced may be missed)
+            decision = self.decisions.pop(name)
             if decision.state == "given":
-                self.removed[path.name] = decision
-        for path, stamp in found.items():
-            known = self.decisions.get(path)
+                self.removed[name] = decision
+        for name, stamp in found.items():
+            known = self.decisions.get(name)
             if known is None or known.stamp != stamp:
-                self.take(path, stamp)
+                self.take(self.path / name, stamp)
 
     def find_removed(self) -> None:
         """Those that an earlier feed gave, and that somebody took away while none ran: adsplice holds them. One that this feed had put into
@@ -133,9 +152,9 @@ class Folder:
             if is_given and kind in LASTING and (done is None or done[1:] != stamp[1:]):
                 self.removed[name] = Decision(path, stamp, b"", kind, ids, "given")
 
-    def files(self, folder: Path) -> Iterable[tuple[Path, tuple[int, int, int]]] | None:
-        """The decision files in `folder`, each with what shows that it changed, in the order in which they were written; none if it can't
-        be read."""
+    def files(self, folder: Path) -> Iterable[tuple[str, Stamp]] | None:
+        """The names of the decision files in `folder`, each with what shows that it changed, in the order in which they were written; none
+        if it can't be read."""
         found = []
         try:
             for it in os.scandir(folder):
@@ -143,14 +162,14 @@ class Folder:
                     continue
                 if not it.name.endswith(".json") or not it.is_file():
                     self.pass_over(it.name, "isn't a file whose name ends in .json")
-                elif stamp := stamp_of(Path(it.path)):
-                    found.append((Path(it.path), stamp))
+                elif stamp := stamp_of(it):
+                    found.append((it.name, stamp))
         except OSError as fault:
             self.pass_over("", f"the folder {folder} can't be read: {fault.strerror}")
             return None
         return sorted(found, key=lambda it: (it[1][0], it[0]))
 
-    def take(self, path: Path, stamp: tuple[int, int, int]) -> None:
+    def take(self, path: Path, stamp: Stamp) -> None:
         """Reads the file `path`, which has the stamp `stamp`."""
         if stamp[1] > MAX_BYTES:
             return self.pass_over(path.name, f"has {stamp[1]} bytes, over {MAX_BYTES}")
@@ -159,13 +178,13 @@ class Folder:
                 body = it.read(MAX_BYTES + 1)
         except OSError as fault:
             return self.pass_over(path.name, f"can't be read: {fault.strerror}")
-        held = self.decisions.get(path) or self.removed.get(path.name)
+        held = self.decisions.get(path.name) or self.removed.get(path.name)
         if held is not None and held.state == "given" and held.body == body:
-            held.stamp, self.decisions[path] = stamp, held  # (the same again, which adsplice has)
+            held.stamp, self.decisions[path.name] = stamp, held  # (the same again, which adsplice has)
             self.removed.pop(path.name, None)
             return None
-        self.decisions.pop(path, None)  # (a changed one comes last)
-        self.decisions[path] = found = Decision(path, stamp, body, *said_by(body))
+        self.decisions.pop(path.name, None)  # (a changed one comes last)
+        self.decisions[path.name] = found = Decision(path, stamp, body, *said_by(body))
         if (known := self.before.pop(path.name, None)) is not None and known[0] == list(stamp):
             found.state, found.late = ("given" if known[1] else "refused" if known[5] else "new"), set(known[2])
         return None
@@ -186,11 +205,12 @@ class Folder:
         return [it for it in self.decisions.values() if it.state == "new"]
 
     def next_up(self, listed: Collection[str]) -> list[Decision]:
-        """Those of them that are to be given now: first those of breaks that are `listed`, then others as far as there is ROOM."""
-        held = sum(len(it.ids) for it in self.open() if it.kind == "breaks")
+        """Those of them that may be given now: those that a list with the breaks that are `listed` needs, and others as far as there is
+        ROOM beside what adsplice holds, also of files that were removed."""
+        held = sum(len(it.ids) for it in (*self.open(), *self.removed.values()) if it.kind == "breaks")
         found = []
-        for it in sorted(self.waiting(), key=lambda it: it.kind == "breaks" and not set(listed) & set(it.ids)):
-            if it.kind == "breaks" and not set(listed) & set(it.ids):
+        for it in self.waiting():
+            if not it.is_needed(listed):
                 if held + len(it.ids) > ROOM:
                     continue
                 held += len(it.ids)
@@ -203,7 +223,7 @@ class Folder:
 
     def named(self, name: str) -> Decision | None:
         """The one in the file `name`; none if there is none."""
-        return None if self.path is None else self.decisions.get(self.path / name)
+        return self.decisions.get(name)
 
     def open(self) -> list[Decision]:
         """Those that the controller holds: they are given to it again if its channel is made anew."""
@@ -257,7 +277,7 @@ class Folder:
             done.mkdir(exist_ok=True)
             os.replace(decision.path, done / decision.path.name)
             os.utime(done / decision.path.name)
-            self.decisions.pop(decision.path, None)
+            self.decisions.pop(decision.path.name, None)
             for it in os.scandir(done):
                 if time.time() - it.stat().st_mtime > self.keep_days * DAY:
                     os.unlink(it.path)

@@ -12,7 +12,7 @@ from dataclasses import replace
 
 from . import faults
 from .channel import JUDGED, MOST, Channel, Say
-from .decisions import NO_FALLBACK, Decision, said_by, taken_back_text, withdrawal, without
+from .decisions import NO_FALLBACK, SPARE, Decision, in_time, said_by, taken_back_text, withdrawal, without
 from .numbers import Numbers
 from .origins import Choice, TwoOrigins
 from .playlist import SECOND
@@ -208,17 +208,21 @@ class Ladder:
 
     def decide(self, is_anew: bool = False) -> bool:
         """Takes back the decisions whose files were removed, and gives the fallback if it changed or `is_anew`, and each decision file that
-        waits, to all renditions or to none; whether the feed may go on. A list that enters a break comes after them."""
+        waits, to all renditions or to none; whether the feed may go on. A list that enters a break comes after them. No
+        list waits for those of breaks that aren't listed yet once its rendition's part of SPARE is over."""
         for it in self.members:
             it.folder.look()
-        for name in dict.fromkeys(name for it in self.members for name in it.folder.removed):
-            self.take_removed_back(name)
+        listed, until = set[str]().union(*(it.lists.breaks() for it in self.members)), time.monotonic() + SPARE / len(self.members)
+        removed = {name: found for it in self.members for name, found in it.folder.removed.items()}
+        for found in in_time(removed.values(), listed, until):
+            self.take_removed_back(found.path.name)
         if is_anew or any(it.stamp() not in (None, it.fallback_stamp) for it in self.members):
             if not self.give_fallbacks():
                 return False
         self.is_full = False
-        for name in dict.fromkeys(found.path.name for it in self.members for found in it.folder.next_up(it.lists.listed or ())):
-            if not self.give_file(name):
+        waiting = {found.path.name: found for it in self.members for found in it.folder.next_up(listed)}
+        for found in in_time(waiting.values(), listed, until):
+            if not self.give_file(found.path.name):
                 return False
             if self.is_full:
                 break

@@ -3,7 +3,7 @@ from __future__ import annotations
 
 import time
 from collections import Counter
-from collections.abc import Callable
+from collections.abc import Callable, Iterable
 from copy import copy
 from dataclasses import replace
 from pathlib import Path
@@ -158,10 +158,16 @@ class Lists:
             self.pending, self.text, self.is_open = found, text, True
             self.ahead = without_moved(self.stands.text, text, self.signalling.translator.tolerance)
 
+    def breaks(self) -> set[str]:
+        """The IDs of the date ranges that the next list may have: those of the newest list, also if it wasn't taken in yet, and those that
+        viewers have (a new channel's first list begins with these)."""
+        came = self.came.decode("utf-8", "replace").split("\n") if self.came is not None and self.is_new else []
+        return (self.listed or set()) | self.stands.viewed.ranges.keys() | ids_in(it for it in came if it.startswith(DATE_RANGE))
+
     def learn(self, found: PackagedList) -> None:
         """Learns from the newest list, which says `found`, what the channel needs to know of it."""
         self.newest, self.target = found, found.target or self.target
-        self.listed = {name for line in found.date_ranges() if (name := packaged.attributes_of(line.partition(":")[2]).get("ID"))}
+        self.listed = ids_in(found.date_ranges())
 
     def tell_why(self, found: Repaired) -> None:
         """Tells why nothing is pushed of a list, or that lists are pushed again: each no more than once in QUIET seconds, since two
@@ -311,6 +317,11 @@ class Lists:
         self.pending, self.text, self.is_open, self.is_new = first, packaged.write(first.found), True, False
         self.learn(first.found)
         return True
+
+
+def ids_in(ranges: Iterable[str]) -> set[str]:
+    """The IDs of the EXT-X-DATERANGE lines `ranges`."""
+    return {name for line in ranges if (name := packaged.attributes_of(line.partition(":")[2]).get("ID"))}
 
 
 def starts_in(text: bytes) -> dict[str, tuple[int, bytes]]:

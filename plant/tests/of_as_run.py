@@ -112,6 +112,19 @@ def test_a_break_whose_start_date_changes_is_told_once_and_as_it_was_shown(room)
     assert said == [("b1", "own", 2, 2)] and plant.run.begun == {("own", "Filled"): 1}, (said, plant.run.begun)
 
 
+def test_a_break_that_has_begun_is_told_once_though_its_date_range_comes_again_with_another_start_date(room):
+    plant = Plant(room, None)
+    plant.give("decisions", decided(("b1", 2)))
+    for newest in range(5, 26):
+        if newest == 9:
+            plant.give("origin", listed(3, 8))
+        plant.give("origin", listed(newest - 5, newest, [("b1", 12 if newest < 9 else -160, 4)] if newest < 12 else ()))
+        plant.look()
+    with open(f"{room.path}/as-run.jsonl", encoding="utf-8") as it:
+        said = [(line["id"], line["pod"], line["shown"], line["of"]) for line in map(json.loads, it)]
+    assert said == [("b1", "own", 2, 2)] and plant.run.begun == {("own", "Filled"): 1}, (said, plant.run.begun)
+
+
 def refuse(*_):
     """A full disk."""
     raise OSError(28, "No space left on device")

@@ -9,7 +9,7 @@ import time
 import urllib.request
 from pathlib import Path
 
-from tools import FALLBACK, PLANT, PYTHON, FakeController, FakeOrigin, RulesController, decided, free_port, get, instant, listed, until
+from tools import FALLBACK, PLANT, PYTHON, FakeController, FakeOrigin, RulesController, SlowController, decided, free_port, get, instant, listed, until
 
 sys.path.insert(0, PLANT)
 from adsplice_plant.kept import Kept  # noqa: E402
@@ -313,7 +313,7 @@ def test_decisions_of_breaks_that_are_not_listed_wait_for_room(room):
     for it in range(210):
         room.write(f"decisions/b{it:03}.json", decided((f"b{it:03}", 1)))
     origin, controller, feed = started(room, listed(0, 5), "--decisions", path)
-    until(lambda: len(controller.puts("decisions")) == 200, 10, "200 decisions")
+    until(lambda: len(controller.puts("decisions")) == 200, 60, "200 decisions")
     time.sleep(1.2)
     assert len(controller.puts("decisions")) == 200
     origin.text = listed(1, 6, [("b209", 40, 4)])
@@ -337,6 +337,62 @@ def test_two_thousand_decisions_are_given_once_each_as_there_is_room(room):
     assert len(given) == len(set(given)) == 200 + 29 and len(os.listdir(f"{room.path}/d")) == 2000, len(given)
 
 
+def test_a_list_waits_for_the_decisions_that_it_needs_and_for_few_others(room):
+    names = [f"b{n:02}" for n in range(60)]
+    for it in names:
+        room.write(f"decisions/{it}.json", decided((it, 1)))
+    controller, path = room.server(SlowController()), room.write("index.m3u8", listed(0, 5, [("b59", 14, 4)]))
+    feed = room.feed("--channel", "news", "--origin", path, "--at", controller.url, "--base", "http://h/i.m3u8", "--decisions", f"{room.path}/decisions")
+    feed.sees("news adsplice 204 -: the list is taken")
+    given = controller.puts("decisions")
+    assert b'"b59"' in given[0] and len(given) <= 30, len(given)
+    until(lambda: len(controller.puts("decisions")) == 60, 30, "all decisions")
+    for it in names[:59]:
+        os.remove(f"{room.path}/decisions/{it}.json")
+    room.write("index.m3u8", text := listed(1, 6, [("b59", 14, 4)]))
+    until(lambda: text.encode() in controller.puts("origin"), 30, "the next list")
+    with controller.lock:
+        before = [body for _, path, body in controller.asked if path.endswith(("/decisions", "/origin"))]
+    withdrawn = sum(b"withdraw" in it for it in before[:before.index(text.encode())])
+    assert withdrawn <= 40, withdrawn
+    until(lambda: sum(b"withdraw" in it for it in controller.puts("decisions")) == 59, 30, "all that was removed is withdrawn")
+
+
+def test_decisions_that_no_listed_break_needs_come_as_long_as_there_is_time(room):
+    from adsplice_plant import decisions
+    clock = [0.0]
+    found = [decisions.Decision(Path(f"{n}.json"), (0, 0, 0), b"", *said) for n, said in enumerate(
+        [("breaks", ["b1"]), ("breaks", ["b2", "b9"]), ("breaks", ["b3"]), ("fallback", []), ("breaks", ["b9"]), ("", [])])]
+    monotonic = decisions.time.monotonic
+    decisions.time.monotonic = lambda: clock[0]
+    try:
+        for until_, owed in ((0.0, "1345"), (0.1, "13450"), (9.0, "134502")):
+            clock[0], names = 0.0, ""
+            for it in decisions.in_time(found, {"b9"}, until_):
+                names += it.path.stem
+                clock[0] += 0.1 if not it.is_needed({"b9"}) else 0.0
+            assert names == owed, (until_, names)
+    finally:
+        decisions.time.monotonic = monotonic
+
+
+def test_removed_files_have_their_room_until_they_are_taken_back(room):
+    from adsplice_plant.decisions import Folder
+    folder = Folder(Path(room.path, "d"), 7)
+    for n in range(250):
+        room.write(f"d/{n:03}.json", decided((f"b{n:03}", 1)))
+    folder.look()
+    for it in folder.next_up(()):
+        folder.given(it)
+    for it in folder.open():
+        os.remove(it.path)
+    folder.look()
+    assert (len(folder.removed), len(folder.next_up(()))) == (200, 0), "adsplice holds what was removed"
+    for n in range(30):
+        del folder.removed[f"{n:03}.json"]
+    assert len(folder.next_up(())) == 30
+
+
 def test_removed_files_leave_room_for_other_decisions(room):
     controller, path = room.server(RulesController()), f"{room.path}/decisions"
     names = [f"later-{it:03}" for it in range(400)]
@@ -347,7 +403,7 @@ def test_removed_files_leave_room_for_other_decisions(room):
     def told(word):
         return [line for line in feed.lines if f" {word} later-" in line]
 
-    until(lambda: len(told("decides")) == 200, 30, "200 decisions")
+    until(lambda: len(told("decides")) == 200, 90, "200 decisions")
     for it in names[:200]:
         os.remove(f"{path}/{it}.json")
     until(lambda: len(told("decides")) == 400, 30, "the 200 others")
@@ -559,6 +615,20 @@ def test_a_feed_shows_that_it_goes_on(room):
     until(lambda: path.stat().st_mtime > before + 2, 10, "a sign")
 
 
+def test_a_new_file_of_events_begins_with_what_holds(room):
+    from adsplice_plant.channel import Channel
+    from adsplice_plant.settings import ladder_of
+    from adsplice_plant.web import Client
+    words = {"origin": "http://a.example/i.m3u8 http://b.example/i.m3u8", "at": "http://h.example", "decisions": f"{room.path}/d", "keep": room.path}
+    room.write("d/one.json", decided(("b1", 1)))
+    it = Channel(ladder_of("news", words)[0], Client(1), lambda line: None, 5, 7)
+    it.folder.look()
+    it.folder.given(it.folder.named("one.json"))
+    it.is_apart, it.origin.place = True, 1
+    found = [(one.what, one.status, one.body) for one in it.opening()]
+    assert found == [("channel", 201, '{"base": "http://a.example/i.m3u8"}'), ("place", 2, ""), ("apart", 1, ""), ("decisions", 204, decided(("b1", 1)))], found
+
+
 def test_signals_end_it_at_once_with_status_0(room):
     for number in (signal.SIGTERM, signal.SIGINT, signal.SIGHUP):
         origin, controller, feed = started(room, listed(0, 5))
@@ -654,6 +724,7 @@ def test_goes_on_without_what_it_kept(room):
     feed.sees("204 -: the list is taken")
     room.write("index.m3u8", listed(0, 5, name="t"))
     feed.sees("goes on at 56 with one discontinuity")
+    until(lambda: "/t5.ts" in get(f"http://127.0.0.1:{port}/channels/news/live.m3u8")[1], 10, "the list of which that is told")
     feed.end(signal.SIGKILL)
     room.write("index.m3u8", listed(1, 6, name="t"))
     feed = room.feed(*words)

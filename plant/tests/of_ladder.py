@@ -6,7 +6,7 @@ import signal
 import urllib.request
 
 from of_feed import by_clock, kept_numbers
-from tools import FALLBACK, FakeController, FakeOrigin, RulesController, decided, free_port, get, instant, listed, put, until
+from tools import FALLBACK, FakeController, FakeOrigin, RulesController, SlowController, decided, free_port, get, instant, listed, put, until
 
 NEEDS = ("httpx",)
 NAMES = ("1", "2", "3")
@@ -74,6 +74,19 @@ def test_ladder_decision_comes_before_any_list_that_enters_its_break(room):
     with controller.lock:
         order = [path.split("/")[3] for method, path, body in controller.asked if method == "PUT" and path.count("/") > 2 and (b"s7.ts" in body or b"b1-0" in body)]
     assert order == ["decisions"] * 3 + ["origin"] * 3, order
+
+
+def test_ladder_lists_wait_for_the_decisions_that_they_need_and_for_few_others(room):
+    controller, ids = room.server(SlowController()), [f"b{n:02}" for n in range(40)]
+    for it in ids:
+        for name in NAMES:
+            room.write(f"{name}/decisions/{it}.json", decided((it, 1)))
+    Ladder(room, controller.url, listed(0, 5, [("b39", 14, 4)])).taken()
+    with controller.lock:
+        sent = [(path, body) for _, path, body in controller.asked if path.endswith(("/decisions", "/origin"))]
+    before = [body for _, body in sent[:next(n for n, (path, _) in enumerate(sent) if path.endswith("/origin"))]]
+    assert before[:3] == [decided(("b39", 1)).encode()] * 3 and len(before) < 60, len(before)
+    until(lambda: [len(asked(controller, it, "decisions")) for it in NAMES] == [40] * 3, 60, "all decisions")
 
 
 def test_ladder_decision_that_one_refuses_is_withdrawn_from_all(room):
@@ -369,6 +382,7 @@ def test_ladder_whose_media_numbers_came_apart_has_equal_ones_once_the_lower_are
     after = ladder.feed.sees("news ladder - Apart: .*; media numbers stay so: DELETE news-2, news-3 while no break is listed")
     push_on(ladder, controller, range(8, 15), ())
     assert [media for media, _ in at_newest(controller)] == [16, 14, 14], at_newest(controller)
+    assert sum(" Apart: " in line for line in ladder.feed.lines) == 1, "a state is told once"
     with controller.one_by_one:
         del controller.edge.channels["news-2"], controller.edge.channels["news-3"]
     push_on(ladder, controller, range(15, 18), ())

@@ -9,6 +9,7 @@ import sys
 import time
 import urllib.request
 from datetime import datetime, timedelta, timezone
+from pathlib import Path
 
 from tools import FALLBACK, OUT, PLANT, PYTHON, FakeServer, decided, free_port, get, instant, listed, until
 
@@ -86,7 +87,6 @@ def test_exporter_counts_what_the_feed_kept(room):
     server, port = room.server(FakeChannels()), free_port()
     server.lists = {"news": fresh(1)}
     os.makedirs(f"{room.path}/kept")
-    from pathlib import Path
     journal = Journal(Path(room.path) / "kept" / "news.events", lambda: [])
     for status, fault in ((204, ""), (409, "N5 Back"), (409, "N5 Back"), (409, "N8 Changed 17"), (502, "<html>")):
         journal.add("origin", status, fault, b"#EXTM3U\n")
@@ -108,7 +108,6 @@ def test_exporter_counts_what_the_feed_kept(room):
 
 
 def test_a_date_range_without_a_signal_is_of_no_break_that_cannot_be_filled(room):
-    from pathlib import Path
     server = room.server(FakeChannels())
     server.lists, server.why = {"news": fresh(1)}, "b1\tDoesNotFit\nb2\tNoStart\nb3\tNotDecided\nn1\tNotSignalled\nn2\tNoStart\n"
     os.makedirs(f"{room.path}/kept")
@@ -124,7 +123,6 @@ def test_a_date_range_without_a_signal_is_of_no_break_that_cannot_be_filled(room
 
 
 def test_kept_events_are_followed_into_a_new_file(room):
-    from pathlib import Path
     path = Path(room.path) / "news.events"
     journal, kept = Journal(path, lambda: []), Kept(path)
     journal.add("origin", 204, "", listed(0, 5, [("b1", 4, 4)]).encode())
@@ -142,7 +140,6 @@ def test_kept_events_are_followed_into_a_new_file(room):
 
 
 def test_as_run_log(room):
-    from pathlib import Path
     port, exporter = free_port(), free_port()
     room.adsplice(port)
     at = f"http://127.0.0.1:{port}"
@@ -176,7 +173,6 @@ test_as_run_log.needs = PROGRAM
 
 
 def test_as_run_log_of_a_channel_that_is_made_anew_within_a_break(room):
-    from pathlib import Path
     from adsplice_plant import playlist
     from adsplice_plant.as_run import AsRun, Log
     from adsplice_plant.kept import pod_of
@@ -223,7 +219,6 @@ def test_as_run_lines_wait_for_room_and_are_whole(room):
 
 
 def test_what_is_not_recorded_is_a_line(room):
-    from pathlib import Path
     from adsplice_plant import playlist
     from adsplice_plant.as_run import AsRun, Log
     path = Path(room.path) / "as-run.jsonl"
@@ -242,7 +237,6 @@ def test_what_is_not_recorded_is_a_line(room):
 
 def made_run(path):
     """A monitor's as-run log of `news`, in the file `path`, and what its feed kept: b4's pod, and the fallback."""
-    from pathlib import Path
     from adsplice_plant.as_run import AsRun, Log
     from adsplice_plant.kept import pod_of
     run, kept = AsRun("news", Log(path)), Kept(Path("none"))
@@ -251,17 +245,17 @@ def made_run(path):
     return run, kept
 
 
-def shown_to(run, kept, first, numbers, words, starts):
-    """Has `run` look at a list of `numbers`, the programme's segments or URIs of pods, from the media number `first` on."""
+def shown_to(run, kept, first, numbers, words, starts, ranges=None):
+    """Has `run` look at a list of `numbers`, the programme's segments or URIs of pods, from the media number `first` on. The origin's list
+    has the date ranges of the IDs `ranges`, or else of those in `words`."""
     from adsplice_plant import playlist
-    kept.ranges = {it: playlist.DateRange(it, {"START-DATE": instant(starts[it]), "DURATION": "10"}) for it in words}
+    kept.ranges = {it: playlist.DateRange(it, {"START-DATE": instant(starts[it]), "DURATION": "10"}) for it in (words if ranges is None else ranges)}
     parts = [f"#EXTINF:2,\n{it}\n" if isinstance(it, str) else f"#EXT-X-PROGRAM-DATE-TIME:{instant(2 * it)}\n#EXTINF:2,\ns{it}\n" for it in numbers]
     run.look(playlist.read(f"#EXTM3U\n#EXT-X-TARGETDURATION:2\n#EXT-X-MEDIA-SEQUENCE:{first}\n{''.join(parts)}".encode()), words, kept)
 
 
 def test_monitor_that_is_started_anew_goes_on_with_the_breaks_that_are_not_over(room):
     # (a window of four segments: the first two of the pod have left it when the second monitor begins)
-    from pathlib import Path
     path, shown = Path(room.path) / "as-run.jsonl", [*range(6, 10), *(f"p{n}" for n in range(5)), *range(15, 20)]
     run, kept = made_run(path)
     for last in range(4, 8):
@@ -280,7 +274,6 @@ def test_monitor_that_is_started_anew_goes_on_with_the_breaks_that_are_not_over(
 
 
 def test_breaks_are_counted_once_they_have_begun(room):
-    from pathlib import Path
     run, kept = made_run(Path(room.path) / "as-run.jsonl")
     starts, words = {"b4": 20, "b5": 40, "b6": 60}, {"b4": "Filled", "b5": "Waiting", "b6": "NotDecided"}
     shown_to(run, kept, 6, [*range(6, 10), "p0"], words, starts)
@@ -298,8 +291,16 @@ def test_breaks_are_counted_once_they_have_begun(room):
     assert late.begun == {}, late.begun
 
 
+def test_a_break_is_not_counted_as_empty_while_its_channel_is_made_anew(room):
+    run, kept = made_run(Path(room.path) / "as-run.jsonl")
+    shown_to(run, kept, 6, range(6, 10), {"b4": "Waiting"}, {"b4": 20})
+    shown_to(run, kept, 6, [*range(6, 10), "p0", "p1", "p2"], {}, {"b4": 20}, ["b4"])  # (nginx has the old list, and the new channel has none yet)
+    assert run.begun == {}, run.begun
+    shown_to(run, kept, 6, [*range(6, 10), "p0", "p1", "p2"], {"b4": "Filled"}, {"b4": 20})
+    assert run.begun == {("own", "Filled"): 1}, run.begun
+
+
 def test_as_run_line_says_why_a_break_has_no_pod_of_its_own(room):
-    from pathlib import Path
     path = Path(room.path) / "kept" / "news.events"
     journal, kept = Journal(path, lambda: []), Kept(path)
     journal.add("decisions", 204, "", FALLBACK.encode())
@@ -331,7 +332,6 @@ def test_a_fallback_where_nobody_decides_is_usual(room):
 
 
 def test_state_of_the_feed_has_figures(room):
-    from pathlib import Path
     server = room.server(FakeChannels())
     server.lists = {"news-1": fresh(1) + "#EXT-X-ENDLIST\n", "news-2": fresh(1) + "#EXT-X-ENDLIST\n"}
     for name, apart in (("news-1", 0), ("news-2", 1)):
@@ -352,7 +352,6 @@ def test_state_of_the_feed_has_figures(room):
 
 
 def test_time_of_which_the_feed_kept_nothing_is_a_gap(room):
-    from pathlib import Path
     path = Path(room.path) / "news.events"
     hole = {"at": instant(3), "what": "hole", "status": 0, "fault": "No space left on device", "body": ""}
     path.write_text(json.dumps(hole) + "\n", encoding="utf-8")
@@ -369,6 +368,13 @@ def test_time_of_which_the_feed_kept_nothing_is_a_gap(room):
     with open(f"{room.path}/as-run.jsonl", encoding="utf-8") as it:
         said = [json.loads(line) for line in it]
     assert [(it["gap"], it["why"]) for it in said] == [({"from": instant(3), "to": instant(60)}, "the feed could keep nothing")], said
+    for state, is_there in ((None, True), (run.state(), True), (run.state(), False)):  # (a monitor that is started anew reads all that was kept)
+        again, kept = made_run(Path(room.path) / ("as-run.jsonl" if is_there else "moved.jsonl"))[0], Kept(path)
+        again.resume(state)
+        kept.follow()
+        shown_to(again, kept, 0, range(5), {}, {})
+    with open(f"{room.path}/as-run.jsonl", encoding="utf-8") as it:
+        assert [json.loads(line) for line in it] == said and not os.path.exists(f"{room.path}/moved.jsonl")
 
 
 def test_once_judges_each_channel_when_it_was_looked_at(room):

@@ -203,6 +203,14 @@ class FakeController(FakeServer):
             return [body for method, path, body in self.asked if method == "PUT" and path.endswith(f"/{what}")]
 
 
+class SlowController(FakeController):
+    """A controller that takes 20 ms for each decision."""
+
+    def answer(self, method, path, body, fields):
+        time.sleep(0.02 if path.endswith("/decisions") else 0)
+        return super().answer(method, path, body, fields)
+
+
 class RulesController(FakeServer):
     """A controller that answers by the rules (adsplice_rules). The channels of the names `away` have no way to it: 502."""
 
