@@ -30,9 +30,9 @@ use Rattle.channel_window.specs.declared.stepping.Later.{Later}
 use Rattle.channel_window.specs.Marking.{so_far}
 use Rattle.channel_window.specs.Listed.{IsRestDecided, head_of}
 use Rattle.channel_window.specs.Showing.{kept_in}
-use Rattle.channel_window.specs.ListEnd.{begins_run, has_ended, last_window, IsEnding, IsEndingOf, IsLastEnding}
+use Rattle.channel_window.specs.ListEnd.{BeginsAt, IsEndOf, begins_run, has_ended, last_window, IsEnding, IsEndingOf, IsLastEnding}
 use Rattle.channel_window.specs.Stepped.{IsStepped, written_items, written_window}
-use Rattle.channel_window.specs.Inner.NewItems.{out_of, BeginsAt, IsEndOf, IsFirst, IsLater}
+use Rattle.channel_window.specs.Inner.NewItems.{out_of, IsFirst, IsLater}
 use Rattle.channel_window.specs.Inner.Placing.{HasRoom}
 use Rattle.channel_window.proofs.ListEnds.{base_at, begins_still, begins_of_front, due_whole, from_run, goes_from, from_end, from_end_after, not_true, out_long}
 use Rattle.channel_window.proofs.Listed.{all_after, newest_decided, newest_seen}

@@ -1,12 +1,15 @@
 -- The end of a stitched list, from which it goes on with the next refresh. Lists of marked segments have the newest first.
-use Rattle.std.specs.Prelude.{◌≡◌, ◌<◌, ◌++◌, ◌-◌, ℕ, Bool, true, false, not, List, [], ◌∷◌, map, drop, length, reverse, Option, Some, None}
+use Rattle.std.specs.Prelude.{◌≡◌, ◌<◌, ◌≤◌, ◌++◌, ◌-◌, ℕ, Bool, true, false, not, List, [], ◌∷◌, map, drop, take, length, reverse, Option, Some, None}
 use Rattle.pod_store.specs.Marks.{Marked, continues}
+use Rattle.pod_store.specs.Store.{Store}
 use Rattle.stitcher.specs.Paced.{due_with}
 use Rattle.stitcher.specs.Written.{written_item}
 use Rattle.stitcher.specs.declared.OutSegment.{OutSegment}
+use Rattle.stitcher.specs.declared.marked.MarkedSegment.{MarkedSegment as Held}
 use Rattle.channel_spec.specs.declared.heading.Heading.{Heading}
 use Rattle.channel_spec.specs.Kept.{Kept}
 use Rattle.channel_spec.specs.LastWindow.{last_items}
+use Rattle.channel_window.specs.Marking.{so_far}
 use Rattle.channel_window.specs.Listed.{head_of}
 use Rattle.channel_window.specs.declared.state.Ending.{Ending}
 
@@ -32,6 +35,19 @@ pub record IsEnding (shown : List Marked) (ended : Bool) (lasted : ℕ) (window 
 abbrev pub IsEndingOf : List Marked → Bool → ℕ → List OutSegment → Option Ending → Type 0
 IsEndingOf shown ended lasted window None = Unit {0}
 IsEndingOf shown ended lasted window (Some e) = IsEnding shown ended lasted window e
+
+-- a run begins with the segment at this place
+abbrev pub BeginsAt : Store → ℕ → List Held → Type 0
+BeginsAt store place list = begins_run (so_far store (drop place list)) (so_far store (take place list)) ≡ true
+
+-- the last of these segments, with whose first a run begins, and the items that stand for them, as these items end with them
+pub record IsEndOf (store : Store) (ended : Bool) (lasted : ℕ) (list : List Held) (items : List OutSegment) (e : Ending) : Type 0 where
+  pub within : e.segments ≤ length list
+  pub begins : BeginsAt store (length list - e.segments) list
+  pub items_are : e.items ≡ length (due_with ended lasted (so_far store (drop (length list - e.segments) list)))
+  pub some : 0 < e.items
+  pub inside : e.items ≤ length items
+  pub numbers : e.numbers ≡ head_of (drop (length items - e.items) items)
 
 abbrev pub has_ended : Option Heading → Bool
 has_ended None = false

@@ -14,9 +14,9 @@ ghost use Rattle.playlist_parse.specs.Kept.{playlist_in};
 ghost use Rattle.channel_window.specs.Marking.{so_far};
 ghost use Rattle.channel_window.specs.Listed.{AreRising, IsRestDecided, head_of};
 ghost use Rattle.channel_window.specs.Showing.{kept_before, kept_in};
-ghost use Rattle.channel_window.specs.ListEnd.{IsEndingOf, IsLastEnding};
+ghost use Rattle.channel_window.specs.ListEnd.{BeginsAt, IsEndOf, IsEndingOf, IsLastEnding};
 ghost use Rattle.channel_window.specs.Stepped.{IsStepped};
-ghost use Rattle.channel_window.specs.Inner.NewItems.{BeginsAt, IsEndOf, IsFirst, IsLater, out_of};
+ghost use Rattle.channel_window.specs.Inner.NewItems.{IsFirst, IsLater, out_of};
 
 use crate::listing::place_of_number;
 use crate::state::{Before, Ending};

@@ -14,7 +14,7 @@ ghost use Rattle.channel_window.specs.Showing.{kept_before, kept_in};
 ghost use Rattle.channel_window.specs.Listed.{AreRising, IsRestDecided, RefusesList, states_time};
 ghost use Rattle.owed_is_denoted.specs.Owed.{out_playlist};
 ghost use Rattle.playlist_write.specs.Laid.{IsLaid};
-ghost use Rattle.channel_window.specs.Inner.NewItems.{IsEndOf};
+ghost use Rattle.channel_window.specs.ListEnd.{IsEndOf};
 ghost use Rattle.live_channel.specs.Inner.Accepting.{IsNext, IsReady, IsWindow};
 ghost use Rattle.live_channel.specs.Inner.LastText.{Stood, StoodIn, StandIn, count_in};
 

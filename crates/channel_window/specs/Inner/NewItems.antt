@@ -1,8 +1,7 @@
 -- What is new of a stitched list, as inner functions and proofs say it.
-use Rattle.std.specs.Prelude.{◌≡◌, ◌<◌, ◌≤◌, ◌++◌, ◌+◌, ◌-◌, ◌^◌, ℕ, Bool, true, List, map, drop, take, length, reverse}
+use Rattle.std.specs.Prelude.{◌≡◌, ◌<◌, ◌≤◌, ◌++◌, ◌+◌, ◌^◌, ℕ, true, List, map, drop, take, length, reverse}
 use Rattle.std.specs.List.{list_all}
 use Rattle.playlist_model.specs.declared.Playlist.{Playlist}
-use Rattle.pod_store.specs.Store.{Store}
 use Rattle.stitcher.specs.Stitched.{Numbers, Piece, numbered, stitched, fits}
 use Rattle.stitcher.specs.StitchedSegments.{rest_in}
 use Rattle.stitcher.specs.Paced.{due_with, rest_pieces}
@@ -10,8 +9,7 @@ use Rattle.stitcher.specs.Written.{written_item}
 use Rattle.stitcher.specs.declared.OutSegment.{OutSegment}
 use Rattle.stitcher.specs.declared.marked.MarkedSegment.{MarkedSegment as Held}
 use Rattle.channel_window.specs.Marking.{so_far}
-use Rattle.channel_window.specs.Listed.{head_of}
-use Rattle.channel_window.specs.ListEnd.{begins_run}
+use Rattle.channel_window.specs.ListEnd.{BeginsAt}
 use Rattle.channel_window.specs.Showing.{kept_in}
 use Rattle.channel_window.specs.Stepped.{written_items}
 use Rattle.channel_spec.specs.Kept.{items_on, numbers_on}
@@ -22,19 +20,6 @@ use Rattle.channel_window.specs.declared.state.Ending.{Ending}
 -- pieces, the newest first, as they are written from these numbers on
 abbrev pub out_of : Numbers → List Piece → List OutSegment
 out_of first pieces = map written_item (reverse (numbered first pieces))
-
--- a run begins with the segment at this place
-abbrev pub BeginsAt : Store → ℕ → List Held → Type 0
-BeginsAt store place list = begins_run (so_far store (drop place list)) (so_far store (take place list)) ≡ true
-
--- the last of these segments, with whose first a run begins, and the items that stand for them, as these items end with them
-pub record IsEndOf (store : Store) (ended : Bool) (lasted : ℕ) (list : List Held) (items : List OutSegment) (e : Ending) : Type 0 where
-  pub within : e.segments ≤ length list
-  pub begins : BeginsAt store (length list - e.segments) list
-  pub items_are : e.items ≡ length (due_with ended lasted (so_far store (drop (length list - e.segments) list)))
-  pub some : 0 < e.items
-  pub inside : e.items ≤ length items
-  pub numbers : e.numbers ≡ head_of (drop (length items - e.items) items)
 
 -- the items before a run stay, and those from its first on are made again
 pub record IsLater (state : ChannelState) (p : Playlist) (held : List Held) (lasted stood : ℕ) (e : Ending) (later : Later) : Type 0 where
