@@ -11,8 +11,9 @@ from shim import WAYS
 
 UNAVAILABLE = reply(FULL)
 # How many allocations of a request that makes a channel can be refused, each alone, and the channel is made all the same:
-# the two texts that are put before plain references. Without one such URIs are resolved another way.
-SPARED = 2
+# the two texts that are put before plain references, without one of which such URIs are resolved another way; and two while the
+# client's first bytes are looked at, without one of which it stands in line.
+SPARED = 4
 OUT_OF_MEMORY = b"E5 OutOfMemory\n"
 
 # What a server answered: to the requests before; to the refused one, if any, with how many calls were refused; and then,
