@@ -1,16 +1,16 @@
 //! The breaks that can be entered, and the one that a segment enters.
-ghost use Rattle.std.specs.Prelude.{◌≡◌, ℕ, Bool, true, List, Option, None, map, option_map, IfOk};
+ghost use Rattle.std.specs.Prelude.{◌≡◌, ℕ, ℤ, Bool, true, List, Option, Some, None, map, option_map, IfOk, IfSome};
 ghost use Rattle.std.specs.List.{All};
 ghost use Rattle.std.specs.Option.{option_copied};
 ghost use Rattle.pod_store.specs.Store.{Store};
 ghost use Rattle.break_finder.specs.Breaks.{Break};
 ghost use Rattle.break_finder.specs.Kept.{break_at};
 ghost use Rattle.break_finder.specs.Entering.{EntryLimits, entered};
-ghost use Rattle.break_finder.specs.Entrances.{entrances_in, taken, Tells};
+ghost use Rattle.break_finder.specs.Entrances.{entrances_in, is_within, taken, Tells};
 
 use crate::entrance::{Candidates, Entrance, entrance_of, first_candidate, first_entered};
 use crate::kept::Breaks;
-use crate::spans::{TimeSpan, place_of, span_at, spans_of};
+use crate::spans::{TimeSpan, TimesWithin, place_of, span_at, spans_of};
 use fixed_duration::Nanos;
 use playlist_model::Instant;
 use pod_store::PodStore;
@@ -187,6 +187,23 @@ impl<'a> Entrances<'a> {
             Some(instant) => self.is_in_closed_span(instant),
             None => true,
         }
+    }
+
+    #[tactic(auto, using(crate::proofs::Quiet::none_within))]
+    /// The instants around `instant` at which a segment enters no break, if `last` was entered last. None if that isn't seen
+    /// at once. So the IDs are compared once for many segments. Takes no memory.
+    pub fn quiet_around(&self, instant: Option<Instant>, last: Option<&str>) -> Option<TimesWithin>
+        ensures { IfSome result
+            (λ times. (m : EntryLimits) (store : Store) (breaks : List Break) (i : ℤ)
+            → m.tolerance ≡ self.now.tolerance → m.last ≡ option_copied last.entry
+            → self.now.found ≡ entrances_in m.target_duration m.with_init_sections store breaks
+            → is_within times.from times.to i ≡ true → entered m store breaks (Some i) ≡ None) }
+    {
+        let span = span_at(self.spans.as_slice(), self.place, instant?)?;
+        if span.entered(last).is_some() {
+            return None;
+        }
+        Some(span.times())
     }
 
     /// The ID of the first known break, in the order of the IDs, that a segment which begins at `instant` enters. The

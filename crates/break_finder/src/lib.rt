@@ -16,4 +16,5 @@ mod why;
 
 pub use entering::Entrances;
 pub use knowledge::{Knowledge, Stay};
+pub use spans::TimesWithin;
 pub use why::Why;

@@ -36,6 +36,24 @@ impl<'a> Model for TimeSpan<'a> {
     ghost view = { λ a. record { from = a.from; to = a.to; first = option_copied a.first; second = option_copied a.second } };
 }
 
+/// The instants from one up to another, which is no part of them, in nanoseconds from 1970.
+#[derive(Clone, Copy)]
+pub struct TimesWithin {
+    /// The first of them.
+    pub from: i128,
+    /// The one after the last.
+    pub to: i128,
+}
+
+impl TimesWithin {
+    /// Whether `instant` is one of them.
+    pub fn holds(&self, instant: Instant) -> bool
+        ensures { result ≡ is_within self.now.from self.now.to instant }
+    {
+        self.from <= i128::from(instant.0) && i128::from(instant.0) < self.to
+    }
+}
+
 // The first, or if it is the last one entered the second.
 fn but<'a>(first: Option<&'a str>, second: Option<&'a str>, last: Option<&str>) -> Option<&'a str>
     ensures { option_copied result
@@ -82,6 +100,16 @@ impl<'a> TimeSpan<'a> {
         ensures { result ≡ is_none self.now.first }
     {
         self.first.is_none()
+    }
+
+    /// Its instants.
+    pub fn times(&self) -> TimesWithin
+        ensures { result ≡ record { from = self.now.from; to = self.now.to } }
+    {
+        TimesWithin {
+            from: self.from,
+            to: self.to,
+        }
     }
 
     /// The ID of the break that a segment in this span enters, if the break `last` was entered last.

@@ -1,6 +1,6 @@
 -- The segments that a channel holds, the oldest first, and what is kept, the newest first.
 use Rattle.std.proofs.Common.{◌≡◌, ℕ, ◌+◌, ◌-◌, ◌<◌, ◌≤◌, ℤ, Bool, true, false, cond, min, zero, suc, List, [], ◌∷◌, ◌++◌, map, length, drop, refl, ap, sym, ◌∙◌, subst, arith, length-append}
-use Rattle.std.specs.Prelude.{Option, filter, nat_lt}
+use Rattle.std.specs.Prelude.{Option, None, filter, nat_lt}
 use Rattle.std.specs.List.{AllByRecursion}
 use Rattle.std.proofs.lemmas.Bool.{ltb-true, ltb-false}
 use Rattle.std.proofs.lemmas.Bool.Decides.{nat_tests}
@@ -13,6 +13,7 @@ use Rattle.playlist_model.specs.Instants.{ends_at, instants_after}
 use Rattle.pod_store.specs.Store.{Store}
 use Rattle.stitcher.specs.declared.marked.MarkedSegment.{MarkedSegment as Held}
 use Rattle.stitcher.specs.StitchedSegments.{meant, mark_in, IsDecided, AreDecided}
+use Rattle.stitcher.specs.Inner.Making.{mark_after}
 use Rattle.channel_spec.specs.Sound.{RiseFrom}
 use Rattle.channel_spec.specs.Successor.{first_number}
 use Rattle.channel_window.specs.Checked.{AreContiguous}
@@ -57,6 +58,17 @@ newest_seen store shown rest m e = ap newest_mark (last_seen store shown rest m 
 
 pub newest_decided : (store : Store) (shown rest : List Held) (m : Held) → shown ≡ rest ++ m ∷ [] → AreDecided store shown → IsDecided store m.mark
 newest_decided store shown rest m e d = (all_after (λ (h : Held). IsDecided store h.mark) rest (m ∷ []) (subst (AreDecided store) e d)).1.0
+
+-- its mark
+pub last_mark : (shown rest : List Held) (m : Held) → shown ≡ rest ++ m ∷ [] → mark_after None shown ≡ m.mark
+last_mark shown rest m e = ap (mark_after None) e ∙ after rest None
+  where
+    after : (front : List Held) (previous : Option (List ℕ)) → mark_after previous (front ++ m ∷ []) ≡ m.mark
+    after [] previous = refl
+    after (x ∷ front) previous = after front x.mark
+
+pub no_mark : (shown : List Held) → length shown ≡ 0 → mark_after None shown ≡ None
+no_mark shown h = ap (mark_after None) (empty shown h)
 
 pub newest_ends : (store : Store) (shown rest : List Held) (m : Held) → shown ≡ rest ++ m ∷ [] → newest_end (so_far store shown) ≡ ends_at m.instant m.segment.duration
 newest_ends store shown rest m e = ap newest_end (last_seen store shown rest m e)

@@ -1,6 +1,6 @@
 -- The new segments, marked in the order of the playlist, are those that are shown.
 use Rattle.std.proofs.Common.{◌≡◌, ℕ, ◌+◌, ℤ, Bool, true, false, cond, ◌&&◌, List, [], ◌∷◌, map, length, refl, ap, sym, ◌∙◌, arith}
-use Rattle.std.specs.Prelude.{Option, Some, None, IsSome, ◌==◌, is_none, option_map, find}
+use Rattle.std.specs.Prelude.{Option, Some, None, IfSome, IsSome, ◌==◌, is_none, option_map, find}
 use mathlib.Core.List.{reverse_aux}
 use Rattle.std.proofs.lemmas.Bool.{and_parts, eqb-true}
 use Rattle.playlist_model.specs.declared.Segment.{Segment}
@@ -12,12 +12,17 @@ use Rattle.pod_store.specs.Store.{Entry, Store, has_id, pod_of, pod_for, is_empt
 use Rattle.break_finder.specs.Breaks.{Break}
 use Rattle.break_finder.specs.Entering as entering
 use Rattle.break_finder.specs.Entering.{is_inside, enters_break, enters_with, id_of}
-use Rattle.stitcher.specs.StitchedSegments.{meant, mark_in, mark_with, IsDecided, AreDecided}
+use Rattle.stitcher.specs.StitchedSegments.{meant, mark_in, mark_with, IsDecided, AreDecided, KnowsRun, KnowRuns}
 use Rattle.channel_spec.specs.Marking.{Moment, limits, next_mark, newest_end, continued}
 use Rattle.channel_spec.specs.Kept.{marked_on, entered_with, show_on, capped, extended, length_on}
 use Rattle.channel_window.specs.Marking.{is_still_inside, stays, next_id, mark_on, capped_by, capped_in, length_before, length_after}
+use Rattle.break_finder.specs.Entrances.{Entrances, entrances_in, is_within}
+use Rattle.break_finder.specs.declared.spans.TimesWithin.{TimesWithin}
+use Rattle.channel_window.specs.declared.marking.Run.{Run}
+use Rattle.channel_window.specs.Inner.Terms.{IsRun, is_among}
 use Rattle.channel_window.specs.MarkingLaws.{MarksAreShown, LengthsAreKept}
 use Rattle.stitcher.specs.Making.{is_same_run}
+use Rattle.stitcher.specs.declared.marked.MarkedSegment.{MarkedSegment as Held}
 use Rattle.channel_window.proofs.Placed.{same_run}
 
 -- ---- marks and their IDs
@@ -65,10 +70,19 @@ pub none_next : (m : Moment) (newest last : Option (List ℕ)) (instant : Option
 none_next m None last instant e none = none
 none_next m (Some id) last instant e none = absurd (cc)
 
-pub none_marked : (m : Moment) (last : Option (List ℕ)) (s : Segment) (later : List Segment) (instant : Option ℤ) (instants : List (Option ℤ)) → is_empty m.store ≡ true
-    → mark_on m None last (s ∷ later) (instant ∷ instants) ≡ record { segment = s; instant = instant; mark = None } ∷ mark_on m None last later instants
-none_marked m last s later instant instants empty =
-    ap (λ id. record { segment = s; instant = instant; mark = id } ∷ mark_on m id (or_earlier id last) later instants) (none_entered (limits m last) m.store m.breaks instant empty)
+-- at quiet instants after a segment without a mark
+pub quiet_next : (m : Moment) (run : Run) (instant : Option ℤ) → IsRun m run → run.before ≡ None → is_among run.quiet instant ≡ true → next_id m run.before run.entered instant ≡ None
+quiet_next m run instant r e h = none_next m run.before run.entered instant e (r.quiet instant h)
+
+-- those around an instant
+pub quiet_then : (m : Moment) (e : Entrances) (times : Option TimesWithin) (last : Option (List ℕ))
+    → e ≡ record { tolerance = m.tolerance; found = entrances_in m.target_duration m.with_init_sections m.store m.breaks }
+    → IfSome times (λ t. (k : entering.EntryLimits) (store : Store) (breaks : List Break) (i : ℤ) → k.tolerance ≡ e.tolerance → k.last ≡ last
+    → e.found ≡ entrances_in k.target_duration k.with_init_sections store breaks → is_within t.from t.to i ≡ true → entering.entered k store breaks (Some i) ≡ None)
+    → (instant : Option ℤ) → is_among times instant ≡ true → entering.entered (limits m last) m.store m.breaks instant ≡ None
+quiet_then m e None last is h instant among = absurd (cc)
+quiet_then m e (Some times) last is h None among = absurd (cc)
+quiet_then m e (Some times) last is h (Some i) among = h (limits m last) m.store m.breaks i (sym (ap (λ (x : Entrances). x.tolerance) is)) refl (ap (λ (x : Entrances). x.found) is) among
 
 -- ---- each mark is decided
 
@@ -106,6 +120,19 @@ all_decided m newest last (s ∷ later) (begun ∷ instants) h =
     let here = next_decided m newest last begun h in
     (here, all_decided m (next_id m newest last begun) (or_earlier (next_id m newest last begun) last) later instants here)
 
+-- ---- each knows its run
+
+knows_run : (newest : Option (List ℕ)) (h : Held) → h.goes_on ≡ is_same_run h.mark newest → KnowsRun newest h
+knows_run None h e = tt
+knows_run (Some id) h e = e
+
+pub know_runs : (m : Moment) (newest last : Option (List ℕ)) (segments : List Segment) (instants : List (Option ℤ)) → KnowRuns newest (mark_on m newest last segments instants)
+know_runs m newest last [] instants = tt
+know_runs m newest last (s ∷ later) [] = tt
+know_runs m newest last (s ∷ later) (begun ∷ instants) =
+    let id = next_id m newest last begun in
+    (knows_run newest (record { segment = s; instant = begun; mark = id; goes_on = is_same_run id newest }) refl, know_runs m id (or_earlier id last) later instants)
+
 pod_entered : (id : List ℕ) (last : Option (List ℕ)) (o : Option Pod) → IsSome o → entered_with (mark_with id o) last ≡ Some id
 pod_entered id last None h = absurd (cc)
 pod_entered id last (Some pod) h = refl
@@ -124,7 +151,7 @@ shown_all m newest last before (s ∷ later) h e =
     let id = next_id m newest last begun in
     let here = marked_on m before last s later in
     let mark : mark_in m.store id ≡ here.mark = marks_agree m newest last begun ∙ ap (λ o. next_mark m o last begun) (sym e) in
-    let same : meant m.store (record { segment = s; instant = begun; mark = id }) ≡ here = ap (λ o. record { segment = s; instant = begun; mark = o }) mark in
+    let same : meant m.store (record { segment = s; instant = begun; mark = id; goes_on = is_same_run id newest }) ≡ here = ap (λ o. record { segment = s; instant = begun; mark = o }) mark in
     let d = next_decided m newest last begun h in
     ap (λ x. reverse_aux (map (meant m.store) (mark_on m id (or_earlier id last) later (instants_after (ends_at begun s.duration) later))) (x ∷ before)) same
     ∙ (shown_all m id (or_earlier id last) (here ∷ before) later d (sym mark)

@@ -15,11 +15,12 @@ use Rattle.stitcher.specs.declared.ends.Rest.{Rest}
 use Rattle.stitcher.specs.declared.ends.Ends.{Ends}
 use Rattle.stitcher.specs.declared.making.Last.{Last}
 use Rattle.stitcher.specs.Written.{written_item}
-use Rattle.stitcher.specs.StitchedSegments.{meant, mark_in, mark_with, IsDecided, AreDecided, item_fits, stitched_segments}
+use Rattle.stitcher.specs.StitchedSegments.{meant, mark_in, mark_with, IsDecided, AreDecided, KnowRuns, item_fits, stitched_segments}
 use Rattle.stitcher.specs.Making.{pod_with, begun, is_same_run}
 use Rattle.stitcher.specs.Inner.Making.{counted, last_of, numbers_after, begun_with, part_of, part_at, part_due, whole_from, goes_on_to_last, pieces_at, pieces_on, rest_on, pieces_between}
 use Rattle.stitcher.proofs.Parts.{whole_is_part}
 use Rattle.stitcher.proofs.Runs.{in_order, rest_in_order}
+use Rattle.stitcher.proofs.Known.{known_front}
 use Rattle.channel_spec.specs.Kept.{numbers_on}
 use Rattle.channel_spec.specs.declared.fault.RefreshFault.{RefreshFault}
 use Rattle.channel_spec.specs.declared.fault.RefreshFault.TheVariants.{NumberRange}
@@ -175,6 +176,9 @@ within store first ends list front d f =
 
 pub front_decided : (store : Store) (list front : List MarkedSegment) → AreDecided store list → IsFront front list → AreDecided store front
 front_decided store list front d f = (all_after (λ (m : MarkedSegment). IsDecided store m.mark) front f.0 (subst (AreDecided store) f.1 d)).0
+
+pub front_known : (list front : List MarkedSegment) → KnowRuns None list → IsFront front list → KnowRuns None front
+front_known list front k f = known_front None front f.0 (subst (KnowRuns None) f.1 k)
 
 pub first_here : (store : Store) (held : List MarkedSegment) (numbers : Numbers) (last : Option Heading) → AreDecided store held → last ≡ None → first_numbers_of held ≡ numbers_on last numbers (so_far store held)
 first_here store held numbers last d e = sym (ap (λ o. numbers_on o numbers (so_far store held)) e ∙ begins store held d)

@@ -11,7 +11,9 @@ use Rattle.pod_store.specs.Pods.{Pod}
 use Rattle.pod_store.specs.Marks.{Mark, Marked, newest_mark}
 use Rattle.pod_store.specs.Store.{Store, pod_for}
 use Rattle.stitcher.specs.declared.marked.MarkedSegment.{MarkedSegment as Held}
-use Rattle.stitcher.specs.StitchedSegments.{meant, mark_in, mark_with, IsDecided, AreDecided}
+use Rattle.stitcher.specs.StitchedSegments.{meant, mark_in, mark_with, IsDecided, AreDecided, KnowRuns}
+use Rattle.stitcher.specs.Inner.Making.{mark_after}
+use Rattle.stitcher.proofs.Known.{known_on}
 use Rattle.break_finder.specs.Known.{is_this, carry}
 use Rattle.channel_spec.specs.Successor.{has_init_sections}
 use Rattle.channel_spec.specs.Marking.{Moment, mark_id, last_mark, last_entered, is_new, newest_end}
@@ -24,6 +26,7 @@ use Rattle.channel_window.specs.Inner.Terms.{entered_after}
 use Rattle.channel_window.specs.Checked.{AreContiguous}
 use Rattle.channel_window.specs.Listed.{RisesOn}
 use Rattle.channel_window.proofs.Extended.{newest_is_last}
+use Rattle.channel_window.proofs.Marked.{know_runs}
 use Rattle.channel_window.proofs.Rising.{rises_on}
 use Rattle.channel_window.proofs.Listed.{seen_after, all_after, is_listed, is_decided, is_long}
 use Rattle.channel_window.specs.Showing.{kept_in, IsLastEntered, IsShown}
@@ -64,7 +67,8 @@ module _ (tolerance : ℕ) (state : ChannelState) (p : Playlist) (shown : List H
     (breaks_are : a.knowledge ≡ carry (record { playlist = p; carried = newest }) state.shown.knowledge) (fresh_is : fresh ≡ filter (is_new (so_far state.store shown)) p.segments)
     (ended_is : ended ≡ newest_end (so_far state.store shown)) (begun_is : begun ≡ instants_after ended fresh)
     (marked_is : marked ≡ mark_on (record { tolerance = tolerance; target_duration = p.target_duration; with_init_sections = has_init_sections p.segments; breaks = a.knowledge; store = state.store }) newest state.shown.entered fresh begun)
-    (held : List Held) (list_is : held ≡ shown ++ marked) (contiguous : AreContiguous p.segments) (rises : RisesOn state.list p.segments) (entered_is : a.entered ≡ entered_after state.shown.entered marked) where
+    (held : List Held) (list_is : held ≡ shown ++ marked) (contiguous : AreContiguous p.segments) (rises : RisesOn state.list p.segments) (entered_is : a.entered ≡ entered_after state.shown.entered marked)
+    (known : KnowRuns None state.list) (newest_last : newest ≡ mark_after None shown) where
   abbrev store : Store
   store = state.store
 
@@ -82,6 +86,11 @@ module _ (tolerance : ℕ) (state : ChannelState) (p : Playlist) (shown : List H
       breaks_are
       ∙ ap (λ o. carry (record { playlist = p; carried = o }) state.shown.knowledge)
       (sym (ap (λ (xs : List Held). option_map mark_id (newest_mark (so_far store xs))) (sym same) ∙ ap (option_map mark_id) mark_is ∙ mark_named store newest (newest_is decided)))
+
+  marked_know : KnowRuns (mark_after None shown) marked
+  marked_know =
+      subst (λ id. KnowRuns id marked) newest_last
+      (subst (KnowRuns newest) (sym marked_is) (know_runs (moment a.knowledge) newest state.shown.entered fresh begun))
 
   list_decided : AreDecided store held
   list_decided = is_decided (moment a.knowledge) shown newest state.shown.entered p.segments fresh ended begun marked held mark_is (newest_is decided) decided ended_is fresh_is begun_is marked_is list_is
@@ -109,6 +118,7 @@ module _ (tolerance : ℕ) (state : ChannelState) (p : Playlist) (shown : List H
         ∙ (ap (λ (xs : List Held). length_on (moment a.knowledge) (so_far store xs) state.shown.entered state.shown.so_far (filter (is_new (so_far store xs)) p.segments)) same
         ∙ ap (λ b. length_on (moment b) (so_far store state.list) state.shown.entered state.shown.so_far (filter (is_new (so_far store state.list)) p.segments)) breaks_kept);
     decided = list_decided;
+    runs = subst (KnowRuns None) (sym list_is) (known_on None shown marked (subst (KnowRuns None) (sym same) known) marked_know);
     rising = rises_on (moment a.knowledge) shown newest state.shown.entered p.segments fresh begun marked held shown_rises contiguous fresh_is marked_is list_is;
   }
 

@@ -34,7 +34,7 @@ abbrev pub mark_on : Moment → Option (List ℕ) → Option (List ℕ) → List
 mark_on m newest last [] instants = []
 mark_on m newest last (s ∷ later) [] = []
 mark_on m newest last (s ∷ later) (instant ∷ instants) =
-    record { segment = s; instant = instant; mark = next_id m newest last instant }
+    record { segment = s; instant = instant; mark = next_id m newest last instant; goes_on = is_same_run (next_id m newest last instant) newest }
     ∷ mark_on m (next_id m newest last instant) (or_earlier (next_id m newest last instant) last) later instants
 
 -- the first list, turned round, before the second

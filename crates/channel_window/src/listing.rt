@@ -1,9 +1,10 @@
 //! The segments that a channel holds, the oldest first: the newest of them, those of a playlist that come after it, and parts of them.
-ghost use Rattle.std.specs.Prelude.{◌≡◌, ◌≤◌, ◌-◌, ℕ, IfOk, length, filter, drop, take, min};
+ghost use Rattle.std.specs.Prelude.{◌≡◌, ◌≤◌, ◌-◌, ℕ, None, IfOk, length, filter, drop, take, min};
 ghost use Rattle.pod_store.specs.Marks.{newest_mark};
 ghost use Rattle.stitcher.specs.Stitched.{up_to};
 ghost use Rattle.pod_store.specs.Store.{Store};
 ghost use Rattle.stitcher.specs.StitchedSegments.{mark_in, IsDecided, AreDecided};
+ghost use Rattle.stitcher.specs.Inner.Making.{mark_after};
 ghost use Rattle.channel_spec.specs.Marking.{newest_end, is_new};
 ghost use Rattle.channel_spec.specs.Live.{gone_before};
 ghost use Rattle.channel_spec.specs.Kept.{shown_from};
@@ -19,7 +20,7 @@ use playlist_parse::Read;
 use std::alloc::{AllocError, Global};
 use stitcher::{MarkedSegment, SharedMark};
 
-#[tactic(auto, using(crate::proofs::Listed::newest_seen, crate::proofs::Listed::newest_decided, crate::proofs::Listed::none_seen))]
+#[tactic(auto, using(crate::proofs::Listed::newest_seen, crate::proofs::Listed::newest_decided, crate::proofs::Listed::none_seen, crate::proofs::Listed::last_mark, crate::proofs::Listed::no_mark))]
 /// The mark of the newest of the `shown` segments, which is the last; no mark if there is none. Fails only if an
 /// allocation fails.
 pub fn newest_mark(alloc: Global, shown: &[MarkedSegment]) -> Result<SharedMark, AllocError>
@@ -27,6 +28,7 @@ pub fn newest_mark(alloc: Global, shown: &[MarkedSegment]) -> Result<SharedMark,
         (λ id. (store : Store) → newest_mark (so_far store shown.now) ≡ mark_in store id) }
     ensures decided { IfOk result
         (λ id. (store : Store) → AreDecided store shown.now → IsDecided store id) }
+    ensures last { IfOk result (λ id. id ≡ mark_after None shown.now) }
 {
     match shown.split_last() {
         Some((newest, _)) => newest.mark.clone(),

@@ -1,5 +1,5 @@
 //! The new segments of a refresh, with the breaks that they are marked with.
-ghost use Rattle.std.specs.Prelude.{◌≡◌, ◌++◌, ◌+◌, ℕ, ℤ, true, List, Option, IfOk, OnOk, None};
+ghost use Rattle.std.specs.Prelude.{◌≡◌, ◌++◌, ◌+◌, ℕ, ℤ, true, List, Option, IfOk, OnOk, None, is_some};
 ghost use Rattle.std.specs.Option.{option_copied};
 ghost use Rattle.playlist_model.specs.LookBack.{or_earlier};
 ghost use Rattle.pod_store.specs.Store.{is_empty};
@@ -7,13 +7,14 @@ ghost use Rattle.break_finder.specs.Entering.{entered};
 ghost use Rattle.channel_spec.specs.Marking.{limits};
 ghost use Rattle.channel_spec.specs.Successor.{has_init_sections};
 ghost use Rattle.playlist_parse.specs.Kept.{playlist_in};
-ghost use Rattle.channel_window.specs.Marking.{next_id, mark_on, length_before, length_after};
+ghost use Rattle.stitcher.specs.Making.{is_same_run};
+ghost use Rattle.channel_window.specs.Marking.{next_id, mark_on, length_after};
 ghost use Rattle.channel_window.specs.Inner.Terms.{entered_after};
-ghost use Rattle.channel_window.specs.Inner.Terms.{AreTerms, IsExtended, IsRun, capped_at, stays_in};
+ghost use Rattle.channel_window.specs.Inner.Terms.{AreTerms, IsExtended, IsRun, capped_at, is_among, stays_in};
 
 use crate::state::Shown;
 use crate::successor::has_init_sections;
-use break_finder::{Entrances, Knowledge, Stay};
+use break_finder::{Entrances, Knowledge, Stay, TimesWithin};
 use fixed_duration::Nanos;
 use playlist_model::{Instant, Member, Members, Segment, Shared, Text};
 use playlist_parse::Read;
@@ -62,6 +63,16 @@ fn stays_in(terms: &Option<Terms>, instant: Option<Instant>) -> bool
     }
 }
 
+// Whether an instant is one of these.
+fn is_among(times: &Option<TimesWithin>, instant: Option<Instant>) -> bool
+    ensures { result ≡ is_among times.now instant }
+{
+    match (times, instant) {
+        (Some(times), Some(instant)) => times.holds(instant),
+        _ => false,
+    }
+}
+
 // As much of a run's length as counts by these terms, if it lasts for `duration` more than `before`.
 fn capped_at(terms: &Option<Terms>, duration: Nanos, before: Nanos) -> Nanos
     ensures { result ≡ capped_at terms.now (duration + before) }
@@ -72,13 +83,14 @@ fn capped_at(terms: &Option<Terms>, duration: Nanos, before: Nanos) -> Nanos
     }
 }
 
-// How far the marks are: the mark of the segment before, with the terms of its break, the last break entered, and how long the
-// newest run has lasted.
+// How far the marks are: the mark of the segment before, with the terms of its break, the last break entered, instants at which
+// none is entered after that, and how long the newest run has lasted.
 #[derive(Drop)]
 struct Run {
     before: SharedMark,
     terms: Option<Terms>,
     entered: Option<Shared<Text>>,
+    quiet: Option<TimesWithin>,
     so_far: Nanos,
 }
 
@@ -128,28 +140,31 @@ fn enter(entered: &mut Option<Shared<Text>>, mark: &Option<Shared<Text>>) -> Res
     Ok(())
 }
 
-// How long the run of a segment of the mark `mark` has lasted before it.
-fn length_before(mark: &Option<Shared<Text>>, run: &Run) -> Nanos
-    ensures { result ≡ length_before mark.now run.now.before run.now.so_far }
-{
-    if is_same_run(mark, &run.before) {
-        run.so_far
-    } else {
-        Nanos(0)
-    }
+// The mark of a segment, and whether it goes on the run of the one before it.
+#[derive(Drop)]
+struct NextMark {
+    mark: SharedMark,
+    goes_on: bool,
 }
 
-fn marked_with(
-    segment: Member<Segment>,
-    instant: OptionalInstant,
-    mark: SharedMark,
-) -> MarkedSegment
-    ensures { result ≡ record { segment = segment; instant = instant; mark = mark } }
+// The mark of one more segment of a run, or of one more without a mark.
+fn same_mark(run: &Run) -> Result<NextMark, AllocError>
+    ensures mark { IfOk result (λ next. next.mark ≡ run.now.before) }
+    ensures same { IfOk result (λ next. next.goes_on ≡ is_some run.now.before) }
+{
+    let mark = run.before.clone()?;
+    let goes_on = mark.is_some();
+    Ok(NextMark { mark, goes_on })
+}
+
+fn marked_with(segment: Member<Segment>, instant: OptionalInstant, next: NextMark) -> MarkedSegment
+    ensures { result ≡ record { segment = segment; instant = instant; mark = next.mark; goes_on = next.goes_on } }
 {
     MarkedSegment {
         segment,
         instant,
-        mark,
+        mark: next.mark,
+        goes_on: next.goes_on,
     }
 }
 
@@ -244,18 +259,28 @@ impl<'a> Marker<'a> {
         self.entrances.is_quiet(instant)
     }
 
-    #[tactic(auto, using(crate::proofs::Marked::none_next))]
-    // Whether it is seen at once that no break marks a segment at this instant, after one of this mark.
+    #[tactic(auto, using(crate::proofs::Marked::none_next, crate::proofs::Marked::quiet_next))]
+    // Whether it is seen at once that no break marks the next segment, at this instant.
     #[inline(always)]
-    fn is_unmarked(&self, before: &Option<Shared<Text>>, instant: Option<Instant>) -> bool
-        ensures before { result ≡ true → before.now ≡ None }
-        ensures next { result ≡ true → (last : Option (List ℕ))
-            → next_id self.now before.now last instant ≡ None }
+    fn is_unmarked(&self, run: &Run, instant: OptionalInstant) -> bool
+        requires { IsRun self.now run.now }
+        ensures before { result ≡ true → run.now.before ≡ None }
+        ensures next { result ≡ true
+            → next_id self.now run.now.before run.now.entered instant ≡ None }
     {
-        match before {
-            Some(_) => false,
-            None => self.is_quiet(instant),
+        if run.before.is_some() {
+            return false;
         }
+        self.is_quiet(instant.get()) || is_among(&run.quiet, instant.get())
+    }
+
+    #[tactic(auto, using(crate::proofs::Marked::quiet_then))]
+    // Instants around this one at which no break is entered after this last one.
+    fn quiet_around(&self, instant: Option<Instant>, last: Option<&str>) -> Option<TimesWithin>
+        ensures { (i : Option ℤ) → is_among result i ≡ true
+            → entered (limits self.now (option_copied last.entry)) self.now.store self.now.breaks i ≡ None }
+    {
+        self.entrances.quiet_around(instant, last)
     }
 
     // The mark of a segment that begins a run, or has none; `run` is then as far as it.
@@ -263,27 +288,30 @@ impl<'a> Marker<'a> {
         &mut self,
         alloc: Global,
         run: &mut Run,
-        instant: Option<Instant>,
+        instant: OptionalInstant,
         duration: Nanos,
-    ) -> Result<SharedMark, AllocError>
+    ) -> Result<NextMark, AllocError>
         ensures mark { IfOk result
-            (λ mark. mark ≡ entered (limits self.old run.old.entered) self.old.store self.old.breaks instant) }
+            (λ next. next.mark ≡ entered (limits self.old run.old.entered) self.old.store self.old.breaks instant) }
+        ensures same { IfOk result (λ next. next.goes_on ≡ is_same_run next.mark run.old.before) }
         ensures goes { IfOk result
-            (λ mark. IsExtended self.old.store duration mark run.old run.new) }
+            (λ next. IsExtended self.old.store duration next.mark run.old run.new) }
         ensures run { OnOk result (IsRun self.old run.new) }
         ensures kept { self.new ≡ self.old }
     {
-        let id = self.entered(alloc, text_in(&run.entered), instant)?;
+        let id = self.entered(alloc, text_in(&run.entered), instant.get())?;
         let mark = self.mark_of(alloc, id)?;
-        let before = length_before(&mark, run);
+        let goes_on = is_same_run(&mark, &run.before);
+        let before = if goes_on { run.so_far } else { Nanos(0) };
         enter(&mut run.entered, &mark)?;
         run.before = mark.clone()?;
         run.terms = self.terms_of(&mark);
+        run.quiet = self.quiet_around(instant.get(), text_in(&run.entered));
         run.so_far = capped_at(&run.terms, duration, before);
-        Ok(mark)
+        Ok(NextMark { mark, goes_on })
     }
 
-    #[tactic(auto, using(crate::proofs::Extended::unmarked_on, crate::proofs::Extended::stays_on, crate::proofs::Extended::stays_next, crate::proofs::Extended::begins_next))]
+    #[tactic(auto, using(crate::proofs::Extended::unmarked_on, crate::proofs::Extended::stays_on, crate::proofs::Extended::stays_next, crate::proofs::Extended::begins_next, crate::proofs::Extended::same_run))]
     // The mark of the next segment; `run` is then as far as it.
     fn next_mark(
         &mut self,
@@ -291,24 +319,25 @@ impl<'a> Marker<'a> {
         run: &mut Run,
         instant: OptionalInstant,
         duration: Nanos,
-    ) -> Result<SharedMark, AllocError>
+    ) -> Result<NextMark, AllocError>
         requires { IsRun self.old run.old }
         ensures mark { IfOk result
-            (λ mark. mark ≡ next_id self.old run.old.before run.old.entered instant) }
+            (λ next. next.mark ≡ next_id self.old run.old.before run.old.entered instant) }
+        ensures same { IfOk result (λ next. next.goes_on ≡ is_same_run next.mark run.old.before) }
         ensures goes { IfOk result
-            (λ mark. IsExtended self.old.store duration mark run.old run.new) }
+            (λ next. IsExtended self.old.store duration next.mark run.old run.new) }
         ensures run { OnOk result (IsRun self.old run.new) }
         ensures kept { self.new ≡ self.old }
     {
-        if self.is_unmarked(&run.before, instant.get()) {
+        if self.is_unmarked(run, instant) {
             run.so_far = Nanos(0);
-            return run.before.clone();
+            return same_mark(run);
         }
         if stays_in(&run.terms, instant.get()) {
             run.so_far = capped_at(&run.terms, duration, run.so_far);
-            return run.before.clone();
+            return same_mark(run);
         }
-        self.begin(alloc, run, instant.get(), duration)
+        self.begin(alloc, run, instant, duration)
     }
 
     // The next segment with its mark; `run` is then as far as it.
@@ -321,7 +350,7 @@ impl<'a> Marker<'a> {
     ) -> Result<MarkedSegment, AllocError>
         requires { IsRun self.old run.old }
         ensures marked { IfOk result
-            (λ m. m ≡ record { segment = segment; instant = instant; mark = next_id self.old run.old.before run.old.entered instant }) }
+            (λ m. m ≡ record { segment = segment; instant = instant; mark = next_id self.old run.old.before run.old.entered instant; goes_on = is_same_run (next_id self.old run.old.before run.old.entered instant) run.old.before }) }
         ensures goes { IfOk result
             (λ m. IsExtended self.old.store segment.duration m.mark run.old run.new) }
         ensures run { OnOk result (IsRun self.old run.new) }
@@ -385,7 +414,11 @@ impl<'a> Marker<'a> {
                 return Ok(());
             };
             run.so_far = Nanos(0);
-            done.push(marked_with(segment, begun, self.unmarked.clone()?))?;
+            let unmarked = NextMark {
+                mark: self.unmarked.clone()?,
+                goes_on: false,
+            };
+            done.push(marked_with(segment, begun, unmarked))?;
         }
         Ok(())
     }
@@ -402,6 +435,7 @@ impl<'a> Marker<'a> {
             terms: self.terms_of(&newest),
             before: newest,
             entered: copied_text(&shown.entered)?,
+            quiet: None,
             so_far: shown.so_far,
         })
     }

@@ -2,12 +2,13 @@
 ghost use Rattle.std.specs.Prelude.{◌≡◌, ◌<◌, ◌≤◌, ◌^◌, length, map, sum, None};
 ghost use Rattle.pod_store.specs.Pods.{segment_count};
 ghost use Rattle.stitcher.specs.Making.{begun};
+ghost use Rattle.stitcher.specs.StitchedSegments.{KnowRuns};
 ghost use Rattle.channel_window.specs.Marking.{place_on};
 ghost use Rattle.channel_window.specs.Inner.Placing.{rest_count};
 
 use playlist_model::{Shared, Text};
 use pod_store::{Ad, PodStore};
-use stitcher::{MarkedSegment, Rest, is_same_run};
+use stitcher::{MarkedSegment, Rest, goes_on};
 
 fn segments_in(ads: &[Ad]) -> usize
     requires { sum (map segment_count ads.now) < 2 ^ 64 }
@@ -39,7 +40,8 @@ fn items_of(store: &PodStore, marked: &MarkedSegment) -> usize
 /// The place, from 0, of the first item of the newest run of `held` in their stitched list, whose pods are in
 /// `store`: the window starts there (RFC 8216, section 6.2.2).
 pub fn place_of(store: &PodStore, held: &[MarkedSegment]) -> usize
-    requires { place_on store.now None 0 0 held.now < 2 ^ 64 }
+    requires room { place_on store.now None 0 0 held.now < 2 ^ 64 }
+    requires runs { KnowRuns None held.now }
     ensures { result ≡ place_on store.now None 0 0 held.now }
 {
     let unmarked: Option<Shared<Text>> = None;
@@ -48,7 +50,7 @@ pub fn place_of(store: &PodStore, held: &[MarkedSegment]) -> usize
     let mut items = 0;
     let mut rest = held;
     while let Some((here, later)) = rest.split_first() {
-        if !is_same_run(&here.mark, previous) {
+        if !goes_on(here, previous) {
             start += items;
             items = items_of(store, here);
         }

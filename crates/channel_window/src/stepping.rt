@@ -4,7 +4,7 @@ ghost use Rattle.std.specs.List.{list_all};
 ghost use Rattle.pod_store.specs.Store.{Store};
 ghost use Rattle.stitcher.specs.Stitched.{fits, stitched};
 ghost use Rattle.stitcher.specs.Paced.{due_with, rest_pieces};
-ghost use Rattle.stitcher.specs.StitchedSegments.{AreDecided, item_fits, rest_in, stitched_segments};
+ghost use Rattle.stitcher.specs.StitchedSegments.{AreDecided, KnowRuns, item_fits, rest_in, stitched_segments};
 ghost use Rattle.stitcher.specs.Written.{written_item};
 ghost use Rattle.stitcher.specs.declared.OutSegment.{OutSegment};
 ghost use Rattle.channel_spec.specs.Kept.{items_on};
@@ -26,9 +26,7 @@ use fixed_duration::Nanos;
 use playlist_parse::Read;
 use pod_store::PodStore;
 use std::alloc::{AllocError, Global};
-use stitcher::{
-    Ends, MarkedSegment, Numbers, Rest, StitchFault, StitchedList, is_same_run, stitch_at,
-};
+use stitcher::{Ends, MarkedSegment, Numbers, Rest, StitchFault, StitchedList, goes_on, stitch_at};
 
 /// A stitched list after a refresh, without the items that stand between its first and its new ones.
 #[derive(Drop)]
@@ -56,7 +54,8 @@ fn listed<'a>(
     first: Numbers,
     ends: &Ends,
 ) -> Result<Option<StitchedList<'a>>, AllocError>
-    requires { AreDecided store.now list.now }
+    requires decided { AreDecided store.now list.now }
+    requires runs { KnowRuns None list.now }
     ensures { IfOk result
         (λ some. IfSome some (λ v. (v ≡ stitched_segments store.now first ends.now list.now)
         × (list_all item_fits v ≡ true))) }
@@ -86,7 +85,8 @@ fn run_items<'a>(
     ended: bool,
     lasted: Nanos,
 ) -> Result<Option<StitchedList<'a>>, AllocError>
-    requires { AreDecided store.now list.now }
+    requires decided { AreDecided store.now list.now }
+    requires runs { KnowRuns None list.now }
     ensures { IfOk result
         (λ some. IfSome some
         (λ v. (v ≡ out_of first (due_with ended lasted (so_far store.now list.now)))
@@ -108,7 +108,8 @@ fn front_items<'a>(
     first: Numbers,
     rest: &Option<Rest>,
 ) -> Result<Option<StitchedList<'a>>, AllocError>
-    requires { AreDecided store.now list.now }
+    requires decided { AreDecided store.now list.now }
+    requires runs { KnowRuns None list.now }
     ensures { IfOk result
         (λ some. IfSome some
         (λ v. v ≡ out_of first (stitched (so_far store.now list.now) ++ rest_pieces (rest_in store.now rest.now)))) }
@@ -146,6 +147,7 @@ fn unmarked_from(place: usize, list: &[MarkedSegment]) -> Option<usize>
 
 // Whether a run begins with the last of these segments, after another one.
 fn is_run_begun(list: &[MarkedSegment]) -> bool
+    requires { KnowRuns None list.now }
     ensures { result ≡ true → (store : Store) → AreDecided store list.now
         → BeginsAt store (length list.now - 1) list.now }
 {
@@ -153,7 +155,7 @@ fn is_run_begun(list: &[MarkedSegment]) -> bool
         return false;
     };
     match before.split_last() {
-        Some((previous, _)) => !is_same_run(&newest.mark, &previous.mark),
+        Some((previous, _)) => !goes_on(newest, &previous.mark),
         None => false,
     }
 }
@@ -187,7 +189,8 @@ pub fn run_end(
     lasted: Nanos,
     items: &StitchedList<'_>,
 ) -> Result<Option<Ending>, AllocError>
-    requires { AreDecided store.now list.now }
+    requires decided { AreDecided store.now list.now }
+    requires runs { KnowRuns None list.now }
     ensures { IfOk result
         (λ some. IfSome some (IsEndOf store.now ended lasted list.now items.now)) }
 {
@@ -227,6 +230,7 @@ fn later_items<'a>(
     ending: &Ending,
 ) -> Result<Option<Later<'a>>, AllocError>
     requires decided { AreDecided (kept_before before.now).store list.now }
+    requires runs { KnowRuns None list.now }
     requires stands { take (length (kept_before before.now).list) list.now ≡ (kept_before before.now).list }
     requires stood { stood ≡ length (last_pieces (kept_before before.now).last (kept_in (kept_before before.now))) }
     requires goes_on { GoesOn (last_items (kept_in (kept_before before.now)))
@@ -276,6 +280,7 @@ fn next_end(
     later: &Later<'_>,
 ) -> Result<Option<Ending>, AllocError>
     requires decided { AreDecided store.now list.now }
+    requires runs { KnowRuns None list.now }
     requires begins { BeginsAt store.now later.now.begin list.now }
     requires within { later.now.begin ≤ length list.now }
     requires items { length later.now.items
@@ -308,7 +313,8 @@ fn first_items<'a>(
     gone: usize,
     list: &'a [MarkedSegment],
 ) -> Result<Option<StitchedList<'a>>, AllocError>
-    requires { AreDecided (kept_before before.now).store list.now }
+    requires decided { AreDecided (kept_before before.now).store list.now }
+    requires runs { KnowRuns None list.now }
     ensures { IfOk result
         (λ some. IfSome some (IsFirst (kept_before before.now) list.now)) }
 {
@@ -334,6 +340,7 @@ pub fn stepped_of<'a>(
     ending: &Ending,
 ) -> Result<Option<SteppedList<'a>>, AllocError>
     requires decided { AreDecided (kept_before before.now).store list.now }
+    requires runs { KnowRuns None list.now }
     requires rising { AreRising list.now }
     requires rest { IsRestDecided (kept_before before.now).store (kept_before before.now).shown.rest }
     requires stands { take (length (kept_before before.now).list) list.now ≡ (kept_before before.now).list }

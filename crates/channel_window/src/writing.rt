@@ -4,7 +4,7 @@ ghost use Rattle.std.specs.List.{list_all, list_any};
 ghost use Rattle.stitcher.specs.Stitched.{fits};
 ghost use Rattle.pod_store.specs.Store.{Store, pod_for};
 ghost use Rattle.playlist_model.specs.declared.DateRange.{DateRange};
-ghost use Rattle.stitcher.specs.StitchedSegments.{AreDecided, ends_in, item_fits, rest_in, stitched_segments};
+ghost use Rattle.stitcher.specs.StitchedSegments.{AreDecided, KnowRuns, ends_in, item_fits, rest_in, stitched_segments};
 ghost use Rattle.stitcher.specs.Written.{written_item};
 ghost use Rattle.channel_spec.specs.Kept.{items_on, listed, numbers_on, rest_after, rest_on, start_on, stitched_on, window_on};
 ghost use Rattle.channel_spec.specs.Inner.Kept.{ends_of};
@@ -45,7 +45,8 @@ fn stitched<'a>(
     first: Numbers,
     ends: &Ends,
 ) -> Result<StitchedList<'a>, RefreshFault>
-    requires { AreDecided store.now list.now }
+    requires decided { AreDecided store.now list.now }
+    requires runs { KnowRuns None list.now }
     ensures ok { IfOk result
         (λ v. (v ≡ stitched_segments store.now first ends.now list.now)
         × (list_all item_fits v ≡ true)) }
@@ -89,6 +90,7 @@ fn ends_of(rest: &Option<Rest>, ended: bool, so_far: Nanos) -> Result<Ends, Allo
 fn item_place(store: &PodStore, rest: &Option<Rest>, number: u64, list: &[MarkedSegment]) -> usize
     requires room { HasRoom store.now rest.now list.now }
     requires decided { AreDecided store.now list.now }
+    requires runs { KnowRuns None list.now }
     requires rising { AreRising list.now }
     ensures value { result ≡ place_of number (so_far store.now list.now) }
     ensures room { result + rest_count store.now rest.now < 2 ^ 64 }
@@ -108,6 +110,7 @@ fn rest_of(
 ) -> Result<Option<Rest>, AllocError>
     requires room { place_on store.now None 0 0 gone.now + rest_items < 2 ^ 64 }
     requires decided { AreDecided store.now gone.now }
+    requires runs { KnowRuns None gone.now }
     ensures decided { IfOk result (λ rest. IsRestDecided store.now rest) }
     ensures value { IfOk result
         (λ rest. rest_in store.now rest ≡ rest_of rest_items start (so_far store.now gone.now)) }
@@ -144,6 +147,7 @@ fn later_start(
 ) -> Result<Start, AllocError>
     requires room { HasRoom store.now rest.now list.now }
     requires decided { AreDecided store.now list.now }
+    requires runs { KnowRuns None list.now }
     requires rising { AreRising list.now }
     ensures place { IfOk result
         (λ s. s.place ≡ min (place_of number
@@ -178,6 +182,7 @@ pub(crate) fn start_of(
 ) -> Result<Start, AllocError>
     requires room { HasRoom (kept_before before.now).store (kept_before before.now).shown.rest list.now }
     requires decided { AreDecided (kept_before before.now).store list.now }
+    requires runs { KnowRuns None list.now }
     requires rising { AreRising list.now }
     requires rest { IsRestDecided (kept_before before.now).store (kept_before before.now).shown.rest }
     requires stood { stood ≡ length (last_pieces (kept_before before.now).last (kept_in (kept_before before.now))) }
@@ -232,6 +237,7 @@ pub fn placed_of<'a>(
     stood: usize,
 ) -> Result<PlacedList<'a>, RefreshFault>
     requires decided { AreDecided (kept_before before.now).store list.now }
+    requires runs { KnowRuns None list.now }
     requires rising { AreRising list.now }
     requires rest { IsRestDecided (kept_before before.now).store (kept_before before.now).shown.rest }
     requires stood { stood ≡ length (last_pieces (kept_before before.now).last (kept_in (kept_before before.now))) }

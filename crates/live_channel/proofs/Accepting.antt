@@ -80,6 +80,12 @@ module _ (state : ChannelState) (p : Playlist) (held : List Held) (n : ℕ) wher
       ∙ (ap (λ (k : Numbers). record done { media_sequence = k.media_sequence; segments = count; fresh = fresh }) (numbers_seen items numbers w h)
       ∙ ap (λ k. record (refreshed_with window fresh) { segments = k }) (e ∙ (ap length w ∙ length-map window written_item)))
 
+-- the segments that stay are decided
+pub decided_later : (count : ℕ) (store : Store) (held : List Held) → AreDecided store held → AreDecided store (drop count held)
+decided_later zero store held d = d
+decided_later (suc n) store [] d = tt
+decided_later (suc n) store (m ∷ later) d = decided_later n store later d.1
+
 -- ---- what is shown is what is to be shown
 
 module _ (tolerance : ℕ) (state : ChannelState) (p : Playlist) (held : List Held) (showing : Showing) (next : NextState) (shown : IsShown tolerance state p held showing) where
@@ -121,9 +127,10 @@ ready tolerance state before p come list showing written e f shown stood kept en
       stood = subst (λ items. StoodIn (kept_in state) items written) (sym (items_kept tolerance state p (state.list ++ come) showing shown)) stood;
       stands = take_at state.list come (length state.list) refl;
       decided = shown.decided;
+      runs = shown.runs;
       rising = shown.rising;
       entered_is = shown.entered;
-      rest = kept.1;
+      rest = kept.rest;
       ending = ending;
     }))
 

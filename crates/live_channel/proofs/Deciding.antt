@@ -27,7 +27,7 @@ module _ (base : Parts) (tolerance : ℕ) (state : ChannelState) (text : Option 
   shown = state.list
 
   abbrev kept_by : Store → Type 0
-  kept_by store = AreKept store state
+  kept_by store = AreKept store (record state { store = store })
 
   abbrev at : Store → Channel
   at store = channel_with base tolerance (record state { store = store }) text
@@ -45,7 +45,7 @@ module _ (base : Parts) (tolerance : ℕ) (state : ChannelState) (text : Option 
 
   changed : (old new : Store) (event : Given) (given : List Given) → Represents (at old) given → kept_by old → ((mark : Option Mark) → HasPod old mark → HasPod new mark)
       → Represents (with_store (at old) new) (event ∷ given) → Represents (at new) (event ∷ given)
-  changed old new event given s d keeps h = subst (λ c. Represents c (event ∷ given)) (sym (moved old new (all_stay (at old) given new shown state.shown.rest s refl refl d.0 d.1 keeps))) h
+  changed old new event given s d keeps h = subst (λ c. Represents c (event ∷ given)) (sym (moved old new (all_stay (at old) given new shown state.shown.rest s refl refl d.decided d.rest keeps))) h
 
   pub answered : (old new : Store) (event : Given) (result : Result (Unit {0}) DecisionFault) (outcome : Outcome (Store)) → Changes old new result outcome → Stands (at old) → kept_by old
       → ((mark : Option Mark) → HasPod old mark → HasPod (taken old outcome) mark)
@@ -55,10 +55,10 @@ module _ (base : Parts) (tolerance : ℕ) (state : ChannelState) (text : Option 
       let same : taken old outcome ≡ new = ap (taken old) h in
       let keeps_new = subst (λ (x : Store). (mark : Option Mark) → HasPod old mark → HasPod x mark) same keeps in
       let follows_new = subst (λ (x : Store). (given : List Given) → Represents (at old) given → Represents (with_store (at old) x) (event ∷ given)) same follows in
-      let stay = all_stay (at old) stands.0 new shown state.shown.rest stands.1 refl refl d.0 d.1 keeps_new in
+      let stay = all_stay (at old) stands.0 new shown state.shown.rest stands.1 refl refl d.decided d.rest keeps_new in
       record {
         stands = (event ∷ stands.0, changed old new event stands.0 stands.1 d keeps_new (follows_new stands.0 stands.1));
-        decided = (stay.marks.decided, stay.rest.decided);
+        decided = record { decided = stay.marks.decided; rest = stay.rest.decided; runs = d.runs };
         changes = (h, moved old new stay);
         on = λ given s. changed old new event given s d keeps_new (follows_new given s);
       }

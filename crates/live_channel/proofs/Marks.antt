@@ -1,6 +1,7 @@
 -- The breaks that mark segments, as a channel holds them and as they are meant.
-use Rattle.std.proofs.Common.{◌≡◌, ℕ, ◌<◌, ◌≤◌, Bool, true, false, cond, List, [], ◌∷◌, ◌++◌, map, refl, ap, sym, subst, ◌∙◌, append_assoc}
+use Rattle.std.proofs.Common.{◌≡◌, ℕ, ◌<◌, ◌≤◌, true, cond, List, [], ◌∷◌, ◌++◌, map, refl, ap, sym, subst, ◌∙◌, append_assoc}
 use Rattle.std.proofs.lemmas.Bool.{lt-leb, le-leb}
+use Rattle.std.proofs.lemmas.Slice.Eq.{bytes_eq-Decides}
 use Rattle.std.proofs.lemmas.List.{append-nil}
 use Rattle.std.specs.Prelude.{Option, Some, None, IsSome, nat_le, option_map}
 use mathlib.Core.List.{reverse_aux}
@@ -8,7 +9,7 @@ use Rattle.pod_store.specs.Pods.{Pod}
 use Rattle.pod_store.specs.Marks.{Marked}
 use Rattle.pod_store.specs.Store.{Store, pod_for, is_one_of}
 use Rattle.pod_store.specs.Inner.Store.{NameTheSame}
-use Rattle.pod_store.proofs.Repeats.{itself, and_then, with_more, once}
+use Rattle.pod_store.proofs.Repeats.{itself, and_then, with_more, once, last_named}
 use Rattle.stitcher.specs.declared.marked.MarkedSegment.{MarkedSegment as Held}
 use Rattle.stitcher.specs.StitchedSegments.{meant, mark_in, mark_with, rest_from, rest_in, IsDecided, AreDecided}
 use Rattle.channel_spec.specs.Marking.{mark_id}
@@ -20,7 +21,8 @@ use Rattle.stitcher.specs.declared.ends.Rest.{Rest}
 use Rattle.channel_window.specs.Listed.{IsRestDecided}
 use Rattle.channel_window.specs.declared.state.ChannelState.{ChannelState}
 use Rattle.channel_window.specs.Marking.{so_far}
-use Rattle.live_channel.specs.Inner.Marks.{mark_held, marks_held, marks_and_last, rest_held, breaks_held}
+use Rattle.stitcher.specs.Making.{is_same_run}
+use Rattle.live_channel.specs.Inner.Marks.{IsNamed, mark_held, marks_held, marks_and_last, rest_held, breaks_held}
 
 id_with : (id : List ℕ) (pod : Option Pod) → IsSome pod → option_map mark_id (mark_with id pod) ≡ Some id
 id_with id None d = absurd (cc)
@@ -60,16 +62,7 @@ breaks_seen state kept p held last other rest d e left decided =
     ∙ (ap (λ ids. (marks ++ ids_in other) ++ ids) (rest_seen state.store rest decided ∙ ap (λ o. ids_in (rest_id o)) left)
     ∙ append_assoc marks (ids_in other) (ids_in (rest_id (rest_after kept p (so_far state.store held)))))
 
--- a segment without a mark adds no break
-pub none_there : (marks : List (List ℕ)) (number : ℕ) (m : Held) → m.mark ≡ None → NameTheSame marks (marks ++ mark_held number m)
-none_there marks number m e =
-    subst (λ ids. NameTheSame marks ids) (sym (ap (λ ids. marks ++ ids) (by (nat_le number m.segment.media_sequence) (ids_in m.mark) (ap ids_in e)) ∙ append-nil marks)) (itself marks)
-  where
-    by : (b : Bool) (ids : List (List ℕ)) → ids ≡ [] → cond b ids [] ≡ []
-    by true ids h = h
-    by false ids h = refl
-
--- nor does one before the number
+-- a segment before the number adds no break
 pub none_before : (marks : List (List ℕ)) (number : ℕ) (m : Held) → m.segment.media_sequence < number → NameTheSame marks (marks ++ mark_held number m)
 none_before marks number m h =
     subst (λ ids. NameTheSame marks ids) (sym (ap (λ b. marks ++ cond b (ids_in m.mark) []) (lt-leb number m.segment.media_sequence h) ∙ append-nil marks)) (itself marks)
@@ -93,6 +86,23 @@ then_more marks new all more h e =
 -- one that stood last is put once
 pub put_once : (marks : List (List ℕ)) (id : List ℕ) → is_one_of marks id ≡ true → NameTheSame marks (marks ++ id ∷ [])
 put_once marks id h = once marks id h
+
+-- a segment that goes on the run of one whose break is named adds none
+pub named_before : (marks : List (List ℕ)) (mark previous : Option (List ℕ)) → is_same_run mark previous ≡ true → IsNamed marks previous → NameTheSame marks (marks ++ ids_in mark)
+named_before marks None previous e h = absurd (cc)
+named_before marks (Some id) None e h = absurd (cc)
+named_before marks (Some id) (Some other) e h = put_once marks id (ap (is_one_of marks) ((bytes_eq-Decides id other).0 e) ∙ h)
+
+-- and its own is named
+pub named_here : (marks : List (List ℕ)) (mark previous : Option (List ℕ)) → is_same_run mark previous ≡ true → IsNamed marks previous → IsNamed marks mark
+named_here marks None previous e h = tt
+named_here marks (Some id) None e h = absurd (cc)
+named_here marks (Some id) (Some other) e h = ap (is_one_of marks) ((bytes_eq-Decides id other).0 e) ∙ h
+
+-- so is one that was put
+pub named_then : (marks new : List (List ℕ)) (mark : Option (List ℕ)) → NameTheSame new (marks ++ ids_in mark) → IsNamed new mark
+named_then marks new None h = tt
+named_then marks new (Some id) h = h.ids id ∙ last_named (marks ++ id ∷ []) marks id id refl ((bytes_eq-Decides id id).1 refl)
 
 pub put_again : (marks new more : List (List ℕ)) → new ≡ marks ++ more → NameTheSame new (marks ++ more)
 put_again marks new more e = subst (λ ids. NameTheSame ids (marks ++ more)) (sym e) (itself (marks ++ more))

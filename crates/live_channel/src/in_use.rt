@@ -1,13 +1,14 @@
 //! The breaks in use.
-ghost use Rattle.std.specs.Prelude.{◌≡◌, ◌++◌, ◌∷◌, [], true, IfOk, OnOk};
+ghost use Rattle.std.specs.Prelude.{◌≡◌, ◌++◌, ◌∷◌, [], None, true, IfOk, OnOk};
 ghost use Rattle.pod_store.specs.Store.{is_one_of};
 ghost use Rattle.pod_store.specs.Inner.Store.{NameTheSame};
 ghost use Rattle.channel_spec.specs.Live.{ids_in};
-ghost use Rattle.live_channel.specs.Inner.Marks.{breaks_held, mark_held, marks_and_last, rest_held};
+ghost use Rattle.stitcher.specs.StitchedSegments.{KnowRuns, KnowsRun};
+ghost use Rattle.live_channel.specs.Inner.Marks.{IsNamed, breaks_held, marks_and_last, rest_held};
 
 use playlist_model::{Shared, Text};
 use std::alloc::{AllocError, Global};
-use stitcher::{MarkedSegment, Rest};
+use stitcher::{MarkedSegment, Rest, goes_on};
 
 #[tactic(auto, using(pod_store::proofs::Repeats::last_named))]
 // Whether a break is the last of these: one that marks a segment mostly marks the one before.
@@ -43,24 +44,28 @@ fn push_mark(marks: &mut Vec<Shared<Text>>, mark: &Option<Shared<Text>>) -> Resu
     }
 }
 
-#[tactic(auto, using(crate::proofs::Marks::none_there, crate::proofs::Marks::none_before, crate::proofs::Marks::one_there))]
-// Puts the break of a segment, if it has one and is numbered from this number on, after others.
+#[tactic(auto, using(crate::proofs::Marks::named_before, crate::proofs::Marks::named_here, crate::proofs::Marks::named_then))]
+// Puts the break of a segment, if it has one, after others. `previous` is the mark of the segment before it, and `is_put` says that
+// its break is one of the others. So a run's ID is looked at where it begins.
 fn push_marked(
     marks: &mut Vec<Shared<Text>>,
-    number: u64,
+    previous: &Option<Shared<Text>>,
+    is_put: bool,
     marked: &MarkedSegment,
 ) -> Result<(), AllocError>
-    ensures { OnOk result
-        (NameTheSame marks.new.items (marks.old.items ++ mark_held number marked.now)) }
+    requires runs { KnowsRun previous.now marked.now }
+    requires before { is_put ≡ true → IsNamed marks.old.items previous.now }
+    ensures same { OnOk result
+        (NameTheSame marks.new.items (marks.old.items ++ ids_in marked.now.mark)) }
+    ensures named { OnOk result (IsNamed marks.new.items marked.now.mark) }
 {
-    // Most segments have no mark.
-    if marked.mark.is_none() || marked.segment.media_sequence < number {
+    if is_put && goes_on(marked, previous) {
         return Ok(());
     }
     push_mark(marks, &marked.mark)
 }
 
-#[tactic(auto, using(crate::proofs::Marks::one_marked, crate::proofs::Marks::then_more))]
+#[tactic(auto, using(crate::proofs::Marks::then_more))]
 // The breaks that mark the segments from this number on, one for each run and in their order, and then the last one entered.
 fn marks_and_last(
     alloc: Global,
@@ -68,13 +73,22 @@ fn marks_and_last(
     list: &[MarkedSegment],
     entered: &Option<Shared<Text>>,
 ) -> Result<Vec<Shared<Text>>, AllocError>
+    requires { KnowRuns None list.now }
     ensures { IfOk result
         (λ marks. NameTheSame marks.items (marks_and_last number list.now entered.now)) }
 {
     let mut marks = Vec::new(alloc);
+    let unmarked: Option<Shared<Text>> = None;
+    let mut previous = &unmarked;
+    let mut is_put = false;
     let mut rest = list;
     while let Some((marked, later)) = rest.split_first() {
-        push_marked(&mut marks, number, marked)?;
+        let is_held = number <= marked.segment.media_sequence;
+        if is_held {
+            push_marked(&mut marks, previous, is_put, marked)?;
+        }
+        is_put = is_held;
+        previous = &*marked.mark;
         rest = later;
     }
     push_mark(&mut marks, entered)?;
@@ -102,6 +116,7 @@ pub fn breaks_in_use(
     entered: &Option<Shared<Text>>,
     rest: &Option<Rest>,
 ) -> Result<Vec<Shared<Text>>, AllocError>
+    requires { KnowRuns None list.now }
     ensures { IfOk result
         (λ breaks. NameTheSame breaks.items (breaks_held number list.now entered.now rest.now)) }
 {

@@ -1,10 +1,10 @@
 //! What a channel comes to by a refresh that shows these segments: what it keeps then, and the text that it writes.
-ghost use Rattle.std.specs.Prelude.{◌≡◌, ◌⊎◌, [], IfOk, IfErr, IfSome, true, false, drop, map};
+ghost use Rattle.std.specs.Prelude.{◌≡◌, ◌⊎◌, [], None, IfOk, IfErr, IfSome, true, false, drop, map};
 ghost use Rattle.std.specs.List.{list_all, list_any};
 ghost use Rattle.stitcher.specs.Stitched.{fits};
 ghost use Rattle.playlist_parse.specs.Kept.{playlist_in};
 ghost use Rattle.playlist_write.specs.Owed.{playlist_text};
-ghost use Rattle.stitcher.specs.StitchedSegments.{AreDecided};
+ghost use Rattle.stitcher.specs.StitchedSegments.{AreDecided, KnowRuns};
 ghost use Rattle.playlist_model.specs.LookBack.{or_earlier};
 ghost use Rattle.channel_spec.specs.Marking.{last_entered};
 ghost use Rattle.channel_spec.specs.Kept.{items_on};
@@ -15,7 +15,7 @@ ghost use Rattle.channel_window.specs.Listed.{AreRising, IsRestDecided, RefusesL
 ghost use Rattle.owed_is_denoted.specs.Owed.{out_playlist};
 ghost use Rattle.playlist_write.specs.Laid.{IsLaid};
 ghost use Rattle.channel_window.specs.ListEnd.{IsEndOf};
-ghost use Rattle.live_channel.specs.Inner.Accepting.{IsNext, IsReady, IsWindow};
+ghost use Rattle.live_channel.specs.Inner.Accepting.{IsNext, IsReady, IsRefreshReady, IsRefreshWindow, refresh_items};
 ghost use Rattle.live_channel.specs.Inner.LastText.{Stood, StoodIn, StandIn, count_in};
 
 use crate::channel::Refreshed;
@@ -161,6 +161,23 @@ fn written_of<'a>(
     Ok(out_of(playlist, date_ranges, items))
 }
 
+/// A refresh whose segments are shown, and whose window is to be written.
+#[derive(Clone, Copy)]
+pub struct ShownRefresh<'a, 'e> {
+    /// What the channel kept before the new segments came.
+    pub before: &'a Before<'a>,
+    /// The text that it wrote last.
+    pub written: &'a Option<WrittenText>,
+    /// The playlist that was read.
+    pub read: &'a Read<'a>,
+    /// The segments that are shown, the oldest first.
+    pub list: &'a [MarkedSegment],
+    /// The last break entered.
+    pub entered: &'e Option<Shared<Text>>,
+    /// How long the newest run of a break has lasted.
+    pub lasted: Nanos,
+}
+
 /// The window that is written after a refresh.
 #[derive(Drop)]
 pub struct NextWindow {
@@ -189,57 +206,45 @@ fn tells_times(playlist: &Playlist, first: &StitchedList<'_>) -> bool
 // The window, if most of its text stands in the last one: its first segment, and what is new of the stitched list, are written.
 fn stepped_window(
     alloc: Global,
-    before: &Before<'_>,
-    written: &Option<WrittenText>,
-    read: &Read<'_>,
-    list: &[MarkedSegment],
-    entered: &Option<Shared<Text>>,
-    lasted: Nanos,
+    refresh: &ShownRefresh<'_, '_>,
 ) -> Result<Option<NextWindow>, AllocError>
-    requires { IsReady (kept_before before.now) written.now (playlist_in read.now) list.now entered.now lasted }
-    ensures { IfOk result
-        (λ some. IfSome some
-        (IsWindow (kept_in (kept_before before.now)) (playlist_in read.now)
-        (so_far (kept_before before.now).store list.now) lasted)) }
+    requires { IsRefreshReady refresh.now }
+    ensures { IfOk result (λ some. IfSome some (IsRefreshWindow refresh.now)) }
 {
-    let Some(last) = written else {
+    let (before, read, list) = (refresh.before, refresh.read, refresh.list);
+    let Some(last) = refresh.written else {
         return Ok(None);
     };
     let Some(ending) = &before.state.shown.ending else {
         return Ok(None);
     };
-    let Some(stepped) = stepped_of(alloc, before, read, list, lasted, last.count, ending)? else {
+    let (lasted, stood) = (refresh.lasted, last.count);
+    let Some(stepped) = stepped_of(alloc, before, read, list, lasted, stood, ending)? else {
         return Ok(None);
     };
-    let SteppedList {
-        front,
-        start,
-        rest,
-        fresh,
-        count,
-        ending,
-    } = stepped;
-    let Some(length) = front_length(alloc, &front, start)? else {
+    let Some(length) = front_length(alloc, &stepped.front, stepped.start)? else {
         return Ok(None);
     };
-    let mut first = front;
-    first.leave_out(start);
+    let mut first = stepped.front;
+    first.leave_out(stepped.start);
     if !tells_times(&read.playlist, &first) {
         return Ok(None);
     }
     let numbers = head_of(&first);
-    let in_use = breaks_in_use(alloc, first_number(read), list, entered, &rest)?;
+    let (number, entered) = (first_number(read), refresh.entered);
+    let in_use = breaks_in_use(alloc, number, list, entered, &stepped.rest)?;
     let hashing = before.state.store.hashing();
     let out = written_of(alloc, hashing, &read.playlist, in_use.as_slice(), first)?;
-    let again = last.count - start;
-    let Some(written) = laid_on(alloc, &out, last, length, again, &fresh, count)? else {
+    let again = stood - stepped.start;
+    let fresh = &stepped.fresh;
+    let Some(written) = laid_on(alloc, &out, last, length, again, fresh, stepped.count)? else {
         return Ok(None);
     };
     Ok(Some(NextWindow {
         numbers,
-        count,
-        rest,
-        ending,
+        count: stepped.count,
+        rest: stepped.rest,
+        ending: stepped.ending,
         in_use,
         written,
     }))
@@ -249,52 +254,37 @@ fn stepped_window(
 // be walked through.
 fn whole_end(
     alloc: Global,
-    before: &Before<'_>,
-    read: &Read<'_>,
-    list: &[MarkedSegment],
-    lasted: Nanos,
+    refresh: &ShownRefresh<'_, '_>,
     items: &StitchedList<'_>,
 ) -> Result<Option<Ending>, AllocError>
-    requires { AreDecided (kept_before before.now).store list.now }
+    requires { IsRefreshReady refresh.now }
     ensures { IfOk result
         (λ some. IfSome some
-        (IsEndOf (kept_before before.now).store (playlist_in read.now).end_list lasted list.now items.now)) }
+        (IsEndOf (kept_before refresh.now.before.now).store (playlist_in refresh.now.read.now).end_list refresh.now.lasted refresh.now.list.now items.now)) }
 {
-    if before.list.is_empty() {
+    if refresh.before.list.is_empty() {
         return Ok(None);
     }
-    let (store, ended) = (&before.state.store, read.playlist.end_list);
-    run_end(alloc, store, list, ended, lasted, items)
+    let store = &refresh.before.state.store;
+    let ended = refresh.read.playlist.end_list;
+    run_end(alloc, store, refresh.list, ended, refresh.lasted, items)
 }
 
 // The window, of a stitched list that is made whole.
-fn whole_window(
-    alloc: Global,
-    before: &Before<'_>,
-    written: &Option<WrittenText>,
-    read: &Read<'_>,
-    list: &[MarkedSegment],
-    entered: &Option<Shared<Text>>,
-    lasted: Nanos,
-) -> Result<NextWindow, RefreshFault>
-    requires { IsReady (kept_before before.now) written.now (playlist_in read.now) list.now entered.now lasted }
-    ensures ok { IfOk result
-        (IsWindow (kept_in (kept_before before.now)) (playlist_in read.now)
-        (so_far (kept_before before.now).store list.now) lasted) }
-    ensures err { IfErr result
-        (λ e. RefusesList e (list_all fits
-        (items_on (kept_in (kept_before before.now)) (playlist_in read.now)
-        (so_far (kept_before before.now).store list.now) lasted)
-        ≡ false)) }
+fn whole_window(alloc: Global, refresh: &ShownRefresh<'_, '_>) -> Result<NextWindow, RefreshFault>
+    requires { IsRefreshReady refresh.now }
+    ensures ok { IfOk result (IsRefreshWindow refresh.now) }
+    ensures err { IfErr result (λ e. RefusesList e (list_all fits (refresh_items refresh.now) ≡ false)) }
 {
-    let number = first_number(read);
-    let stood = count_in(written);
+    let (before, read, list) = (refresh.before, refresh.read, refresh.list);
+    let (lasted, stood) = (refresh.lasted, count_in(refresh.written));
     let PlacedList { whole, start, rest } = placed_of(alloc, before, read, list, lasted, stood)?;
-    let again = standing(alloc, written, &whole, start)?;
-    let end = whole_end(alloc, before, read, list, lasted, &whole)?;
+    let again = standing(alloc, refresh.written, &whole, start)?;
+    let end = whole_end(alloc, refresh, &whole)?;
     let mut items = whole;
     items.leave_out(start);
-    let in_use = breaks_in_use(alloc, number, list, entered, &rest)?;
+    let number = first_number(read);
+    let in_use = breaks_in_use(alloc, number, list, refresh.entered, &rest)?;
     let (numbers, count) = (head_of(&items), items.count());
     let gone = place_of_number(number, list);
     let hashing = before.state.store.hashing();
@@ -310,40 +300,26 @@ fn whole_window(
 }
 
 // The window, whichever way it is made.
-fn next_window(
-    alloc: Global,
-    before: &Before<'_>,
-    written: &Option<WrittenText>,
-    read: &Read<'_>,
-    list: &[MarkedSegment],
-    entered: &Option<Shared<Text>>,
-    lasted: Nanos,
-) -> Result<NextWindow, RefreshFault>
-    requires { IsReady (kept_before before.now) written.now (playlist_in read.now) list.now entered.now lasted }
-    ensures ok { IfOk result
-        (IsWindow (kept_in (kept_before before.now)) (playlist_in read.now)
-        (so_far (kept_before before.now).store list.now) lasted) }
-    ensures err { IfErr result
-        (λ e. RefusesList e (list_all fits
-        (items_on (kept_in (kept_before before.now)) (playlist_in read.now)
-        (so_far (kept_before before.now).store list.now) lasted)
-        ≡ false)) }
+fn next_window(alloc: Global, refresh: &ShownRefresh<'_, '_>) -> Result<NextWindow, RefreshFault>
+    requires { IsRefreshReady refresh.now }
+    ensures ok { IfOk result (IsRefreshWindow refresh.now) }
+    ensures err { IfErr result (λ e. RefusesList e (list_all fits (refresh_items refresh.now) ≡ false)) }
 {
-    match stepped_window(alloc, before, written, read, list, entered, lasted)? {
+    match stepped_window(alloc, refresh)? {
         Some(window) => Ok(window),
-        None => whole_window(alloc, before, written, read, list, entered, lasted),
+        None => whole_window(alloc, refresh),
     }
 }
 
 /// What a channel that kept `before` comes to by the playlist that was `read`, if it shows the segments `list` then, of which
 /// those of `showing` came last. `written` is the text that it wrote last, of which lines are copied. `NumberRange` if a
 /// number would pass 2^64 - 1 (RFC 8216, sections 4.3.3.2 and 4.3.3.3); `OutOfMemory` only if an allocation fails.
-pub fn next_of(
+pub fn next_of<'a>(
     alloc: Global,
-    before: &Before<'_>,
-    written: &Option<WrittenText>,
-    read: &Read<'_>,
-    list: &[MarkedSegment],
+    before: &'a Before<'a>,
+    written: &'a Option<WrittenText>,
+    read: &'a Read<'a>,
+    list: &'a [MarkedSegment],
     showing: Showing,
 ) -> Result<NextState, RefreshFault>
     requires { IsReady (kept_before before.now) written.now (playlist_in read.now) list.now showing.entered showing.so_far }
@@ -355,18 +331,32 @@ pub fn next_of(
         (items_on (kept_in (kept_before before.now)) (playlist_in read.now)
         (so_far (kept_before before.now).store list.now) showing.so_far) ≡ false)) }
 {
-    let (entered, lasted) = (&showing.entered, showing.so_far);
-    let window = next_window(alloc, before, written, read, list, entered, lasted)?;
+    let Showing {
+        knowledge,
+        come: _,
+        fresh,
+        entered,
+        so_far,
+    } = showing;
+    let refresh = ShownRefresh {
+        before,
+        written,
+        read,
+        list,
+        entered: &entered,
+        lasted: so_far,
+    };
+    let window = next_window(alloc, &refresh)?;
     let refreshed = Refreshed {
         media_sequence: window.numbers.media_sequence,
         segments: window.count,
-        fresh: showing.fresh,
+        fresh,
     };
     let shown = Shown {
-        knowledge: showing.knowledge,
-        entered: showing.entered,
+        knowledge,
+        entered,
         numbers: window.numbers,
-        so_far: showing.so_far,
+        so_far,
         rest: window.rest,
         ending: window.ending,
     };

@@ -1,7 +1,7 @@
 //! Values that several tests are about.
-ghost use Rattle.std.specs.Prelude.{◌≡◌, IfOk, codes, []};
+ghost use Rattle.std.specs.Prelude.{◌≡◌, IfOk, None, codes, []};
 ghost use Rattle.pod_store.specs.Store.{nothing_decided};
-ghost use Rattle.stitcher.specs.StitchedSegments.{AreDecided};
+ghost use Rattle.stitcher.specs.StitchedSegments.{AreDecided, KnowRuns};
 
 use playlist_model::{Items, Key, Members, OtherAttributes, Segment, Shared};
 use pod_store::PodStore;
@@ -24,12 +24,14 @@ pub fn key(alloc: Global, format: &str, uri: &str, iv: Option<u128>) -> Result<K
     })
 }
 
+#[tactic(auto, using(crate::proofs::Unmarked::decided, crate::proofs::Unmarked::known))]
 /// The `segments` with a time and no mark.
 pub(crate) fn unmarked(
     alloc: Global,
     segments: &Shared<Items<Segment>>,
 ) -> Result<Vec<MarkedSegment>, AllocError>
-    ensures { IfOk result (λ v. AreDecided nothing_decided v.items) }
+    ensures decided { IfOk result (λ v. AreDecided nothing_decided v.items) }
+    ensures runs { IfOk result (λ v. KnowRuns None v.items) }
 {
     let mut done = Vec::new(alloc);
     let mut segments = Members::from_place(segments, 0);
@@ -38,6 +40,7 @@ pub(crate) fn unmarked(
             segment,
             instant: OptionalInstant::from_nanos(Some(1_714_564_800_000_000_000)),
             mark: Shared::new(alloc, None)?,
+            goes_on: false,
         })?;
     }
     Ok(done)
@@ -51,7 +54,8 @@ pub(crate) fn listed<'a>(
     hashing: RandomState,
     marked: &'a [MarkedSegment],
 ) -> Result<StitchedList<'a>, AllocError>
-    requires { AreDecided nothing_decided marked.now }
+    requires decided { AreDecided nothing_decided marked.now }
+    requires runs { KnowRuns None marked.now }
 {
     let first = Numbers {
         media_sequence: 7,

@@ -58,28 +58,28 @@ passes_run made n m later same unfit more =
 
 -- ---- the segments in front that have no mark
 
-unmarked_more : (store : Store) (so_far : Option ℕ) (s : Segment) (instant : Option ℤ) (mark : Option (List ℕ)) (later : List MarkedSegment)
+unmarked_more : (store : Store) (so_far : Option ℕ) (s : Segment) (instant : Option ℤ) (goes : Bool) (mark : Option (List ℕ)) (later : List MarkedSegment)
     → pieces_on store so_far None later ≡ map plain (take (unmarked_front later) later) ++ pieces_on store so_far None (drop (unmarked_front later) later)
-    → let m : MarkedSegment = record { segment = s; instant = instant; mark = mark } in
+    → let m : MarkedSegment = record { segment = s; instant = instant; mark = mark; goes_on = goes } in
     pieces_on store so_far None (m ∷ later)
     ≡ map plain (take (unmarked_front (m ∷ later)) (m ∷ later)) ++ pieces_on store so_far None (drop (unmarked_front (m ∷ later)) (m ∷ later))
-unmarked_more store so_far s instant None later h = rw add-one (ap (λ t. plain (record { segment = s; instant = instant; mark = None }) ∷ t) h)
-unmarked_more store so_far s instant (Some id) later h = refl
+unmarked_more store so_far s instant goes None later h = rw add-one (ap (λ t. plain (record { segment = s; instant = instant; mark = None; goes_on = goes }) ∷ t) h)
+unmarked_more store so_far s instant goes (Some id) later h = refl
 
 unmarked_pieces : (store : Store) (so_far : Option ℕ) (list : List MarkedSegment)
     → pieces_on store so_far None list ≡ map plain (take (unmarked_front list) list) ++ pieces_on store so_far None (drop (unmarked_front list) list)
 unmarked_pieces store so_far [] = refl
-unmarked_pieces store so_far (m ∷ later) = unmarked_more store so_far m.segment m.instant m.mark later (unmarked_pieces store so_far later)
+unmarked_pieces store so_far (m ∷ later) = unmarked_more store so_far m.segment m.instant m.goes_on m.mark later (unmarked_pieces store so_far later)
 
-front_with : (store : Store) (so_far : Option ℕ) (previous : Option (List ℕ)) (s : Segment) (instant : Option ℤ) (mark : Option (List ℕ)) (later : List MarkedSegment)
-    → let m : MarkedSegment = record { segment = s; instant = instant; mark = mark } in
+front_with : (store : Store) (so_far : Option ℕ) (previous : Option (List ℕ)) (s : Segment) (instant : Option ℤ) (goes : Bool) (mark : Option (List ℕ)) (later : List MarkedSegment)
+    → let m : MarkedSegment = record { segment = s; instant = instant; mark = mark; goes_on = goes } in
     pieces_on store so_far previous (m ∷ later) ≡ front_pieces store so_far previous (m ∷ later) ++ pieces_on store so_far mark (after_front (m ∷ later))
-front_with store so_far previous s instant None later = unmarked_pieces store so_far (record { segment = s; instant = instant; mark = None } ∷ later)
-front_with store so_far previous s instant (Some id) later = refl
+front_with store so_far previous s instant goes None later = unmarked_pieces store so_far (record { segment = s; instant = instant; mark = None; goes_on = goes } ∷ later)
+front_with store so_far previous s instant goes (Some id) later = refl
 
 pieces_front : (store : Store) (so_far : Option ℕ) (previous : Option (List ℕ)) (m : MarkedSegment) (later : List MarkedSegment)
     → pieces_on store so_far previous (m ∷ later) ≡ front_pieces store so_far previous (m ∷ later) ++ pieces_on store so_far m.mark (after_front (m ∷ later))
-pieces_front store so_far previous m later = front_with store so_far previous m.segment m.instant m.mark later
+pieces_front store so_far previous m later = front_with store so_far previous m.segment m.instant m.goes_on m.mark later
 
 -- what stands for segments begins with what stands for those in front
 pub pieces_front_at : (store : Store) (so_far : Option ℕ) (previous : Option (List ℕ)) (list : List MarkedSegment) (m : MarkedSegment) (later : List MarkedSegment) → list ≡ m ∷ later

@@ -7,3 +7,4 @@ pub mod Outcomes
 pub mod Kept
 pub mod Cursors
 pub mod Cuts
+pub mod Known

@@ -1,5 +1,5 @@
 -- What `stitch` answers: the stitched list of marked segments, told by IDs and a store of pods.
-use Rattle.std.specs.Prelude.{ℕ, ◌^◌, Bool, ◌&&◌, nat_lt, List, map, reverse, Option, Some, None, IsSome, option_map}
+use Rattle.std.specs.Prelude.{◌≡◌, ℕ, ◌^◌, Bool, ◌&&◌, nat_lt, List, [], ◌∷◌, map, reverse, Option, Some, None, IsSome, option_map}
 use Rattle.std.specs.List.{AllByRecursion}
 use Rattle.pod_store.specs.Pods.{Pod}
 use Rattle.pod_store.specs.Marks.{Mark, Marked as Meant}
@@ -13,6 +13,7 @@ use Rattle.stitcher.specs.declared.ends.Ends.{Ends}
 use Rattle.stitcher.specs.declared.fault.StitchFault.{StitchFault}
 use Rattle.stitcher.specs.declared.fault.StitchFault.TheVariants.{NumberRange, OutOfMemory}
 use Rattle.stitcher.specs.Written.{written_item}
+use Rattle.stitcher.specs.Making.{is_same_run}
 
 abbrev pub mark_with : List ℕ → Option Pod → Option Mark
 mark_with id None = None
@@ -33,6 +34,16 @@ IsDecided store (Some id) = IsSome (pod_for store id)
 
 abbrev pub AreDecided : Store → List MarkedSegment → Type 0
 AreDecided store marked = AllByRecursion (λ (m : MarkedSegment). IsDecided store m.mark) marked
+
+-- the segment knows whether it goes on the run of one before it that has this mark
+abbrev pub KnowsRun : Option (List ℕ) → MarkedSegment → Type 0
+KnowsRun None m = Unit {0}
+KnowsRun (Some id) m = m.goes_on ≡ is_same_run m.mark (Some id)
+
+-- so does each of these of the one before it, the first after one of this mark
+abbrev pub KnowRuns : Option (List ℕ) → List MarkedSegment → Type 0
+KnowRuns previous [] = Unit {0}
+KnowRuns previous (m ∷ later) = KnowsRun previous m × KnowRuns m.mark later
 
 -- the rest of a pod that the store has
 abbrev pub rest_from : ℕ → Mark → MeantRest

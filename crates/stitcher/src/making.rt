@@ -4,7 +4,7 @@ ghost use Rattle.std.specs.List.{list_all};
 ghost use Rattle.pod_store.specs.Marks.{Mark};
 ghost use Rattle.pod_store.specs.Pods.{Pod};
 ghost use Rattle.stitcher.specs.Stitched.{ad_piece, ad_pieces, next_numbers, pieces_of_ads, with_keys};
-ghost use Rattle.stitcher.specs.StitchedSegments.{AreDecided, RefusesNumber, item_fits, stitched_segments};
+ghost use Rattle.stitcher.specs.StitchedSegments.{AreDecided, KnowRuns, KnowsRun, RefusesNumber, item_fits, stitched_segments};
 ghost use Rattle.pod_store.specs.Store.{pod_for};
 ghost use Rattle.playlist_model.specs.Numbering.{segment_numbers};
 ghost use Rattle.stitcher.specs.Making.{is_same_run, plain, pod_with};
@@ -177,14 +177,23 @@ fn shows_next(part: &Part) -> bool
     part.skip == 0 && !part.done
 }
 
+/// Whether `marked` goes on the run of the segment before it, whose mark is `previous`: both have a mark, of one break.
+pub fn goes_on(marked: &MarkedSegment, previous: &Option<Shared<Text>>) -> bool
+    requires { KnowsRun previous.now marked.now }
+    ensures { result ≡ is_same_run marked.now.mark previous.now }
+{
+    previous.is_some() && marked.goes_on
+}
+
 // Whether a run goes on to the last of these segments.
 fn goes_on_to_last(mark: &Option<Shared<Text>>, later: &[MarkedSegment]) -> bool
+    requires { KnowRuns mark.now later.now }
     ensures { result ≡ goes_on_to_last mark.now later.now }
 {
     let mut previous = mark;
     let mut rest = later;
     while let Some((here, later)) = rest.split_first() {
-        if !is_same_run(&here.mark, previous) {
+        if !goes_on(here, previous) {
             return false;
         }
         previous = &*here.mark;
@@ -207,6 +216,7 @@ fn from_place(place: usize) -> Part
 
 // What is shown of the pod of a run that begins with a segment of this mark, before these.
 fn part_at(ends: &Ends, mark: &Option<Shared<Text>>, later: &[MarkedSegment]) -> Part
+    requires { KnowRuns mark.now later.now }
     ensures { result ≡ part_at ends.now.so_far mark.now later.now }
 {
     let Some(length) = ends.so_far else {
@@ -509,7 +519,8 @@ impl<'a> Stitching<'a> {
         store: &PodStore,
         ends: &Ends,
     ) -> Result<&'a [MarkedSegment], StitchFault>
-        requires { numbers_fit self.old.first ≡ true }
+        requires fits { numbers_fit self.old.first ≡ true }
+        requires runs { KnowRuns previous.now segments.now }
         ensures ok { OnOk result
             (Puts self.old self.new (front_pieces store.now ends.now.so_far previous.now segments.now)) }
         ensures left { IfOk result (λ left. left.now ≡ after_front segments.now) }
@@ -523,7 +534,7 @@ impl<'a> Stitching<'a> {
         let Some(id) = &*marked.mark else {
             return self.keep_front(alloc, segments, cut);
         };
-        if is_same_run(&marked.mark, previous) {
+        if goes_on(marked, previous) {
             return Ok(later);
         }
         let part = part_at(ends, &marked.mark, later);
@@ -572,7 +583,8 @@ pub fn stitch<'a>(
     first: Numbers,
     ends: &Ends,
 ) -> Result<StitchedList<'a>, StitchFault>
-    requires { AreDecided store.now marked.now }
+    requires decided { AreDecided store.now marked.now }
+    requires runs { KnowRuns None marked.now }
     ensures ok { IfOk result
         (λ v. (v ≡ stitched_segments store.now first ends.now marked.now)
         × (list_all item_fits v ≡ true)) }
@@ -595,7 +607,8 @@ pub fn stitch_at<'a>(
     first: Numbers,
     ends: &Ends,
 ) -> Result<StitchedList<'a>, StitchFault>
-    requires { AreDecided store.now marked.now }
+    requires decided { AreDecided store.now marked.now }
+    requires runs { KnowRuns None marked.now }
     ensures ok { IfOk result
         (λ v. (v ≡ stitched_segments store.now first ends.now marked.now)
         × (list_all item_fits v ≡ true)) }

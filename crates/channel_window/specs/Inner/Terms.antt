@@ -1,10 +1,13 @@
 -- Until when segments stay in a break, and how much of its run's length counts, as it is looked up once for a run.
-use Rattle.std.specs.Prelude.{◌≡◌, ◌+◌, min, ℕ, ℤ, Bool, false, List, [], ◌∷◌, Option, Some, None}
+use Rattle.std.specs.Prelude.{◌≡◌, ◌+◌, min, ℕ, ℤ, Bool, true, false, List, [], ◌∷◌, Option, Some, None}
 use Rattle.playlist_model.specs.LookBack.{or_earlier}
 use Rattle.pod_store.specs.Store.{Store}
 use Rattle.stitcher.specs.declared.marked.MarkedSegment.{MarkedSegment as Held}
 use Rattle.break_finder.specs.Stays.{stays_at}
-use Rattle.channel_spec.specs.Marking.{Moment}
+use Rattle.break_finder.specs.Entering as entering
+use Rattle.break_finder.specs.Entrances.{is_within}
+use Rattle.break_finder.specs.declared.spans.TimesWithin.{TimesWithin}
+use Rattle.channel_spec.specs.Marking.{Moment, limits}
 use Rattle.channel_window.specs.declared.marking.Terms.{Terms}
 use Rattle.channel_window.specs.declared.marking.Run.{Run}
 use Rattle.channel_window.specs.Marking.{stays, capped_in, length_before}
@@ -24,10 +27,17 @@ pub record AreTerms (m : Moment) (mark : Option (List ℕ)) (terms : Option Term
   pub stays : (instant : Option ℤ) → stays_in terms instant ≡ stays m mark instant
   pub capped : (length : ℕ) → capped_at terms length ≡ capped_in m.store mark length
 
--- the terms are those of the run, and its break, if any, is the last one entered
+-- an instant is one of these
+abbrev pub is_among : Option TimesWithin → Option ℤ → Bool
+is_among None instant = false
+is_among (Some times) None = false
+is_among (Some times) (Some instant) = is_within times.from times.to instant
+
+-- the terms are those of the run; its break, if any, is the last one entered; and no break is entered after that at the quiet instants
 pub record IsRun (m : Moment) (run : Run) : Type 0 where
   pub terms : AreTerms m run.before run.terms
   pub entered : or_earlier run.before run.entered ≡ run.entered
+  pub quiet : (instant : Option ℤ) → is_among run.quiet instant ≡ true → entering.entered (limits m run.entered) m.store m.breaks instant ≡ None
 
 -- a run, with one segment more of this duration and this mark
 pub record IsExtended (store : Store) (duration : ℕ) (mark : Option (List ℕ)) (old new : Run) : Type 0 where

@@ -8,7 +8,7 @@ use Rattle.pod_store.specs.Marks.{Marked}
 use Rattle.stitcher.specs.Stitched.{Item, fits}
 use Rattle.pod_store.specs.Store.{kept_in_use}
 use Rattle.pod_store.specs.Inner.Store.{NameTheSame}
-use Rattle.stitcher.specs.StitchedSegments.{AreDecided, rest_in}
+use Rattle.stitcher.specs.StitchedSegments.{AreDecided, KnowRuns, rest_in}
 use Rattle.stitcher.specs.Written.{written_item}
 use Rattle.stitcher.specs.declared.marked.MarkedSegment.{MarkedSegment as Held}
 use Rattle.playlist_write.specs.declared.resumed.WrittenText.{WrittenText}
@@ -30,8 +30,9 @@ use Rattle.channel_spec.specs.Marking.{last_entered}
 use Rattle.channel_spec.specs.Kept.{Kept, kept_succession, shown_from, head_numbers, items_on, window_on, rest_after, kept_acceptance, kept_list, kept_length}
 use Rattle.live_channel.specs.declared.next.NextState.{NextState}
 use Rattle.live_channel.specs.declared.next.NextWindow.{NextWindow}
+use Rattle.live_channel.specs.declared.next.ShownRefresh.{ShownRefresh}
 use Rattle.channel_window.specs.Marking.{so_far}
-use Rattle.channel_window.specs.Showing.{AreKept, IsLastEntered, kept_in}
+use Rattle.channel_window.specs.Showing.{AreKept, IsLastEntered, kept_before, kept_in}
 use Rattle.channel_window.specs.Listed.{AreRising, IsRestDecided, RisesOn, segments_in}
 use Rattle.channel_window.specs.ListEnd.{IsEndingOf, IsLastEnding}
 use Rattle.channel_window.specs.Checked.{AreContiguous, AreTaken}
@@ -57,6 +58,7 @@ pub record IsNext (kept : Kept) (p : Playlist) (known : List Break) (held : List
   pub breaks : next.shown.knowledge ≡ known
   pub shown : so_far kept.store (drop next.gone held) ≡ shown_from (first_number p.segments) list
   pub decided : AreDecided kept.store (drop next.gone held)
+  pub runs : KnowRuns None (drop next.gone held)
   pub entered : next.shown.entered ≡ or_earlier (last_entered list) kept.entered
   pub in_use : NameTheSame next.in_use.items (breaks_after kept p list)
   pub numbers : next.shown.numbers ≡ head_numbers (window_on kept p list so_long)
@@ -87,10 +89,24 @@ pub record IsReady (state : ChannelState) (written : Option WrittenText) (p : Pl
   pub stood : StoodIn (kept_in state) (items_on (kept_in state) p (so_far state.store held) lasted) written
   pub stands : take (length state.list) held ≡ state.list
   pub decided : AreDecided state.store held
+  pub runs : KnowRuns None held
   pub rising : AreRising held
   pub entered_is : entered ≡ or_earlier (last_entered (so_far state.store held)) state.shown.entered
   pub rest : IsRestDecided state.store state.shown.rest
   pub ending : IsLastEnding (kept_in state) state.shown.ending
+
+-- the same of a refresh whose segments are shown
+abbrev pub refresh_shown : ShownRefresh → List Marked
+refresh_shown r = so_far (kept_before r.before.now).store r.list.now
+
+abbrev pub refresh_items : ShownRefresh → List Item
+refresh_items r = items_on (kept_in (kept_before r.before.now)) (playlist_in r.read.now) (refresh_shown r) r.lasted
+
+abbrev pub IsRefreshReady : ShownRefresh → Type 0
+IsRefreshReady r = IsReady (kept_before r.before.now) r.written.now (playlist_in r.read.now) r.list.now r.entered.now r.lasted
+
+abbrev pub IsRefreshWindow : ShownRefresh → NextWindow → Type 0
+IsRefreshWindow r w = IsWindow (kept_in (kept_before r.before.now)) (playlist_in r.read.now) (refresh_shown r) r.lasted w
 
 -- what it comes to by an accepted refresh, after which these segments are shown
 abbrev pub IsAccepted : ℕ → Kept → Playlist → List Held → NextState → Type 0

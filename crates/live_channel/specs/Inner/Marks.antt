@@ -1,8 +1,14 @@
 -- The breaks that mark segments, as a channel holds them.
-use Rattle.std.specs.Prelude.{ℕ, nat_le, List, [], ◌∷◌, ◌++◌, Option, Some, None, if◌then◌else◌}
+use Rattle.std.specs.Prelude.{◌≡◌, ℕ, true, nat_le, List, [], ◌∷◌, ◌++◌, Option, Some, None, if◌then◌else◌}
 use Rattle.stitcher.specs.declared.marked.MarkedSegment.{MarkedSegment}
 use Rattle.stitcher.specs.declared.ends.Rest.{Rest}
+use Rattle.pod_store.specs.Store.{is_one_of}
 use Rattle.channel_spec.specs.Live.{ids_in}
+
+-- the break of this mark, if there is one, is one of these
+abbrev pub IsNamed : List (List ℕ) → Option (List ℕ) → Type 0
+IsNamed marks None = Unit {0}
+IsNamed marks (Some id) = is_one_of marks id ≡ true
 
 -- the break that marks a segment, if it is numbered from this number on
 abbrev pub mark_held : ℕ → MarkedSegment → List (List ℕ)

@@ -130,6 +130,11 @@ abbrev pub part_due : Option ℕ → Part
 part_due None = whole_from 0
 part_due (Some length) = record { skip = 0; whole = false; left = length; done = false }
 
+-- the mark of the last of these, which follow a segment of this mark
+abbrev pub mark_after : Option (List ℕ) → List MarkedSegment → Option (List ℕ)
+mark_after previous [] = previous
+mark_after previous (m ∷ later) = mark_after m.mark later
+
 -- the run goes on to the last of these
 abbrev pub goes_on_to_last : Option (List ℕ) → List MarkedSegment → Bool
 goes_on_to_last previous [] = true

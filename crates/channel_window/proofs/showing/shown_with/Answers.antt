@@ -31,4 +31,4 @@ returns c =
     c.in_ok-knowledge.ensures.carried ∙ ap (λ o. carry (record { playlist = p; carried = o }) s.shown.knowledge) named in
     shown_is c.args.tolerance s p c.as_slice-shown.result.now newest c.fresh_of-fresh.result.now c.newest_end.result c.new-2.result marked a c.requires.decided c.requires.entered c.as_slice-shown.ensures
     (c.in_ok-newest.ensures.mark s.store) (c.in_ok-newest.ensures.decided s.store) carried (c.fresh_of-fresh.ensures.value s.store) (c.newest_end.ensures s.store) c.new-2.ensures marked_are (s.list ++ marked) (ap (λ xs. xs ++ marked) (sym c.as_slice-shown.ensures))
-    c.requires.contiguous c.requires.rising c.in_ok-marks.ensures.entered refl long
+    c.requires.contiguous c.requires.rising c.in_ok-marks.ensures.entered c.requires.runs c.in_ok-newest.ensures.last refl long

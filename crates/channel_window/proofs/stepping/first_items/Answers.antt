@@ -1,12 +1,17 @@
-use Rattle.std.proofs.Common.{◌+◌, ◌++◌, ap, ◌∙◌}
+use Rattle.std.proofs.Common.{◌+◌, ◌++◌, sym, subst, ap, ◌∙◌}
 use Rattle.stitcher.specs.Stitched.{stitched}
+use Rattle.std.specs.Prelude.{None}
 use Rattle.stitcher.specs.Paced.{rest_pieces}
-use Rattle.stitcher.specs.StitchedSegments.{rest_in}
+use Rattle.stitcher.specs.StitchedSegments.{KnowRuns, rest_in}
+use Rattle.stitcher.proofs.Known.{known_taken}
 use Rattle.channel_window.specs.Marking.{so_far}
 use Rattle.channel_window.specs.Showing.{kept_before}
 use Rattle.channel_window.specs.Inner.NewItems.{out_of}
 use Rattle.channel_window.proofs.NewItems.{begins_after, weaker}
 use Rattle.channel_window.proofs.stepping.first_items.Goals as goal
+
+pub front_items-requires-clause-runs : goal.front_items-requires-clause-runs
+front_items-requires-clause-runs c = subst (KnowRuns None) (sym c.split_at.ensures.front) (known_taken (c.in-Some.place + 1) None c.args.list.now c.requires.runs)
 
 pub returns : goal.returns
 returns c =

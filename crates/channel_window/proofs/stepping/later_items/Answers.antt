@@ -1,11 +1,17 @@
-use Rattle.std.proofs.Common.{◌≡◌, ◌+◌, length, drop, ap, ◌∙◌, arith}
+use Rattle.std.proofs.Common.{◌≡◌, ◌+◌, length, drop, sym, subst, ap, ◌∙◌, arith}
+use Rattle.std.specs.Prelude.{None}
 use Rattle.stitcher.specs.Paced.{due_with}
+use Rattle.stitcher.specs.StitchedSegments.{KnowRuns}
+use Rattle.stitcher.proofs.Known.{known_later}
 use Rattle.playlist_parse.specs.Kept.{playlist_in}
 use Rattle.channel_window.specs.Marking.{so_far}
 use Rattle.channel_window.specs.Showing.{kept_before}
 use Rattle.channel_window.specs.Inner.NewItems.{out_of}
 use Rattle.channel_window.proofs.NewItems.{is_later, held_long}
 use Rattle.channel_window.proofs.stepping.later_items.Goals as goal
+
+pub run_items-requires-clause-runs : goal.run_items-requires-clause-runs
+run_items-requires-clause-runs c = subst (KnowRuns None) (sym c.split_at.ensures.back) (known_later c.min.result None c.args.list.now c.requires.runs)
 
 pub returns : goal.returns
 returns c =

@@ -1,6 +1,10 @@
 use Rattle.std.proofs.Common.{sym, arith}
+use Rattle.channel_window.proofs.Passing.{front_known}
 use Rattle.channel_window.proofs.Starting.{place_found}
 use Rattle.channel_window.proofs.writing.item_place.Goals as goal
+
+pub place_of-requires-clause-runs : goal.place_of-requires-clause-runs
+place_of-requires-clause-runs c = front_known c.args.list.now c.front_to.result.now c.requires.runs c.front_to.ensures.front
 
 pub returns-clause-value : goal.returns-clause-value
 returns-clause-value c =

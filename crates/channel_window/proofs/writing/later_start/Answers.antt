@@ -3,7 +3,7 @@ use Rattle.channel_spec.specs.Live.{place_of}
 use Rattle.channel_window.specs.Marking.{so_far}
 use Rattle.channel_window.specs.Inner.Placing.{rest_count}
 use Rattle.channel_window.specs.Inner.Placing.{rest_of}
-use Rattle.channel_window.proofs.Passing.{front_decided}
+use Rattle.channel_window.proofs.Passing.{front_decided, front_known}
 use Rattle.channel_window.proofs.Starting.{rest_none, rest_lower}
 use Rattle.channel_window.proofs.writing.later_start.Goals as goal
 
@@ -18,6 +18,9 @@ rest_of-requires-clause-room c = omega (arith, c.requires.room c.front_before-go
 pub rest_of-requires-clause-decided : goal.rest_of-requires-clause-decided
 rest_of-requires-clause-decided c =
     front_decided c.args.store.now c.args.list.now c.front_before-gone.result.now c.requires.decided c.front_before-gone.ensures.front
+
+pub rest_of-requires-clause-runs : goal.rest_of-requires-clause-runs
+rest_of-requires-clause-runs c = front_known c.args.list.now c.front_before-gone.result.now c.requires.runs c.front_before-gone.ensures.front
 
 pub returns-clause-rest : goal.returns-clause-rest
 returns-clause-rest c =

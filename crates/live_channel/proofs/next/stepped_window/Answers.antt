@@ -28,10 +28,10 @@ use Rattle.live_channel.proofs.next.stepped_window.Goals as goal
 
 pub returns : goal.returns
 returns c =
-    let s = kept_before c.args.before.now in
-    let p = playlist_in c.args.read.now in
-    let n = c.args.lasted in
-    let held = c.args.list.now in
+    let s = kept_before c.args.refresh.now.before.now in
+    let p = playlist_in c.args.refresh.now.read.now in
+    let n = c.args.refresh.now.lasted in
+    let held = c.args.refresh.now.list.now in
     let seen = so_far s.store held in
     let last = c.in-Some.last in
     let stepped = c.in-Some-2.stepped in
@@ -44,7 +44,7 @@ returns c =
     let len = c.in-Some-3.length in
     let front : IsFrontLength stepped.front stepped.start len = rw c.in-Some-3.is at c.in_ok-length.ensures in
     let ids = c.in_ok-in_use.in_use.items in
-    let entered = c.args.entered.now in
+    let entered = c.args.refresh.now.entered.now in
     let breaks_are : NameTheSame ids (breaks_held (first_number p.segments) held entered stepped.rest) = search rules in
     let breaks : NameTheSame ids (breaks_after (kept_in s) p seen) =
     subst (λ xs. NameTheSame ids xs) (breaks_seen s (kept_in s) p held entered (or_earlier (last_entered seen) s.shown.entered) stepped.rest c.requires.decided c.requires.entered_is st.rest_is st.left) breaks_are in

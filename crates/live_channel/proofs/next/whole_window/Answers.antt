@@ -19,21 +19,21 @@ use Rattle.live_channel.proofs.Marks.{breaks_seen}
 use Rattle.live_channel.proofs.next.whole_window.Goals as goal
 
 pub standing-requires : goal.standing-requires
-standing-requires c = subst (λ xs. Stood xs c.args.written.now) (sym c.in_ok-whole.ensures.whole) c.requires.stood.stood
+standing-requires c = subst (λ xs. Stood xs c.args.refresh.now.written.now) (sym c.in_ok-whole.ensures.whole) c.requires.stood.stood
 
 pub returns-clause-ok : goal.returns-clause-ok
 returns-clause-ok c =
-    let s = kept_before c.args.before.now in
-    let p = playlist_in c.args.read.now in
-    let n = c.args.lasted in
-    let held = c.args.list.now in
+    let s = kept_before c.args.refresh.now.before.now in
+    let p = playlist_in c.args.refresh.now.read.now in
+    let n = c.args.refresh.now.lasted in
+    let held = c.args.refresh.now.list.now in
     let seen = so_far s.store held in
     let whole = c.in_ok-whole.field-0.whole in
     let start = c.in_ok-whole.field-0.start in
     let items = c.leave_out.new.self in
     let rest = c.in_ok-whole.field-0.rest in
     let window : items ≡ map written_item (window_on (kept_in s) p seen n) = c.leave_out.ensures ∙ c.in_ok-whole.ensures.window in
-    let entered = c.args.entered.now in
+    let entered = c.args.refresh.now.entered.now in
     let ids = c.in_ok-in_use.in_use.items in
     let breaks_are : NameTheSame ids (breaks_held (first_number p.segments) held entered rest) = search rules in
     let breaks : NameTheSame ids (breaks_after (kept_in s) p seen) =

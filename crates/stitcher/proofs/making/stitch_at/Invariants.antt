@@ -1,7 +1,7 @@
 use Rattle.std.proofs.Common.{◌≡◌, true, length, []}
 use Rattle.std.specs.Prelude.{None}
 use Rattle.std.specs.List.{list_all}
-use Rattle.stitcher.specs.StitchedSegments.{item_fits}
+use Rattle.stitcher.specs.StitchedSegments.{item_fits, KnowRuns}
 use Rattle.stitcher.specs.Inner.Making.{numbers_fit, pieces_on, pieces_between}
 use Rattle.stitcher.proofs.Putting.{Walks}
 use Rattle.stitcher.proofs.making.stitch_at.Given as goal
@@ -11,6 +11,7 @@ invariant-loop-here l = record {
   fits : numbers_fit l.stitching.first ≡ true;
   walks : Walks (record { first = l.fn.first; last = None; items = [] }) l.stitching (pieces_between l.store l.ends l.marked) (pieces_on l.store l.ends.so_far l.previous l.rest);
   fit : list_all item_fits l.stitching.items ≡ true;
+  runs : KnowRuns l.previous l.rest;
 }
 
 abbrev pub decreases-loop-here : goal.decreases-loop-here

@@ -1,5 +1,6 @@
 use Rattle.std.proofs.Common.{rules, ◌≡◌, ◌∷◌, ◌++◌, ap, sym, subst, ◌∙◌, [], append_assoc}
 use Rattle.channel_spec.specs.Marking.{Moment}
+use Rattle.stitcher.specs.Making.{is_same_run}
 use Rattle.channel_window.specs.Marking.{next_id, mark_on}
 use Rattle.channel_window.specs.Inner.Terms.{IsExtended, IsRun}
 use Rattle.channel_window.proofs.Extended.{one_more}
@@ -14,7 +15,7 @@ loop-segment-preserved c =
     let i = c.in-Some-2.instant in
     let here = c.in_ok-next.field-0 in
     let inv = c.loop-segment.invariant in
-    let marked = subst (λ (x : Moment). here ≡ record { segment = s; instant = i; mark = next_id x old.before old.entered i }) inv.kept c.in_ok-next.ensures.marked in
+    let marked = subst (λ (x : Moment). here ≡ record { segment = s; instant = i; mark = next_id x old.before old.entered i; goes_on = is_same_run (next_id x old.before old.entered i) old.before }) inv.kept c.in_ok-next.ensures.marked in
     let goes = subst (λ (x : Moment). IsExtended x.store s.duration here.mark old new) inv.kept c.in_ok-next.ensures.goes in
     let segments : c.loop-segment.segments ≡ s ∷ c.next.new.self = search rules in
     let instants : c.loop-segment.instants ≡ i ∷ c.next-in-Some.new.self = search rules in
