@@ -2,7 +2,8 @@
 
 The rules take milliseconds for a list, and a day has 43,200 of them. So a break is explained by the lists from shortly before
 its date range came, or before its first segment was listed, to the list that has both. Where these are is found by reckoning:
-by the date ranges, times and durations in what is new in each list. What is then said comes from the rules alone.
+by the date ranges, times and durations in what is new in each list. What is then said comes from the rules alone. What was
+stated before the first of these lists, and never again, they don't know.
 """
 from __future__ import annotations
 
