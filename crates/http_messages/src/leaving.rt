@@ -65,7 +65,7 @@ impl Leaving {
         ensures { self.new ≡ drop count self.old }
     {
         let len = self.head.len() + body_sent(&self.reply, self.with_body).len();
-        self.taken = moved(self.taken, count, len);
+        self.taken = place_after(self.taken, count, len);
     }
 }
 
@@ -81,7 +81,7 @@ fn parts_from<'a>(head: &'a [u8], body: &'a [u8], from: usize) -> (&'a [u8], &'a
 }
 
 // A place that is so much further on, up to the end.
-fn moved(place: usize, count: usize, len: usize) -> usize
+fn place_after(place: usize, count: usize, len: usize) -> usize
     requires { place + count ≤ len }
     ensures { result ≡ place + count }
 {

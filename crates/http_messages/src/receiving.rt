@@ -55,7 +55,7 @@ impl<T: Drop> From<AllocFailed<T>> for ReceiveFault {
 }
 
 // What stands at the front of the bytes read so far, of which a head may have only the first.
-fn judged(alloc: Global, bytes: &[u8]) -> Result<HeadRead, AllocError>
+fn head_in_front(alloc: Global, bytes: &[u8]) -> Result<HeadRead, AllocError>
     ensures { IfOk result (IsJudgedAs bytes.now) }
 {
     let Some(front) = bytes.get(..MAX_HEAD_BYTES) else {
@@ -102,7 +102,7 @@ pub(crate) fn look(alloc: Global, bytes: &[u8], head: Option<Head>) -> Result<St
     if let Some(head) = head {
         return Ok(with_head(bytes, head));
     }
-    match judged(alloc, bytes)? {
+    match head_in_front(alloc, bytes)? {
         HeadRead::Whole(head) => Ok(with_head(bytes, head)),
         HeadRead::Partial => Ok(Step::More(None)),
         HeadRead::Bad => Ok(Step::Refused(Refusal::BadRequest)),

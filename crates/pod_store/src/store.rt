@@ -86,7 +86,10 @@ impl Pod {
 }
 
 // The decisions, whose pods can be shared.
-fn shared(alloc: Global, decisions: Vec<Decision>) -> Result<Vec<SharedDecision>, AllocError>
+fn shared_decisions(
+    alloc: Global,
+    decisions: Vec<Decision>,
+) -> Result<Vec<SharedDecision>, AllocError>
     ensures { IfOk result (λ v. v.items ≡ decisions.items) }
 {
     let mut done = Vec::with_capacity(alloc, decisions.len())?;
@@ -222,7 +225,7 @@ impl PodStore {
             ≡ with_entries self.old (fold put self.old.entries decisions.items)) }
         ensures err { OnErr result (self.new ≡ self.old) }
     {
-        let shared = shared(self.alloc, decisions)?;
+        let shared = shared_decisions(self.alloc, decisions)?;
         self.kept.reserve(shared.len())?;
         put_all(&mut self.kept, shared);
         Ok(())
@@ -258,7 +261,7 @@ impl PodStore {
     /// only if an allocation fails. After a fault the store is as it was.
     ///
     /// ```text
-    /// let mut store = PodStore::new(alloc);
+    /// let mut store = PodStore::new(alloc, hashing);
     /// store.decide(decisions)?;        a pod for the break b1
     /// store.pod_for("b1")              Some(pod)
     /// store.pod_for("b2")              None, as there is no fallback

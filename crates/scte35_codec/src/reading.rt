@@ -196,7 +196,7 @@ fn take_unmeasured(
 
 // The command of these bytes.
 #[tactic(auto, unfolding(crate::specs::Reading::measured_of))]
-fn measured(alloc: Global, kind: u8, bytes: &[u8]) -> Result<SpliceCommand, SpliceFault>
+fn whole_command(alloc: Global, kind: u8, bytes: &[u8]) -> Result<SpliceCommand, SpliceFault>
     ensures { Gives command_of result (measured_of kind bytes.now) }
 {
     if kind == SPLICE_INSERT {
@@ -223,13 +223,13 @@ fn take_command(
         return take_unmeasured(alloc, kind, bytes);
     }
     let (front, rest) = take_bytes(bytes, length as usize)?;
-    let command = measured(alloc, kind, front)?;
+    let command = whole_command(alloc, kind, front)?;
     Ok((command, rest))
 }
 
 // The stuffing, and the CRC in the last four bytes.
 #[tactic(auto, unfolding(crate::specs::Reading::ending_at))]
-fn ending(bytes: &[u8]) -> Result<(&[u8], u32), SpliceFault>
+fn stuffing_and_crc(bytes: &[u8]) -> Result<(&[u8], u32), SpliceFault>
     ensures { Gives (λ x. (x.0.now, x.1)) result (ending_at bytes.now) }
 {
     if bytes.len() < 4 {
@@ -246,7 +246,7 @@ fn tail(alloc: Global, bytes: &[u8]) -> Result<(Vec<u8>, Vec<u8>, u32), SpliceFa
 {
     let (count, rest) = take_number(bytes, 2)?;
     let (descriptors, rest) = take_bytes(rest, count as usize)?;
-    let (stuffing, crc) = ending(rest)?;
+    let (stuffing, crc) = stuffing_and_crc(rest)?;
     let descriptors = Vec::from_slice(alloc, descriptors)?;
     let stuffing = Vec::from_slice(alloc, stuffing)?;
     Ok((descriptors, stuffing, crc))

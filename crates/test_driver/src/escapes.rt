@@ -26,13 +26,13 @@ fn first_of(text: &[u8]) -> Option<(u8, &[u8])>
         [b'\\', b'x', high, low, later @ ..] if is_digit(*high) && is_digit(*low) => {
             Some(((digit_of(*high) << 4) | digit_of(*low), later))
         }
-        [b'\\', byte, later @ ..] => Some((named(*byte), later)),
+        [b'\\', byte, later @ ..] => Some((byte_named(*byte), later)),
         [byte, later @ ..] => Some((*byte, later)),
     }
 }
 
 // What a byte after a backslash stands for.
-fn named(byte: u8) -> u8 {
+fn byte_named(byte: u8) -> u8 {
     match byte {
         b'n' => b'\n',
         b'r' => b'\r',

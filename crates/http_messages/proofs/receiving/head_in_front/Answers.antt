@@ -2,7 +2,7 @@ use Rattle.std.proofs.Common.{take, subst, arith}
 use Rattle.http_messages.specs.Inner.Received.{IsReadAs}
 use Rattle.http_messages.specs.Limits.{head_limit}
 use Rattle.http_messages.proofs.Fronts.{never_in_limit, read_by_front, judged_short}
-use Rattle.http_messages.proofs.receiving.judged.Goals as goal
+use Rattle.http_messages.proofs.receiving.head_in_front.Goals as goal
 
 pub returns-in-Partial : goal.returns-in-Partial
 returns-in-Partial c =
