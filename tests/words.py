@@ -71,6 +71,11 @@ def toolchain(status: int = 2) -> str:
     return found
 
 
+def kit_folder() -> str:
+    """The folder of the kit."""
+    return os.path.dirname(os.path.dirname(os.path.realpath(toolchain())))
+
+
 def write_files(folder: str, texts: dict[str, str]) -> None:
     """Writes files below a folder, by their paths."""
     for path, text in texts.items():

@@ -1,5 +1,7 @@
-"""Attribute lists, decimals and hexadecimal sequences (RFC 8216, 4.2), worked by hand."""
+"""Attribute lists, decimals and hexadecimal sequences (RFC 8216, 4.2): the tables of worked values, and more that is worked
+by hand."""
 from lines import question, told
+from tables import fault, rows
 
 # Lists with their attributes: name, value, whether it stands in quotes.
 LISTS = [
@@ -24,13 +26,10 @@ BAD_NAME, NO_EQUALS, BAD_VALUE, OPEN_QUOTE = "A1 BadName", "A2 NoEquals", "A3 Ba
 TWICE, TOO_MANY, BAD_NUMBER = "A5 Twice", "A6 TooMany", "A8 BadNumber"
 
 FAULTS = [
-    ("", BAD_NAME), ("=1", BAD_NAME), ("a=1", BAD_NAME), ("A b=1", BAD_NAME), (" A=1", BAD_NAME), ('A"B"=1', BAD_NAME),
-    ("A=1,", BAD_NAME), ("A=1, B=2", BAD_NAME), (",A=1", BAD_NAME),
-    ("A", NO_EQUALS), ("A,B=1", NO_EQUALS), ("A=1,B", NO_EQUALS),
-    ("A=", BAD_VALUE), ("A=,B=1", BAD_VALUE), ("A=x y", BAD_VALUE), ("A= x", BAD_VALUE), ('A=x"y"', BAD_VALUE),
-    ('A="x"y', BAD_VALUE), ('A="x"y,B="', BAD_VALUE), ('A="x""y"', BAD_VALUE), ('A="x" ,B=1', BAD_VALUE),
-    ('A="', OPEN_QUOTE), ('A="x', OPEN_QUOTE), ('A="x,B=1', OPEN_QUOTE),
-    ("A=1,A=2", TWICE), ('A=1,B=2,A="x', TWICE), ("A=1,A=", TWICE), ("A=1,A", NO_EQUALS), ("A=,A=1,b", BAD_VALUE),
+    ("=1", BAD_NAME), ("A b=1", BAD_NAME), (" A=1", BAD_NAME), ('A"B"=1', BAD_NAME), (",A=1", BAD_NAME),
+    ("A,B=1", NO_EQUALS), ("A=1,B", NO_EQUALS), ("A=1,A", NO_EQUALS), ("A=,B=1", BAD_VALUE), ("A= x", BAD_VALUE),
+    ('A="x"y,B="', BAD_VALUE), ('A="x""y"', BAD_VALUE), ('A="x" ,B=1', BAD_VALUE), ("A=,A=1,b", BAD_VALUE),
+    ('A="', OPEN_QUOTE), ('A="x,B=1', OPEN_QUOTE), ('A=1,B=2,A="x', TWICE), ("A=1,A=", TWICE),
 ]
 
 # As many attributes as a list may have, and what is refused behind them.
@@ -41,18 +40,21 @@ MORE = [",A64=64", ",", ",a", ",A0=0", ',A64="']
 ANY = [*map(chr, range(0x20)), *map(chr, range(0x7f, 0xa1)), "\u00e9", "\u3000", "\ufeff", "\u20ac", "\U0001f600", "\U0010ffff"]
 
 DECIMALS = [
-    ("0", 0), ("7", 7), ("0123456789", 123_456_789), ("18446744073709551615", 2**64 - 1), ("00000000000000000000", 0),
-    ("00000000000000000080", 80),
-    *((text, BAD_NUMBER) for text in ("18446744073709551616", "99999999999999999999", "000000000000000000000", "", "+1",
-                                      "-1", " 1", "1 ", "1.0", "0x1", "\u0661")),
+    ("7", 7), ("0123456789", 123_456_789), ("00000000000000000000", 0), ("00000000000000000080", 80),
+    *((text, BAD_NUMBER) for text in ("99999999999999999999", "000000000000000000000", "+1", " 1", "1 ", "0x1", "\u0661")),
 ]
 
 HEXADECIMALS = [
-    ("0x0", 0), ("0xFf", 255), ("0XaB09", 0xab09), ("0xffffffffffffffffffffffffffffffff", 2**128 - 1),
-    ("0x00000000000000000000000000000001", 1), ("0x0123456789abcdefABCDEF0123456789", 0x0123456789abcdefabcdef0123456789),
-    *((text, BAD_NUMBER) for text in ("0x000000000000000000000000000000001", "0x", "", "5", "FF", "x1", "0x+1", "0xg",
-                                      "0x1 ", "0x0x1", "00x1", "0\u00d71")),
+    ("0x0", 0), ("0xFf", 255), ("0XaB09", 0xab09), ("0x00000000000000000000000000000001", 1),
+    ("0x0123456789abcdefABCDEF0123456789", 0x0123456789abcdefabcdef0123456789),
+    *((text, BAD_NUMBER) for text in ("", "5", "x1", "0x+1", "0x1 ", "0x0x1", "00x1", "0\u00d71")),
 ]
+
+
+def numbers(word, more, table):
+    """Numbers that are read, or none: of a table, and more."""
+    stated = [(bytes(text), BAD_NUMBER if it == ("None",) else it[1]) for text, it in rows(table)]
+    return [question(word, text, answer) for text, answer in more + stated]
 
 
 def spelled(attribute):
@@ -69,6 +71,16 @@ def printed(attributes):
         words.append(f"{begin}..{end} {told(spelled(attribute))}")
         begin = end + 1
     return " ".join(words)
+
+
+def worked():
+    """The lists of the table, each with its attributes or its fault."""
+    for text, (word, it) in rows("Texts.AttributesAreRead"):
+        if word == "Err":
+            yield question("attributes", bytes(text), fault("attr_list", it).decode())
+        else:
+            said = [(bytes(one["name"]).decode(), bytes(one["value"]).decode(), one["quoted"]) for one in it]
+            yield question("attributes", bytes(text), printed(said))
 
 
 def lists():
@@ -90,11 +102,12 @@ def characters():
 
 
 LINES = [
+    *worked(),
     *lists(),
     *(question("attribute", f"{name}\n{NAMED_IN}", answer) for name, answer in NAMED),
     *(question("attributes", text, fault) for text, fault in FAULTS),
     *(question("attributes", MOST + more, TOO_MANY) for more in MORE),
     *characters(),
-    *(question("decimal", text, answer) for text, answer in DECIMALS),
-    *(question("hexadecimal", text, answer) for text, answer in HEXADECIMALS),
+    *numbers("decimal", DECIMALS, "Texts.DecimalsAreRead"),
+    *numbers("hexadecimal", HEXADECIMALS, "Texts.SequencesAreRead"),
 ]

@@ -1,14 +1,16 @@
-"""Durations in decimal seconds (RFC 8216, 4.3.2.1), worked by hand. Each is read and written in nanoseconds."""
+"""Durations in decimal seconds (RFC 8216, 4.3.2.1): the tables of worked values, and more that is worked by hand. Each is
+read and written in nanoseconds."""
 from lines import question
+from tables import rows
 
 MOST = 2**64 - 1
+FAULTS = {"Empty": "U1 Empty", "NotDigits": "U2 NotDigits", "TooLarge": "U3 TooLarge"}
 
 READ = [
-    ("9.976666666666667", 9_976_666_666), ("5.", 5_000_000_000), (".5", 500_000_000), ("0", 0), ("0.0000000019", 1),
-    ("0000000009.5", 9_500_000_000), ("999999", 999_999_000_000_000), ("999999.9999999999", 999_999_999_999_999),
-    ("", "U1 Empty"), (".", "U2 NotDigits"), ("-1", "U2 NotDigits"), (" 1", "U2 NotDigits"), ("1e3", "U2 NotDigits"),
-    ("1.2.3", "U2 NotDigits"), ("1000000.x", "U2 NotDigits"), ("1000000", "U3 TooLarge"), ("1000000.", "U3 TooLarge"),
-    ("99999999999999999999999", "U3 TooLarge"),
+    ("9.976666666666667", 9_976_666_666), ("0", 0), ("0000000009.5", 9_500_000_000), ("999999", 999_999_000_000_000),
+    ("999999.9999999999", 999_999_999_999_999), (" 1", FAULTS["NotDigits"]), ("1e3", FAULTS["NotDigits"]),
+    ("1000000.", FAULTS["TooLarge"]), ("99999999999999999999999", FAULTS["TooLarge"]),
+    *((bytes(text), FAULTS[it[0]] if word == "Err" else it) for text, (word, it) in rows("Texts.DurationsAreRead")),
 ]
 
 # The digits after a point.
@@ -16,12 +18,12 @@ FRACTIONS = [("", 0), ("25", 250_000_000), ("0000000019", 1)]
 
 # Written behind what stands in a text before.
 WRITTEN = [
-    (0, "0"), (1, "0.000000001"), (9_976_666_666, "9.976666666"), (5_000_000_000, "5"), (9_500_000_000, "9.5"),
-    (10_050_000_000, "10.05"), (999_999_999_999_999, "999999.999999999"), (MOST, "18446744073.709551615"),
+    (9_976_666_666, "9.976666666"), (10_050_000_000, "10.05"), (999_999_999_999_999, "999999.999999999"),
+    (MOST, "18446744073.709551615"), *((nanos, bytes(text).decode()) for nanos, text in rows("Texts.DurationsAreWritten")),
 ]
 
 # A half goes up.
-ROUNDED = [(0, 0), (499_999_999, 0), (500_000_000, 1), (9_499_999_999, 9), (9_500_000_000, 10), (MOST, 18_446_744_074)]
+ROUNDED = [(MOST, 18_446_744_074), *rows("Texts.DurationsAreRounded")]
 
 SUMS = [(8_000_000_000, 9_500_000_000, 17_500_000_000), (MOST, 0, MOST), (MOST, 1, "none")]
 
