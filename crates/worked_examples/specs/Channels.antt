@@ -272,11 +272,8 @@ PodsAreKept = Gives stored (
     ∷ (window (lasting 10 b ∷ lasting 10 (tag (codes "c") 20) ∷ []) 2 2 ∷ window (lasting 10 b ∷ lasting 10 (tag (codes "c") 20) ∷ []) 0 2 ∷ decide (codes "c") (2000 ∷ []) ∷ decide_b ∷ [], (codes "b", true) ∷ (codes "c", true) ∷ [])
     ∷ (window (lasting 10 b ∷ lasting 10 (tag (codes "c") 20) ∷ []) 3 2 ∷ window (lasting 10 b ∷ lasting 10 (tag (codes "c") 20) ∷ []) 2 2 ∷ window (lasting 10 b ∷ lasting 10 (tag (codes "c") 20) ∷ []) 0 2 ∷ decide (codes "c") (2000 ∷ []) ∷ decide_b ∷ [], (codes "c", true) ∷ []) ∷ [])
 
-abbrev pub place_of : Rest → ℕ
-place_of rest = rest.place
-
 abbrev pub kept_briefly : Kept → Option (List ℕ) × List ℕ × ℕ × Option ℕ × ℕ
-kept_briefly kept = (kept.entered, kept.numbers.media_sequence ∷ kept.numbers.discontinuity_sequence ∷ kept.numbers.discontinuities ∷ [], kept.so_far, option_map place_of kept.rest, length kept.shown)
+kept_briefly kept = (kept.entered, kept.numbers.media_sequence ∷ kept.numbers.discontinuity_sequence ∷ kept.numbers.discontinuities ∷ [], kept.so_far, option_map (λ (rest : Rest). rest.place) kept.rest, length kept.shown)
 
 -- the last break entered, the numbers of the window's first item, how long the newest run has lasted, the place in the pod that the
 -- window starts with, and how many segments are shown
