@@ -1,7 +1,7 @@
 //! Worked values of the definitions, texts to what a channel owes. Each table in `specs/` has rows of an input and the value
 //! that was worked out by hand from the section of the standard, or the sentence of docs/CONFORMANCE.md, that stands above
 //! it; no code is named. Each function's contract is its tables; calling it does nothing.
-#![tactic(auto)]
+#![tactic(auto, unfolding(crate::proofs::OnLiterals::on_literals))]
 
 ghost use Rattle.worked_examples.specs.Texts.{DurationsAreRead, DurationsAreWritten, DurationsAreRounded, AttributesAreRead, AttributesAreLimited, AttributesAreWritten, DecimalsAreRead, SequencesAreRead, InstantsAreRead, InstantsAreWritten, PairFaultsAreOrdered, ValuesAreChecked, MonthsEnd, FormsAreChecked, OffsetsAreRead};
 ghost use Rattle.worked_examples.specs.Lines.{LinesArePlaced, LinesHaveTheirKinds, TagsHaveTheirNames, SchemesAreSeen, VersionsAreRead, TypesAreRead, SegmentDurationsAreRead, ByteRangesAreRead, ReferencesAreResolved, BasesAreWebUrls, KeysAreRead, InitSectionsAreRead, DateRangesAreRead, JoinsCanBeWritten, PathsAreJoined};
