@@ -1,7 +1,7 @@
 //! Worked values of the definitions of requests, replies, connections and runs. Each table in `specs/` has rows of an input
 //! and the value that was worked out by hand from the section of the standard, or the sentence of docs/OPERATING.md, that
 //! stands above it; no code is named. Each function's contract is its tables; calling it does nothing.
-#![tactic(auto)]
+#![tactic(auto, unfolding(crate::proofs::OnLiterals::on_literals))]
 
 ghost use Rattle.served_examples.specs.Requests.{NamesAreChecked, QueriesArePassedOver, RoutesAreFound, OtherPathsAreNone, BodiesAreFramed, HeadsAreFramed, MessagesAreLimited, RepliesAreWritten, HeadsAreSent, HeadRepliesAreWritten, AllFieldsCount};
 ghost use Rattle.served_examples.specs.Answers.{ChannelsAreMade, RefreshesAreAnswered, PlaylistsAreRead, DecisionsAreAnswered, DecisionFaultsAreAnswered, RefreshFaultsAreAnswered, WordsOfWhyAreTold, ReasonsAreAnswered, TablesAreLimited, ChannelsAreApart, RequestsAreServed, RequestsWereAsked, RequestsWereAnswered, OthersStay, BodyFaultsAreAnswered, BodyFaultsAreTold, ChannelsAreOnce};
