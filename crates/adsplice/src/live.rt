@@ -1,5 +1,5 @@
-//! `adsplice live PORT COUNT`: connections on the loopback address, side by side in one thread. Which of them is ready the
-//! system tells; what they say and are answered, who is given up and when is `connections`' alone.
+//! `adsplice live PORT COUNT`: connections on the loopback address, side by side in one thread. The system tells which
+//! of them are ready. What they are answered, and which are given up when, `connections` decides.
 #![tactic(auto, using(connections::proofs::Leading::stays, connections::proofs::Leading::by_one, connections::proofs::Leading::and_then))]
 
 ghost use Rattle.std.specs.Prelude.{◌<◌, length, vec_len, IfOk};
@@ -7,7 +7,7 @@ ghost use Rattle.connections.specs.Runs.{HasRun};
 
 use crate::faults::{Faults, OUT_OF_MEMORY, fails};
 use crate::server::{Clients, Opened, Server};
-use connections::{Connections, Opened as Table};
+use connections::{Connections, NewTable};
 use mio::Events;
 use std::alloc::AllocError;
 use std::hash::RandomState;
@@ -73,7 +73,7 @@ fn start(
     ensures { IfOk result (λ started. 0 < vec_len started.block) }
 {
     let alloc = rt.alloc();
-    let Table { connections, seats } = Connections::over_new_edge(alloc, hashing)?;
+    let NewTable { connections, seats } = Connections::over_new_edge(alloc, hashing)?;
     let clients = Clients::new(alloc, seats)?;
     let faults = Faults::new(rt, alloc)?;
     let events = Events::with_capacity(alloc, EVENTS)?;

@@ -9,11 +9,11 @@ stays old new e = record { events = []; run = e }
 pub by_one : (old new : State) (e : ClientEvent) → Happens old e new → HasRun old new
 by_one old new e h = record { events = e ∷ []; run = (old, refl, h) }
 
-joined : (first middle : State) (before : List ClientEvent) → IsRun first before middle → (last : State) (events : List ClientEvent) → IsRun middle events last
+run_goes_on : (first middle : State) (before : List ClientEvent) → IsRun first before middle → (last : State) (events : List ClientEvent) → IsRun middle events last
     → IsRun first (events ++ before) last
-joined first middle before b last [] h = subst (IsRun first before) (sym h) b
-joined first middle before b last (e ∷ events) h = (h.0, joined first middle before b h.0 events h.1, h.2)
+run_goes_on first middle before b last [] h = subst (IsRun first before) (sym h) b
+run_goes_on first middle before b last (e ∷ events) h = (h.0, run_goes_on first middle before b h.0 events h.1, h.2)
 
 pub and_then : (first middle last : State) → HasRun first middle → HasRun middle last → HasRun first last
 and_then first middle last b h =
-    record { events = h.events ++ b.events; run = joined first middle b.events b.run last h.events h.run }
+    record { events = h.events ++ b.events; run = run_goes_on first middle b.events b.run last h.events h.run }

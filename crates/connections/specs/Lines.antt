@@ -11,8 +11,8 @@ abbrev pub is_other : ℕ → ℕ → Bool
 is_other place one = not (one == place)
 
 -- behind all others, unless it stands there already
-abbrev pub joined : ℕ → List ℕ → List ℕ
-joined place line = if stands_in place line then line else line ++ place ∷ []
+abbrev pub line_with : ℕ → List ℕ → List ℕ
+line_with place line = if stands_in place line then line else line ++ place ∷ []
 
 abbrev pub first_in : List ℕ → Option ℕ
 first_in [] = None
@@ -34,7 +34,7 @@ pub data LineEvent : Type 0 where
   calls : LineEvent
 
 abbrev pub after : LineEvent → List ℕ → List ℕ
-after (joins place) line = joined place line
+after (joins place) line = line_with place line
 after (leaves place) line = filter (is_other place) line
 after calls line = drop 1 line
 

@@ -23,6 +23,6 @@ pub use deadlines::{ending_deadline, serving_deadline};
 pub use devices::{Ending, Incoming, Looking, NonBlocking, Outgoing, Passage, Socket};
 pub use line::{Call, Line, When};
 pub use seats::Seat;
-pub use table::{Connections, MAX_HELD, Opened, PLACES, Phase};
+pub use table::{Connections, MAX_HELD, NewTable, PLACES, Phase};
 pub use turns::{Turn, drain, is_read_out, listen, speak};
 pub use wire::{Moved, hear, say};

@@ -51,7 +51,7 @@ impl Model for Connections {
 
 /// A table, and all its seats, of which the last is that of the first place.
 #[derive(Drop)]
-pub struct Opened<T> {
+pub struct NewTable<T> {
     pub connections: Connections,
     pub seats: Vec<Seat<T>>,
 }
@@ -101,23 +101,16 @@ impl Connections {
 
     /// A new edge, which stands for no request, with no connection yet: all that come are served over this one. A client's
     /// device is a `T`, since no other seat is made. `hashing`: the keys for each channel's tables of IDs. Fails only if an allocation fails.
-    pub fn over_new_edge<T>(alloc: Global, hashing: RandomState) -> Result<Opened<T>, AllocError>
+    pub fn over_new_edge<T>(alloc: Global, hashing: RandomState) -> Result<NewTable<T>, AllocError>
         ensures edge { IfOk result (λ new. RepresentsRequests new.connections.edge []) }
         ensures vacant { IfOk result (λ new. new.connections.places ≡ replicate place_count None) }
         ensures seats { IfOk result (λ new. new.seats.items ≡ places_below place_count) }
     {
         let edge = Edge::new(alloc, hashing)?;
-        Ok(Opened {
+        Ok(NewTable {
             connections: Connections::new(alloc, edge)?,
             seats: all_seats(alloc)?,
         })
-    }
-
-    // There is each place of which there is a seat.
-    fn has_all(&self)
-        ensures { length self.now.places ≡ place_count }
-    {
-        let _ = &self.places;
     }
 
     /// The bytes of requests that aren't whole.
@@ -168,31 +161,29 @@ impl Connections {
         }
     }
 
-    // Takes away what is at a place.
-    fn take_out(&mut self, place: usize) -> Option<Conversation>
-        requires { place < length self.old.places }
-        ensures it { result ≡ at self.old place }
-        ensures puts { Puts self.old self.new place None }
+    // Takes away what is at the place of `seat`.
+    fn take_out<T>(&mut self, seat: &Seat<T>) -> Option<Conversation>
+        ensures it { result ≡ at self.old seat.now }
+        ensures puts { Puts self.old self.new seat.now None }
         ensures edge { self.new.edge ≡ self.old.edge }
         ensures held { held_in self.new.places + held_of result ≡ held_in self.old.places }
         ensures bound { held_in self.old.places ≤ most_held }
     {
-        let it = self.places[place].take();
+        let it = self.places[seat.place()].take();
         self.held -= held_by(&it);
         it
     }
 
-    // Puts a connection where nobody is.
-    fn put_back(&mut self, place: usize, conversation: Conversation)
-        requires within { place < length self.old.places }
-        requires vacant { at self.old place ≡ None }
+    // Puts a connection at the place of `seat`, where nobody is.
+    fn put_back<T>(&mut self, seat: &Seat<T>, conversation: Conversation)
+        requires vacant { at self.old seat.now ≡ None }
         requires room { held_in self.old.places + held_of (Some conversation) ≤ most_held }
-        ensures puts { Puts self.old self.new place (Some conversation) }
+        ensures puts { Puts self.old self.new seat.now (Some conversation) }
         ensures edge { self.new.edge ≡ self.old.edge }
     {
         let it = Some(conversation);
         self.held += held_by(&it);
-        self.places[place] = it;
+        self.places[seat.place()] = it;
     }
 
     /// A client comes to the place of `seat`, where nobody is.
@@ -200,9 +191,8 @@ impl Connections {
         requires { at self.old seat.now ≡ None }
         ensures { Happens self.old (arrival seat.now) self.new }
     {
-        self.has_all();
         let conversation = Conversation::Asking(Arriving::new(self.alloc), 0);
-        self.put_back(seat.place(), conversation);
+        self.put_back(seat, conversation);
     }
 
     /// The client at `seat` gives `piece`, its next bytes. After a fault the connection is removed, and the edge is
@@ -215,13 +205,11 @@ impl Connections {
         ensures many { IsErrOf result EdgeFault.TooManyReads →
             HasTooManyAt (at self.old seat.now) piece.now }
     {
-        self.has_all();
-        let place = seat.place();
-        let Some(conversation) = self.take_out(place) else {
+        let Some(conversation) = self.take_out(seat) else {
             return Ok(());
         };
         let after = give(conversation, self.alloc, &mut self.edge, piece)?;
-        self.put_back(place, after);
+        self.put_back(seat, after);
         Ok(())
     }
 
@@ -240,21 +228,18 @@ impl Connections {
         requires { count ≤ length (left_of (at self.old seat.now)) }
         ensures { Happens self.old (reply_bytes seat.now count) self.new }
     {
-        self.has_all();
-        let place = seat.place();
-        let Some(conversation) = self.take_out(place) else {
+        let Some(conversation) = self.take_out(seat) else {
             return;
         };
         let after = advance(conversation, count);
-        self.put_back(place, after);
+        self.put_back(seat, after);
     }
 
     /// The client at `seat` goes, or is given up. Nothing is at its place then.
     pub fn remove<T>(&mut self, seat: &Seat<T>)
         ensures { Happens self.old (departure seat.now) self.new }
     {
-        self.has_all();
-        let _ = self.take_out(seat.place());
+        let _ = self.take_out(seat);
     }
 }
 
