@@ -12,7 +12,7 @@ fault_of kind.OutOfMemory = OutOfMemory
 fault_of _ = CannotRead
 
 -- no file if none is named; else its bytes, or why they can't be read
-abbrev pub decided : {A : Type 0} → Option (Result A Error) → Result (Option A) DecisionsFault
-decided None = Ok None
-decided (Some (Ok bytes)) = Ok (Some bytes)
-decided (Some (Err e)) = Err (fault_of (error_kind e))
+abbrev pub decision_bytes : {A : Type 0} → Option (Result A Error) → Result (Option A) DecisionsFault
+decision_bytes None = Ok None
+decision_bytes (Some (Ok bytes)) = Ok (Some bytes)
+decision_bytes (Some (Err e)) = Err (fault_of (error_kind e))

@@ -1,7 +1,7 @@
 //! What `vod` decides by.
 ghost use Rattle.std.specs.Prelude.{◌≡◌};
 ghost use Rattle.std.specs.IoError.{error_kind};
-ghost use Rattle.adsplice.specs.Decisions.{fault_of, decided};
+ghost use Rattle.adsplice.specs.Decisions.{fault_of, decision_bytes};
 
 use std::io;
 use std::io::ErrorKind;
@@ -25,8 +25,8 @@ fn fault_of(error: &io::Error) -> DecisionsFault
 
 /// The bytes of the decision file, if the program's words name one: `file` is what reading it gave. Any fault but
 /// `OutOfMemory` is `CannotRead`.
-pub fn decided(file: Option<io::Result<Vec<u8>>>) -> Result<Option<Vec<u8>>, DecisionsFault>
-    ensures { result ≡ decided file }
+pub fn decision_bytes(file: Option<io::Result<Vec<u8>>>) -> Result<Option<Vec<u8>>, DecisionsFault>
+    ensures { result ≡ decision_bytes file }
 {
     match file {
         None => Ok(None),

@@ -7,7 +7,7 @@ mod faults;
 mod live;
 mod server;
 
-use crate::decisions::{DecisionsFault, decided};
+use crate::decisions::{DecisionsFault, decision_bytes};
 use crate::faults::{OUT_OF_MEMORY, fails};
 use crate::live::live;
 use byte_streams::Counted;
@@ -27,7 +27,7 @@ fn usage(rt: &HostRuntime) -> ExitCode {
 
 // One playlist from standard input to standard output; the decision file, if there is one, is read first.
 fn vod(rt: &HostRuntime, hashing: RandomState, base: &str, decisions: Option<&str>) -> ExitCode {
-    match decided(decisions.map(|path| fs::read(rt, path))) {
+    match decision_bytes(decisions.map(|path| fs::read(rt, path))) {
         Ok(None) => vod_with(rt, hashing, base, None),
         Ok(Some(file)) => vod_with(rt, hashing, base, Some(file.as_slice())),
         Err(DecisionsFault::OutOfMemory) => fails(rt, OUT_OF_MEMORY),

@@ -25,7 +25,7 @@ pub const LISTENER: Token = Token(PLACES);
 // How many clients are let in before the others have their turn again.
 const LET_IN: u32 = 64;
 
-// How often it is looked whose time is up, and whether clients can be let in that could not be, in milliseconds.
+// Milliseconds from one tick to the next.
 const TICK_MILLIS: u64 = 50;
 
 // The system's numbers for a process, and a machine, that has as many files open as it may.
@@ -71,7 +71,7 @@ impl Clients {
     }
 }
 
-/// What the system opened: the listener, and what tells who is ready, with the instant at which it last told.
+/// What the system opened: the listener, and the poll that names ready clients, with the instant of its last answer.
 #[derive(Drop)]
 pub struct Opened {
     poll: Poll,
@@ -96,7 +96,7 @@ impl Opened {
     }
 }
 
-/// The clients, whom the system is asked about, and how many are still let in.
+/// The clients, what the system opened, and how many more are let in.
 #[derive(Drop)]
 pub struct Server {
     clients: Clients,
@@ -171,7 +171,7 @@ impl Server {
         }
     }
 
-    /// Waits until somebody is ready, whom `events` name then, or a tick has passed.
+    /// Waits until a client is ready, or a tick has passed. `events` has the clients that are ready.
     pub fn wait(&mut self, rt: &HostRuntime, events: &mut Events) -> io::Result<()> {
         let patience = self.patience();
         self.opened.poll.poll(events, patience)?;
@@ -181,7 +181,7 @@ impl Server {
         Ok(())
     }
 
-    // Who stands at a place goes.
+    // The client at a place leaves the table, if there is one.
     fn leave(&self, connections: &mut Connections, place: usize)
         ensures { HasRun connections.old connections.new }
     {
@@ -300,8 +300,8 @@ impl Server {
         }
     }
 
-    // Has room for the bytes of who stands at a place: the client is given up that has asked longest, of those whose bytes
-    // are held.
+    // Makes room for bytes of the client at a place. Of the clients whose bytes are held, that which has asked longest
+    // is given up.
     fn make_room(&mut self, rt: &HostRuntime, connections: &mut Connections, place: usize)
         ensures { HasRun connections.old connections.new }
     {
@@ -312,7 +312,7 @@ impl Server {
         self.give_up(rt, connections, other);
     }
 
-    // Gives the client its turn that is called, and whose it is.
+    // Gives the client that is called its turn.
     fn serve(
         &mut self,
         rt: &HostRuntime,
@@ -341,7 +341,7 @@ impl Server {
         }
     }
 
-    // A client is ready: it has its turn at once if that is short, and else stands in line.
+    // A client is ready: it has its turn at once if that is short, and else it stands in line.
     fn on_ready(
         &mut self,
         rt: &HostRuntime,
@@ -408,7 +408,7 @@ impl Server {
         self.on_ready(rt, connections, place, block);
     }
 
-    // Looks at each client of which something was told.
+    // Serves each client that an event names.
     fn serve_events(
         &mut self,
         rt: &HostRuntime,
@@ -425,7 +425,7 @@ impl Server {
         }
     }
 
-    // Somebody waits to be let in. If there was no file, the client gives up its own that has asked longest.
+    // Somebody waits to be let in. If no file was left for it, the client that has asked longest is disconnected.
     fn on_somebody(&mut self, rt: &HostRuntime, connections: &mut Connections)
         ensures { HasRun connections.old connections.new }
     {
@@ -442,8 +442,8 @@ impl Server {
         }
     }
 
-    // Whether there is no place for another client before one has its turn: who has asked longest stands in line, and waits
-    // for the server.
+    // Whether nobody can be let in before a client has had its turn: no place is vacant, and the client that has asked
+    // longest stands in line.
     fn is_full(&self, connections: &Connections) -> bool {
         if !self.clients.vacant.is_empty() {
             return false;
@@ -511,7 +511,7 @@ impl Server {
         }
     }
 
-    // What is known of who comes after nobody could be let in. No error ends the server.
+    // What is known of clients that come, after one could not be let in. No error ends the server.
     fn door_after(&mut self, error: &io::Error) -> Door {
         if error.kind() == ErrorKind::WouldBlock {
             return Door::Quiet;
@@ -551,7 +551,7 @@ impl Server {
         self.on_ready(rt, connections, place, block);
     }
 
-    // Lets in those who wait, up to so many.
+    // Lets in those who wait, at most `LET_IN` of them.
     fn let_in(&mut self, rt: &HostRuntime, connections: &mut Connections, block: &mut [u8])
         requires { 0 < length block.old }
         ensures { HasRun connections.old connections.new }
@@ -595,7 +595,7 @@ impl Server {
         }
     }
 
-    // Looks whose time is up, and has it tried again to let in who could not be.
+    // At each tick: clients whose time is up are given up, and after an error it is tried again to let clients in.
     fn tick(&mut self, rt: &HostRuntime, connections: &mut Connections)
         ensures { HasRun connections.old connections.new }
     {
@@ -611,8 +611,8 @@ impl Server {
     }
 
     /// A round over `connections`: of the clients that `events` name, and of those that are let in then, each has its
-    /// turn if it reads what stands, or is answered. Of all others one request is applied, whose client became ready
-    /// first. Then those are ended whose time is up. `block` is room for a read.
+    /// turn if it reads what stands, or is answered. Of the others the first one has its request applied.
+    /// Then clients whose time is up are given up. `block` is room for a read.
     pub fn round(
         &mut self,
         rt: &HostRuntime,
