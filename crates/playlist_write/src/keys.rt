@@ -1,5 +1,5 @@
 //! Key tags and map tags (RFC 8216, sections 4.3.2.4 and 4.3.2.5).
-ghost use Rattle.std.specs.Prelude.{◌≡◌, ◌∷◌, ◌++◌, [], codes, filter, ◌&&◌, not};
+ghost use Rattle.std.specs.Prelude.{◌≡◌, ◌∷◌, ◌++◌, [], Bool, codes, filter, ◌&&◌, not, true};
 ghost use Rattle.spec_words.specs.Bytes.{line_feed, quote};
 ghost use Rattle.attr_list.specs.Attributes.{pair_spelling};
 ghost use Rattle.playlist_write.specs.Spelling.{in_quotes, iv_pairs, format_pairs, part_pairs};
@@ -8,13 +8,15 @@ ghost use Rattle.playlist_write.specs.Inner.KeyParts.{rest_of, is_identity};
 ghost use Rattle.playlist_model.specs.Said as Said;
 ghost use Rattle.playlist_write.specs.Owed.{line_of, said_text, keys_owed};
 ghost use Rattle.playlist_write.specs.Inner.Owed.{set_tags, key_line, init_section_line};
-ghost use Rattle.playlist_model.specs.Same.{same_option, same_number};
+ghost use Rattle.playlist_model.specs.Same.{same_key, same_option, same_number};
+ghost use Rattle.playlist_model.specs.declared.Key.{Key};
+ghost use Rattle.std.specs.List.{list_any};
 ghost use Rattle.stitcher.specs.KeyTags.{is_new_key};
 ghost use Rattle.fixed_duration.specs.Appended.{Appends};
 
 use crate::digits::{push_last_iv, push_quote_and_iv};
 use crate::lines::{push_byte_range, push_feed, push_line};
-use playlist_model::{ByteRange, InitSection, KeyRef, Keys, are_same_keys};
+use playlist_model::{ByteRange, InitSection, KeyRef, Keys, KeysIter, are_same_keys, is_same_key};
 use std::alloc::AllocError;
 use stitcher::{is_new_key, keeps_formats};
 
@@ -115,12 +117,25 @@ fn push_keys(out: &mut String, keys: &Keys) -> Result<(), AllocError>
     Ok(())
 }
 
+// Whether `key` is the first of these keys, which is passed.
+fn passes_same(keys: &mut KeysIter<'_>, key: &KeyRef<'_>) -> bool
+    ensures same { result ≡ true → list_any (same_key key.now) keys.old ≡ true }
+    ensures rest { (holds : Key → Bool) → list_any holds keys.new ≡ true → list_any holds keys.old ≡ true }
+{
+    match keys.next() {
+        Some(first) => is_same_key(key, &first),
+        None => false,
+    }
+}
+
 fn push_new_keys(out: &mut String, old: &Keys, new: &Keys) -> Result<(), AllocError>
     ensures { Appends result out.old out.new
         (said_text (set_tags (filter (is_new_key old.now) new.now))) }
 {
+    let mut others = old.iter();
     for key in new.iter() {
-        if is_new_key(old, &key) {
+        // Mostly a key is compared with the one at its place alone: long ones cost much.
+        if !passes_same(&mut others, &key) && is_new_key(old, &key) {
             push_key(out, &key)?;
         }
     }
