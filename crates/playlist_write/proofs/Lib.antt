@@ -14,3 +14,4 @@ pub mod HexPairs
 pub mod Taken
 pub mod GoesOn
 pub mod SameKeys
+pub mod Changes

@@ -4,3 +4,4 @@ pub mod KeyParts
 pub mod Taken
 pub mod Room
 pub mod Laid
+pub mod Changes

@@ -51,12 +51,21 @@ impl<'a> LastDuration<'a> {
     }
 
     // Appends the line of the last duration and title.
+    #[inline(always)]
     fn push_again(&mut self, out: &mut String) -> Result<(), AllocError>
         ensures { Appends result out.old out.new (line_of (Said.duration self.old.0 self.old.1)) }
     {
         if let Some(line) = &self.line {
             return out.push_str(line.as_str());
         }
+        self.push_second(out)
+    }
+
+    // The same, and keeps that line.
+    #[inline(never)]
+    fn push_second(&mut self, out: &mut String) -> Result<(), AllocError>
+        ensures { Appends result out.old out.new (line_of (Said.duration self.old.0 self.old.1)) }
+    {
         let line = line_with(self.alloc, self.duration, self.title)?;
         out.push_str(line.as_str())?;
         self.line = Some(line);
@@ -64,6 +73,7 @@ impl<'a> LastDuration<'a> {
     }
 
     // Appends the line of another duration or title.
+    #[inline(never)]
     fn push_other(
         &mut self,
         out: &mut String,

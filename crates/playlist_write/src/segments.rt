@@ -4,6 +4,7 @@ ghost use Rattle.std.specs.Option.{option_copied};
 ghost use Rattle.spec_words.specs.Bytes.{comma};
 ghost use Rattle.playlist_model.specs.Said as Said;
 ghost use Rattle.playlist_model.specs.Same.{same_option, same_init_section};
+ghost use Rattle.playlist_write.specs.Inner.Changes.{changes_nothing, changes_owed};
 ghost use Rattle.playlist_write.specs.Owed.{none_yet, line_of, with_feed, said_text, changed_init_section, init_section_owed, keys_then, time_owed, byte_range_owed, media_owed, segment_owed, segments_owed};
 ghost use Rattle.fixed_duration.specs.Duration.{duration_text};
 ghost use Rattle.fixed_duration.specs.Appended.{Appends};
@@ -75,6 +76,19 @@ fn keys_then<'a>(keys: &'a Keys, changed: Option<&'a InitSection>) -> &'a Keys
     }
 }
 
+// Whether the segment `next` says nothing before its time, after lines at whose end `keys` are in force: it has no
+// discontinuity and no initialisation section, and there are no keys.
+#[inline(always)]
+fn changes_nothing(keys: &Keys, next: &OutSegment<'_>) -> bool
+    ensures { result ≡ changes_nothing keys.now next.now }
+{
+    let segment = next.segment.get();
+    next.discontinuities == 0
+        && segment.init_section.is_none()
+        && keys.is_empty()
+        && segment.keys.is_empty()
+}
+
 // Appends the EXT-X-MAP of the initialisation section that changed, if one did, under its keys (RFC 8216, section
 // 4.3.2.5).
 fn push_changed_init_section(
@@ -92,6 +106,7 @@ fn push_changed_init_section(
     Ok(())
 }
 
+#[inline(never)]
 fn push_instant(out: &mut String, times: &mut TimeWriter, time: Instant) -> Result<(), AllocError>
     ensures { Appends result out.old out.new (line_of (Said.time time)) }
 {
@@ -137,6 +152,7 @@ pub fn push_duration(out: &mut String, duration: Nanos, title: &str) -> Result<(
     Ok(())
 }
 
+#[inline(never)]
 fn push_byte_range_line(out: &mut String, byte_range: ByteRange) -> Result<(), AllocError>
     ensures { Appends result out.old out.new
         (line_of (Said.byte_range byte_range.length (Some byte_range.offset))) }
@@ -163,6 +179,7 @@ fn push_uri(out: &mut String, uri: &str) -> Result<(), AllocError>
     push_line(out, uri)
 }
 
+#[inline(always)]
 fn push_media<'a>(
     out: &mut String,
     last: &mut LastDuration<'a>,
@@ -176,9 +193,47 @@ fn push_media<'a>(
     Ok(())
 }
 
+// Appends what the segment `next` changes: its discontinuities, and the tags of its initialisation section and its keys. It is
+// out of line, as is all that few segments have, so that the loop over segments stays small.
+#[inline(never)]
+fn push_each_change(
+    out: &mut String,
+    keys: &Keys,
+    init_section: Option<&InitSection>,
+    next: &OutSegment<'_>,
+) -> Result<(), AllocError>
+    ensures { Appends result out.old out.new
+        (said_text (changes_owed (record { keys = keys.now; init_section = option_copied init_section.entry }) next.now)) }
+{
+    let segment = next.segment.get();
+    let changed = changed_init_section(init_section, &segment.init_section);
+    push_steps(out, next.discontinuities)?;
+    push_changed_init_section(out, keys, changed)?;
+    push_key_tags(out, keys_then(keys, changed), &segment.keys)?;
+    Ok(())
+}
+
+// The same. Most segments change nothing.
+#[inline(always)]
+fn push_changes(
+    out: &mut String,
+    keys: &Keys,
+    init_section: Option<&InitSection>,
+    next: &OutSegment<'_>,
+) -> Result<(), AllocError>
+    ensures { Appends result out.old out.new
+        (said_text (changes_owed (record { keys = keys.now; init_section = option_copied init_section.entry }) next.now)) }
+{
+    if changes_nothing(keys, next) {
+        return Ok(());
+    }
+    push_each_change(out, keys, init_section, next)
+}
+
 /// Appends to `out` the lines of the segment `next`, after lines at whose end `keys` and `init_section` are in force (RFC
 /// 8216, section 4.3.2). `times` and `last` keep the time and the duration that were written last, so that equal ones
 /// are copied. Fails only if an allocation fails.
+#[inline(always)]
 pub fn push_segment<'a>(
     out: &mut String,
     times: &mut TimeWriter,
@@ -190,14 +245,9 @@ pub fn push_segment<'a>(
     ensures { OnOk result (string_bytes out.new ≡ string_bytes out.old
         ++ said_text (segment_owed (record { keys = keys.now; init_section = option_copied init_section.entry }) next.now)) }
 {
-    let segment = next.segment.get();
-    let changed = changed_init_section(init_section, &segment.init_section);
-    push_steps(out, next.discontinuities)?;
-    push_changed_init_section(out, keys, changed)?;
-    push_key_tags(out, keys_then(keys, changed), &segment.keys)?;
+    push_changes(out, keys, init_section, next)?;
     push_time_tag(out, times, next.program_date_time)?;
-    push_media(out, last, segment)?;
-    Ok(())
+    push_media(out, last, next.segment.get())
 }
 
 /// What `init_section`, a segment's, holds, if it has one.

@@ -1,0 +1,33 @@
+-- A segment that changes nothing has no tag before its time.
+use Rattle.std.proofs.Common.{◌≡◌, ℕ, true, List, [], ◌∷◌, ◌++◌, length, replicate, refl, sym, ap, Some, None, arith}
+use Rattle.std.specs.Prelude.{Option, is_none, ◌==◌}
+use Rattle.std.proofs.lemmas.Bool.{and_parts}
+use Rattle.std.proofs.lemmas.Bool.Decides.{nat_tests}
+use Rattle.playlist_model.specs.declared.Key.{Key}
+use Rattle.playlist_model.specs.declared.InitSection.{InitSection}
+use Rattle.playlist_model.specs.Said.{discontinuity}
+use Rattle.stitcher.specs.declared.OutSegment.{OutSegment}
+use Rattle.playlist_write.specs.Owed.{Current, changed_init_section, init_section_owed, keys_then, keys_owed, said_text}
+use Rattle.playlist_write.specs.Inner.Changes.{changes_nothing, changes_owed}
+
+no_step : (steps : ℕ) → (steps == 0) ≡ true → steps ≡ 0
+no_step steps h = grind (arith, nat_tests)
+
+no_key : (keys : List Key) → (length keys == 0) ≡ true → keys ≡ []
+no_key [] h = refl
+no_key (key ∷ later) h = absurd (grind (arith, nat_tests))
+
+no_section : (section : Option InitSection) → is_none section ≡ true → section ≡ None
+no_section None h = refl
+no_section (Some section) h = absurd (cc)
+
+none_owed : (current : Option InitSection) (keys new : List Key) (steps : ℕ) (section : Option InitSection) → keys ≡ [] → new ≡ [] → steps ≡ 0 → section ≡ None
+    → replicate steps discontinuity ++ (init_section_owed keys (changed_init_section current section) ++ keys_owed (keys_then keys (changed_init_section current section)) new) ≡ []
+none_owed current keys new steps section k n s i = rw (k, n, s, i) refl
+
+pub nothing_owed : (current : Current) (next : OutSegment) → changes_nothing current.keys next ≡ true → [] ≡ said_text (changes_owed current next)
+nothing_owed current next h =
+    let a = and_parts _ _ h in
+    let b = and_parts _ _ a.1 in
+    let c = and_parts _ _ b.1 in
+    sym (ap said_text (none_owed current.init_section current.keys next.segment.keys next.discontinuities next.segment.init_section (no_key current.keys c.0) (no_key next.segment.keys c.1) (no_step next.discontinuities a.0) (no_section next.segment.init_section b.0)))
