@@ -150,6 +150,7 @@ fn push_no_keys(out: &mut String) -> Result<(), AllocError>
 }
 
 // Appends the key tags that lead from any keys to others.
+#[inline(never)]
 fn push_any_tags(out: &mut String, old: &Keys, new: &Keys) -> Result<(), AllocError>
     ensures { Appends result out.old out.new (said_text (keys_owed old.now new.now)) }
 {
@@ -185,7 +186,7 @@ fn has_next_iv(old: &KeyRef<'_>, new: &KeyRef<'_>) -> bool
     is_identity(old) && is_identity(new) && !has_same_iv(new, old)
 }
 
-#[inline(never)]
+#[inline(always)]
 fn push_tags_between(out: &mut String, old: &Keys, new: &Keys) -> Result<(), AllocError>
     ensures { Appends result out.old out.new (said_text (keys_owed old.now new.now)) }
 {

@@ -193,8 +193,8 @@ fn push_media<'a>(
     Ok(())
 }
 
-// Appends what the segment `next` changes: its discontinuities, and the tags of its initialisation section and its keys. It is
-// out of line, as is all that few segments have, so that the loop over segments stays small.
+// Appends what the segment `next` changes: its discontinuities, and the tags of its initialisation section and its
+// keys. It is out of line, as is all that few segments have, so that the loop over segments stays small.
 #[inline(never)]
 fn push_each_change(
     out: &mut String,
@@ -203,7 +203,8 @@ fn push_each_change(
     next: &OutSegment<'_>,
 ) -> Result<(), AllocError>
     ensures { Appends result out.old out.new
-        (said_text (changes_owed (record { keys = keys.now; init_section = option_copied init_section.entry }) next.now)) }
+        (said_text (changes_owed
+        (record { keys = keys.now; init_section = option_copied init_section.entry }) next.now)) }
 {
     let segment = next.segment.get();
     let changed = changed_init_section(init_section, &segment.init_section);
@@ -222,7 +223,8 @@ fn push_changes(
     next: &OutSegment<'_>,
 ) -> Result<(), AllocError>
     ensures { Appends result out.old out.new
-        (said_text (changes_owed (record { keys = keys.now; init_section = option_copied init_section.entry }) next.now)) }
+        (said_text (changes_owed
+        (record { keys = keys.now; init_section = option_copied init_section.entry }) next.now)) }
 {
     if changes_nothing(keys, next) {
         return Ok(());
