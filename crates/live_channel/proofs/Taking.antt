@@ -1,9 +1,10 @@
 -- A channel that takes a playlist that was read.
-use Rattle.std.proofs.Common.{◌≡◌, ◌≤◌, ◌++◌, ℕ, Bool, true, List, map, length, Ok, ap, sym, ◌∙◌, subst, take, drop, arith}
+use Rattle.std.proofs.Common.{◌≡◌, ◌≤◌, ◌++◌, ℕ, Bool, true, List, [], map, length, Ok, ap, sym, ◌∙◌, subst, take, drop, arith}
 use Rattle.std.specs.Prelude.{◌&&◌, Option, None, Some, MatchOption}
 use Rattle.std.specs.List.{list_all}
 use Rattle.std.proofs.lemmas.Bool.{and_parts}
 use Rattle.std.proofs.lemmas.List.{take-append-drop}
+use Rattle.std.proofs.Math.Seq.{take-nil, drop-nil}
 use Rattle.std.proofs.lemmas.List.Folds.{list_all-append}
 use Rattle.url.specs.Parts.{Parts}
 use Rattle.playlist_model.specs.declared.Segment.{Segment}
@@ -104,6 +105,14 @@ read_as base bytes read is here there = record {
   texts = texts_of read.front read.playlist.segments read.taken.now here there;
   numbers = read_rises base bytes (playlist_in read) is;
 }
+
+-- nothing is taken over where nothing is kept
+pub alone : (read : Read) → IsTakenFrom [] read → read.taken.now ≡ []
+alone read taken = taken ∙ ap (drop read.from) (take-nil read.till) ∙ drop-nil read.from
+
+pub read_alone : (base : Parts) (bytes : List ℕ) (read : Read) → reading limited base bytes ≡ Ok (playlist_in read) → list_all uris_are_text read.playlist.segments ≡ true → read.taken.now ≡ []
+    → IsRead base bytes (playlist_in read)
+read_alone base bytes read is here none = read_as base bytes read is here (ap (list_all uris_are_text) none)
 
 -- ---- what is kept of the text
 

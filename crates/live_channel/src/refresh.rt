@@ -20,7 +20,7 @@ use crate::type_facts::{utf8_of_members, utf8_of_uris};
 use channel_spec::{Heading, RefreshFault, heading_of};
 use channel_window::{ChannelState, check_successor, shown_with};
 use fixed_duration::Nanos;
-use playlist_parse::{Read, Source, read, read_after};
+use playlist_parse::{Read, Source, read};
 use playlist_write::resumed::WrittenText;
 use std::alloc::Global;
 use uri_resolver::Base;
@@ -106,13 +106,13 @@ pub fn playlist_after<'a>(
     ensures err { IfErr result
         (λ e. (tolerance : ℕ) (state : LiveState) → Refused base.now tolerance state bytes.now e) }
 {
-    let read = read_after(alloc, bytes, base, source)?;
+    let read = read(alloc, bytes, base, source, true)?;
     utf8_of_uris(read.playlist.segments.as_slice());
     utf8_of_members(read.taken);
     Ok(read)
 }
 
-#[tactic(auto, using(crate::proofs::Refreshing::read_rises))]
+#[tactic(auto, using(crate::proofs::Taking::alone, crate::proofs::Taking::read_alone))]
 /// The playlist that `bytes` are read as under `base`, of whose text nothing is kept. The faults are those of
 /// `playlist_after`.
 pub fn playlist_of<'a>(alloc: Global, bytes: &[u8], base: &Base) -> Result<Read<'a>, RefreshFault>
@@ -122,16 +122,10 @@ pub fn playlist_of<'a>(alloc: Global, bytes: &[u8], base: &Base) -> Result<Read<
     ensures err { IfErr result
         (λ e. (tolerance : ℕ) (state : LiveState) → Refused base.now tolerance state bytes.now e) }
 {
-    let playlist = read(alloc, bytes, base)?;
-    utf8_of_uris(playlist.segments.as_slice());
-    Ok(Read {
-        playlist,
-        front: 0,
-        taken: &[],
-        from: 0,
-        till: 0,
-        lines: None,
-    })
+    let nothing = None;
+    let read = read(alloc, bytes, base, &nothing, false)?.alone();
+    utf8_of_uris(read.playlist.segments.as_slice());
+    Ok(read)
 }
 
 // Keeps in `state` what an accepted refresh by a playlist of the heading `last` comes to, which is `next`, and in `written`

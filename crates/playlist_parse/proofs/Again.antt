@@ -67,15 +67,15 @@ pub shorter : (left line later : List ℕ) → left ≡ line ++ later → length
 shorter left line later h = let e = ap length h ∙ length-append line later in omega (arith, e)
 
 -- what is reached after the line
-pub reached_again : {base : Parts} {old new : Progress} {number : ℕ} {lines later : List ((ℕ × ℕ) × List ℕ)} {all : List (List ℕ)}
-    → list_all is_free (map line_text lines) ≡ true → IsLineAgain lines later old new → Reached base old number (map line_text lines) all
-    → Reached base new (number + 1) (map line_text later) all
-reached_again {base = base} {old = old} {new = new} {number = number} {lines = lines} {later = later} {all = all} free a r =
+pub reached_again : {base : Parts} {old new : Progress} {number : ℕ} {lines later : List ((ℕ × ℕ) × List ℕ)} (tail all : List (List ℕ))
+    → list_all is_free (map line_text lines) ≡ true → IsLineAgain lines later old new → Reached base old number (map line_text lines ++ tail) all
+    → Reached base new (number + 1) (map line_text later ++ tail) all
+reached_again {base = base} {old = old} {new = new} {number = number} {lines = lines} {later = later} tail all free a r =
     let cut_free = and_parts _ _ (subst (λ ls. list_all is_free ls ≡ true) a.cut free) in
-    let at : Reached base old number (a.line ∷ map line_text later) all = subst (λ left. Reached base old number left all) a.cut r in
+    let at : Reached base old number (a.line ∷ (map line_text later ++ tail)) all = subst (λ left. Reached base old number (left ++ tail) all) a.cut r in
     next at (taken_ok a.line new at (a.takes (not-true _ cut_free.0)))
 
 -- no fault of lines that take no memory is still to be met
-pub told_again : {base : Parts} {old new : Progress} {number : ℕ} {lines later : List ((ℕ × ℕ) × List ℕ)} {e : Fault}
-    → IsLineAgain lines later old new → Telling base old number (map line_text lines) e → ⊥
-told_again {base = base} {old = old} {number = number} {e = e} a t = a.heavy (told_first (subst (λ left. Telling base old number left e) a.cut t))
+pub told_again : {base : Parts} {old new : Progress} {number : ℕ} {lines later : List ((ℕ × ℕ) × List ℕ)} (tail : List (List ℕ)) (e : Fault)
+    → IsLineAgain lines later old new → Telling base old number (map line_text lines ++ tail) e → ⊥
+told_again {base = base} {old = old} {number = number} tail e a t = a.heavy (told_first (subst (λ left. Telling base old number (left ++ tail) e) a.cut t))

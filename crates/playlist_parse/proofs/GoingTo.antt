@@ -20,15 +20,17 @@ use Rattle.playlist_model.specs.Reading.{has, said_by, said_from, at_line, limit
 use Rattle.segment_state.specs.Continued.{Stop, IsStop, stopped_at}
 use Rattle.playlist_parse.specs.Inner.Progress.{Progress, progress_at}
 use Rattle.playlist_parse.specs.Inner.Reached.{Reached, left_in}
-use Rattle.playlist_parse.specs.declared.reader.Reading.{Reading}
+use Rattle.playlist_parse.specs.declared.reading.Reading.{Reading}
 use Rattle.playlist_parse.specs.declared.read_playlist.Places.{Places}
 use Rattle.playlist_parse.specs.declared.source.Source.{Source}
-use Rattle.playlist_parse.specs.Inner.Places.{AreTaken}
+use Rattle.playlist_parse.specs.Inner.Places.{StandInBoth}
 use Rattle.playlist_parse.specs.Kept.{AreKeptLines}
 use Rattle.playlist_parse.specs.Inner.Resumed.{Scene, scene_at, Alike, Resumed}
 use Rattle.playlist_parse.specs.Inner.LineViews.{is_free}
-use Rattle.playlist_parse.specs.Inner.Source.{Agree, TakesOver, AreLinesOf, Grown, heading_in, gone_to, gone_after}
-use Rattle.playlist_parse.specs.KeptLines.{KeptLines, WasRead}
+use Rattle.playlist_parse.specs.Inner.Source.{Agree, TakesOver, AreLinesOf, Grown, gone_to, gone_after}
+use Rattle.playlist_parse.specs.Inner.HeadingView.{heading_view}
+use Rattle.playlist_parse.specs.KeptLines.{KeptLines, SaysOfAll, WasRead}
+use Rattle.playlist_parse.specs.declared.progress.ReadHeading.{ReadHeading}
 use Rattle.playlist_parse.proofs.GoingOn.{goes_on}
 
 -- ---- lines after lines
@@ -136,15 +138,27 @@ heading_ext : (a b c d : Option ℕ) (k l : Option PlaylistKind) (e f g h i j m 
     (record { version = b; target_duration = d; playlist_type = l; independent_segments = f; end_list = h; has_sequence = j; has_discontinuity_sequence = n; has_media = p })
 heading_ext a b c d k l e f g h i j m n o p e1 e2 e3 e4 e5 e6 e7 e8 = cc
 
-was_heading : (base : Parts) (kept : KeptLines) (all : List Segment) (ranges : List DateRange) (was : WasRead base kept all ranges) → heading_at was.before ≡ heading_in kept
-was_heading base kept all ranges was =
-    heading_ext _ _ _ _ _ _ _ _ _ _ _ _ _ _ _ _ was.version was.target_duration was.playlist_type was.independent_segments was.end_list was.has_sequence was.has_discontinuity_sequence was.has_media
+heading_was : (heading : ReadHeading) (before : List Said) → SaysOfAll heading before → heading_at before ≡ heading_view heading
+heading_was heading before h =
+    heading_ext _ _ _ _ _ _ _ _ _ _ _ _ _ _ _ _ h.version h.target_duration h.playlist_type h.independent_segments h.end_list h.has_sequence h.has_discontinuity_sequence h.has_media
+
+heading_says : (heading : ReadHeading) (before : List Said) → heading_at before ≡ heading_view heading → SaysOfAll heading before
+heading_says heading before h = record {
+  version = ap (λ (h : Heading). h.version) h;
+  target_duration = ap (λ (h : Heading). h.target_duration) h;
+  playlist_type = ap (λ (h : Heading). h.playlist_type) h;
+  independent_segments = ap (λ (h : Heading). h.independent_segments) h;
+  end_list = ap (λ (h : Heading). h.end_list) h;
+  has_sequence = ap (λ (h : Heading). h.has_sequence) h;
+  has_discontinuity_sequence = ap (λ (h : Heading). h.has_discontinuity_sequence) h;
+  has_media = ap (λ (h : Heading). h.has_media) h;
+}
 
 module _ (base : Parts) (p q new : Progress) (n m k : ℕ) (left left_now lines_here lines_there : List (List ℕ)) (common : List ℕ) (source : KeptLines) (all : List Segment) (ranges : List DateRange)
     (here : Reached base p n left lines_here) (there : Reached base q m (lines common) lines_there) (was : WasRead base source all ranges)
     (same : lines source.text ≡ lines_there) (stop : Stop) (stop_here : IsStop p.standing stop) (stop_there : IsStop q.standing stop)
     (heading : p.heading ≡ q.heading) (some : q.heading.has_media ≡ true) (fewer : length p.segments ≤ length q.segments)
-    (cut : left ≡ lines common ++ left_now) (is : new ≡ gone_to p (heading_in source) source.stop (drop (length q.date_ranges) (take source.date_ranges ranges)) (drop (length q.segments) (take source.segments all)))
+    (cut : left ≡ lines common ++ left_now) (is : new ≡ gone_to p (heading_view source.heading) source.stop (drop (length q.date_ranges) (take source.date_ranges ranges)) (drop (length q.segments) (take source.segments all)))
     (number : k + m ≡ n + source.next) where
   standing_here : p.standing ≡ standing_at here.before
   standing_here = ap (λ (x : Progress). x.standing) here.progress_is
@@ -174,12 +188,12 @@ module _ (base : Parts) (p q new : Progress) (n m k : ℕ) (left left_now lines_
   resumed : Resumed limited base there.before here.before (lines common) was.before
   resumed = goes_on limited base there.before here.before (lines common) was.before alike read_there
 
-  scene_now : scene_at resumed.said ≡ scene_of (heading_in source) source.stop
-  scene_now = sym resumed.alike.scene ∙ scene_is was.before (heading_in source) source.stop (was_heading base source all ranges was) was.stop
+  scene_now : scene_at resumed.said ≡ scene_of (heading_view source.heading) source.stop
+  scene_now = sym resumed.alike.scene ∙ scene_is was.before (heading_view source.heading) source.stop (heading_was source.heading was.before was.heading) was.stop
 
   standing_now : stopped_at p.standing source.stop ≡ standing_at resumed.said
   standing_now =
-      stopped_is p.standing source.stop (heading_in source) resumed.said
+      stopped_is p.standing source.stop (heading_view source.heading) resumed.said
       (ap (λ (s : Standing). s.media_sequence) standing_here ∙ ap (λ o. unwrap_or o 0) (sym resumed.sequence))
       (ap (λ (s : Standing). s.discontinuity_sequence) standing_here ∙ ap (λ o. unwrap_or o 0) (sym resumed.discontinuity_sequence)) scene_now
 
@@ -219,7 +233,7 @@ stayed front old new source is = λ base was there tail all here. subst (λ (x :
 
 -- what stands at these places was taken over
 pub taken_over : (old front new : Progress) (source : Source) (places : Places) → new ≡ gone_after old front source → places.start ≡ length old.segments → places.end ≡ length new.segments
-    → places.from ≡ length front.segments → places.till ≡ source.lines.segments → AreTaken source.segments.items new.segments places
+    → places.from ≡ length front.segments → places.till ≡ source.lines.segments → StandInBoth source.segments.items new.segments places
 taken_over old front new source places is start end from till =
     let segments : new.segments ≡ old.segments ++ drop (length front.segments) (take source.lines.segments source.segments.items) = ap (λ (x : Progress). x.segments) is in record {
       ordered = let size = ap length segments ∙ length-append old.segments _ in omega (arith, size, start, end);
@@ -229,8 +243,8 @@ taken_over old front new source places is start end from till =
     }
 
 -- nothing was taken over
-pub none_taken : (old new : List Segment) (places : Places) → places ≡ record { start = 0; end = 0; from = 0; till = 0 } → AreTaken old new places
-none_taken old new places none = subst (AreTaken old new) (sym none) (record { ordered = omega arith; within = omega arith; same = refl })
+pub none_taken : (old new : List Segment) (places : Places) → places ≡ record { start = 0; end = 0; from = 0; till = 0 } → StandInBoth old new places
+none_taken old new places none = subst (StandInBoth old new) (sym none) (record { ordered = omega arith; within = omega arith; same = refl })
 
 pub plain_after : (front left later : List (List ℕ)) → left ≡ front ++ later → list_all is_free left ≡ true → list_all is_free later ≡ true
 plain_after front left later is h = dropped front later (ap (list_all is_free) (sym is) ∙ h)
@@ -315,7 +329,7 @@ further {base = base} here end =
     (f.segments, ap (λ (x : Progress). x.segments) end.progress_is ∙ f.segments_are ∙ ap (λ xs. xs ++ f.segments) (sym (ap (λ (x : Progress). x.segments) here.progress_is)))
 
 -- what was taken over of some segments is taken over of these and more
-pub taken_on : {old xs : List Segment} {places : Places} (ys more : List Segment) → ys ≡ xs ++ more → AreTaken old xs places → AreTaken old ys places
+pub taken_on : {old xs : List Segment} {places : Places} (ys more : List Segment) → ys ≡ xs ++ more → StandInBoth old xs places → StandInBoth old ys places
 taken_on {xs = xs} {places = places} ys more is a =
     let size : length ys ≡ length xs + length more = ap length is ∙ length-append xs more in record {
       ordered = a.ordered;
@@ -332,20 +346,13 @@ kept : {base : Parts} {p : Progress} {number : ℕ} (text : List ℕ) (source : 
 kept {p = p} text source playlist r few is g =
     let ranges = ap (λ (x : Progress). x.date_ranges) r.progress_is in
     let segments = ap (λ (x : Progress). x.segments) r.progress_is in
-    let heading : heading_at r.before ≡ heading_in source = sym (ap (λ (x : Progress). x.heading) r.progress_is) ∙ sym is.heading in
+    let heading : heading_at r.before ≡ heading_view source.heading = sym (ap (λ (x : Progress). x.heading) r.progress_is) ∙ sym is.heading in
     let same = ap lines is.text_is in record {
       before = r.before;
       few = subst (λ ls. length ls < 9223372036854775808) (sym same) few;
       read = ap (said_from (said_by limited _) (nothing ∷ [])) same ∙ sym r.rest;
       next = r.count ∙ sym is.next;
-      version = ap (λ (h : Heading). h.version) heading;
-      target_duration = ap (λ (h : Heading). h.target_duration) heading;
-      playlist_type = ap (λ (h : Heading). h.playlist_type) heading;
-      independent_segments = ap (λ (h : Heading). h.independent_segments) heading;
-      end_list = ap (λ (h : Heading). h.end_list) heading;
-      has_sequence = ap (λ (h : Heading). h.has_sequence) heading;
-      has_discontinuity_sequence = ap (λ (h : Heading). h.has_discontinuity_sequence) heading;
-      has_media = ap (λ (h : Heading). h.has_media) heading;
+      heading = heading_says source.heading r.before heading;
       stop = subst (λ s. IsStop s source.stop) (ap (λ (x : Progress). x.standing) r.progress_is) is.stop;
       segments = sym segments ∙ front_is playlist.segments p.segments g.segments source.segments g.segments_are is.segments;
       date_ranges = sym ranges ∙ front_is playlist.date_ranges p.date_ranges g.date_ranges source.date_ranges g.date_ranges_are is.date_ranges;

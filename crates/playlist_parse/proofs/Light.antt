@@ -16,7 +16,7 @@ use Rattle.playlist_parse.specs.Inner.Answers.{fault_at}
 use Rattle.playlist_parse.specs.Inner.Progress.{Progress, progress_at, TakesLineExactly}
 use Rattle.playlist_parse.specs.Inner.LineViews.{line_text}
 use Rattle.playlist_parse.specs.Inner.Reached.{Telling, IsToBeTold, left_in}
-use Rattle.playlist_parse.specs.declared.reader.Reading.{Reading}
+use Rattle.playlist_parse.specs.declared.reading.Reading.{Reading}
 use Rattle.playlist_parse.proofs.Reached.{own_base, same_base, kept_line}
 
 -- ---- no such line lacks memory

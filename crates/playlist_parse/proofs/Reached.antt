@@ -10,14 +10,13 @@ use Rattle.playlist_model.specs.Said.{Said, nothing, Outcome}
 use Rattle.playlist_model.specs.LookBack.{with_said}
 use Rattle.playlist_model.specs.Reading.{said_by, said_from, at_line, and_whole, whole, whole_fault, playlist_of, Fault}
 use Rattle.playlist_model.specs.Reading.{limited}
-use Rattle.playlist_parse.specs.Answers.{Answers}
 use Rattle.playlist_parse.specs.Inner.Answers.{fault_at, line_of}
 use Rattle.playlist_parse.specs.Inner.Progress.{Progress, progress_at, Ends}
 use Rattle.playlist_parse.specs.Inner.LineViews.{line_text}
 use Rattle.playlist_parse.specs.Inner.Reached.{Reached, Faulted, left_in}
-use Rattle.playlist_parse.specs.declared.reader.Reading.{Reading}
+use Rattle.playlist_parse.specs.declared.reading.Reading.{Reading}
 use Rattle.playlist_parse.specs.declared.read_playlist.Read.{Read}
-use Rattle.playlist_parse.specs.Kept.{playlist_in}
+use Rattle.playlist_parse.specs.Kept.{AnswersRead, playlist_in}
 
 pub own_base : (base : Parts) (progress : Progress) (before : List Said) → progress ≡ progress_at base before → progress ≡ progress_at progress.base before
 own_base base progress before e = e ∙ ap (λ b. progress_at b before) (sym (ap (λ (p : Progress). p.base) e))
@@ -62,12 +61,12 @@ kept_line _ n h = refl
 no_line : (e : FaultKind) (n : ℕ) → e ≡ OutOfMemory → line_of e n ≡ 0
 no_line e n h = rw h refl
 
-failed : (e : FaultKind) (n : ℕ) (outcome : Result Playlist Fault) → (e ≢ OutOfMemory → outcome ≡ Err (record { kind = e; line = n })) → Answers (Err (fault_at e n)) outcome
+failed : (e : FaultKind) (n : ℕ) (outcome : Result Playlist Fault) → (e ≢ OutOfMemory → outcome ≡ Err (record { kind = e; line = n })) → AnswersRead (Err (fault_at e n)) outcome
 failed e n outcome h = (λ some. h some ∙ ap (λ k. Err (record { kind = e; line = k })) (sym (kept_line e n some)), no_line e n)
 
 -- a line that is refused
 pub refused : {base : Parts} {progress : Progress} {number : ℕ} {line : List ℕ} {left lines : List (List ℕ)} (e : FaultKind) (r : Reached base progress number (line ∷ left) lines)
-    → Refuses e (said_by limited base r.before line) → Answers (Err (fault_at e number)) (and_whole (said_from (said_by limited base) (nothing ∷ []) lines))
+    → Refuses e (said_by limited base r.before line) → AnswersRead (Err (fault_at e number)) (and_whole (said_from (said_by limited base) (nothing ∷ []) lines))
 refused {base = base} {number = number} {line = line} {left = left} {lines = lines} e r h =
     failed e number _ (λ some.
     let at : said_from (said_by limited base) r.before (line ∷ left) ≡ Err (record { kind = e; line = number }) =
@@ -99,8 +98,8 @@ ended {base = base} {progress = progress} read r h =
     ap and_whole (sym r.rest) ∙ ap (λ o. whole o r.before) e.0 ∙ ap Ok (sym e.1)
 
 -- a failed allocation says nothing of the text
-pub unread : (fault : Fault) (outcome : Result Playlist Fault) → fault ≡ fault_at OutOfMemory 0 → Answers (Err fault) outcome
-unread fault outcome is = subst (λ (f : Fault). Answers (Err f) outcome) (sym is) (failed OutOfMemory 0 outcome (λ some. absurd (some refl)))
+pub unread : (fault : Fault) (outcome : Result Playlist Fault) → fault ≡ fault_at OutOfMemory 0 → AnswersRead (Err fault) outcome
+unread fault outcome is = subst (λ (f : Fault). AnswersRead (Err f) outcome) (sym is) (failed OutOfMemory 0 outcome (λ some. absurd (some refl)))
 
 -- a whole text is what its lines said
 pub told_whole : {base : Parts} {progress : Progress} {number : ℕ} {left lines : List (List ℕ)} (read : Read) (r : Reached base progress number left lines) → Ends progress (Ok read) → playlist_in read ≡ playlist_of r.before

@@ -1,6 +1,7 @@
 pub mod LineViews
 pub mod Places
 pub mod Progress
+pub mod HeadingView
 pub mod Views
 pub mod Answers
 pub mod Resumed

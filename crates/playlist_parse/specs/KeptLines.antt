@@ -1,31 +1,35 @@
 -- The lines that are kept of a playlist that was read (RFC 8216, 4.1 and 4.3).
-use Rattle.std.specs.Prelude.{◌≡◌, ℕ, ◌+◌, ◌^◌, ◌<◌, Bool, List, [], ◌∷◌, take, length, Option, Ok}
+use Rattle.std.specs.Prelude.{◌≡◌, ℕ, ◌+◌, ◌^◌, ◌<◌, List, [], ◌∷◌, take, length, Ok}
 use Rattle.std.specs.Str.Lines.{lines}
 use Rattle.url.specs.Parts.{Parts}
 use Rattle.playlist_model.specs.declared.DateRange.{DateRange}
-use Rattle.playlist_model.specs.declared.PlaylistKind.{PlaylistKind}
 use Rattle.playlist_model.specs.declared.Segment.{Segment}
 use Rattle.playlist_model.specs.Said.{Said, nothing}
 use Rattle.playlist_model.specs.LookBack.{latest, the_version, the_target, the_sequence, the_discontinuity_sequence, the_type, is_media, is_independent, is_ended, standing_at, segments_of, date_ranges_of}
 use Rattle.playlist_model.specs.Reading.{said_by, said_from, limited, is_set, has}
 use Rattle.segment_state.specs.Continued.{Stop, IsStop}
+use Rattle.playlist_parse.specs.declared.progress.ReadHeading.{ReadHeading}
 
--- the lines of a text after its header, up to one that names a segment; the number of the line after them, what stands after
--- them, how many segments and date ranges they have, and what the tags of the whole playlist say in them
+-- the lines of a text after its header, up to one that names a segment; the number of the line after them, what the tags of the
+-- whole playlist say in them, what stands after them, and how many segments and date ranges they have
 pub record KeptLines : Type 0 where
   pub text : List ℕ
   pub next : ℕ
+  pub heading : ReadHeading
   pub stop : Stop
   pub segments : ℕ
   pub date_ranges : ℕ
-  pub version : Option ℕ
-  pub target_duration : Option ℕ
-  pub playlist_type : Option PlaylistKind
-  pub independent_segments : Bool
-  pub end_list : Bool
-  pub has_sequence : Bool
-  pub has_discontinuity_sequence : Bool
-  pub has_media : Bool
+
+-- the tags of the whole playlist say this in lines (RFC 8216, 4.3.1, 4.3.3 and 4.3.5)
+pub record SaysOfAll (heading : ReadHeading) (before : List Said) : Type 0 where
+  pub version : latest the_version before ≡ heading.version
+  pub target_duration : latest the_target before ≡ heading.target_duration
+  pub playlist_type : latest the_type before ≡ heading.playlist_type
+  pub independent_segments : has is_independent before ≡ heading.independent_segments
+  pub end_list : has is_ended before ≡ heading.end_list
+  pub has_sequence : is_set the_sequence before ≡ heading.has_sequence
+  pub has_discontinuity_sequence : is_set the_discontinuity_sequence before ≡ heading.has_discontinuity_sequence
+  pub has_media : has is_media before ≡ heading.has_media
 
 -- these lines were read under this base; their segments and date ranges are the first of these
 pub record WasRead (base : Parts) (kept : KeptLines) (all : List Segment) (ranges : List DateRange) : Type 0 where
@@ -33,14 +37,7 @@ pub record WasRead (base : Parts) (kept : KeptLines) (all : List Segment) (range
   pub few : length (lines kept.text) < 2 ^ 63
   pub read : said_from (said_by limited base) (nothing ∷ []) (lines kept.text) ≡ Ok before
   pub next : length before + 1 ≡ kept.next
+  pub heading : SaysOfAll kept.heading before
   pub stop : IsStop (standing_at before) kept.stop
   pub segments : segments_of before ≡ take kept.segments all
   pub date_ranges : date_ranges_of before ≡ take kept.date_ranges ranges
-  pub version : latest the_version before ≡ kept.version
-  pub target_duration : latest the_target before ≡ kept.target_duration
-  pub playlist_type : latest the_type before ≡ kept.playlist_type
-  pub independent_segments : has is_independent before ≡ kept.independent_segments
-  pub end_list : has is_ended before ≡ kept.end_list
-  pub has_sequence : is_set the_sequence before ≡ kept.has_sequence
-  pub has_discontinuity_sequence : is_set the_discontinuity_sequence before ≡ kept.has_discontinuity_sequence
-  pub has_media : has is_media before ≡ kept.has_media

@@ -10,6 +10,7 @@ ghost use Rattle.playlist_model.specs.Reading.{limited};
 ghost use Rattle.segment_state.specs.Continued.{IsStop};
 ghost use Rattle.playlist_parse.specs.Light.{IsOfWhole, IsLight};
 ghost use Rattle.playlist_parse.specs.Inner.Progress.{progress_at, playlist_from, target_owed, IsLineAgain, TakesLine, TakesLineExactly, TakesTag, TakesTagExactly, Ends};
+ghost use Rattle.playlist_parse.specs.Inner.HeadingView.{heading_view};
 ghost use Rattle.playlist_parse.specs.Inner.Source.{gone_to};
 ghost use Rattle.playlist_parse.specs.Kept.{playlist_in};
 
@@ -27,18 +28,26 @@ use std::marker::Model;
 use std::mem::swap;
 use uri_resolver::Base;
 
+/// What the tags of the whole playlist have said (RFC 8216, sections 4.3.1, 4.3.3 and 4.3.5), and whether those stood
+/// that they may not follow.
+#[derive(Clone, Copy)]
+pub struct ReadHeading {
+    pub version: Option<u64>,
+    pub target_duration: Option<u64>,
+    pub playlist_type: Option<PlaylistKind>,
+    pub independent_segments: bool,
+    pub end_list: bool,
+    pub has_sequence: bool,
+    pub has_discontinuity_sequence: bool,
+    /// Whether a segment stood before.
+    pub has_media: bool,
+}
+
 /// A playlist as far as it has been read.
 #[derive(Drop)]
 pub struct Progress<'a> {
     alloc: Global,
-    version: Option<u64>,
-    target_duration: Option<u64>,
-    playlist_type: Option<PlaylistKind>,
-    independent_segments: bool,
-    end_list: bool,
-    has_sequence: bool,
-    has_discontinuity_sequence: bool,
-    has_media: bool,
+    heading: ReadHeading,
     state: ReaderState<'a>,
     date_ranges: DateRanges<'a>,
     // The segments: those that were read before others were taken over, these, and those that were read since.
@@ -54,36 +63,6 @@ impl<'a> Model for Progress<'a> {
     ghost Value = { Progress };
 
     ghost view = { progress_of };
-}
-
-/// What a header's tags have said.
-#[derive(Drop)]
-pub(crate) struct ReadHeading {
-    version: Option<u64>,
-    target_duration: Option<u64>,
-    playlist_type: Option<PlaylistKind>,
-    independent_segments: bool,
-    end_list: bool,
-    has_sequence: bool,
-    has_discontinuity_sequence: bool,
-    has_media: bool,
-}
-
-impl Model for ReadHeading {
-    ghost use Rattle.playlist_model.specs.Inner.Heading.{Heading};
-
-    ghost Value = { Heading };
-
-    ghost view = { λ a. record {
-      version = a.version;
-      target_duration = a.target_duration;
-      playlist_type = a.playlist_type;
-      independent_segments = a.independent_segments;
-      end_list = a.end_list;
-      has_sequence = a.has_sequence;
-      has_discontinuity_sequence = a.has_discontinuity_sequence;
-      has_media = a.has_media;
-    } };
 }
 
 fn is_same_number(a: Option<u64>, b: Option<u64>) -> bool
@@ -114,13 +93,6 @@ fn is_same_flag(a: bool, b: bool) -> bool
 }
 
 impl ReadHeading {
-    /// Whether a segment stood before.
-    pub fn has_media(&self) -> bool
-        ensures { result ≡ self.now.has_media }
-    {
-        self.has_media
-    }
-
     /// Whether `other` says the same.
     pub fn is(&self, other: &ReadHeading) -> bool
         ensures { result ≡ true → self.now ≡ other.now }
@@ -173,14 +145,16 @@ impl<'a> Progress<'a> {
     {
         Progress {
             alloc,
-            version: None,
-            target_duration: None,
-            playlist_type: None,
-            independent_segments: false,
-            end_list: false,
-            has_sequence: false,
-            has_discontinuity_sequence: false,
-            has_media: false,
+            heading: ReadHeading {
+                version: None,
+                target_duration: None,
+                playlist_type: None,
+                independent_segments: false,
+                end_list: false,
+                has_sequence: false,
+                has_discontinuity_sequence: false,
+                has_media: false,
+            },
             state: ReaderState::new(alloc, base),
             date_ranges: DateRanges::new(alloc, known),
             front: Vec::new(alloc),
@@ -269,7 +243,7 @@ impl<'a> Progress<'a> {
             (λ base before. said_by_uri limited base before reference.now) self.old self.new result }
     {
         let segment = self.state.take_segment(reference)?;
-        self.has_media = true;
+        self.heading.has_media = true;
         self.back.push(segment)?;
         Ok(())
     }
@@ -294,7 +268,7 @@ impl<'a> Progress<'a> {
             Tag::PlaylistType => self.playlist_type(rest),
             Tag::EndList => self.end(),
             Tag::IndependentSegments => {
-                self.independent_segments = true;
+                self.heading.independent_segments = true;
                 Ok(())
             }
             Tag::IFramesOnly => Err(FaultKind::IFramesOnly),
@@ -359,10 +333,10 @@ impl<'a> Progress<'a> {
     fn version(&mut self, rest: &str) -> Result<(), FaultKind>
         ensures { TakesTagExactly said.version_tag rest.now self.old self.new result }
     {
-        if self.version.is_some() {
+        if self.heading.version.is_some() {
             return Err(FaultKind::Repeated);
         }
-        self.version = Some(version_of(rest)?);
+        self.heading.version = Some(version_of(rest)?);
         Ok(())
     }
 
@@ -371,10 +345,10 @@ impl<'a> Progress<'a> {
     fn target(&mut self, rest: &str) -> Result<(), FaultKind>
         ensures { TakesTagExactly said.target_tag rest.now self.old self.new result }
     {
-        if self.target_duration.is_some() {
+        if self.heading.target_duration.is_some() {
             return Err(FaultKind::Repeated);
         }
-        self.target_duration = Some(number(rest)?);
+        self.heading.target_duration = Some(number(rest)?);
         Ok(())
     }
 
@@ -382,14 +356,14 @@ impl<'a> Progress<'a> {
     fn sequence(&mut self, rest: &str) -> Result<(), FaultKind>
         ensures { TakesTagExactly said.sequence_tag rest.now self.old self.new result }
     {
-        if self.has_sequence {
+        if self.heading.has_sequence {
             return Err(FaultKind::Repeated);
         }
-        if self.has_media {
+        if self.heading.has_media {
             return Err(FaultKind::Misplaced);
         }
         self.state.sequence(number(rest)?);
-        self.has_sequence = true;
+        self.heading.has_sequence = true;
         Ok(())
     }
 
@@ -397,14 +371,14 @@ impl<'a> Progress<'a> {
     fn discontinuity_sequence(&mut self, rest: &str) -> Result<(), FaultKind>
         ensures { TakesTagExactly said.discontinuity_sequence_tag rest.now self.old self.new result }
     {
-        if self.has_discontinuity_sequence {
+        if self.heading.has_discontinuity_sequence {
             return Err(FaultKind::Repeated);
         }
-        if self.has_media || self.state.has_discontinuity() {
+        if self.heading.has_media || self.state.has_discontinuity() {
             return Err(FaultKind::Misplaced);
         }
         self.state.discontinuity_sequence(number(rest)?);
-        self.has_discontinuity_sequence = true;
+        self.heading.has_discontinuity_sequence = true;
         Ok(())
     }
 
@@ -412,10 +386,10 @@ impl<'a> Progress<'a> {
     fn playlist_type(&mut self, rest: &str) -> Result<(), FaultKind>
         ensures { TakesTagExactly said.type_tag rest.now self.old self.new result }
     {
-        if self.playlist_type.is_some() {
+        if self.heading.playlist_type.is_some() {
             return Err(FaultKind::Repeated);
         }
-        self.playlist_type = Some(playlist_type_of(rest)?);
+        self.heading.playlist_type = Some(playlist_type_of(rest)?);
         Ok(())
     }
 
@@ -423,10 +397,10 @@ impl<'a> Progress<'a> {
     fn end(&mut self) -> Result<(), FaultKind>
         ensures { TakesTagExactly said.ended_tag [] self.old self.new result }
     {
-        if self.end_list {
+        if self.heading.end_list {
             return Err(FaultKind::Repeated);
         }
-        self.end_list = true;
+        self.heading.end_list = true;
         Ok(())
     }
 
@@ -435,10 +409,10 @@ impl<'a> Progress<'a> {
     fn target_of_whole(&self) -> Result<u64, FaultKind>
         ensures { result ≡ target_owed self.now }
     {
-        let Some(target) = self.target_duration else {
+        let Some(target) = self.heading.target_duration else {
             return Err(FaultKind::NoTarget);
         };
-        if !self.has_media {
+        if !self.heading.has_media {
             return Err(FaultKind::NoSegments);
         }
         if are_mixed(self.front.as_slice(), self.taken, self.back.as_slice()) {
@@ -456,11 +430,11 @@ impl<'a> Progress<'a> {
         let segments = joined(self.front, self.back)?;
         Ok(Read {
             playlist: Playlist {
-                version: self.version.unwrap_or(1),
+                version: self.heading.version.unwrap_or(1),
                 target_duration: target,
-                playlist_type: self.playlist_type,
-                independent_segments: self.independent_segments,
-                end_list: self.end_list,
+                playlist_type: self.heading.playlist_type,
+                independent_segments: self.heading.independent_segments,
+                end_list: self.heading.end_list,
                 date_ranges: self.date_ranges.into_items(self.alloc)?,
                 segments: Shared::new(self.alloc, Items::from_vec(segments))?,
             },
@@ -519,18 +493,9 @@ impl<'a> Progress<'a> {
 
     /// What the header's tags have said.
     pub fn heading(&self) -> ReadHeading
-        ensures { result ≡ self.now.heading }
+        ensures { heading_view result ≡ self.now.heading }
     {
-        ReadHeading {
-            version: self.version,
-            target_duration: self.target_duration,
-            playlist_type: self.playlist_type,
-            independent_segments: self.independent_segments,
-            end_list: self.end_list,
-            has_sequence: self.has_sequence,
-            has_discontinuity_sequence: self.has_discontinuity_sequence,
-            has_media: self.has_media,
-        }
+        self.heading
     }
 
     /// What stands here, if no tag of the next segment does.
@@ -560,7 +525,7 @@ impl<'a> Progress<'a> {
     ) -> Result<bool, AllocError>
         ensures gone { IfOk result
             (λ done. done ≡ true
-            → self.new ≡ gone_to self.old heading.now stop.now date_ranges.now segments.now) }
+            → self.new ≡ gone_to self.old (heading_view heading.now) stop.now date_ranges.now segments.now) }
         ensures kept { IfOk result (λ done. done ≡ false → self.new ≡ self.old) }
     {
         if !self.front.is_empty() || !self.taken.is_empty() {
@@ -572,14 +537,7 @@ impl<'a> Progress<'a> {
         self.date_ranges.append_shared(date_ranges)?;
         swap(&mut self.front, &mut self.back);
         self.taken = segments;
-        self.version = heading.version;
-        self.target_duration = heading.target_duration;
-        self.playlist_type = heading.playlist_type;
-        self.independent_segments = heading.independent_segments;
-        self.end_list = heading.end_list;
-        self.has_sequence = heading.has_sequence;
-        self.has_discontinuity_sequence = heading.has_discontinuity_sequence;
-        self.has_media = heading.has_media;
+        self.heading = *heading;
         Ok(true)
     }
 

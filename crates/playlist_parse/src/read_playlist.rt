@@ -1,7 +1,7 @@
 //! A playlist that was read. Segments that stand in the last text too needn't be read again, nor copied.
-ghost use Rattle.std.specs.Prelude.{◌≡◌, ◌<◌, ◌≤◌, ◌+◌, ◌^◌, ◌++◌, List, length, true, IfOk, OnOk};
+ghost use Rattle.std.specs.Prelude.{◌≡◌, ◌<◌, ◌≤◌, ◌+◌, ◌^◌, ◌++◌, List, [], length, true, IfOk, OnOk};
 ghost use Rattle.std.specs.Option.{option_copied};
-ghost use Rattle.playlist_parse.specs.Inner.Places.{AreTaken};
+ghost use Rattle.playlist_parse.specs.Inner.Places.{StandInBoth};
 ghost use Rattle.playlist_parse.specs.Kept.{IsTakenFrom, first_of, playlist_in};
 ghost use Rattle.playlist_model.specs.declared.Segment.{Segment as SegmentRead};
 
@@ -50,6 +50,24 @@ impl<'a> Read<'a> {
         ensures few { result < 2 ^ 65 }
     {
         self.playlist.segments.len() as u128 + self.taken.len() as u128
+    }
+
+    /// The same playlist by itself, if nothing was taken over.
+    pub fn alone<'b>(self) -> Read<'b>
+        requires { self.taken.now ≡ [] }
+        ensures playlist { playlist_in result ≡ playlist_in self.entry }
+        ensures taken { result.taken.now ≡ [] }
+        ensures front { result.front ≡ self.entry.front }
+        ensures playlist_read { result.playlist ≡ self.entry.playlist }
+    {
+        Read {
+            playlist: self.playlist,
+            front: self.front,
+            taken: &[],
+            from: self.from,
+            till: self.till,
+            lines: self.lines,
+        }
     }
 }
 
@@ -153,7 +171,7 @@ pub fn placed<'a>(
     ensures playlist { IfOk result (λ placed. playlist_in placed ≡ playlist_in read.entry) }
     ensures lines { IfOk result (λ placed. placed.lines ≡ lines) }
     ensures front { IfOk result (λ placed. placed.front ≤ length placed.playlist.segments) }
-    ensures taken { (old : List SegmentRead) → AreTaken old (playlist_in read.entry).segments places
+    ensures taken { (old : List SegmentRead) → StandInBoth old (playlist_in read.entry).segments places
         → IfOk result (IsTakenFrom old) }
 {
     if places.are_of(read.front, read.taken.len()) {

@@ -1,183 +1,133 @@
 //! The reader: from bytes to a playlist, or its first fault.
-ghost use Rattle.std.specs.Prelude.{◌≡◌, codes, ◌++◌, ◌+◌, ◌^◌, ◌<◌, ◌≤◌, false, ℕ, List, [], ◌∷◌, map, length, true, Ok, Err, IfOk, OnOk, MatchResult};
-ghost use Rattle.url.specs.Parts.{Parts};
+ghost use Rattle.std.specs.Prelude.{◌≡◌, ◌+◌, ◌^◌, ◌<◌, ◌≤◌, List, ℕ, [], ◌∷◌, ◌++◌, codes, length, true, false, Ok, Err, IfOk, OnOk};
 ghost use Rattle.std.specs.List.{list_all};
-ghost use Rattle.playlist_model.specs.Said.{nothing};
-ghost use Rattle.playlist_model.specs.Reading.{reading, said_by, said_from, and_whole};
-ghost use Rattle.playlist_model.specs.Reading.{limited};
-ghost use Rattle.playlist_parse.specs.Inner.LineViews.{is_free, line_text};
-ghost use Rattle.playlist_parse.specs.Answers.{Answers, HasNoHeader};
 ghost use Rattle.std.specs.Str.{is_utf8};
 ghost use Rattle.std.specs.Str.Lines.{lines};
-ghost use Rattle.playlist_model.specs.Reading.{Fault};
+ghost use Rattle.url.specs.Parts.{Parts};
+ghost use Rattle.playlist_model.specs.Said.{nothing};
+ghost use Rattle.playlist_model.specs.Reading.{reading, limited, said_by, said_from, and_whole, Fault};
+ghost use Rattle.playlist_parse.specs.Inner.LineViews.{is_free};
 ghost use Rattle.playlist_parse.specs.Light.{AreLight};
-ghost use Rattle.playlist_parse.specs.Inner.Answers.{fault_at};
-ghost use Rattle.playlist_parse.specs.Inner.Progress.{Ends};
-ghost use Rattle.playlist_parse.specs.Kept.{AnswersRead};
-ghost use Rattle.playlist_parse.specs.Inner.Reached.{Reached, Telling, IsToBeTold, Faulted, Reads, Tells, left_in};
+ghost use Rattle.playlist_parse.specs.Inner.Reached.{Reached, Telling, Reads, Tells, left_in};
+ghost use Rattle.playlist_parse.specs.Answers.{HasNoHeader};
+ghost use Rattle.playlist_parse.specs.Inner.Source.{Grown};
+ghost use Rattle.playlist_parse.specs.Inner.Places.{StandInBoth};
+ghost use Rattle.playlist_parse.specs.Kept.{AnswersRead, AreKeptLines, IsKept, IsTakenFrom, kept_segments, playlist_in};
 
-use crate::date_ranges::Known;
-use crate::line::{Lines, has_plain_bytes};
-use crate::progress::Progress;
-use crate::read_playlist::{Read, whole_of};
-use playlist_model::{FaultKind, MAX_BYTES, Playlist, PlaylistFault, text_of};
+use crate::line::{Lines, cut_after_segments, has_plain_bytes};
+use crate::read_playlist::{Places, Read, placed};
+use crate::reading::{Reading, fault_at, read_all, read_some, reading_of, whole_reading};
+use crate::source::{Source, known_of, lines_of, take_over};
+use playlist_model::{FaultKind, MAX_BYTES, PlaylistFault, text_of};
 use std::alloc::Global;
 use uri_resolver::Base;
 
-/// The fault `kind` at the line `line`, from 1; out of memory is at none, and has the line 0.
-pub fn fault_at(kind: FaultKind, line: u64) -> PlaylistFault
-    ensures { result ≡ fault_at kind line }
-{
-    let line = if kind == FaultKind::OutOfMemory {
-        0
-    } else {
-        line
-    };
-    PlaylistFault { kind, line }
-}
-
-/// How far a text is read.
-#[derive(Drop)]
-pub struct Reading<'a> {
-    /// What its lines have said.
-    pub progress: Progress<'a>,
-    /// The lines that are left.
-    pub lines: Lines<'a>,
-    /// The number of the next line, from 1.
-    pub number: u64,
-}
-
-/// A reading under `base` of `lines`, which come after a header that was read. The `known` date ranges may come.
-pub fn reading_of<'a>(
+#[tactic(none)]
+// Reads the lines that are left, some of which may be taken over: at which places the segments of these stand.
+fn read_front<'a>(
     alloc: Global,
-    base: &'a Base,
-    known: Known<'a>,
-    lines: Lines<'a>,
-) -> Reading<'a>
-    ensures lines { result.lines ≡ lines.entry }
-    ensures number { result.number ≡ 2 }
-    ensures begun { (all : List (List ℕ)) → Reached base.now result.progress 2 all all }
-    ensures light { (all : List (List ℕ)) → IsToBeTold base.now result.progress 2 all all }
-{
-    Reading {
-        progress: Progress::new(alloc, base, known),
-        lines,
-        number: 2,
-    }
-}
-
-/// Goes on with `reading` until it has `most` segments, or no line is left. `is_plain` says that no line has a
-/// control character. The fault is the first one, with its line.
-pub fn read_some<'a>(
     reading: &mut Reading<'a>,
     is_plain: bool,
-    most: usize,
-) -> Result<(), PlaylistFault>
-    requires few { reading.old.number + length reading.old.lines < 2 ^ 64 }
+    base: &Base,
+    source: &'a Option<Source>,
+) -> Result<Places, PlaylistFault>
+    requires few { length (left_in reading.old) < 2 ^ 63 }
     requires plain { is_plain ≡ true → list_all is_free (left_in reading.old) ≡ true }
-    ensures reached { (base : Parts) → Reads base reading.old result reading.new }
-    ensures light { (base : Parts) → Tells base reading.old result reading.new }
-    ensures plain { OnOk result (is_plain ≡ true → list_all is_free (left_in reading.new) ≡ true) }
-    ensures none_left { OnOk result
-        (length reading.new.progress.segments < most → reading.new.lines ≡ []) }
-{
-    'lines: while reading.progress.has_fewer_than(most) {
-        let Some(line) = reading.lines.next() else {
-            return Ok(());
-        };
-        match reading.progress.line(line.text, is_plain) {
-            Ok(()) => reading.number += 1,
-            Err(kind) => return Err(fault_at(kind, reading.number)),
-        }
-    }
-    Ok(())
-}
-
-/// Goes on with `reading` until no line is left. `is_plain` says that none of them has a control character. The fault
-/// is the first one, with its line.
-#[inline(always)]
-pub fn read_all<'a>(reading: &mut Reading<'a>, is_plain: bool) -> Result<(), PlaylistFault>
-    requires few { reading.old.number + length reading.old.lines < 2 ^ 64 }
-    requires plain { is_plain ≡ true → list_all is_free (left_in reading.old) ≡ true }
-    ensures reached { (base : Parts) → Reads base reading.old result reading.new }
-    ensures light { (base : Parts) → Tells base reading.old result reading.new }
+    requires begun { (all : List (List ℕ))
+        → Reached base.now reading.old.progress reading.old.number all all }
+    requires kept { IsKept base.now source.now }
+    ensures reached { Reads base.now reading.old result reading.new }
+    ensures light { Tells base.now reading.old result reading.new }
     ensures none_left { OnOk result (reading.new.lines ≡ []) }
+    ensures taken { IfOk result
+        (StandInBoth (kept_segments source.now) reading.new.progress.segments) }
 {
-    'lines: while let Some(line) = reading.lines.next() {
-        match reading.progress.line(line.text, is_plain) {
-            Ok(()) => reading.number += 1,
-            Err(kind) => return Err(fault_at(kind, reading.number)),
-        }
+    match read_some(reading, is_plain, 1) {
+        Ok(()) => {}
+        Err(fault) => return Err(fault),
     }
-    Ok(())
+    // (a text without a segment takes nothing over, so the faults of its tags need no memory)
+    if reading.progress.has_fewer_than(1) {
+        return Ok(Places::none());
+    }
+    let places = match take_over(alloc, reading, base, source) {
+        Ok(places) => places,
+        Err(_) => return Err(fault_at(FaultKind::OutOfMemory, 0)),
+    };
+    match read_all(reading, is_plain) {
+        Ok(()) => Ok(places),
+        Err(fault) => Err(fault),
+    }
 }
 
-/// The playlist of `reading`, whose lines are all read, or a fault of the whole text (RFC 8216, sections 4.3.2.5 and
-/// 4.3.3.1), at the line 0.
-pub fn whole_reading(reading: Reading<'_>) -> Result<Read<'_>, PlaylistFault>
+#[tactic(none)]
+// The playlist that is read, after the lines of this text, the last ones.
+fn read_tail<'a>(
+    reading: Reading<'a>,
+    tail: &'a str,
+    is_plain: bool,
+) -> Result<Read<'a>, PlaylistFault>
+    requires few { reading.number + length (lines tail.now) < 2 ^ 64 }
+    requires plain { is_plain ≡ true → list_all is_free (lines tail.now) ≡ true }
     ensures answer { (base : Parts) (all : List (List ℕ))
-        → Reached base reading.entry.progress reading.entry.number [] all
+        → Reached base reading.entry.progress reading.entry.number (lines tail.entry.now) all
         → AnswersRead result (and_whole (said_from (said_by limited base) (nothing ∷ []) all)) }
-    ensures whole { IfOk result (λ read. Ends reading.entry.progress (Ok read)) }
+    ensures light { (base : Parts) (e : Fault)
+        → Telling base reading.entry.progress reading.entry.number (lines tail.entry.now) e
+        → result ≡ Err e }
+    ensures grown { (base : Parts) (all : List (List ℕ))
+        → Reached base reading.entry.progress reading.entry.number (lines tail.entry.now) all
+        → IfOk result (λ read. Grown reading.entry.progress (playlist_in read)) }
     ensures front { IfOk result (λ read. read.front ≤ length read.playlist.segments) }
 {
-    match reading.progress.read() {
-        Ok(read) => Ok(read),
-        Err(kind) => Err(fault_at(kind, 0)),
+    let mut reading = reading;
+    reading.lines = Lines::new(tail);
+    match read_all(&mut reading, is_plain) {
+        Ok(()) => whole_reading(reading),
+        Err(fault) => Err(fault),
     }
 }
 
-// Passes the next of `lines` if it is the EXTINF that repeats itself, and gives how many lines it passed.
-#[inline(always)]
-fn pass_again<'a>(progress: &mut Progress<'a>, lines: &mut Lines<'a>, is_plain: bool) -> u64
-    requires { is_plain ≡ true → list_all is_free (map line_text lines.old) ≡ true }
-    ensures reached { (base : Parts) (number : ℕ) (all : List (List ℕ))
-        → Reached base progress.old number (map line_text lines.old) all
-        → Reached base progress.new (number + result) (map line_text lines.new) all }
-    ensures light { (base : Parts) (number : ℕ) (e : Fault)
-        → Telling base progress.old number (map line_text lines.old) e
-        → Telling base progress.new (number + result) (map line_text lines.new) e }
-    ensures plain { is_plain ≡ true → list_all is_free (map line_text lines.new) ≡ true }
-    ensures fewer { length lines.new + result ≡ length lines.old }
-{
-    if !is_plain {
-        return 0;
-    }
-    if progress.repeats(lines) { 1 } else { 0 }
-}
-
-// Reads the lines after the header.
-fn read_lines<'a>(
+#[tactic(none)]
+// Reads the lines after the header. `is_plain` says that none of them has a control character, and `keeps` that they
+// are kept for the next text.
+fn read_body<'a>(
     alloc: Global,
-    lines: Lines<'a>,
+    body: &'a str,
     is_plain: bool,
     base: &'a Base,
-) -> Result<Playlist, PlaylistFault>
-    requires few { length lines < 2 ^ 63 }
-    requires plain { is_plain ≡ true → list_all is_free (map line_text lines) ≡ true }
-    ensures answer { Answers result
-        (and_whole (said_from (said_by limited base.now) (nothing ∷ []) (map line_text lines.entry))) }
+    source: &'a Option<Source>,
+    keeps: bool,
+) -> Result<Read<'a>, PlaylistFault>
+    requires few { length (lines body.now) < 2 ^ 63 }
+    requires plain { is_plain ≡ true → list_all is_free (lines body.now) ≡ true }
+    requires kept { IsKept base.now source.now }
+    ensures answer { AnswersRead result (and_whole (said_from (said_by limited base.now) (nothing
+        ∷ []) (lines body.entry.now))) }
     ensures light { (front later : List (List ℕ)) (e : Fault)
-        → map line_text lines.entry ≡ front ++ later → AreLight front
+        → lines body.entry.now ≡ front ++ later → AreLight front
         → said_from (said_by limited base.now) (nothing ∷ []) front ≡ Err e → result ≡ Err e }
+    ensures lines { IfOk result (λ read. AreKeptLines base.now (playlist_in read) read.lines) }
+    ensures taken { IfOk result (IsTakenFrom (kept_segments source.now)) }
+    ensures front { IfOk result (λ read. read.front ≤ length read.playlist.segments) }
 {
-    // (in variables of its own: a value behind a reference keeps none of its fields in registers)
-    let mut progress = Progress::new(alloc, base, Known::none());
-    let mut lines = lines;
-    let mut number: u64 = 2;
-    while let Some(line) = lines.next() {
-        match progress.line(line.text, is_plain) {
-            Ok(()) => number += 1,
-            Err(kind) => return Err(fault_at(kind, number)),
-        }
-        number += pass_again(&mut progress, &mut lines, is_plain);
-    }
-    let read = match progress.read() {
-        Ok(read) => read,
-        Err(kind) => return Err(fault_at(kind, 0)),
+    let cut = cut_after_segments(body);
+    let known = known_of(base, source);
+    let mut reading = reading_of(alloc, base, known, Lines::new(cut.front));
+    let places = match read_front(alloc, &mut reading, is_plain, base, source) {
+        Ok(places) => places,
+        Err(fault) => return Err(fault),
     };
-    match whole_of(alloc, read) {
-        Ok(playlist) => Ok(playlist),
+    let lines = match lines_of(alloc, cut.front, &reading, keeps) {
+        Ok(lines) => lines,
+        Err(_) => return Err(fault_at(FaultKind::OutOfMemory, 0)),
+    };
+    let read = match read_tail(reading, cut.tail, is_plain) {
+        Ok(read) => read,
+        Err(fault) => return Err(fault),
+    };
+    match placed(alloc, read, places, lines) {
+        Ok(read) => Ok(read),
         Err(_) => Err(fault_at(FaultKind::OutOfMemory, 0)),
     }
 }
@@ -187,12 +137,22 @@ fn read_lines<'a>(
 /// (section 4.1), and its first line is `#EXTM3U` (section 4.3.1.1). `OutOfMemory`, at the line 0, only if an
 /// allocation fails.
 ///
+/// `source` is what was kept of the last playlist, if anything was. What both texts have in common is taken over from
+/// there. `keeps` says that the lines are kept for the next text.
+///
 /// ```text
-/// read(alloc, b"#EXTM3U\n#EXT-X-TARGETDURATION:6\n#EXTINF:6,\ns0.ts\n", &base)    Ok: one segment
-/// read(alloc, b"#EXTM3U\n#EXTINF:6,\ns0.ts\n", &base)                            Err: P18 NoTarget
+/// read(alloc, b"#EXTM3U\n#EXT-X-TARGETDURATION:6\n#EXTINF:6,\ns0.ts\n", &base, &None, false)    Ok: one segment
+/// read(alloc, b"#EXTM3U\n#EXTINF:6,\ns0.ts\n", &base, &None, false)                            Err: P18 NoTarget
 /// ```
-pub fn read(alloc: Global, bytes: &[u8], base: &Base) -> Result<Playlist, PlaylistFault>
-    ensures answer { Answers result (reading limited base.now bytes.now) }
+pub fn read<'a>(
+    alloc: Global,
+    bytes: &'a [u8],
+    base: &'a Base,
+    source: &'a Option<Source>,
+    keeps: bool,
+) -> Result<Read<'a>, PlaylistFault>
+    requires { IsKept base.now source.now }
+    ensures answer { AnswersRead result (reading limited base.now bytes.now) }
 
     // These faults are answered whatever memory there is.
     ensures utf8 { is_utf8 bytes.now ≡ false
@@ -207,6 +167,10 @@ pub fn read(alloc: Global, bytes: &[u8], base: &Base) -> Result<Playlist, Playli
         → is_utf8 bytes.now ≡ true → length bytes.now ≤ MAX_BYTES
         → lines bytes.now ≡ codes "#EXTM3U" ∷ (front ++ later) → AreLight front
         → said_from (said_by limited base.now) (nothing ∷ []) front ≡ Err e → result ≡ Err e }
+
+    ensures lines { IfOk result (λ read. AreKeptLines base.now (playlist_in read) read.lines) }
+    ensures taken { IfOk result (IsTakenFrom (kept_segments source.now)) }
+    ensures front { IfOk result (λ read. read.front ≤ length read.playlist.segments) }
 {
     let text = match text_of(bytes) {
         Ok(text) => text,
@@ -222,5 +186,6 @@ pub fn read(alloc: Global, bytes: &[u8], base: &Base) -> Result<Playlist, Playli
     if first.text != "#EXTM3U" {
         return Err(fault_at(FaultKind::NoHeader, 1));
     }
-    read_lines(alloc, lines, has_plain_bytes(bytes), base)
+    let is_plain = has_plain_bytes(bytes);
+    read_body(alloc, lines.left(), is_plain, base, source, keeps)
 }

@@ -1,28 +1,20 @@
-//! A text that is read with what was kept of the last one: the lines that stand in both are taken over, and not read again.
-ghost use Rattle.std.specs.Prelude.{◌≡◌, ◌+◌, ◌^◌, ◌<◌, ◌≤◌, ℕ, List, [], ◌∷◌, ◌++◌, codes, map, length, take, drop, true, false, Some, None, Ok, Err, IfOk, OnOk, MatchOption};
+//! What is kept of a text, and what the next one takes over of it: the lines that stand in both are not read again.
+ghost use Rattle.std.specs.Prelude.{◌≡◌, ◌+◌, ◌<◌, [], length, take, drop, true, false, None, Ok, IfOk, OnOk, MatchOption};
 ghost use Rattle.std.specs.List.{list_all};
-ghost use Rattle.std.specs.Str.{is_utf8};
 ghost use Rattle.std.specs.Str.Lines.{lines};
-ghost use Rattle.url.specs.Parts.{Parts};
-ghost use Rattle.playlist_model.specs.Said.{nothing};
-ghost use Rattle.playlist_model.specs.Reading.{reading, limited, said_by, said_from, and_whole, Fault};
-ghost use Rattle.playlist_parse.specs.Inner.LineViews.{is_free, line_text};
-ghost use Rattle.playlist_parse.specs.Light.{AreLight};
-ghost use Rattle.playlist_parse.specs.Inner.Reached.{Reached, Telling, LeadsTo, Reads, Tells, left_in};
-ghost use Rattle.playlist_parse.specs.Answers.{Answers, HasNoHeader};
+ghost use Rattle.playlist_parse.specs.Inner.LineViews.{is_free};
+ghost use Rattle.playlist_parse.specs.Inner.Reached.{Reached, LeadsTo, left_in};
 ghost use Rattle.playlist_parse.specs.KeptLines.{WasRead};
-ghost use Rattle.playlist_parse.specs.Inner.Source.{Agree, TakesOver, AreLinesOf, Grown, gone_after};
-ghost use Rattle.playlist_parse.specs.Inner.Places.{AreTaken};
-ghost use Rattle.playlist_parse.specs.Kept.{AnswersRead, AreKeptLines, IsKept, IsTakenFrom, kept_segments, playlist_in};
+ghost use Rattle.playlist_parse.specs.Inner.Source.{Agree, TakesOver, AreLinesOf, gone_after};
+ghost use Rattle.playlist_parse.specs.Inner.Places.{StandInBoth};
+ghost use Rattle.playlist_parse.specs.Kept.{IsKept, kept_segments};
 
 use crate::date_ranges::Known;
-use crate::line::{Lines, cut_after_segments, has_plain_bytes};
+use crate::line::Lines;
 use crate::progress::{Progress, ReadHeading};
-use crate::read_playlist::{Places, Read, placed};
-use crate::reader::{Reading, fault_at, read_all, read_some, reading_of, whole_reading};
-use playlist_model::{
-    DateRange, FaultKind, Items, MAX_BYTES, Member, PlaylistFault, Segment, Shared, Text, text_of,
-};
+use crate::read_playlist::Places;
+use crate::reading::{Reading, read_some, reading_of};
+use playlist_model::{DateRange, Items, Member, Segment, Shared, Text};
 use segment_state::Stop;
 use std::alloc::{AllocError, Global};
 use std::marker::Model;
@@ -47,17 +39,10 @@ impl Model for KeptLines {
     ghost view = { λ a. record {
       text = a.text;
       next = a.next;
+      heading = a.heading;
       stop = a.stop;
       segments = a.segments;
       date_ranges = a.date_ranges;
-      version = a.heading.version;
-      target_duration = a.heading.target_duration;
-      playlist_type = a.heading.playlist_type;
-      independent_segments = a.heading.independent_segments;
-      end_list = a.heading.end_list;
-      has_sequence = a.heading.has_sequence;
-      has_discontinuity_sequence = a.heading.has_discontinuity_sequence;
-      has_media = a.heading.has_media;
     } };
 }
 
@@ -101,8 +86,8 @@ fn known_in<'a>(base: &Base, source: &'a Source) -> Known<'a>
     Known::of(up_to(source.date_ranges.as_slice(), source.lines.date_ranges))
 }
 
-// The same, if something is kept.
-fn known_of<'a>(base: &Base, source: &'a Option<Source>) -> Known<'a>
+/// The date ranges that are kept in `source` of what was read under `base`.
+pub fn known_of<'a>(base: &Base, source: &'a Option<Source>) -> Known<'a>
     requires { IsKept base.now source.now }
 {
     match source {
@@ -137,19 +122,20 @@ fn number_after(here: u64, there: u64, end: u64) -> Option<u64>
     here.checked_add(lines)
 }
 
-// The lines after a header, read up to `most` segments; none if a line has a fault.
+// The lines of a source, read up to the segment that `reading` read first; none if the source doesn't have it.
 fn front_of<'a>(
     alloc: Global,
-    text: &'a str,
+    reading: &Reading<'_>,
     base: &'a Base,
-    known: Known<'a>,
-    most: usize,
+    source: &'a Source,
 ) -> Option<Reading<'a>>
-    requires { length (lines text.now) < 2 ^ 63 }
-    ensures { MatchOption result (Unit {0})
-        (λ front. Reached base.now front.progress front.number (left_in front) (lines text.now)) }
+    requires { WasRead base.now source.now.lines source.now.segments.items source.now.date_ranges }
+    ensures { MatchOption result (Unit {0}) (λ front.
+        Reached base.now front.progress front.number (left_in front) (lines source.now.lines.text)) }
 {
-    let mut front = reading_of(alloc, base, known, Lines::new(text));
+    let most = place_in(source, reading)?;
+    let lines = Lines::new(source.lines.text.as_str());
+    let mut front = reading_of(alloc, base, known_in(base, source), lines);
     match read_some(&mut front, false, most) {
         Ok(()) => Some(front),
         Err(_) => None,
@@ -166,7 +152,7 @@ fn agrees(here: &Progress<'_>, there: &Progress<'_>) -> Result<bool, AllocError>
         return Ok(false);
     }
     let heading = there.heading();
-    if !heading.has_media() {
+    if !heading.has_media {
         return Ok(false);
     }
     if !here.heading().is(&heading) {
@@ -204,9 +190,9 @@ fn go_after<'a>(
 }
 
 #[tactic(none)]
-// Takes over the lines of a source after the segment that was read last, if the lines that are left begin with them: at
-// which places their segments stand.
-fn take_over<'a>(
+// Takes over the lines of `source` that come after `front`, if the lines that are left begin with them: at which places
+// their segments stand.
+fn take_over_after<'a>(
     reading: &mut Reading<'a>,
     front: &Reading<'_>,
     source: &'a Source,
@@ -216,7 +202,7 @@ fn take_over<'a>(
     ensures plain { OnOk result (list_all is_free (left_in reading.old) ≡ true
         → list_all is_free (left_in reading.new) ≡ true) }
     ensures taken { IfOk result
-        (AreTaken source.now.segments.items reading.new.progress.segments) }
+        (StandInBoth source.now.segments.items reading.new.progress.segments) }
 {
     if !agrees(&reading.progress, &front.progress)? {
         return Ok(Places::none());
@@ -250,33 +236,9 @@ fn take_over<'a>(
 }
 
 #[tactic(none)]
-// The same, if the last playlist has the segment that was read first.
-fn take_over_from<'a>(
-    alloc: Global,
-    reading: &mut Reading<'a>,
-    base: &Base,
-    source: &'a Source,
-) -> Result<Places, AllocError>
-    requires { WasRead base.now source.now.lines source.now.segments.items source.now.date_ranges }
-    ensures reached { OnOk result (LeadsTo base.now reading.old reading.new) }
-    ensures plain { OnOk result (list_all is_free (left_in reading.old) ≡ true
-        → list_all is_free (left_in reading.new) ≡ true) }
-    ensures taken { IfOk result
-        (AreTaken source.now.segments.items reading.new.progress.segments) }
-{
-    let Some(most) = place_in(source, reading) else {
-        return Ok(Places::none());
-    };
-    let known = known_in(base, source);
-    match front_of(alloc, source.lines.text.as_str(), base, known, most) {
-        Some(front) => take_over(reading, &front, source),
-        None => Ok(Places::none()),
-    }
-}
-
-#[tactic(none)]
-// The same, if something is kept of the last playlist.
-fn take_over_kept<'a>(
+/// Takes over the lines of `source` after the segment that `reading` read last under `base`, if the lines that are left
+/// begin with them: at which places their segments stand. Fails only if an allocation fails.
+pub fn take_over<'a>(
     alloc: Global,
     reading: &mut Reading<'a>,
     base: &Base,
@@ -287,25 +249,33 @@ fn take_over_kept<'a>(
     ensures plain { OnOk result (list_all is_free (left_in reading.old) ≡ true
         → list_all is_free (left_in reading.new) ≡ true) }
     ensures taken { IfOk result
-        (AreTaken (kept_segments source.now) reading.new.progress.segments) }
+        (StandInBoth (kept_segments source.now) reading.new.progress.segments) }
 {
-    match source {
-        Some(source) => take_over_from(alloc, reading, base, source),
+    let Some(source) = source else {
+        return Ok(Places::none());
+    };
+    match front_of(alloc, reading, base, source) {
+        Some(front) => take_over_after(reading, &front, source),
         None => Ok(Places::none()),
     }
 }
 
-// What is kept of a text, all of whose lines are read; none if it has no segment, or tags of a further one at its end.
-fn lines_of(
+/// What is kept of `text`, all of whose lines `reading` has read; none if it has no segment, or tags of a further one at
+/// its end, or if `keeps` is false. Fails only if an allocation fails.
+pub fn lines_of(
     alloc: Global,
     text: &str,
     reading: &Reading<'_>,
+    keeps: bool,
 ) -> Result<Option<KeptLines>, AllocError>
     ensures lines { IfOk result
         (λ lines. MatchOption lines (Unit {0})
         (λ kept. AreLinesOf text.now reading.now.progress reading.now.number kept)) }
     ensures none { reading.now.progress.segments ≡ [] → result ≡ Ok None }
 {
+    if !keeps {
+        return Ok(None);
+    }
     let Some(segments) = reading.progress.segment_count() else {
         return Ok(None);
     };
@@ -326,160 +296,4 @@ fn lines_of(
         segments,
         date_ranges,
     }))
-}
-
-#[tactic(none)]
-// Reads the lines that are left, some of which may be taken over: at which places the segments of these stand.
-fn read_front<'a>(
-    alloc: Global,
-    reading: &mut Reading<'a>,
-    is_plain: bool,
-    base: &Base,
-    source: &'a Option<Source>,
-) -> Result<Places, PlaylistFault>
-    requires few { length (left_in reading.old) < 2 ^ 63 }
-    requires plain { is_plain ≡ true → list_all is_free (left_in reading.old) ≡ true }
-    requires begun { (all : List (List ℕ))
-        → Reached base.now reading.old.progress reading.old.number all all }
-    requires kept { IsKept base.now source.now }
-    ensures reached { Reads base.now reading.old result reading.new }
-    ensures light { Tells base.now reading.old result reading.new }
-    ensures none_left { OnOk result (reading.new.lines ≡ []) }
-    ensures taken { IfOk result
-        (AreTaken (kept_segments source.now) reading.new.progress.segments) }
-{
-    match read_some(reading, is_plain, 1) {
-        Ok(()) => {}
-        Err(fault) => return Err(fault),
-    }
-    // (a text without a segment takes nothing over, so the faults of its tags need no memory)
-    if reading.progress.has_fewer_than(1) {
-        return Ok(Places::none());
-    }
-    let places = match take_over_kept(alloc, reading, base, source) {
-        Ok(places) => places,
-        Err(_) => return Err(fault_at(FaultKind::OutOfMemory, 0)),
-    };
-    match read_all(reading, is_plain) {
-        Ok(()) => Ok(places),
-        Err(fault) => Err(fault),
-    }
-}
-
-#[tactic(none)]
-// The playlist that is read, after the lines of this text, the last ones.
-fn read_tail<'a>(
-    reading: Reading<'a>,
-    tail: &'a str,
-    is_plain: bool,
-) -> Result<Read<'a>, PlaylistFault>
-    requires few { reading.number + length (lines tail.now) < 2 ^ 64 }
-    requires plain { is_plain ≡ true → list_all is_free (lines tail.now) ≡ true }
-    ensures answer { (base : Parts) (all : List (List ℕ))
-        → Reached base reading.entry.progress reading.entry.number (lines tail.entry.now) all
-        → AnswersRead result (and_whole (said_from (said_by limited base) (nothing ∷ []) all)) }
-    ensures light { (base : Parts) (e : Fault)
-        → Telling base reading.entry.progress reading.entry.number (lines tail.entry.now) e
-        → result ≡ Err e }
-    ensures grown { (base : Parts) (all : List (List ℕ))
-        → Reached base reading.entry.progress reading.entry.number (lines tail.entry.now) all
-        → IfOk result (λ read. Grown reading.entry.progress (playlist_in read)) }
-    ensures front { IfOk result (λ read. read.front ≤ length read.playlist.segments) }
-{
-    let mut reading = reading;
-    reading.lines = Lines::new(tail);
-    match read_all(&mut reading, is_plain) {
-        Ok(()) => whole_reading(reading),
-        Err(fault) => Err(fault),
-    }
-}
-
-#[tactic(none)]
-// Reads the lines after the header. `is_plain`: none of them has a control character.
-fn read_body<'a>(
-    alloc: Global,
-    body: &'a str,
-    is_plain: bool,
-    base: &'a Base,
-    source: &'a Option<Source>,
-) -> Result<Read<'a>, PlaylistFault>
-    requires few { length (lines body.now) < 2 ^ 63 }
-    requires plain { is_plain ≡ true → list_all is_free (lines body.now) ≡ true }
-    requires kept { IsKept base.now source.now }
-    ensures answer { AnswersRead result (and_whole (said_from (said_by limited base.now) (nothing
-        ∷ []) (lines body.entry.now))) }
-    ensures light { (front later : List (List ℕ)) (e : Fault)
-        → lines body.entry.now ≡ front ++ later → AreLight front
-        → said_from (said_by limited base.now) (nothing ∷ []) front ≡ Err e → result ≡ Err e }
-    ensures lines { IfOk result (λ read. AreKeptLines base.now (playlist_in read) read.lines) }
-    ensures taken { IfOk result (IsTakenFrom (kept_segments source.now)) }
-    ensures front { IfOk result (λ read. read.front ≤ length read.playlist.segments) }
-{
-    let cut = cut_after_segments(body);
-    let known = known_of(base, source);
-    let mut reading = reading_of(alloc, base, known, Lines::new(cut.front));
-    let places = match read_front(alloc, &mut reading, is_plain, base, source) {
-        Ok(places) => places,
-        Err(fault) => return Err(fault),
-    };
-    let lines = match lines_of(alloc, cut.front, &reading) {
-        Ok(lines) => lines,
-        Err(_) => return Err(fault_at(FaultKind::OutOfMemory, 0)),
-    };
-    let read = match read_tail(reading, cut.tail, is_plain) {
-        Ok(read) => read,
-        Err(fault) => return Err(fault),
-    };
-    match placed(alloc, read, places, lines) {
-        Ok(read) => Ok(read),
-        Err(_) => Err(fault_at(FaultKind::OutOfMemory, 0)),
-    }
-}
-
-/// The playlist that `bytes` denote under `base`, or its first fault and the line of that: the answers of `read` (RFC
-/// 8216, section 4). `source` is what was kept of the last playlist. What both texts have in common is taken over from
-/// there. `OutOfMemory` only if an allocation fails.
-pub fn read_after<'a>(
-    alloc: Global,
-    bytes: &'a [u8],
-    base: &'a Base,
-    source: &'a Option<Source>,
-) -> Result<Read<'a>, PlaylistFault>
-    requires { IsKept base.now source.now }
-    ensures answer { AnswersRead result (reading limited base.now bytes.now) }
-
-    // These faults are answered whatever memory there is.
-    ensures utf8 { is_utf8 bytes.now ≡ false
-        → result ≡ Err (record { kind = FaultKind.NotUtf8; line = 0 }) }
-    ensures long { is_utf8 bytes.now ≡ true → MAX_BYTES < length bytes.now
-        → result ≡ Err (record { kind = FaultKind.TooLong; line = 0 }) }
-    ensures header { is_utf8 bytes.now ≡ true → length bytes.now ≤ MAX_BYTES
-        → HasNoHeader bytes.now → result ≡ Err (record { kind = FaultKind.NoHeader; line = 1 }) }
-
-    // So is the first fault of the lines after the header, up to one that takes memory.
-    ensures light { (front later : List (List ℕ)) (e : Fault)
-        → is_utf8 bytes.now ≡ true → length bytes.now ≤ MAX_BYTES
-        → lines bytes.now ≡ codes "#EXTM3U" ∷ (front ++ later) → AreLight front
-        → said_from (said_by limited base.now) (nothing ∷ []) front ≡ Err e → result ≡ Err e }
-
-    ensures lines { IfOk result (λ read. AreKeptLines base.now (playlist_in read) read.lines) }
-    ensures taken { IfOk result (IsTakenFrom (kept_segments source.now)) }
-    ensures front { IfOk result (λ read. read.front ≤ length read.playlist.segments) }
-{
-    let text = match text_of(bytes) {
-        Ok(text) => text,
-        Err(kind) => return Err(fault_at(kind, 0)),
-    };
-    if text.len() > MAX_BYTES {
-        return Err(fault_at(FaultKind::TooLong, 0));
-    }
-    let mut lines = Lines::new(text);
-    let Some(first) = lines.next() else {
-        return Err(fault_at(FaultKind::NoHeader, 1));
-    };
-    if first.text != "#EXTM3U" {
-        return Err(fault_at(FaultKind::NoHeader, 1));
-    }
-    let is_plain = has_plain_bytes(bytes);
-    read_body(alloc, lines.left(), is_plain, base, source)
 }

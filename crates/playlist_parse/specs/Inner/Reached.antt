@@ -4,12 +4,12 @@ use Rattle.url.specs.Parts.{Parts}
 use Rattle.playlist_model.specs.Said.{Said, nothing}
 use Rattle.playlist_model.specs.LookBack.{segments_of}
 use Rattle.playlist_model.specs.Reading.{said_by, said_from, and_whole, limited, Fault}
-use Rattle.playlist_model.specs.declared.Playlist.{Playlist}
-use Rattle.playlist_parse.specs.Answers.{Answers}
+use Rattle.playlist_parse.specs.Kept.{AnswersRead}
 use Rattle.playlist_parse.specs.Light.{AreLight}
 use Rattle.playlist_parse.specs.Inner.Progress.{Progress, progress_at}
 use Rattle.playlist_parse.specs.Inner.LineViews.{line_text}
-use Rattle.playlist_parse.specs.declared.reader.Reading.{Reading}
+use Rattle.playlist_parse.specs.declared.reading.Reading.{Reading}
+use Rattle.playlist_parse.specs.declared.read_playlist.Read.{Read}
 
 -- some lines after the header are read, and these are left: what the others said, with what is left, leads to the same as
 -- all lines, and the next one has this number
@@ -22,7 +22,7 @@ pub record Reached (base : Parts) (progress : Progress) (number : ℕ) (left lin
 
 -- this fault is one of the whole text's
 abbrev pub Faulted : Parts → Fault → List (List ℕ) → Type 0
-Faulted base fault lines = let answer : Result Playlist Fault = Err fault in Answers answer (and_whole (said_from (said_by limited base) (nothing ∷ []) lines))
+Faulted base fault lines = let answer : Result Read Fault = Err fault in AnswersRead answer (and_whole (said_from (said_by limited base) (nothing ∷ []) lines))
 
 -- some lines after the header are read, none of which names a segment, and these are left: they begin with lines that
 -- take no memory, in which this fault is the first
@@ -52,11 +52,19 @@ abbrev pub LeadsTo : Parts → Reading → Reading → Type 0
 LeadsTo base old new =
     (tail all : List (List ℕ)) → Reached base old.progress old.number (left_in old ++ tail) all → Reached base new.progress new.number (left_in new ++ tail) all
 
--- the same if no line has a fault; if one has, it is the whole text's
-abbrev pub Reads : {A : Type 0} → Parts → Reading → Result A Fault → Reading → Type 0
-Reads base old result new =
-    (tail all : List (List ℕ)) → Reached base old.progress old.number (left_in old ++ tail) all
+-- a reading that has come so far, with these lines left, comes to there if no line has a fault; if one has, it is the whole
+-- text's
+abbrev pub ComesTo : {A : Type 0} → Parts → Progress → ℕ → List (List ℕ) → Result A Fault → Reading → Type 0
+ComesTo base progress number left result new =
+    (tail all : List (List ℕ)) → Reached base progress number (left ++ tail) all
     → MatchResult result (λ _. Reached base new.progress new.number (left_in new ++ tail) all) (λ e. Faulted base e all)
+
+abbrev pub Reads : {A : Type 0} → Parts → Reading → Result A Fault → Reading → Type 0
+Reads base old result new = ComesTo base old.progress old.number (left_in old) result new
+
+-- the same with this line before those that are left
+abbrev pub ReadsLine : {A : Type 0} → Parts → List ℕ → Reading → Result A Fault → Reading → Type 0
+ReadsLine base line old result new = ComesTo base old.progress old.number (line ∷ left_in old) result new
 
 -- a fault of lines that take no memory is still to be met there if it is to be met here, whatever follows the lines
 -- that are left
@@ -66,7 +74,13 @@ IsStillTold base old new =
     → Telling base new.progress new.number (left_in new ++ tail) fault
 
 -- such a fault is still to be met if the reading went on; if it ended, it is the answer
-abbrev pub Tells : {A : Type 0} → Parts → Reading → Result A Fault → Reading → Type 0
-Tells base old result new =
-    (tail : List (List ℕ)) (fault : Fault) → Telling base old.progress old.number (left_in old ++ tail) fault
+abbrev pub ComesToTell : {A : Type 0} → Parts → Progress → ℕ → List (List ℕ) → Result A Fault → Reading → Type 0
+ComesToTell base progress number left result new =
+    (tail : List (List ℕ)) (fault : Fault) → Telling base progress number (left ++ tail) fault
     → MatchResult result (λ _. Telling base new.progress new.number (left_in new ++ tail) fault) (λ e. e ≡ fault)
+
+abbrev pub Tells : {A : Type 0} → Parts → Reading → Result A Fault → Reading → Type 0
+Tells base old result new = ComesToTell base old.progress old.number (left_in old) result new
+
+abbrev pub TellsLine : {A : Type 0} → Parts → List ℕ → Reading → Result A Fault → Reading → Type 0
+TellsLine base line old result new = ComesToTell base old.progress old.number (line ∷ left_in old) result new

@@ -10,27 +10,15 @@ use Rattle.playlist_model.specs.Inner.Heading.{Heading}
 use Rattle.segment_state.specs.Continued.{Stop, IsStop, stopped_at}
 use Rattle.playlist_parse.specs.Inner.Progress.{Progress}
 use Rattle.playlist_parse.specs.KeptLines.{KeptLines, WasRead}
+use Rattle.playlist_parse.specs.Inner.HeadingView.{heading_view}
 use Rattle.playlist_parse.specs.declared.source.Source.{Source}
 use Rattle.playlist_parse.specs.Inner.Reached.{Reached, left_in, LeadsTo}
-use Rattle.playlist_parse.specs.declared.reader.Reading.{Reading}
+use Rattle.playlist_parse.specs.declared.reading.Reading.{Reading}
 
 -- a text that ends with a line feed
 pub record EndsInFeed (text : List ℕ) : Type 0 where
   pub front : List ℕ
   pub is : text ≡ front ++ line_feed ∷ []
-
--- what the tags of the whole playlist say in kept lines
-abbrev pub heading_in : KeptLines → Heading
-heading_in kept = record {
-  version = kept.version;
-  target_duration = kept.target_duration;
-  playlist_type = kept.playlist_type;
-  independent_segments = kept.independent_segments;
-  end_list = kept.end_list;
-  has_sequence = kept.has_sequence;
-  has_discontinuity_sequence = kept.has_discontinuity_sequence;
-  has_media = kept.has_media;
-}
 
 -- how far a playlist is read if these segments and date ranges were taken over, up to a stop under this heading
 abbrev pub gone_to : Progress → Heading → Stop → List DateRange → List Segment → Progress
@@ -55,7 +43,7 @@ pub record Agree (p q : Progress) : Type 0 where
 -- what is read here with what a source has after what is read there
 abbrev pub gone_after : Progress → Progress → Source → Progress
 gone_after p q source =
-    gone_to p (heading_in source.lines) source.lines.stop (drop (length q.date_ranges) (take source.lines.date_ranges source.date_ranges)) (drop (length q.segments) (take source.lines.segments source.segments.items))
+    gone_to p (heading_view source.lines.heading) source.lines.stop (drop (length q.date_ranges) (take source.lines.date_ranges source.date_ranges)) (drop (length q.segments) (take source.lines.segments source.segments.items))
 
 -- if a front of a source's lines is read there, what is read here goes on: it leads to the same
 abbrev pub TakesOver : Reading → Source → Reading → Reading → Type 0
@@ -67,7 +55,7 @@ TakesOver front source old new =
 pub record AreLinesOf (text : List ℕ) (p : Progress) (number : ℕ) (kept : KeptLines) : Type 0 where
   pub text_is : kept.text ≡ text
   pub next : kept.next ≡ number
-  pub heading : heading_in kept ≡ p.heading
+  pub heading : heading_view kept.heading ≡ p.heading
   pub stop : IsStop p.standing kept.stop
   pub segments : kept.segments ≡ length p.segments
   pub date_ranges : kept.date_ranges ≡ length p.date_ranges

@@ -5,7 +5,7 @@ use Rattle.playlist_parse.specs.Inner.Reached.{left_in}
 use Rattle.playlist_parse.proofs.Reached.{none_more, unread}
 use Rattle.playlist_parse.proofs.Light.{none_read}
 use Rattle.playlist_parse.proofs.GoingTo.{few_reached, further, none_taken, taken_on}
-use Rattle.playlist_parse.proofs.source.read_front.Goals as goal
+use Rattle.playlist_parse.proofs.reader.read_front.Goals as goal
 
 pub read_some-requires-clause-few : goal.read_some-requires-clause-few
 read_some-requires-clause-few c =
@@ -19,28 +19,28 @@ read_some-requires-clause-plain c = c.requires.plain
 pub returns-in-Err-clause-reached : goal.returns-in-Err-clause-reached
 returns-in-Err-clause-reached c = c.in-Err.ensures.reached c.args.base.now
 
-pub take_over_kept-requires : goal.take_over_kept-requires
-take_over_kept-requires c = c.requires.kept
+pub take_over-requires : goal.take_over-requires
+take_over-requires c = c.requires.kept
 
-pub returns-in-Err-take_over_kept-clause-reached : goal.returns-in-Err-take_over_kept-clause-reached
-returns-in-Err-take_over_kept-clause-reached c = λ tail all r. unread c.fault_at.result _ c.fault_at.ensures
+pub returns-in-Err-take_over-clause-reached : goal.returns-in-Err-take_over-clause-reached
+returns-in-Err-take_over-clause-reached c = λ tail all r. unread c.fault_at.result _ c.fault_at.ensures
 
 pub read_all-requires-clause-few : goal.read_all-requires-clause-few
 read_all-requires-clause-few c =
     let all = left_in c.args.reading.now ++ [] in
-    let here = c.in-Ok-take_over_kept.ensures.reached [] all (c.in-Ok.ensures.reached c.args.base.now [] all (c.requires.begun all)) in
+    let here = c.in-Ok-take_over.ensures.reached [] all (c.in-Ok.ensures.reached c.args.base.now [] all (c.requires.begun all)) in
     let small : length all ≡ length (left_in c.args.reading.now) = ap length (append-nil (left_in c.args.reading.now)) in
     let few = few_reached here (omega (arith, small, c.requires.few)) in
-    let left = ap length (append-nil (left_in c.take_over_kept.new.reading)) in
-    let size = length-map c.take_over_kept.new.reading.lines line_text in
+    let left = ap length (append-nil (left_in c.take_over.new.reading)) in
+    let size = length-map c.take_over.new.reading.lines line_text in
     omega (arith, few, left, size)
 
 pub read_all-requires-clause-plain : goal.read_all-requires-clause-plain
-read_all-requires-clause-plain c = λ plain. c.in-Ok-take_over_kept.ensures.plain (c.in-Ok.ensures.plain plain)
+read_all-requires-clause-plain c = λ plain. c.in-Ok-take_over.ensures.plain (c.in-Ok.ensures.plain plain)
 
 pub returns-in-Ok-read_all-clause-reached : goal.returns-in-Ok-read_all-clause-reached
 returns-in-Ok-read_all-clause-reached c = λ tail all r.
-    c.in-Ok-read_all.ensures.reached c.args.base.now tail all (c.in-Ok-take_over_kept.ensures.reached tail all (c.in-Ok.ensures.reached c.args.base.now tail all r))
+    c.in-Ok-read_all.ensures.reached c.args.base.now tail all (c.in-Ok-take_over.ensures.reached tail all (c.in-Ok.ensures.reached c.args.base.now tail all r))
 
 pub returns-in-Ok-read_all-clause-none_left : goal.returns-in-Ok-read_all-clause-none_left
 returns-in-Ok-read_all-clause-none_left c = c.in-Ok-read_all.ensures.none_left
@@ -50,14 +50,14 @@ returns-in-Ok-read_all-clause-taken c =
     let base = c.args.base.now in
     let all = left_in c.args.reading.now ++ [] in
     let new = c.read_all.new.reading in
-    let here = c.in-Ok-take_over_kept.ensures.reached [] all (c.in-Ok.ensures.reached base [] all (c.requires.begun all)) in
+    let here = c.in-Ok-take_over.ensures.reached [] all (c.in-Ok.ensures.reached base [] all (c.requires.begun all)) in
     let end = none_more new [] all c.in-Ok-read_all.ensures.none_left (c.in-Ok-read_all.ensures.reached base [] all here) in
     let more = further here end in
-    taken_on new.progress.segments more.0 more.1 c.in-Ok-take_over_kept.ensures.taken
+    taken_on new.progress.segments more.0 more.1 c.in-Ok-take_over.ensures.taken
 
 pub returns-in-Err-read_all-clause-reached : goal.returns-in-Err-read_all-clause-reached
 returns-in-Err-read_all-clause-reached c = λ tail all r.
-    c.in-Err-read_all.ensures.reached c.args.base.now tail all (c.in-Ok-take_over_kept.ensures.reached tail all (c.in-Ok.ensures.reached c.args.base.now tail all r))
+    c.in-Err-read_all.ensures.reached c.args.base.now tail all (c.in-Ok-take_over.ensures.reached tail all (c.in-Ok.ensures.reached c.args.base.now tail all r))
 
 pub returns-in-Err-clause-light : goal.returns-in-Err-clause-light
 returns-in-Err-clause-light c = c.in-Err.ensures.light c.args.base.now
@@ -74,8 +74,8 @@ returns-then-has_fewer_than-clause-none_left c = c.in-Ok.ensures.none_left (c.ha
 pub returns-then-has_fewer_than-clause-taken : goal.returns-then-has_fewer_than-clause-taken
 returns-then-has_fewer_than-clause-taken c = none_taken _ _ _ c.none.ensures
 
-pub returns-in-Err-take_over_kept-clause-light : goal.returns-in-Err-take_over_kept-clause-light
-returns-in-Err-take_over_kept-clause-light c = λ tail fault told.
+pub returns-in-Err-take_over-clause-light : goal.returns-in-Err-take_over-clause-light
+returns-in-Err-take_over-clause-light c = λ tail fault told.
     let enough = c.has_fewer_than.ensures.enough (search rules) in
     let none = ap length (none_read (c.in-Ok.ensures.light c.args.base.now tail fault told)) in
     absurd (omega (arith, enough, none))

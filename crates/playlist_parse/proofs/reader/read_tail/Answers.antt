@@ -8,7 +8,7 @@ use Rattle.playlist_parse.specs.Kept.{playlist_in}
 use Rattle.playlist_parse.proofs.Light.{is_over, told_after}
 use Rattle.playlist_parse.proofs.Reached.{none_more, told_whole}
 use Rattle.playlist_parse.proofs.GoingTo.{grown, if_ok}
-use Rattle.playlist_parse.proofs.source.read_tail.Goals as goal
+use Rattle.playlist_parse.proofs.reader.read_tail.Goals as goal
 
 pub read_all-requires-clause-few : goal.read_all-requires-clause-few
 read_all-requires-clause-few c =

@@ -3,7 +3,7 @@ use Rattle.std.specs.List.{list_all}
 use Rattle.url.specs.Parts.{Parts}
 use Rattle.playlist_parse.specs.Inner.LineViews.{is_free}
 use Rattle.playlist_parse.specs.Inner.Reached.{LeadsTo, IsStillTold, left_in}
-use Rattle.playlist_parse.proofs.reader.read_all.Given as goal
+use Rattle.playlist_parse.proofs.reading.read_some.Given as goal
 
 abbrev pub invariant-lines : goal.invariant-lines
 invariant-lines l =

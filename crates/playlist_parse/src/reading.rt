@@ -1,0 +1,168 @@
+//! A text that is being read, line by line.
+ghost use Rattle.std.specs.Prelude.{◌≡◌, ◌+◌, ◌^◌, ◌<◌, ◌≤◌, ℕ, List, [], ◌∷◌, length, true, Ok, IfOk, OnOk};
+ghost use Rattle.url.specs.Parts.{Parts};
+ghost use Rattle.std.specs.List.{list_all};
+ghost use Rattle.playlist_model.specs.Said.{nothing};
+ghost use Rattle.playlist_model.specs.Reading.{said_by, said_from, and_whole, limited};
+ghost use Rattle.playlist_parse.specs.Inner.LineViews.{is_free};
+ghost use Rattle.playlist_parse.specs.Inner.Answers.{fault_at};
+ghost use Rattle.playlist_parse.specs.Inner.Progress.{Ends};
+ghost use Rattle.playlist_parse.specs.Kept.{AnswersRead};
+ghost use Rattle.playlist_parse.specs.Inner.Reached.{Reached, IsToBeTold, LeadsTo, IsStillTold, Reads, Tells, ReadsLine, TellsLine, left_in};
+
+use crate::date_ranges::Known;
+use crate::line::Lines;
+use crate::progress::Progress;
+use crate::read_playlist::Read;
+use playlist_model::{FaultKind, PlaylistFault};
+use std::alloc::Global;
+use uri_resolver::Base;
+
+/// The fault `kind` at the line `line`, from 1; out of memory is at none, and has the line 0.
+pub fn fault_at(kind: FaultKind, line: u64) -> PlaylistFault
+    ensures { result ≡ fault_at kind line }
+{
+    let line = if kind == FaultKind::OutOfMemory {
+        0
+    } else {
+        line
+    };
+    PlaylistFault { kind, line }
+}
+
+/// How far a text is read.
+#[derive(Drop)]
+pub struct Reading<'a> {
+    /// What its lines have said.
+    pub progress: Progress<'a>,
+    /// The lines that are left.
+    pub lines: Lines<'a>,
+    /// The number of the next line, from 1.
+    pub number: u64,
+}
+
+/// A reading under `base` of `lines`, which come after a header that was read. The `known` date ranges may come.
+pub fn reading_of<'a>(
+    alloc: Global,
+    base: &'a Base,
+    known: Known<'a>,
+    lines: Lines<'a>,
+) -> Reading<'a>
+    ensures lines { result.lines ≡ lines.entry }
+    ensures number { result.number ≡ 2 }
+    ensures begun { (all : List (List ℕ)) → Reached base.now result.progress 2 all all }
+    ensures light { (all : List (List ℕ)) → IsToBeTold base.now result.progress 2 all all }
+{
+    Reading {
+        progress: Progress::new(alloc, base, known),
+        lines,
+        number: 2,
+    }
+}
+
+// Passes the next line if it is the EXTINF that repeats itself. `is_plain` says that no line has a control character.
+#[inline(always)]
+fn pass_again<'a>(reading: &mut Reading<'a>, is_plain: bool)
+    requires few { reading.old.number + length reading.old.lines < 2 ^ 64 }
+    requires plain { is_plain ≡ true → list_all is_free (left_in reading.old) ≡ true }
+    ensures reached { (base : Parts) → LeadsTo base reading.old reading.new }
+    ensures light { (base : Parts) → IsStillTold base reading.old reading.new }
+    ensures plain { is_plain ≡ true → list_all is_free (left_in reading.new) ≡ true }
+    ensures counted { reading.new.number + length reading.new.lines
+        ≡ reading.old.number + length reading.old.lines }
+    ensures fewer { length reading.new.lines ≤ length reading.old.lines }
+{
+    if !is_plain {
+        return;
+    }
+    if !reading.progress.repeats(&mut reading.lines) {
+        return;
+    }
+    reading.number += 1;
+}
+
+// Reads `line`, the one before those that are left, and passes the next one if that is the EXTINF that repeats itself.
+// `is_plain` says that none has a control character.
+#[inline(always)]
+fn read_line<'a>(
+    reading: &mut Reading<'a>,
+    line: &'a str,
+    is_plain: bool,
+) -> Result<(), PlaylistFault>
+    requires few { reading.old.number + length reading.old.lines + 1 < 2 ^ 64 }
+    requires plain { is_plain ≡ true → list_all is_free (line.now ∷ left_in reading.old) ≡ true }
+    ensures reached { (base : Parts) → ReadsLine base line.now reading.old result reading.new }
+    ensures light { (base : Parts) → TellsLine base line.now reading.old result reading.new }
+    ensures plain { OnOk result (is_plain ≡ true → list_all is_free (left_in reading.new) ≡ true) }
+    ensures counted { OnOk result (reading.new.number + length reading.new.lines
+        ≡ reading.old.number + length reading.old.lines + 1) }
+    ensures fewer { OnOk result (length reading.new.lines ≤ length reading.old.lines) }
+{
+    match reading.progress.line(line, is_plain) {
+        Ok(()) => reading.number += 1,
+        Err(kind) => return Err(fault_at(kind, reading.number)),
+    }
+    pass_again(reading, is_plain);
+    Ok(())
+}
+
+/// Goes on with `reading` until it has `most` segments, or no line is left. `is_plain` says that no line has a
+/// control character. The fault is the first one, with its line.
+pub fn read_some<'a>(
+    reading: &mut Reading<'a>,
+    is_plain: bool,
+    most: usize,
+) -> Result<(), PlaylistFault>
+    requires few { reading.old.number + length reading.old.lines < 2 ^ 64 }
+    requires plain { is_plain ≡ true → list_all is_free (left_in reading.old) ≡ true }
+    ensures reached { (base : Parts) → Reads base reading.old result reading.new }
+    ensures light { (base : Parts) → Tells base reading.old result reading.new }
+    ensures plain { OnOk result (is_plain ≡ true → list_all is_free (left_in reading.new) ≡ true) }
+    ensures none_left { OnOk result
+        (length reading.new.progress.segments < most → reading.new.lines ≡ []) }
+{
+    'lines: while reading.progress.has_fewer_than(most) {
+        let Some(line) = reading.lines.next() else {
+            return Ok(());
+        };
+        match read_line(reading, line.text, is_plain) {
+            Ok(()) => {}
+            Err(fault) => return Err(fault),
+        }
+    }
+    Ok(())
+}
+
+/// Goes on with `reading` until no line is left. `is_plain` says that none of them has a control character. The fault
+/// is the first one, with its line.
+#[inline(always)]
+pub fn read_all<'a>(reading: &mut Reading<'a>, is_plain: bool) -> Result<(), PlaylistFault>
+    requires few { reading.old.number + length reading.old.lines < 2 ^ 64 }
+    requires plain { is_plain ≡ true → list_all is_free (left_in reading.old) ≡ true }
+    ensures reached { (base : Parts) → Reads base reading.old result reading.new }
+    ensures light { (base : Parts) → Tells base reading.old result reading.new }
+    ensures none_left { OnOk result (reading.new.lines ≡ []) }
+{
+    'lines: while let Some(line) = reading.lines.next() {
+        match read_line(reading, line.text, is_plain) {
+            Ok(()) => {}
+            Err(fault) => return Err(fault),
+        }
+    }
+    Ok(())
+}
+
+/// The playlist of `reading`, whose lines are all read, or a fault of the whole text (RFC 8216, sections 4.3.2.5 and
+/// 4.3.3.1), at the line 0.
+pub fn whole_reading(reading: Reading<'_>) -> Result<Read<'_>, PlaylistFault>
+    ensures answer { (base : Parts) (all : List (List ℕ))
+        → Reached base reading.entry.progress reading.entry.number [] all
+        → AnswersRead result (and_whole (said_from (said_by limited base) (nothing ∷ []) all)) }
+    ensures whole { IfOk result (λ read. Ends reading.entry.progress (Ok read)) }
+    ensures front { IfOk result (λ read. read.front ≤ length read.playlist.segments) }
+{
+    match reading.progress.read() {
+        Ok(read) => Ok(read),
+        Err(kind) => Err(fault_at(kind, 0)),
+    }
+}
