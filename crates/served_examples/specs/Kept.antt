@@ -32,7 +32,7 @@ abbrev pub state : ChannelState
 state = record {
   store = ab;
   last = Some (heading_of five);
-  list = record { segment = stepped 5 3 1; instant = None; mark = None } ∷ record { segment = stepped 6 3 0; instant = None; mark = Some (codes "a") } ∷ [];
+  list = record { segment = stepped 5 3 1; instant = None; mark = None; goes_on = false } ∷ record { segment = stepped 6 3 0; instant = None; mark = Some (codes "a"); goes_on = false } ∷ [];
   shown = record {
     knowledge = record { id = codes "a"; said = nothing_said } ∷ [];
     entered = Some (codes "a");
@@ -63,7 +63,7 @@ StatesAreMeant = (base : Parts) → Gives (channel_with base 5 state) (
 
 -- the same with five segments
 abbrev pub five_shown : ChannelState
-five_shown = record state { list = record { segment = stepped 5 3 0; instant = None; mark = None } ∷ record { segment = stepped 6 3 0; instant = None; mark = None } ∷ record { segment = stepped 7 3 0; instant = None; mark = None } ∷ record { segment = stepped 8 3 0; instant = None; mark = None } ∷ record { segment = stepped 9 3 0; instant = None; mark = None } ∷ [] }
+five_shown = record state { list = record { segment = stepped 5 3 0; instant = None; mark = None; goes_on = false } ∷ record { segment = stepped 6 3 0; instant = None; mark = None; goes_on = false } ∷ record { segment = stepped 7 3 0; instant = None; mark = None; goes_on = false } ∷ record { segment = stepped 8 3 0; instant = None; mark = None; goes_on = false } ∷ record { segment = stepped 9 3 0; instant = None; mark = None; goes_on = false } ∷ [] }
 
 -- the segments that it holds, the oldest first
 abbrev pub SegmentsAreHeld : Type 0
