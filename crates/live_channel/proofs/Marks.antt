@@ -1,5 +1,5 @@
 -- The breaks that mark segments, as a channel holds them and as they are meant.
-use Rattle.std.proofs.Common.{◌≡◌, ℕ, ◌<◌, ◌≤◌, true, cond, List, [], ◌∷◌, ◌++◌, map, refl, ap, sym, subst, ◌∙◌, append_assoc}
+use Rattle.std.proofs.Common.{◌≡◌, ℕ, ◌<◌, ◌≤◌, Bool, true, false, cond, List, [], ◌∷◌, ◌++◌, map, refl, ap, sym, subst, ◌∙◌, append_assoc}
 use Rattle.std.proofs.lemmas.Bool.{lt-leb, le-leb}
 use Rattle.std.proofs.lemmas.Slice.Eq.{bytes_eq-Decides}
 use Rattle.std.proofs.lemmas.List.{append-nil}
@@ -62,7 +62,16 @@ breaks_seen state kept p held last other rest d e left decided =
     ∙ (ap (λ ids. (marks ++ ids_in other) ++ ids) (rest_seen state.store rest decided ∙ ap (λ o. ids_in (rest_id o)) left)
     ∙ append_assoc marks (ids_in other) (ids_in (rest_id (rest_after kept p (so_far state.store held)))))
 
--- a segment before the number adds no break
+-- a segment without a mark adds no break
+pub none_there : (marks : List (List ℕ)) (number : ℕ) (m : Held) → m.mark ≡ None → NameTheSame marks (marks ++ mark_held number m)
+none_there marks number m e =
+    subst (λ ids. NameTheSame marks ids) (sym (ap (λ ids. marks ++ ids) (by (nat_le number m.segment.media_sequence) (ids_in m.mark) (ap ids_in e)) ∙ append-nil marks)) (itself marks)
+  where
+    by : (b : Bool) (ids : List (List ℕ)) → ids ≡ [] → cond b ids [] ≡ []
+    by true ids h = h
+    by false ids h = refl
+
+-- nor does one before the number
 pub none_before : (marks : List (List ℕ)) (number : ℕ) (m : Held) → m.segment.media_sequence < number → NameTheSame marks (marks ++ mark_held number m)
 none_before marks number m h =
     subst (λ ids. NameTheSame marks ids) (sym (ap (λ b. marks ++ cond b (ids_in m.mark) []) (lt-leb number m.segment.media_sequence h) ∙ append-nil marks)) (itself marks)

@@ -4,7 +4,7 @@ ghost use Rattle.pod_store.specs.Store.{is_one_of};
 ghost use Rattle.pod_store.specs.Inner.Store.{NameTheSame};
 ghost use Rattle.channel_spec.specs.Live.{ids_in};
 ghost use Rattle.stitcher.specs.StitchedSegments.{KnowRuns, KnowsRun};
-ghost use Rattle.live_channel.specs.Inner.Marks.{IsNamed, breaks_held, marks_and_last, rest_held};
+ghost use Rattle.live_channel.specs.Inner.Marks.{IsNamed, breaks_held, mark_held, marks_and_last, rest_held};
 
 use playlist_model::{Shared, Text};
 use std::alloc::{AllocError, Global};
@@ -44,28 +44,35 @@ fn push_mark(marks: &mut Vec<Shared<Text>>, mark: &Option<Shared<Text>>) -> Resu
     }
 }
 
-#[tactic(auto, using(crate::proofs::Marks::named_before, crate::proofs::Marks::named_here, crate::proofs::Marks::named_then))]
-// Puts the break of a segment, if it has one, after others. `previous` is the mark of the segment before it, and `is_put` says that
-// its break is one of the others. So a run's ID is looked at where it begins.
+#[tactic(auto, using(crate::proofs::Marks::none_there, crate::proofs::Marks::none_before, crate::proofs::Marks::one_there, crate::proofs::Marks::named_before, crate::proofs::Marks::named_here, crate::proofs::Marks::named_then))]
+// Puts the break of a segment after others, if it has one and is numbered from this number on. `previous` is the mark of the
+// segment before it, and `is_put` says that its break is one of the others. Answers the same of this segment. So a run's ID
+// is looked at where it begins.
 fn push_marked(
     marks: &mut Vec<Shared<Text>>,
+    number: u64,
     previous: &Option<Shared<Text>>,
     is_put: bool,
     marked: &MarkedSegment,
-) -> Result<(), AllocError>
+) -> Result<bool, AllocError>
     requires runs { KnowsRun previous.now marked.now }
     requires before { is_put ≡ true → IsNamed marks.old.items previous.now }
     ensures same { OnOk result
-        (NameTheSame marks.new.items (marks.old.items ++ ids_in marked.now.mark)) }
-    ensures named { OnOk result (IsNamed marks.new.items marked.now.mark) }
+        (NameTheSame marks.new.items (marks.old.items ++ mark_held number marked.now)) }
+    ensures named { IfOk result (λ put. put ≡ true → IsNamed marks.new.items marked.now.mark) }
 {
-    if is_put && goes_on(marked, previous) {
-        return Ok(());
+    // Most segments have no mark.
+    if marked.mark.is_none() || marked.segment.media_sequence < number {
+        return Ok(false);
     }
-    push_mark(marks, &marked.mark)
+    if is_put && goes_on(marked, previous) {
+        return Ok(true);
+    }
+    push_mark(marks, &marked.mark)?;
+    Ok(true)
 }
 
-#[tactic(auto, using(crate::proofs::Marks::then_more))]
+#[tactic(auto, using(crate::proofs::Marks::one_marked, crate::proofs::Marks::then_more))]
 // The breaks that mark the segments from this number on, one for each run and in their order, and then the last one entered.
 fn marks_and_last(
     alloc: Global,
@@ -83,11 +90,7 @@ fn marks_and_last(
     let mut is_put = false;
     let mut rest = list;
     while let Some((marked, later)) = rest.split_first() {
-        let is_held = number <= marked.segment.media_sequence;
-        if is_held {
-            push_marked(&mut marks, previous, is_put, marked)?;
-        }
-        is_put = is_held;
+        is_put = push_marked(&mut marks, number, previous, is_put, marked)?;
         previous = &*marked.mark;
         rest = later;
     }
