@@ -10,6 +10,7 @@ use Rattle.stitcher.specs.Stitched.{Piece, Item, pod_pieces, fits}
 use Rattle.stitcher.specs.Paced.{due, due_list, rest_pieces}
 use Rattle.stitcher.specs.StitchedSegments.{mark_in}
 use Rattle.stitcher.specs.Written.{written_item}
+use Rattle.stitcher.specs.Making.{is_same_run}
 use Rattle.stitcher.specs.KeyTags.{transition}
 use Rattle.worked_examples.specs.Pods as pods
 use Rattle.worked_examples.specs.Tables.{Gives}
@@ -107,6 +108,15 @@ b = break (codes "b") (((1000, 10) ∷ (1001, 10) ∷ []) ∷ [])
 
 abbrev pub c : Mark
 c = break (codes "c") (((2000, 10) ∷ []) ∷ ((2001, 10) ∷ []) ∷ [])
+
+-- a segment goes on the run of the one before it if both have a mark, of one break
+abbrev pub RunsGoOn : Type 0
+RunsGoOn = Gives (λ (marks : Option (List ℕ) × Option (List ℕ)). is_same_run marks.0 marks.1) (
+    ((Some (codes "b"), Some (codes "b")), true)
+    ∷ ((Some (codes "b"), Some (codes "c")), false)
+    ∷ ((Some (codes "b"), None), false)
+    ∷ ((None, Some (codes "b")), false)
+    ∷ ((None, None), false) ∷ [])
 
 -- an item in short: URI, media number, discontinuity number, steps
 abbrev pub brief : Item → List ℕ

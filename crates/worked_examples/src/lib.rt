@@ -9,7 +9,7 @@ ghost use Rattle.worked_examples.specs.Playlists.{WholePlaylistIsRead, TagsArePl
 ghost use Rattle.worked_examples.specs.Splices.{SplicesAreRead, LargeSplicesAreRead, SpliceFaultsAreOrdered};
 ghost use Rattle.worked_examples.specs.Breaks.{SignalsAreRead, TicksAreCounted, FirstValuesStand, BreaksEnd, BreaksAreSignalled, StartsAreNear, EndsAreNear, ClosedBreaksCanBeEntered, BreaksAreKnown, BreaksAreEntered, BreaksGoOn, ReasonsAreTold, StartsAreStated, MarksAreMade, BreaksOfOthersGoOn, ReasonsOfOthersAreTold};
 ghost use Rattle.worked_examples.specs.Pods.{IdsAreChecked, UrisAreChecked, MethodsAreChecked, FormatsAreChecked, PodsAreSummed, PodsFit, PodsWithInitSectionsFit, RulesAreKept, DecisionsAreTaken, StoreIsLimited, PodsAreFound, OwnPodsFit, UsedPodsStay, FilesAreRead, BreaksAreChecked, AdsAreChecked, SegmentsAreCounted, FaultsOfFilesAreTold, LackOfMemoryHasNoPlace, LongIdsAreApart, LongIdsCountOnce, LongIdsAreFound, StoresFit, NothingIsCopied, AdsAreCounted, ManySegmentsAreCounted};
-ghost use Rattle.worked_examples.specs.Stitched.{PodsStandInOrder, RestsAreLeft, RunsAreReplaced, PodsKeepPace, NumbersFit, ItemsAreWritten, MarksAreFound, KeysChange, LargePodsStand, AdsHaveTheirKeys};
+ghost use Rattle.worked_examples.specs.Stitched.{PodsStandInOrder, RestsAreLeft, RunsAreReplaced, PodsKeepPace, NumbersFit, ItemsAreWritten, MarksAreFound, KeysChange, LargePodsStand, AdsHaveTheirKeys, RunsGoOn};
 ghost use Rattle.worked_examples.specs.Written.{LinesAreSpelled, PlaylistsAreWritten, WrittenLinesAreInForce, WrittenTextsTellWhatIsInForce, LargePlaylistsAreWritten, LargeListsAreInForce};
 ghost use Rattle.worked_examples.specs.Windows.{ItemsAreOfPods, ItemsHavePieces, PiecesHaveSegments, PiecesLast, MarkedAreTheOrigins, UnmarkedAreSeen, TimesAreStated, MarksAreMeant, RestsAreMeant, SegmentsAreListed, LastWindowsStand, BreaksArePlayed};
 ghost use Rattle.worked_examples.specs.Channels.{PlaylistsFollow, TypesStay, SegmentsStay, DiscontinuitiesFollow, EndedStays, TolerancesAreStated, BreaksAreFilled, TolerancesCount, SeveralAreFilled, WindowsGoOn, HeadersAreOwed, TypesAreOwed, PodsAreKept, StatesAreKept, RefreshFaultsAreTold, LastNumbersAreRefused, LastSegmentsCount};
@@ -146,6 +146,7 @@ pub fn stitched_have_their_values()
     ensures keys_change { KeysChange }
     ensures large_pods_stand { LargePodsStand }
     ensures ads_have_their_keys { AdsHaveTheirKeys }
+    ensures runs_go_on { RunsGoOn }
 {}
 
 /// How a playlist is spelled.
