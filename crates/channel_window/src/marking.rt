@@ -222,7 +222,6 @@ impl<'a> Marker<'a> {
     // The first break that is entered at an instant, after this last one.
     fn entered(
         &mut self,
-        alloc: Global,
         last: Option<&str>,
         instant: Option<Instant>,
     ) -> Result<Option<Shared<Text>>, AllocError>
@@ -236,7 +235,7 @@ impl<'a> Marker<'a> {
             return Ok(None);
         }
         match self.entrances.entered(instant, last) {
-            Some(id) => Ok(Some(Shared::copy_of(alloc, id)?)),
+            Some(id) => Ok(Some(id.clone()?)),
             None => Ok(None),
         }
     }
@@ -299,7 +298,7 @@ impl<'a> Marker<'a> {
         ensures run { OnOk result (IsRun self.old run.new) }
         ensures kept { self.new ≡ self.old }
     {
-        let id = self.entered(alloc, text_in(&run.entered), instant.get())?;
+        let id = self.entered(text_in(&run.entered), instant.get())?;
         let mark = self.mark_of(alloc, id)?;
         let goes_on = is_same_run(&mark, &run.before);
         let before = if goes_on { run.so_far } else { Nanos(0) };
