@@ -12,7 +12,7 @@ use Rattle.channel_spec.specs.declared.fault.RefreshFault.TheVariants.{Changed}
 use Rattle.channel_spec.specs.Sound.{RiseFrom}
 use Rattle.channel_spec.specs.Successor.{first_number, first_changed, difference, fault_if}
 use Rattle.channel_spec.proofs.WrittenPods.{all_drop}
-use Rattle.playlist_parse.specs.Kept.{with_taken}
+use Rattle.playlist_kept.specs.Kept.{with_taken}
 use Rattle.channel_window.specs.Checked.{AreContiguous, AreTaken}
 
 abbrev has_number : ℕ → Segment → Bool

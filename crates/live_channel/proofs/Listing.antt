@@ -18,9 +18,9 @@ use Rattle.channel_window.specs.Checked.{AreContiguous, AreTaken}
 use Rattle.channel_window.specs.Showing.{kept_in}
 use Rattle.channel_window.specs.Listed.{segments_in}
 use Rattle.channel_window.proofs.Found.{held_listed}
-use Rattle.playlist_parse.specs.Kept.{IsTakenFrom, kept_segments}
-use Rattle.playlist_parse.specs.declared.read_playlist.Read.{Read}
-use Rattle.playlist_parse.specs.declared.source.Source.{Source}
+use Rattle.playlist_kept.specs.Kept.{IsTakenFrom, kept_segments}
+use Rattle.playlist_kept.specs.declared.read_playlist.Read.{Read}
+use Rattle.playlist_kept.specs.declared.source.Source.{Source}
 use Rattle.live_channel.specs.Channel.{Given, refreshed, events_of, told_by, IsAsTyped, IsListed}
 use Rattle.live_channel.proofs.Steps.{all_given}
 use Rattle.live_channel.proofs.LastText.{told_next}

@@ -17,11 +17,12 @@ use Rattle.channel_window.specs.Showing.{AreKept, IsLastEntered, kept_in}
 use Rattle.channel_window.specs.declared.state.ChannelState.{ChannelState}
 use Rattle.channel_window.specs.Checked.{AreContiguous, AreTaken}
 use Rattle.channel_window.specs.Listed.{segments_in}
-use Rattle.playlist_parse.specs.KeptLines.{KeptLines, WasRead}
-use Rattle.playlist_parse.specs.Kept.{AreKeptLines, IsAfter, IsKept, IsTakenFrom, kept_segments, playlist_in, with_taken}
-use Rattle.playlist_parse.specs.declared.read_playlist.Read.{Read}
-use Rattle.playlist_parse.specs.declared.source.Source.{Source}
-use Rattle.playlist_parse.specs.declared.step.Step.{Step}
+use Rattle.playlist_kept.specs.KeptLines.{WasRead}
+use Rattle.playlist_kept.specs.declared.source.KeptLines.{KeptLines}
+use Rattle.playlist_kept.specs.Kept.{AreKeptLines, IsAfter, IsKept, IsTakenFrom, kept_segments, playlist_in, with_taken}
+use Rattle.playlist_kept.specs.declared.read_playlist.Read.{Read}
+use Rattle.playlist_kept.specs.declared.source.Source.{Source}
+use Rattle.playlist_kept.specs.declared.step.Step.{Step}
 use Rattle.playlist_write.specs.declared.resumed.WrittenText.{WrittenText}
 use Rattle.live_channel.specs.declared.channel.Refreshed.{Refreshed}
 use Rattle.live_channel.specs.Channel.{Stands, IsListed, channel_with, told_by, text_in, Refreshes}

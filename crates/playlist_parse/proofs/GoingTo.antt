@@ -21,16 +21,16 @@ use Rattle.segment_state.specs.Continued.{Stop, IsStop, stopped_at}
 use Rattle.playlist_parse.specs.Inner.Progress.{Progress, progress_at}
 use Rattle.playlist_parse.specs.Inner.Reached.{Reached, left_in}
 use Rattle.playlist_parse.specs.declared.reading.Reading.{Reading}
-use Rattle.playlist_parse.specs.declared.read_playlist.Places.{Places}
-use Rattle.playlist_parse.specs.declared.source.Source.{Source}
-use Rattle.playlist_parse.specs.Inner.Places.{StandInBoth}
-use Rattle.playlist_parse.specs.Kept.{AreKeptLines}
+use Rattle.playlist_kept.specs.declared.read_playlist.Places.{Places}
+use Rattle.playlist_kept.specs.declared.source.Source.{Source}
+use Rattle.playlist_kept.specs.Places.{StandInBoth}
+use Rattle.playlist_kept.specs.Kept.{AreKeptLines}
 use Rattle.playlist_parse.specs.Inner.Resumed.{Scene, scene_at, Alike, Resumed}
 use Rattle.playlist_parse.specs.Inner.LineViews.{is_free}
 use Rattle.playlist_parse.specs.Inner.Source.{Agree, TakesOver, AreLinesOf, Grown, gone_to, gone_after}
 use Rattle.playlist_parse.specs.Inner.HeadingView.{heading_view}
-use Rattle.playlist_parse.specs.KeptLines.{KeptLines, SaysOfAll, WasRead}
-use Rattle.playlist_parse.specs.declared.progress.ReadHeading.{ReadHeading}
+use Rattle.playlist_kept.specs.KeptLines.{KeptLines, SaysOfAll, WasRead}
+use Rattle.playlist_kept.specs.declared.heading.ReadHeading.{ReadHeading}
 use Rattle.playlist_parse.proofs.GoingOn.{goes_on}
 
 -- ---- lines after lines

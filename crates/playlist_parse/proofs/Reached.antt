@@ -15,8 +15,8 @@ use Rattle.playlist_parse.specs.Inner.Progress.{Progress, progress_at, Ends}
 use Rattle.playlist_parse.specs.Inner.LineViews.{line_text}
 use Rattle.playlist_parse.specs.Inner.Reached.{Reached, Faulted, left_in}
 use Rattle.playlist_parse.specs.declared.reading.Reading.{Reading}
-use Rattle.playlist_parse.specs.declared.read_playlist.Read.{Read}
-use Rattle.playlist_parse.specs.Kept.{AnswersRead, playlist_in}
+use Rattle.playlist_kept.specs.declared.read_playlist.Read.{Read}
+use Rattle.playlist_kept.specs.Kept.{AnswersRead, playlist_in}
 
 pub own_base : (base : Parts) (progress : Progress) (before : List Said) → progress ≡ progress_at base before → progress ≡ progress_at progress.base before
 own_base base progress before e = e ∙ ap (λ b. progress_at b before) (sym (ap (λ (p : Progress). p.base) e))

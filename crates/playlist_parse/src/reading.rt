@@ -7,13 +7,13 @@ ghost use Rattle.playlist_model.specs.Reading.{said_by, said_from, and_whole, li
 ghost use Rattle.playlist_parse.specs.Inner.LineViews.{is_free};
 ghost use Rattle.playlist_parse.specs.Inner.Answers.{fault_at};
 ghost use Rattle.playlist_parse.specs.Inner.Progress.{Ends};
-ghost use Rattle.playlist_parse.specs.Kept.{AnswersRead};
+ghost use Rattle.playlist_kept.specs.Kept.{AnswersRead};
 ghost use Rattle.playlist_parse.specs.Inner.Reached.{Reached, IsToBeTold, LeadsTo, IsStillTold, Reads, Tells, ReadsLine, TellsLine, left_in};
 
 use crate::date_ranges::Known;
 use crate::line::Lines;
 use crate::progress::Progress;
-use crate::read_playlist::Read;
+use playlist_kept::Read;
 use playlist_model::{FaultKind, PlaylistFault};
 use std::alloc::Global;
 use uri_resolver::Base;

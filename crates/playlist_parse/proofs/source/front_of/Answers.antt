@@ -3,7 +3,7 @@ use Rattle.std.specs.Str.Lines.{lines}
 use Rattle.std.proofs.lemmas.List.{append-nil}
 use Rattle.playlist_parse.specs.Inner.LineViews.{line_text}
 use Rattle.playlist_parse.specs.Inner.Reached.{Reached, left_in}
-use Rattle.playlist_parse.specs.declared.source.Source.{Source}
+use Rattle.playlist_kept.specs.declared.source.Source.{Source}
 use Rattle.playlist_parse.proofs.Reached.{begun_at}
 use Rattle.playlist_parse.proofs.source.front_of.Goals as goal
 

@@ -1,5 +1,5 @@
 use Rattle.std.proofs.Common.{ap, sym, ◌∙◌, subst, take}
-use Rattle.playlist_parse.specs.declared.source.Source.{Source}
+use Rattle.playlist_kept.specs.declared.source.Source.{Source}
 use Rattle.playlist_parse.specs.Inner.DateRanges.{AreSaid}
 use Rattle.playlist_parse.proofs.KnownRanges.{said_before}
 use Rattle.playlist_parse.proofs.source.known_in.Goals as goal

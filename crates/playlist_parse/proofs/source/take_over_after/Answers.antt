@@ -1,7 +1,7 @@
 use Rattle.std.proofs.Common.{rules, ◌≡◌, ◌+◌, true, false, map, ap, ◌∙◌}
 use Rattle.std.specs.Str.Lines.{lines}
 use Rattle.playlist_parse.specs.Inner.LineViews.{line_text}
-use Rattle.playlist_parse.specs.declared.source.Source.{Source}
+use Rattle.playlist_kept.specs.declared.source.Source.{Source}
 use Rattle.playlist_parse.proofs.GoingTo.{took_over, stayed, plain_after, taken_over, none_taken}
 use Rattle.playlist_parse.proofs.source.take_over_after.Goals as goal
 
