@@ -26,7 +26,7 @@ use fixed_duration::Nanos;
 use playlist_kept::Read;
 use pod_store::PodStore;
 use std::alloc::{AllocError, Global};
-use stitcher::{Ends, MarkedSegment, Numbers, Rest, StitchFault, StitchedList, goes_on, stitch_at};
+use stitcher::{Ends, MarkedSegment, Numbers, Rest, StitchFault, StitchedList, goes_on, stitch};
 
 /// A stitched list after a refresh, without the items that stand between its first and its new ones.
 #[derive(Drop)]
@@ -60,7 +60,7 @@ fn listed<'a>(
         (λ some. IfSome some (λ v. (v ≡ stitched_segments store.now first ends.now list.now)
         × (list_all item_fits v ≡ true))) }
 {
-    match stitch_at(alloc, list, cut, store, first, ends) {
+    match stitch(alloc, list, cut, store, first, ends) {
         Ok(items) => Ok(Some(items)),
         Err(StitchFault::NumberRange) => Ok(None),
         Err(StitchFault::OutOfMemory) => Err(AllocError),

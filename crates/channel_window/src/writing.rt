@@ -32,8 +32,7 @@ use pod_store::{IdSet, PodStore};
 use std::alloc::{AllocError, Global};
 use std::hash::RandomState;
 use stitcher::{
-    Ends, MarkedSegment, Numbers, Rest, StitchFault, StitchedItems, StitchedList, TextRef,
-    stitch_at,
+    Ends, MarkedSegment, Numbers, Rest, StitchFault, StitchedItems, StitchedList, TextRef, stitch,
 };
 
 // The stitched list of these segments between these ends, whose first item has these numbers.
@@ -55,7 +54,7 @@ fn stitched<'a>(
         (λ e. RefusesList e (list_all item_fits
         (stitched_segments store.now first ends.now list.now) ≡ false)) }
 {
-    match stitch_at(alloc, list, cut, store, first, ends) {
+    match stitch(alloc, list, cut, store, first, ends) {
         Ok(items) => Ok(items),
         Err(StitchFault::NumberRange) => Err(RefreshFault::NumberRange),
         Err(StitchFault::OutOfMemory) => Err(RefreshFault::OutOfMemory),
