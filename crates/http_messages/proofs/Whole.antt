@@ -35,9 +35,7 @@ asks_more bytes more request a = record {
 }
 
 refused_more : (bytes more : List ℕ) (refusal : Refusal) → IsRefusedFor bytes refusal → IsRefusedFor (bytes ++ more) refusal
-refused_more bytes more refusal (inl a) =
-    inl (record { h = a.h; rest = a.rest ++ more; begins = begins_more bytes more a.h a.rest a.begins; framing = a.framing })
-refused_more bytes more refusal (inr a) = inr (λ rest. subst HasNoHead (sym (append_assoc bytes more rest)) (a.0 (more ++ rest)), a.1)
+refused_more bytes more refusal h = grind (arith, inl, begins_more, inr, append_assoc)
 
 asked_more : (bytes more : List ℕ) (it : Asked) → IsAsked bytes it → IsAsked (bytes ++ more) it
 asked_more bytes more (asked.Request request) a = asks_more bytes more request a
@@ -73,21 +71,14 @@ refused_one bytes one other (inr a) (inl b) = absurd (never_begins bytes b.h b.r
 refused_one bytes one other (inr a) (inr b) = a.1 ∙ sym b.1
 
 pub asked_one : (bytes : List ℕ) (one other : Asked) → IsAsked bytes one → IsAsked bytes other → one ≡ other
-asked_one bytes (asked.Request one) (asked.Request other) a b = ap asked.Request (asks_one bytes one other a b)
-asked_one bytes (asked.Request one) (asked.Refused other) a b = absurd (not_both bytes one other a b)
-asked_one bytes (asked.Refused one) (asked.Request other) a b = absurd (not_both bytes other one b a)
-asked_one bytes (asked.Refused one) (asked.Refused other) a b = ap asked.Refused (refused_one bytes one other a b)
+asked_one bytes one other a b = grind (arith, asks_one, not_both, refused_one)
 
 -- ---- what a source held
 
 -- the bytes before, and those of the last read
 pub has_asked : (old mid new : SourceStand) (before block bytes seen : List ℕ) (it : Asked) → Consumes old.remaining mid.remaining before → Consumes mid.remaining new.remaining block
     → bytes ≡ before ++ block → seen ≡ bytes → IsAsked seen it → HasAsked old new it
-has_asked old mid new before block bytes seen it first then joined same a = record {
-  bytes = bytes;
-  given = subst (Consumes old.remaining new.remaining) (sym joined) (Consumes-trans old.remaining mid.remaining new.remaining before block first then);
-  asks = subst (λ l. IsAsked l it) same a;
-}
+has_asked old mid new before block bytes seen it first then joined same a = grind (arith, Consumes-trans)
 
 all_asked : (old new : Option (List ℕ)) (bytes : List ℕ) (one other : Asked) → Consumes old new bytes → IsAsked bytes one → IsSomeAnd old (λ all. IsAsked all other) → one ≡ other
 all_asked None new bytes one other given a h = absurd h

@@ -29,7 +29,8 @@ use Rattle.playlist_parse.specs.Inner.Resumed.{Scene, scene_at, Alike, Resumed}
 use Rattle.playlist_parse.specs.Inner.LineViews.{is_free}
 use Rattle.playlist_parse.specs.Inner.Source.{Agree, TakesOver, AreLinesOf, Grown, gone_to, gone_after}
 use Rattle.playlist_parse.specs.Inner.HeadingView.{heading_view}
-use Rattle.playlist_kept.specs.KeptLines.{KeptLines, SaysOfAll, WasRead}
+use Rattle.playlist_kept.specs.KeptLines.{SaysOfAll, WasRead}
+use Rattle.playlist_kept.specs.declared.source.KeptLines.{KeptLines}
 use Rattle.playlist_kept.specs.declared.heading.ReadHeading.{ReadHeading}
 use Rattle.playlist_parse.proofs.GoingOn.{goes_on}
 
