@@ -36,7 +36,6 @@ POD_SEGMENTS = Limit("the segments of a pod", ("crates/pod_store/specs/Limits.an
     ("docs/decisions.schema.json", '"maxItems": {n}, "items": {{ "$ref": "#/definitions/segment" }}'),
     ("docs/DECISION_FILES.md", "a pod has at most {n:,} segments"),
     ("docs/DECISIONS.md", "a pod has at most {n:,} segments"),
-    ("docs/PROOF.md", "there are at most {n:,} segments in all"),
     ("README.md", "| A pod | at most {n:,} segments"),
 ))
 
@@ -51,7 +50,6 @@ DECIDED_BREAKS = Limit("the breaks that have pods by decisions", ("crates/pod_st
     ("docs/DECISION_FILES.md", "at most {n:,} in one file"),
     ("docs/OPERATING.md", "than adsplice has room for ({n:,} breaks)"),
     ("docs/OPERATING.md", "more than {n:,} breaks that are still to come"),
-    ("docs/PROOF.md", "at most {n:,} have pods that decisions gave them"),
     ("docs/SIGNALS.md", "more than {n:,} breaks that aren't over"),
     ("README.md", "at most {n:,} decided breaks"),
 ))
