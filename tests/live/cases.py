@@ -1,6 +1,4 @@
 """Cases of live channels that are worked by hand, beside the tables of worked values: what the origin says, and what is owed for it."""
-import json
-
 from events import Case
 from limits import DECIDED_BREAKS, number_of
 from playlists import NOT_OUT, daterange, decisions, fallback, instant, origin_text, owed_text, window
@@ -159,7 +157,7 @@ made.decide(AB).why("b1", "Waiting")
 shows(made, origin_text(0, 3, ranges=[B1]), 1, window("s0 s1 s2 s3"), ranges=[B1])
 
 made = bare("decision files that are refused").channel()
-made.decide('{"breaks":[{"id":"b","ads":[]}]}', "J6 EmptyPod break 0").decide("[]", "J2 Shape").decide("{", "J1 NotJson")
+made.decide('{"breaks":[{"id":"b","ads":[]}]}', "J6 EmptyPod break 0")
 made.decide('{"withdraw":"q"}', "J11 Unknown").withdraw("q", "J11 Unknown")
 made.decide(many(MOST + 1), "J10 Full").decide(many(MOST)).decide(AB, "J10 Full").withdraw("break 7").decide(AB)
 shows(made, origin_text(0, 4, ranges=[B1], ended=True), 5, window("s0 / a0 a1 / s4"), ended=True)
@@ -216,10 +214,6 @@ made.refresh(origin_text(0, 1, sequence=2**64 - 2, ranges=[B1]), "N10 NumberRang
 shows(made, origin_text(0, 0), 1, window("s0"))
 made.refresh(origin_text(0, 1, ranges=[B1], target=11), "N2 TargetChanged").withdraw("b1", "J11 Unknown").why("b1", "NotKnown")
 
-made = bare("files that give a fallback in vain").channel()
-made.decide('{"fallback":{"ads":[]}}', "J6 EmptyPod").decide('{"fallback":null,"withdraw":"b1"}', "J2 Shape").decide('{"fallback":7}', "J2 Shape")
-made.decide('{"fallback":{"ads":7}}', "J2 Shape").decide('{"fallback":{"ads":[{"segments":[]}]}}', "J6 EmptyPod ad 0")
-
 # ---- which playlist may follow
 
 made = bare("what may not follow changes nothing").channel()
@@ -239,21 +233,3 @@ full = origin_text(0, 1, sequence=top, ranges=[B1])
 made.refresh(full, "N10 NumberRange").playlist(None).why("b1", "NotKnown").refresh(full, "N10 NumberRange").withdraw("b1")
 made.refresh(origin_text(0, 2, sequence=top), "P9 BadValue line 11")
 shows(made, full, 2, window("s0 s1", top), ranges=[B1])
-
-
-# ---- what a decision file says
-
-# Two pods: of one ad with segments of 8 s and 9.5 s, and of two ads, of which the first has a section and a key, with a
-# segment of 0.25 s and one of 1 s.
-TWO_PODS = json.dumps({"breaks": [
-    {"id": "b1", "ads": [{"segments": [
-        {"uri": "http://ads.example/a0.ts", "duration": "8"}, {"uri": "http://ads.example/a1.ts", "duration": "9.5"}]}]},
-    {"id": "b2", "ads": [
-        {"map": {"uri": "https://ads.example/i.mp4", "offset": 10, "length": 90},
-         "key": {"method": "AES-128", "uri": "https://ads.example/k", "iv": "0x1F"},
-         "segments": [{"uri": "https://ads.example/x.m4s", "duration": ".25"}]},
-        {"segments": [{"uri": "http://ads.example/y.ts", "duration": "1"}]}]}]})
-
-made = bare("a decision file says its breaks")
-made.decisions(TWO_PODS, "decisions", "break b1 ads 1 segments 2 total 17500000000", "break b2 ads 2 segments 2 total 1250000000")
-made.decisions('{"breaks":[]}', "decisions").decisions('{"withdraw":"b1"}', "withdraw b1").decisions("[", "J1 NotJson")

@@ -1,5 +1,5 @@
-"""Cases of live channels that are rows of tables of worked values (crates/worked_examples): what a channel owes after events, and
-which playlist may follow which.
+"""Cases of live channels that are rows of tables of worked values (crates/worked_examples): what a channel owes after events,
+which playlist may follow which, and what a decision file says.
 
 A URI is a number there. It is a pod's from 1,000 to 4,999, and any other is the origin's. What is answered to each event, and written
 after it, is what the definitions give for the events up to it, as Python computes them. The prover holds the last one against the row.
@@ -94,9 +94,9 @@ def text_of(playlist):
 def can_be_said(playlist):
     """Whether `text_of` says it: its numbers go on, and it has no keys and no initialisation section."""
     shown = playlist["segments"]
-    steps = all((new["media_sequence"], new["discontinuity_sequence"]) == (old["media_sequence"] + 1, old["discontinuity_sequence"] + new["discontinuities"])
-                for old, new in zip(shown, shown[1:]))
-    return steps and not any(it["keys"] or it["init_section"][1:] for it in shown)
+    ends = [(it["media_sequence"] + 1, it["discontinuity_sequence"]) for it in shown]
+    begins = [(it["media_sequence"], it["discontinuity_sequence"] - it["discontinuities"]) for it in shown]
+    return begins[1:] == ends[:-1] and not any(it["keys"] or it["init_section"][1:] for it in shown)
 
 
 def ads_of(pod):
@@ -154,7 +154,29 @@ def case_at(table, number):
     return case_of(f"{table}, row {number}", *TABLES[table](list(rows(table))[number - 1][0]))
 
 
+def pod_line(name, pod):
+    ads = pod["ads"]
+    return f"{name} ads {len(ads)} segments {sum(len(it['segments']) for it in ads)} total {computed('pod_store', 'Pods', 'total', pod)}"
+
+
+def said_of(kind, *said):
+    """What the driver prints of a decision file that is read."""
+    if kind == "Breaks":
+        return ["decisions", *(pod_line(f"break {text(break_id)}", pod) for break_id, pod in said[0])]
+    if kind == "Withdraw":
+        return [f"withdraw {text(*said)}"]
+    return [pod_line("fallback", *said) if said else "no fallback"]
+
+
+def files():
+    """A case of all decision files of a table."""
+    made = Case("decision files")
+    for file, (word, it) in rows("Pods.FilesAreRead"):
+        made.decisions(bytes(file), *(said_of(*it) if word == "Ok" else [fault("pod_store", it).decode()]))
+    return made
+
+
 def worked_cases():
-    """A case for each row that can be said."""
+    """A case for each row that can be said, and one of decision files."""
     given = [(f"{table}, row {place}", *of(it)) for table, of in TABLES.items() for place, (it, _) in enumerate(rows(table), 1)]
-    return [case_of(*it) for it in given if all(kind == "decided" or can_be_said(playlist) for kind, playlist in it[2])]
+    return [files()] + [case_of(*it) for it in given if all(kind == "decided" or can_be_said(playlist) for kind, playlist in it[2])]
