@@ -23,6 +23,7 @@ from events import Case  # noqa: E402
 from long_run import long_run  # noqa: E402
 from vector_cases import vector_cases  # noqa: E402
 from words import programs_in  # noqa: E402
+from worked_cases import worked_cases  # noqa: E402
 
 SECONDS = 120
 MARK, MARKED = "mark", re.compile(rb"^no event\n", re.MULTILINE)  # no event: its answer ends the one before it
@@ -46,8 +47,8 @@ def texts():
 
 
 def channels():
-    """What channels and connections answer: each case of tests/live, and the vectors of channels."""
-    return [*CASES, *CONNECTIONS, long_run(), *vector_cases()]
+    """What channels and connections answer: each case of tests/live, rows of tables of worked values, and the vectors of channels."""
+    return [*CASES, *worked_cases(), *CONNECTIONS, long_run(), *vector_cases()]
 
 
 # ---- what it answers

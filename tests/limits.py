@@ -1,7 +1,8 @@
 """The limits whose numbers stand in several files. Each has one definition; what the other files say has to agree with it.
 
 A place is a file, and what stands in it: {n} is the number, {n:,} the number as pages write it and {n:_} as code does, {more}
-is one more and {less} one less. tests/rules looks that each place says its number, and tests/recipes changes one.
+is one more and {less} one less. {mib} are the MiB of as many bytes, {ms} and {s} the milliseconds and seconds of as many
+nanoseconds. tests/rules looks that each place says its number, and tests/recipes changes one.
 """
 from __future__ import annotations
 
@@ -36,7 +37,6 @@ POD_SEGMENTS = Limit("the segments of a pod", ("crates/pod_store/specs/Limits.an
     ("docs/decisions.schema.json", '"maxItems": {n}, "items": {{ "$ref": "#/definitions/segment" }}'),
     ("docs/DECISION_FILES.md", "a pod has at most {n:,} segments"),
     ("docs/DECISIONS.md", "a pod has at most {n:,} segments"),
-    ("docs/PROOF.md", "there are at most {n:,} segments in all"),
     ("README.md", "| A pod | at most {n:,} segments"),
 ))
 
@@ -51,7 +51,6 @@ DECIDED_BREAKS = Limit("the breaks that have pods by decisions", ("crates/pod_st
     ("docs/DECISION_FILES.md", "at most {n:,} in one file"),
     ("docs/OPERATING.md", "than adsplice has room for ({n:,} breaks)"),
     ("docs/OPERATING.md", "more than {n:,} breaks that are still to come"),
-    ("docs/PROOF.md", "at most {n:,} have pods that decisions gave them"),
     ("docs/SIGNALS.md", "more than {n:,} breaks that aren't over"),
     ("README.md", "at most {n:,} decided breaks"),
 ))
@@ -85,12 +84,76 @@ PLAYLIST_SEGMENTS = Limit("the segments of a playlist", ("crates/playlist_model/
     ("README.md", "bytes, {n:,} segments"),
 ))
 
-LIMITS = (POD_SEGMENTS, DECIDED_BREAKS, PLAYLIST_BYTES, PLAYLIST_SEGMENTS)
+READING, CONNECTIONS, MESSAGES = "crates/playlist_model/specs/Reading.antt", "crates/connections/specs/Limits.antt", "crates/http_messages/specs/Limits.antt"
+OTHERS = (
+    Limit("the attributes of a tag", (READING, "  attributes = Some {n};"), (
+        ("crates/attr_list/src/list.rt", "MAX_ATTRIBUTES: usize = {n};"),
+        ("crates/read_is_writable/specs/Limits.antt", "nat_le (length (pieces attributes)) {n}\n"),
+        ("plant/adsplice_rules/attributes.py", "MOST_ATTRIBUTES = {n} "),
+        ("plant/adsplice_plant/packaged.py", "MOST_ATTRIBUTES = {n} "),
+        ("docs/CONFORMANCE.md", "at most {n} attributes in a tag"),
+        ("docs/OPERATING.md", "the attribute list doesn't read, or has more than {n} "),
+        ("README.md", "{n} attributes a tag"))),
+    Limit("the key formats in force", (READING, "  formats = Some {n};"), (
+        ("crates/playlist_model/src/limits.rt", "MAX_FORMATS: usize = {n};"),
+        ("crates/read_is_writable/specs/Limits.antt", "(said ∷ before))) {n} &&"),
+        ("plant/adsplice_rules/keys.py", "MOST_FORMATS = {n} "),
+        ("plant/adsplice_plant/faults.py", "keys of more than {n} formats at a time"),
+        ("docs/CONFORMANCE.md", "of at most {n} formats"),
+        ("docs/OPERATING.md", "keys of more than {n} formats in force"),
+        ("README.md", "{n} key formats in force"))),
+    Limit("the channels of a process", ("crates/http_edge/specs/Table.antt", "nat_le {n} (length table)"), (
+        ("crates/http_edge/src/channels.rt", "MAX_CHANNELS: usize = {n};"),
+        ("plant/adsplice_rules/edge.py", "MOST_CHANNELS = {n}\n"),
+        ("plant/adsplice_plant/masters.py", "MOST_RENDITIONS = {n} "),
+        ("plant/adsplice_plant/faults.py", "no room: {n} channels are there"),
+        ("docs/DECISIONS.md", "a PUT of the {more}th is 503"),
+        ("docs/OPERATING.md", "| 503 | nothing | {n} channels are there"),
+        ("docs/OPERATING.md", "**How many.** A process has {n} channels"),
+        ("README.md", "it would be the {more}th channel"),
+        ("README.md", "| A process | at most {n} channels"))),
+    Limit("the connections at a time", (CONNECTIONS, "place_count = {n}\n"), (
+        ("crates/connections/src/table.rt", "PLACES: usize = {n};"),
+        ("docs/ARCHITECTURE.md", "which of the {n} it has"),
+        ("docs/DECISIONS.md", "There are {n} places"),
+        ("docs/OPERATING.md", "{n} connections at once"),
+        ("docs/PROOF.md", "each of the {n} places"),
+        ("README.md", "{n} connections at a time"))),
+    Limit("the bytes of unfinished requests", (CONNECTIONS, "most_held = {n}\n"), (
+        ("crates/connections/src/table.rt", "MAX_HELD: usize = {n:_};"),
+        ("docs/DECISIONS.md", "{mib} MiB for unfinished requests"),
+        ("docs/OPERATING.md", "{mib} MiB over all connections"),
+        ("docs/PROOF.md", "would pass {mib} MiB: nothing"),
+        ("README.md", "{mib} MiB of unfinished requests"))),
+    Limit("the time of a connection", (CONNECTIONS, "serving_nanos = {n}\n"), (
+        ("crates/connections/src/deadlines.rt", "SERVING_MILLIS: u64 = {ms:_};"),
+        ("docs/DECISIONS.md", "\n{s} seconds for all of it"),
+        ("docs/OPERATING.md", "{s} seconds from a connection's begin to its last byte"),
+        ("README.md", "{s} seconds for a request and its reply"))),
+    Limit("the bytes of a request's head", (MESSAGES, "head_limit = {n}\n"), (
+        ("crates/http_messages/src/head.rt", "MAX_HEAD_BYTES: usize = {n:_};"),
+        ("plant/adsplice_rules/edge.py", "MOST_HEAD = {n:_}\n"),
+        ("docs/CONFORMANCE.md", "within the {n:,} bytes of a head"),
+        ("docs/OPERATING.md", "is longer than {n:,} bytes or"))),
+    Limit("the fields of a request", (MESSAGES, "field_limit = {n}\n"), (
+        ("crates/http_messages/src/head.rt", "MAX_FIELDS: usize = {n};"),
+        ("plant/adsplice_rules/edge.py", "MOST_FIELDS = {n}\n"),
+        ("docs/OPERATING.md", "or has more than {n} fields"))),
+    Limit("the bytes of a request's body", (MESSAGES, "body_limit = {n}\n"), (
+        ("crates/http_messages/src/head.rt", "MAX_BODY_BYTES: u64 = {n:_};"),
+        ("plant/adsplice_rules/edge.py", "MOST_BODY = {n:_}\n"))),
+    Limit("a channel's tolerance", ("crates/channel_spec/specs/Limits.antt", "max_tolerance = {n}\n"), (
+        ("crates/channel_spec/src/lib.rt", "MAX_TOLERANCE: u64 = {n:_};"),
+        ("plant/adsplice_plant/faults.py", "a duration of at most {s} s"),
+        ("docs/OPERATING.md", "`tolerance` is no duration, or is over {s} s"),
+        ("docs/PROOF.md", "The tolerance is at most {s} s"))),
+)
+LIMITS = (POD_SEGMENTS, DECIDED_BREAKS, PLAYLIST_BYTES, PLAYLIST_SEGMENTS, *OTHERS)
 
 
 def said(pattern: str, number: int) -> str:
     """What a place says of this number."""
-    return pattern.format(n=number, more=number + 1, less=number - 1)
+    return pattern.format(n=number, more=number + 1, less=number - 1, mib=number >> 20, ms=number // 10**6, s=number // 10**9)
 
 
 def text_of(path: str, top: str = TOP) -> str:

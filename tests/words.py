@@ -2,6 +2,7 @@
 from __future__ import annotations
 
 import os
+import re
 import shutil
 import signal
 import sys
@@ -10,7 +11,7 @@ from typing import NoReturn
 NO_KIT = ("the command rt isn't on the path. It is the Rattle kit's, which proves and compiles this program: "
           "CONTRIBUTING.md, 'Set up', says what the kit is and where it comes from")
 
-USAGE = "usage: adsplice vod BASE [DECISIONS] | adsplice live PORT COUNT"  # (what the program says of words that it does not take)
+MAIN = os.path.join(os.path.dirname(os.path.dirname(os.path.abspath(__file__))), "crates/adsplice/src/main.rt")
 
 
 def end(why: str, status: int = 2) -> NoReturn:
@@ -25,6 +26,12 @@ def help_at(words: list[str], said: str | None) -> None:
         signal.signal(signal.SIGPIPE, signal.SIG_DFL)  # (as when only the first lines are read)
         print((said or "").strip())
         sys.exit(0)
+
+
+def usage() -> str:
+    """What the program says of words that it doesn't take, as its source has it. Fails if that has none."""
+    with open(MAIN, encoding="utf-8") as it:
+        return re.findall(r'^const USAGE: &str = "(.*)\\n";$', it.read(), re.MULTILINE)[0]
 
 
 def program_at(word: str) -> str:

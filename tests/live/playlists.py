@@ -5,11 +5,9 @@ from datetime import datetime, timedelta
 
 OUT = "0xFC302000000000000000FFF00F05000000017FFFFE002932E000010000000000000000"  # leaves for 30 s
 NOT_OUT = "0xFC301B00000000000000FFF00A05000000017F5F00010000000000000000"  # returns
-IN = NOT_OUT
 AD = "http://ads.example/"
-# the durations of advertisements: n0 and n1 are a nanosecond off 10 s, z0 and z1 last nothing, and w0 fits no target of 10 s
-DURATIONS = {"a0": "8", "a1": "9.5", "x0": "10", "x1": "10", "x2": "10", "y0": "10", "n0": "9.999999999", "n1": "10.000000001",
-             "z0": "0", "z1": "0", "w0": "20"}
+# the durations of advertisements: n0 and n1 are a nanosecond off 10 s
+DURATIONS = {"a0": "8", "a1": "9.5", "x0": "10", "x1": "10", "x2": "10", "y0": "10", "n0": "9.999999999", "n1": "10.000000001"}
 
 # A segment that is written: the instant at which it begins, if it states one; its media and its discontinuity number;
 # how many discontinuities come before it.

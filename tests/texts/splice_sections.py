@@ -1,8 +1,9 @@
-"""Splice sections (ANSI/SCTE 35, splice_info_section), worked by hand, and the CRC_32 of bytes."""
+"""Splice sections (ANSI/SCTE 35, splice_info_section): the tables of worked values, and more that is worked by hand; and the
+CRC_32 of bytes."""
 from lines import question
+from tables import computed, rows
 
-NOT_HEX, TOO_SHORT, TABLE_ID, LENGTH, PROTOCOL = "S1 NotHex", "S2 TooShort", "S3 TableId", "S4 Length", "S5 Protocol"
-ENCRYPTED, COMMAND_LENGTH, TOO_LARGE = "S6 Encrypted", "S7 CommandLength", "S9 TooLarge"
+NOT_HEX, TOO_SHORT, TABLE_ID, LENGTH, TOO_LARGE = "S1 NotHex", "S2 TooShort", "S3 TableId", "S4 Length", "S9 TooLarge"
 
 # The CRC_32 of ISO/IEC 13818-1, Annex A, of the digits 1 to 9: the check value of CRC-32/MPEG-2 in the catalogue of
 # parametrised CRC algorithms.
@@ -14,32 +15,19 @@ OUT_FIELDS = ("pts_adjustment=0 cw=0 tier=4095 event=1 out=1 immediate=1 program
               " avails=0")
 OUT_CRC = 0x4B6FCB04
 
-# Sections with what they say: back into the network at once; a cancelled event; the highest time of 33 bits, for the
-# program; two components without times, and two of which one has a time that is left open; another command, with
-# descriptors, stuffing and every number in the heading.
+# Sections with what they say, beside those of the tables: back into the network at once; the highest time of 33 bits, for the
+# program; two components of one tag, without times.
 HEADING = "pts_adjustment=0 cw=0 tier=4095 event=1"
 IDS = "upid=1 avail=0 avails=0"
 SECTIONS = [
-    ("FC302000000000000000FFF00F05000000017FFFFE002932E000010000000000000000", OUT_FIELDS, 0),
-    ("FC301B00000000000000FFF00A05000000017F5F00010000000000000000", f"{HEADING} out=0 immediate=1 program {IDS}", 0),
-    ("FC301600000000000000FFF0050500000001FF000000000000", f"{HEADING} cancelled", 0),
+    ("FC301B00000000000000FFF00A05000000017F5F00010000000000000000", f"{HEADING} out=0 immediate=1 program {IDS}"),
     ("FC302000000000000000FFF00F05000000017FCFFFFFFFFFFF00010000000000000000",
-     f"{HEADING} out=1 immediate=0 program pts={0x1FFFFFFFF} {IDS}", 0),
+     f"{HEADING} out=1 immediate=0 program pts={0x1FFFFFFFF} {IDS}"),
     ("FC301E00000000000000FFF00D05000000017F9F02070700010000000000000000",
-     f"{HEADING} out=1 immediate=1 component=7 component=7 {IDS}", 0),
-    ("FC302400000000000000FFF01305000000017F8F0201FE00000009027F00010000000000000000",
-     f"{HEADING} out=1 immediate=0 component=1 pts=9 component=2 pts=open {IDS}", 0),
-    ("FC301900010203040506123005" "06FE000000010002AABBCCDEADBEEF",
-     f"pts_adjustment={0x102030405} cw=6 tier={0x123} command=6 bytes=0xfe00000001 descriptors=0xaabb stuffing=0xcc",
-     0xDEADBEEF),
+     f"{HEADING} out=1 immediate=1 component=7 component=7 {IDS}"),
 ]
+TABLES = ("Splices.SplicesAreRead", "Splices.LargeSplicesAreRead", "Splices.SpliceFaultsAreOrdered")
 
-# OUT with another byte at a place.
-TURNED = [(0, 0xFD, TABLE_ID), (2, 0x21, LENGTH), (3, 1, PROTOCOL), (4, 0x80, ENCRYPTED), (12, 0x0E, COMMAND_LENGTH),
-          (12, 0x10, COMMAND_LENGTH), (30, 1, COMMAND_LENGTH)]
-
-# A splice_insert may leave its length unsaid, another command may not.
-UNSAID = [(11, 0xFF), (12, 0xFF)]
 # Reserved bits are ignored.
 RESERVED = [(1, 0xC0), (4, 0x7E), (18, 0), (19, 0xF0), (20, 0x80)]
 
@@ -59,8 +47,7 @@ VALUES = [
 ]
 
 HEXADECIMAL = [
-    ("", NOT_HEX), ("0", NOT_HEX), ("FC", NOT_HEX), ("1xFC", NOT_HEX), ("0yFC", NOT_HEX), ("0xF", NOT_HEX), ("0xFG", NOT_HEX),
-    ("0x FC", NOT_HEX), ("0x", TOO_SHORT), ("0xFC", TOO_SHORT),
+    ("", NOT_HEX), ("0", NOT_HEX), ("0x FC", NOT_HEX),
     # More bytes than a section can have are refused, whatever their length says.
     *((f"0x{front}{'00' * 5000}{last}", fault) for front, last, fault in (
         ("FC3FFF", "00", LENGTH), ("FD3FFF", "00", TABLE_ID), ("FC3FFF", "0g", NOT_HEX), ("FC3FFF", "0", NOT_HEX))),
@@ -98,23 +85,68 @@ def turned(section, places):
     return bytes(bytes_of)
 
 
+# ---- the tables
+
+def time(given):
+    """A time of a table, which isn't there, is left open, or is said."""
+    return [f"pts={pts[1] if pts[1:] else 'open'}" for pts in (it["pts"] for it in given[1:])]
+
+
+def target(kind, of):
+    if kind == "Program":
+        return ["program", *time(of)]
+    return [word for tag, pts in of for word in (f"component={tag}", *time(pts))]
+
+
+def command(kind, *of):
+    """What a table says of a command, in the driver's words."""
+    if kind == "Other":
+        return [f"command={of[0]}", *named("bytes", of[1])]
+    event, = of
+    if event["body"] == ("None",):
+        return [f"event={event['event_id']}", "cancelled"]
+    body = event["body"][1]
+    lasts = [f"auto={it['auto_return']:d} ticks={it['ticks']}" for it in body["duration"][1:]]
+    return [f"event={event['event_id']} out={body['out_of_network']:d} immediate={body['immediate']:d}", *target(*body["target"]), *lasts,
+            f"upid={body['unique_program_id']} avail={body['avail_num']} avails={body['avails_expected']}"]
+
+
+def named(name, data):
+    return [f"{name}=0x{bytes(data).hex()}"] if data else []
+
+
+def as_written(section, said):
+    """A section of a table as it is written: its command's length is said, and bits that mean nothing are none."""
+    length = len(section) - 20 - len(said["descriptors"]) - len(said["stuffing"])
+    return turned(section, [(4, section[4] & 0x81), (11, section[11] & 0xF0 | length >> 8), (12, length & 0xFF)])
+
+
+def worked():
+    """The sections of the tables, each with what it says or its fault."""
+    for text, (word, it) in rows(*TABLES):
+        if word == "Err":
+            yield question("section", bytes(text), bytes(computed("scte35_codec", "Fault", "fault_text", it)).decode())
+            continue
+        words = [f"pts_adjustment={it['pts_adjustment']} cw={it['cw_index']} tier={it['tier']}", *command(*it["command"]),
+                 *named("descriptors", it["descriptors"]), *named("stuffing", it["stuffing"])]
+        section = bytes.fromhex(bytes(text[2:]).decode())
+        yield question("section", bytes(text), said(" ".join(words), it["crc"], as_written(section, it)))
+
+
+# ---- more by hand
+
 def sections():
-    for digits, fields, stated in SECTIONS:
+    for digits, fields in SECTIONS:
         section = bytes.fromhex(digits)
-        yield question("section", f"0x{digits}", said(fields, stated, section))
+        yield question("section", f"0x{digits}", said(fields, 0, section))
         yield question("rewritten", f"0x{digits}", hexadecimal(section))
-    for text in ("0x" + OUT.hex().upper(), "0X" + OUT.hex()):
+    for text in ("0x" + OUT.hex().upper(), "0X" + OUT.hex(), hexadecimal(turned(OUT, RESERVED))):
         yield question("section", text, said(OUT_FIELDS, 0, OUT))
-    for section in (turned(OUT, UNSAID), turned(OUT, RESERVED)):
-        yield question("section", hexadecimal(section), said(OUT_FIELDS, 0, OUT))
 
 
 def faults():
-    for place, byte, fault in TURNED:
-        yield question("section", hexadecimal(turned(OUT, [(place, byte)])), fault)
     for count in range(len(OUT)):
         yield question("section", hexadecimal(OUT[:count]), TOO_SHORT if count < 20 else LENGTH)
-    yield question("section", hexadecimal(turned(OUT, [*UNSAID, (13, 6)])), COMMAND_LENGTH)
 
 
 def longest():
@@ -137,6 +169,6 @@ def checks():
 
 
 LINES = [
-    *sections(), *faults(), *(question("section", text, fault) for text, fault in HEXADECIMAL), *longest(), *checks(),
+    *worked(), *sections(), *faults(), *(question("section", text, fault) for text, fault in HEXADECIMAL), *longest(), *checks(),
     *(question(word, words, answer) for word, words, answer in VALUES), ("memory", "A7 OutOfMemory S8 OutOfMemory"),
 ]
