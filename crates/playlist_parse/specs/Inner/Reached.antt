@@ -47,6 +47,10 @@ IsToBeTold base progress number left all =
 abbrev pub left_in : Reading → List (List ℕ)
 left_in reading = map line_text reading.lines
 
+-- a reading in its parts
+abbrev pub reading_at : Progress → List ((ℕ × ℕ) × List ℕ) → ℕ → Reading
+reading_at progress lines number = record { progress = progress; lines = lines; number = number }
+
 -- a reading comes from here to there, whatever follows the lines that are left
 abbrev pub LeadsTo : Parts → Reading → Reading → Type 0
 LeadsTo base old new =
