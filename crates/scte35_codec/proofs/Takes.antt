@@ -1,5 +1,5 @@
 -- What a reader took from the front of some bytes, and what it reads of fields that lie there.
-use Rattle.std.proofs.Common.{◌≡◌, ℕ, ◌+◌, ◌-◌, ◌*◌, ◌/◌, ◌%◌, ◌^◌, ◌<◌, ◌≤◌, Bool, true, false, cond, eqb, ltb, List, [], ◌++◌, length, take, drop, Result, Ok, Err, refl, sym, ap, subst, ◌∙◌, inl, inr, append_assoc, arith}
+use Rattle.std.proofs.Common.{◌≡◌, ℕ, ◌+◌, ◌-◌, ◌*◌, ◌/◌, ◌%◌, ◌^◌, ◌<◌, ◌≤◌, Bool, true, false, cond, eqb, ltb, List, ◌++◌, length, take, drop, Result, Ok, Err, refl, sym, ap, subst, ◌∙◌, inl, inr, append_assoc, arith}
 use Rattle.std.proofs.lemmas.Bool.{cases_lt, ltb-false, le-ltb}
 use Rattle.std.proofs.lemmas.List.{length-take, length-drop, take-append-drop, take-take, get_or_append_left, get_or-append_right}
 use Rattle.scte35_codec.specs.declared.fault.SpliceFault.{SpliceFault}
@@ -57,15 +57,6 @@ pub record Takes (fields : List Field) (bytes rest : List ℕ) : Type 0 where
   pub front_fits : IsBytes front
   pub rest_fits : IsBytes rest
   pub holds : Holds IsRead fields front
-
-pub Takes-none : (bytes : List ℕ) → IsBytes bytes → Takes [] bytes bytes
-Takes-none bytes fits = record {
-  front = [];
-  whole = refl;
-  front_fits = λ i. omega arith;
-  rest_fits = fits;
-  holds = record { count = refl; split = refl };
-}
 
 pub Takes-then : (fs gs : List Field) (a b c : List ℕ) → Takes fs a b → Takes gs b c → Takes (fs ++ gs) a c
 Takes-then fs gs a b c p q = record {
