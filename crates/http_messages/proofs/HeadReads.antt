@@ -1,11 +1,12 @@
 -- A head that was parsed is one that is taken.
-use Rattle.std.proofs.Common.{◌≡◌, ℕ, ◌≤◌, ◌<◌, List, [], ◌∷◌, ◌++◌, map, length, refl, ap, arith, length-append}
+use Rattle.std.proofs.Common.{◌≡◌, ℕ, ◌≤◌, ◌<◌, List, [], ◌∷◌, ◌++◌, map, length, refl, sym, ap, ◌∙◌, arith, length-append}
 use Rattle.std.specs.Prelude.{suc, Some, unwrap_or, option_copied}
 use Rattle.httparse.specs.declared.borrowed.Header.{Header}
 use Rattle.httparse.specs.declared.borrowed.Request.{Request}
 use Rattle.httparse.specs.Grammar.{RequestHead, Field, IsToken, is_token_byte}
 use Rattle.http_header.specs.Token as fields
 use Rattle.httparse.specs.Borrowed.{HoldsSomeRequest, header_parts, AreFields}
+use Rattle.httparse.specs.Spans.{name_and_value}
 use Rattle.httparse.proofs.GrammarLemmas.{request_prefix_free}
 use Rattle.http_messages.specs.declared.head.Head.{Head}
 use Rattle.http_messages.specs.Limits.{head_limit, field_limit}
@@ -26,14 +27,14 @@ length_map f [] = refl
 length_map f (x ∷ xs) = ap suc (length_map f xs)
 
 few_fields : (headers : List Header) (fields : List Field) → AreFields headers fields → length headers ≡ length fields
-few_fields headers fields e = grind (arith, length_map)
+few_fields headers fields e = sym (length_map header_parts headers) ∙ ap length e ∙ length_map name_and_value fields
 
 front_fits : (bytes front rest : List ℕ) → bytes ≡ front ++ rest → length front ≤ length bytes
 front_fits bytes front rest e = omega (arith, ap length e, length-append front rest)
 
 pub head_is_at : (bytes : List ℕ) (r : Request) (head : Head) → length bytes ≤ head_limit → length r.headers.now ≤ field_limit
     → HoldsSomeRequest bytes r head.len → IsMade r head → IsHeadAt bytes head
-head_is_at bytes r head short few p made = grind (arith, some_same, front_fits, few_fields)
+head_is_at bytes r head short few p made = grind (arith, few_fields, front_fits)
 
 -- more headers than are taken
 pub too_many : (bytes : List ℕ) (r : Request) (len : ℕ) → field_limit < length r.headers.now → HoldsSomeRequest bytes r len
@@ -50,4 +51,4 @@ unfolding is_token_byte fields.is_token_byte
 same_token bytes t = t
 
 pub is_token_of : (bytes : List ℕ) (r : Request) (len : ℕ) (method : List ℕ) → HoldsSomeRequest bytes r len → option_copied r.method ≡ Some method → fields.IsToken method
-is_token_of bytes r len method p e = grind (arith, some_same, same_token)
+is_token_of bytes r len method p e = grind (arith, same_token)

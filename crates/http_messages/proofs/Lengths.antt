@@ -1,5 +1,5 @@
 -- What the fields say of a length, field by field.
-use Rattle.std.proofs.Common.{◌≡◌, ℕ, Bool, true, false, List, [], ◌∷◌, filter, map, codes, drop, ◌+◌, ◌<◌, length, get_or, drop-cons, arith}
+use Rattle.std.proofs.Common.{◌≡◌, ℕ, Bool, true, false, List, [], ◌∷◌, filter, map, codes, drop, cond, ap, ◌∙◌, ◌+◌, ◌<◌, length, get_or, drop-cons, suc, arith}
 use Rattle.http_messages.specs.declared.head.Framing.{Framing}
 use Rattle.http_messages.specs.declared.head.Framing.TheVariants.{Refused}
 use Rattle.http_messages.specs.declared.refusal.Refusal.TheVariants.{BadRequest, LengthRequired}
@@ -22,9 +22,13 @@ pub record IsSaidSoFar (fields later : List Header) (said : Framing) (any : Bool
   pub none : any ≡ false → said ≡ Refused LengthRequired
   pub same : stated_by (lengths fields) ≡ said_after said any (lengths later)
 
+other_first : (x : Header) (later : List Header) → is_named (codes "content-length") (header_parts x) ≡ false
+    → lengths (x ∷ later) ≡ lengths later
+other_first x later e = ap (λ b. cond b (header_parts x ∷ lengths later) (lengths later)) e
+
 pub goes_on : (fields later : List Header) (x : Header) (said : Framing) (any : Bool) → IsSaidSoFar fields (x ∷ later) said any
     → is_named (codes "content-length") (header_parts x) ≡ false → IsSaidSoFar fields later said any
-goes_on fields later x said any s e = grind arith
+goes_on fields later x said any s e = record { none = s.none; same = s.same ∙ ap (said_after said any) (other_first x later e) }
 
 -- the same at a place
 pub says_one_at : (fields : List Header) (i : ℕ) (x : Header) (said new_said : Framing) (any new_any : Bool) → drop i fields ≡ x ∷ drop (i + 1) fields
@@ -38,4 +42,4 @@ pub goes_on_at : (fields : List Header) (i : ℕ) (x : Header) (said new_said : 
 goes_on_at fields i x said new_said any new_any d s n f g = grind arith
 
 pub at_place : {A : Type 0} (l : List A) (j : ℕ) (d : A) → j < length l → drop j l ≡ get_or l j d ∷ drop (j + 1) l
-at_place l j d h = grind (arith, drop-cons, get_or)
+at_place l j d h = let e : suc j ≡ j + 1 = omega arith in drop-cons l j d h ∙ ap (λ k. get_or l j d ∷ drop k l) e

@@ -27,12 +27,12 @@ front_of_second (Some x) (Some y) (Some z) one two h g =
 
 -- all of the first, and then as the second is handed out
 pub taken_both : {A E : Type 0} (r : Result A E) (a b c : SinkStand) (one two : List ℕ) → TookAll a b one → OnOk r (TookAll b c two) → OnOk r (TookAll a c (one ++ two))
-taken_both k a b c one two h g = grind (arith, Appends-trans)
+taken_both r a b c one two h g = grind (arith, Appends-trans)
 
 pub front_of_both : {A E : Type 0} (r : Result A E) (a b c : SinkStand) (one two : List ℕ) → TookAll a b one → OnErr r (FailedAfterFront b c two) → OnErr r (FailedAfterFront a c (one ++ two))
-front_of_both k a b c one two h g = grind (arith, front_of_second)
+front_of_both r a b c one two h g = grind (arith, front_of_second)
 
 -- the text of a reply, from its head as it is handed out
 pub same_text : (bytes text head body : List ℕ) (with_body : Bool) (reply : Reply) → bytes ≡ text → text ≡ head → head ≡ head_text reply → body ≡ body_sent with_body reply
     → bytes ++ body ≡ text_sent with_body reply
-same_text bytes text head body with_body reply a b c d = grind arith
+same_text bytes text head body with_body reply a b c d = ap (λ l. l ++ body) (a ∙ b ∙ c) ∙ ap (λ l. head_text reply ++ l) d

@@ -1,10 +1,11 @@
 -- What bytes ask, and what they ask with more after them.
-use Rattle.std.proofs.Common.{◌≡◌, ℕ, List, [], ◌++◌, take, sym, ap, subst, ◌∙◌, inl, inr, arith, length-append, true≢false, append_assoc}
+use Rattle.std.proofs.Common.{◌≡◌, ℕ, List, [], ◌++◌, take, sym, ap, subst, ◌∙◌, inl, inr, arith, true≢false, append_assoc}
 use Rattle.std.specs.Prelude.{Option, Some, None, IsSomeAnd}
 use Rattle.std.specs.Io.KnownBytes.{Consumes}
 use Rattle.byte_streams.specs.Stands.{SourceStand}
 use Rattle.std.proofs.KnownBytes.{Consumes-trans}
-use Rattle.std.proofs.lemmas.List.{take-append-le, append-nil}
+use Rattle.std.proofs.lemmas.List.{append-nil}
+use Rattle.std.proofs.lemmas.Grind.{common_steps}
 use Rattle.httparse.specs.Grammar.{RequestHead}
 use Rattle.httparse.proofs.GrammarLemmas.{request_unique}
 use Rattle.http_messages.specs.declared.message.Request.{Request}
@@ -16,26 +17,15 @@ use Rattle.http_messages.specs.declared.receiving.Asked.{Asked}
 use Rattle.http_messages.specs.declared.receiving.Asked.TheVariants as asked
 use Rattle.http_messages.specs.Requests.{BeginsWith, HasNoHead, NeverHasHead, Asks, IsRefusedFor, framing_said}
 use Rattle.http_messages.specs.Received.{IsAsked, Holds, HasAsked}
-use Rattle.http_messages.proofs.Fronts.{begins_more, count_in, is_body}
+use Rattle.http_messages.proofs.Fronts.{count_in, is_body}
 
 -- ---- more bytes
 
-abbrev request_with : RequestHead → List ℕ → Request
-request_with h body = record { method = h.method; target = h.target; body = body }
-
 asks_more : (bytes more : List ℕ) (request : Request) → Asks bytes request → Asks (bytes ++ more) request
-asks_more bytes more request a = record {
-  h = a.h;
-  rest = a.rest ++ more;
-  begins = begins_more bytes more a.h a.rest a.begins;
-  count = a.count;
-  framing = a.framing;
-  whole = omega (arith, a.whole, length-append a.rest more);
-  is = a.is ∙ ap (request_with a.h) (sym (take-append-le a.count a.rest more a.whole));
-}
+asks_more bytes more request a = grind (arith, common_steps)
 
 refused_more : (bytes more : List ℕ) (refusal : Refusal) → IsRefusedFor bytes refusal → IsRefusedFor (bytes ++ more) refusal
-refused_more bytes more refusal h = grind (arith, inl, begins_more, inr, append_assoc)
+refused_more bytes more refusal h1 = grind (arith, append_assoc)
 
 asked_more : (bytes more : List ℕ) (it : Asked) → IsAsked bytes it → IsAsked (bytes ++ more) it
 asked_more bytes more (asked.Request request) a = asks_more bytes more request a
