@@ -6,7 +6,7 @@ use Rattle.std.proofs.lemmas.Str.{IsUtf8-from_ascii}
 use Rattle.std.proofs.Math.Seq.{take-append-add}
 use Rattle.std.proofs.lemmas.Grind.{common_steps}
 use Rattle.httparse.specs.Grammar.{RequestHead, IsRequestHead, ReadsRequest, print_request, print_blank, is_token_byte, lf, HasNoRequest}
-use Rattle.httparse.proofs.GrammarLemmas.{request_unique, ReadsRequest-append, print_request-append}
+use Rattle.httparse.proofs.GrammarLemmas.{request_unique, print_request-append}
 use Rattle.http_messages.specs.declared.head.Framing.{Framing}
 use Rattle.http_messages.specs.declared.head.Framing.TheVariants.{Body, Refused}
 use Rattle.http_messages.specs.declared.head.Head.{Head}
@@ -18,9 +18,6 @@ use Rattle.http_messages.specs.Received.{IsHeadAt}
 use Rattle.http_messages.specs.Inner.Received.{IsReadAs, IsJudgedAs}
 
 -- ---- more bytes
-
-pub begins_more : (bytes more : List ℕ) (h : RequestHead) (rest : List ℕ) → BeginsWith bytes h rest → BeginsWith (bytes ++ more) h (rest ++ more)
-begins_more bytes more h rest b = record { reads = ReadsRequest-append bytes h rest more b.reads; short = b.short; few = b.few }
 
 -- what follows a head is what its length leaves
 begins_at : (bytes : List ℕ) (h : RequestHead) (rest : List ℕ) (n : ℕ) → BeginsWith bytes h rest → n ≡ length (print_request h) → BeginsWith bytes h (drop n bytes)

@@ -8,19 +8,11 @@ use Rattle.http_header.specs.Token as fields
 use Rattle.httparse.specs.Borrowed.{HoldsSomeRequest, header_parts, AreFields}
 use Rattle.httparse.specs.Spans.{name_and_value}
 use Rattle.httparse.proofs.GrammarLemmas.{request_prefix_free}
-use Rattle.http_messages.specs.declared.head.Head.{Head}
-use Rattle.http_messages.specs.Limits.{head_limit, field_limit}
-use Rattle.http_messages.specs.Requests.{NeverHasHead, framing_of}
-use Rattle.http_messages.specs.Received.{IsHeadAt}
+use Rattle.http_messages.specs.Limits.{field_limit}
+use Rattle.http_messages.specs.Requests.{NeverHasHead}
 
 some_same : (a b : List ℕ) → Some a ≡ Some b → a ≡ b
 some_same a b e = ap (λ o. unwrap_or o []) e
-
--- what was parsed, with what was made of it
-pub record IsMade (r : Request) (head : Head) : Type 0 where
-  pub method : option_copied r.method ≡ Some head.method
-  pub target : option_copied r.path ≡ Some head.target
-  pub framing : head.framing ≡ framing_of head.method (map header_parts r.headers.now)
 
 length_map : {A B : Type 0} (f : A → B) (xs : List A) → length (map f xs) ≡ length xs
 length_map f [] = refl
@@ -31,10 +23,6 @@ few_fields headers fields e = sym (length_map header_parts headers) ∙ ap lengt
 
 front_fits : (bytes front rest : List ℕ) → bytes ≡ front ++ rest → length front ≤ length bytes
 front_fits bytes front rest e = omega (arith, ap length e, length-append front rest)
-
-pub head_is_at : (bytes : List ℕ) (r : Request) (head : Head) → length bytes ≤ head_limit → length r.headers.now ≤ field_limit
-    → HoldsSomeRequest bytes r head.len → IsMade r head → IsHeadAt bytes head
-head_is_at bytes r head short few p made = grind (arith, few_fields, front_fits)
 
 -- more headers than are taken
 pub too_many : (bytes : List ℕ) (r : Request) (len : ℕ) → field_limit < length r.headers.now → HoldsSomeRequest bytes r len

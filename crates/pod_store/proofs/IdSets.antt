@@ -1,5 +1,5 @@
 -- Texts by their references, as a set of IDs keeps them.
-use Rattle.std.proofs.Common.{◌≡◌, ℕ, Bool, true, false, cond, not, ◌||◌, List, [], ◌∷◌, ◌++◌, Bor, refl, ap, sym, ◌∙◌, arith}
+use Rattle.std.proofs.Common.{◌≡◌, ℕ, Bool, true, false, cond, not, ◌||◌, List, [], ◌∷◌, ◌++◌, Bor, refl, ap, arith}
 use Rattle.std.specs.Prelude.{bytes_eq}
 use Rattle.std.specs.List.{list_any}
 use Rattle.std.proofs.lemmas.List.Folds.{list_any-append}
@@ -26,7 +26,7 @@ inserted_by false texts id = texts_after texts id
 
 -- what stands after an ID is inserted, if it is told whether it stood there
 pub inserted : (texts : List (Bor (List ℕ))) (id : Bor (List ℕ)) → texts_of (insert_key same_text texts id) ≡ cond (not (is_one_of (texts_of texts) id.now)) (texts_of texts ++ id.now ∷ []) (texts_of texts)
-inserted texts id = inserted_by (list_any (same_text id) texts) texts id ∙ ap (λ b. cond (not b) (texts_of texts ++ id.now ∷ []) (texts_of texts)) (sym (found id.now texts))
+inserted texts id = grind (arith, inserted_by, found)
 
 or_false : (b : Bool) → (b || false) ≡ b
 or_false true = refl

@@ -17,7 +17,7 @@ pub itself : (ids : List (List ℕ)) → NameTheSame ids ids
 itself ids = record { ids = λ id. refl; copies = λ store. refl }
 
 pub and_then : (a b c : List (List ℕ)) → NameTheSame a b → NameTheSame b c → NameTheSame a c
-and_then a b c h k = record { ids = λ id. h.ids id ∙ k.ids id; copies = λ store. h.copies store ∙ k.copies store }
+and_then a b c h k = grind arith
 
 pub with_more : (a b more : List (List ℕ)) → NameTheSame a b → NameTheSame (a ++ more) (b ++ more)
 with_more a b more h = grind (arith, fold-append, list_any-append)

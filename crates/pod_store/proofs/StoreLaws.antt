@@ -1,7 +1,7 @@
 -- The laws of the store.
 use Rattle.std.proofs.lemmas.Grind.{common_steps}
 use Rattle.std.proofs.Common.{◌≡◌, ℕ, zero, suc, ◌+◌, ◌≤◌, Bool, true, false, cond, not, ◌||◌, List, [], ◌∷◌, ◌++◌, length, map, filter, refl, ap, sym, ◌∙◌, arith, Some, None}
-use Rattle.std.specs.Prelude.{Option, Ok, fold, is_some, nat_lt, bytes_eq}
+use Rattle.std.specs.Prelude.{Option, Ok, fold, is_some, bytes_eq}
 use Rattle.std.specs.List.{list_any, list_all}
 use Rattle.std.proofs.lemmas.Bool.{and_parts, and_from, or_parts}
 use Rattle.std.proofs.lemmas.Slice.Eq.{bytes_eq-Decides}
@@ -9,10 +9,10 @@ use Rattle.playlist_model.specs.LookBack.{or_earlier}
 use Rattle.pod_store.specs.Limits.{most_breaks}
 use Rattle.pod_store.specs.Pods.{Pod, Decision}
 use Rattle.pod_store.specs.declared.Decisions.TheVariants.{Breaks, Withdraw, Fallback, NoFallback}
-use Rattle.pod_store.specs.declared.fault.DecisionKind.TheVariants.{Used, Full, Unknown}
+use Rattle.pod_store.specs.declared.fault.DecisionKind.TheVariants.{Used, Unknown}
 use Rattle.spec_words.specs.Outcomes.{refuse_if}
 use Rattle.pod_store.specs.Outcome.{fault_at, nowhere}
-use Rattle.pod_store.specs.Store.{Entry, Store, with_entries, has_id, entry_for, own_pod, pod_for, is_used, is_used_entry, has_own, is_named, is_named_if_any, names_used, count_with, put, without, marked_used, with_used, with_all, withdrawn, copied_last, with_copy, with_copies, adopted, is_one_of, is_held, held_in_use, kept_in_use}
+use Rattle.pod_store.specs.Store.{Entry, Store, with_entries, has_id, entry_for, own_pod, pod_for, is_used, is_used_entry, has_own, is_named, is_named_if_any, names_used, put, without, marked_used, with_used, with_all, withdrawn, copied_last, with_copy, with_copies, adopted, is_one_of, is_held, held_in_use, kept_in_use}
 use Rattle.pod_store.proofs.Copies.{none_there, entry_in, pod_if, pod_at, copies_pod, other_stands, entry_stays}
 use Rattle.pod_store.specs.Laws.{Call, decide, keep_in_use, accepted, after_call, after_calls, are_distinct, StaysSmall, UsedPodsStay, LastPodStands, KeepingIsAdopting, pod_in, pod_after}
 
@@ -68,7 +68,7 @@ distinct_without id (e ∷ store) h = grind (arith, distinct_without id store, n
 -- a break that stands last
 stands_last : (id : List ℕ) (store : List Entry) (x : Entry) → stands id (store ++ (x ∷ [])) ≡ (stands id store || bytes_eq id x.id)
 stands_last id [] x = or_false _
-stands_last id (e ∷ store) x = ap (λ b. bytes_eq id e.id || b) (stands_last id store x) ∙ or_grouped (bytes_eq id e.id) (stands id store) (bytes_eq id x.id)
+stands_last id (e ∷ store) x = grind (arith, stands_last id store x)
 
 distinct_last : (store : List Entry) (x : Entry) → are_distinct store ≡ true → stands x.id store ≡ false → are_distinct (store ++ (x ∷ [])) ≡ true
 distinct_last [] x h n = refl
@@ -109,7 +109,7 @@ count_without id (e ∷ store) = grind (arith, count_without id store)
 
 count_last : (store : List Entry) (x : Entry) → is_named x ≡ false → count (store ++ (x ∷ [])) ≡ count store
 count_last [] x h = counted x [] ∙ ap (λ b. plus b zero) h
-count_last (e ∷ store) x h = counted e (store ++ (x ∷ [])) ∙ (ap (plus (is_named e)) (count_last store x h) ∙ sym (counted e store))
+count_last (e ∷ store) x h = grind (arith, count_last store x h)
 
 count_put : (store : List Entry) (d : Decision) → count (put store d) ≡ cond (named_in d.0 store) (count store) (suc (count store))
 count_put [] d = refl
@@ -223,7 +223,7 @@ stays_small (call ∷ earlier) = small_after call (after_calls earlier) (stays_s
 -- ---- used pods
 
 put_other : (id : List ℕ) (d : Decision) (store : List Entry) → bytes_eq id d.0 ≡ false → entry_in (put store d) id ≡ entry_in store id
-put_other id d [] other = ap (λ b. cond b (Some (record { id = d.0; pod = d.1; used = false; copied = false })) None) other
+put_other id d [] other = grind arith
 put_other id d (e ∷ store) other = grind (arith, put_other id d store other, bytes_eq-Decides)
 
 drop_other : (id other : List ℕ) (store : List Entry) → bytes_eq id other ≡ false → entry_in (without other store) id ≡ entry_in store id
@@ -241,22 +241,7 @@ put_others id (d ∷ ds) store first u h =
     put_others id ds (put store d) first u p.1 ∙ put_other id d store (apart first id d.0 u p.0)
 
 pub used_pods_stay : UsedPodsStay
-used_pods_stay store id u (Breaks ds) = by (list_any (names_used store) ds) (nat_lt most_breaks (count_with store ds)) refl
-  where
-    by : (used full : Bool) → list_any (names_used store) ds ≡ used
-        → entry_for (accepted store (refuse_if used (fault_at nowhere Used) (refuse_if full (fault_at nowhere Full) (Ok (with_entries store (fold put store.entries ds)))))) id ≡ entry_for store id
-    by true full e = refl
-    by false true e = refl
-    by false false e = put_others id ds store.entries store u e
-used_pods_stay store id u (Withdraw other) = by (not (has_own store other)) (is_used store other) refl
-  where
-    by : (unknown used : Bool) → is_used store other ≡ used
-        → entry_for (accepted store (refuse_if unknown (fault_at nowhere Unknown) (refuse_if used (fault_at nowhere Used) (Ok (with_entries store (without other store.entries)))))) id ≡ entry_for store id
-    by true used e = refl
-    by false true e = refl
-    by false false e = drop_other id other store.entries (apart store id other u e)
-used_pods_stay store id u (Fallback pod) = refl
-used_pods_stay store id u NoFallback = refl
+used_pods_stay store id u h = grind (arith, put_others, drop_other, apart)
 
 -- ---- what a break has
 
@@ -343,7 +328,7 @@ stands_used other id [] = refl
 stands_used other id (e ∷ store) = grind (arith, stands_used other id store)
 
 own_used : (store : Store) (id other : List ℕ) → has_own (with_used id store) other ≡ has_own store other
-own_used store id other = found_stands other (marked_used id store.entries) ∙ (stands_used other id store.entries ∙ sym (found_stands other store.entries))
+own_used store id other = grind (arith, found_stands, stands_used)
 
 used_before : (id : List ℕ) (store later : List Entry) → stands id store ≡ true → marked_used id (store ++ later) ≡ marked_used id store ++ later
 used_before id [] later h = absurd (cc)

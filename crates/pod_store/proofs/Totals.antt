@@ -32,9 +32,4 @@ ads_small (ad ∷ later) h =
 
 -- at most so many segments of less than 1,000,000 s
 pub ads_total_is_small : (ads : List Ad) → ads_keep ads ≡ true → ads_total ads ≤ most_pod_segments * 10 ^ 15
-ads_total_is_small ads h =
-    let p = and_parts _ _ h in
-    bounded (ads_total ads) (sum (map segment_count ads)) (ads_small ads p.1) (leb-true _ _ (and_parts _ _ p.0).1)
-  where
-    bounded : (t n : ℕ) → t ≤ longest n → n ≤ most_pod_segments → t ≤ most_pod_segments * 10 ^ 15
-    bounded t n g h = omega (arith, g, h)
+ads_total_is_small ads h = grind (arith, and_parts, sum, ads_small, leb-true)

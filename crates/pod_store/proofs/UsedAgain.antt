@@ -59,8 +59,7 @@ none_of id (pair ∷ later) h = none_cond id pair later pair.1.used h.0 (none_of
 
 own_told : (pair : String Global × StoredPod) (later : Pairs) (used : Bool) → is_one_of (used_ids later) (string_bytes pair.0) ≡ false
     → is_one_of (cond used (string_bytes pair.0 ∷ used_ids later) (used_ids later)) (string_bytes pair.0) ≡ used
-own_told pair later true h = ap (λ b. b || is_one_of (used_ids later) (string_bytes pair.0)) (itself (string_bytes pair.0))
-own_told pair later false h = h
+own_told pair later used h = grind (arith, string_bytes, itself)
 
 more_told : (pair : String Global × StoredPod) (ids : List (List ℕ)) (used : Bool) (pairs : Pairs) → AllByRecursion (λ (j : String Global). bytes_eq (string_bytes pair.0) (string_bytes j) ≡ false) (keys_of pairs)
     → AllByRecursion (IsTold ids) pairs → AllByRecursion (IsTold (cond used (string_bytes pair.0 ∷ ids) ids)) pairs
@@ -71,20 +70,15 @@ more_told pair ids true (p ∷ later) apart h = grind (arith, more_told pair ids
 all_told : (pairs : Pairs) → IsDistinct string_eq (keys_of pairs) → AllByRecursion (IsTold (used_ids pairs)) pairs
 unfolding IsDistinct
 all_told [] d = tt
-all_told (pair ∷ later) d = (own_told pair later pair.1.used (none_of (string_bytes pair.0) later d.0), more_told pair (used_ids later) pair.1.used later d.0 (all_told later d.1))
-
-held_cond : (ids : List (List ℕ)) (e : Entry) (later : List Entry) (used : Bool) → is_one_of ids e.id ≡ used → e.used ≡ used → held_in_use ids later ≡ later
-    → held_in_use ids (e ∷ later) ≡ e ∷ later
-held_cond ids e later used told is rec = grind arith
+all_told (pair ∷ later) d = grind (arith, own_told, none_of, string_bytes, more_told, all_told later d.1)
 
 held_same : (ids : List (List ℕ)) (pairs : Pairs) → AllByRecursion (IsTold ids) pairs → held_in_use ids (map entry_of pairs) ≡ map entry_of pairs
 held_same ids [] h = refl
-held_same ids (pair ∷ later) h = held_cond ids (entry_of pair) (map entry_of later) pair.1.used h.0 refl (held_same ids later h.1)
+held_same ids (pair ∷ later) h = grind (arith, held_same ids later h.1)
 
 stays : (pairs : Pairs) (fallback : Option Pod) → IsDistinct string_eq (keys_of pairs) → kept_in_use (used_ids pairs) (store_of pairs fallback) ≡ store_of pairs fallback
 stays pairs fallback d = grind (arith, all_told, copies_none, held_same, own_there)
 
 pub used_again : (pairs : Pairs) (fallback : Option Pod) (store : Store) (ids : List (List ℕ)) → store_of pairs fallback ≡ store → IsDistinct string_eq (keys_of pairs) → ids ≡ used_ids pairs
     → store ≡ kept_in_use ids store
-used_again pairs fallback store ids view_is d is =
-    sym (ap (λ s. kept_in_use ids s) (sym view_is) ∙ (ap (λ i. kept_in_use i (store_of pairs fallback)) is ∙ (stays pairs fallback d ∙ view_is)))
+used_again pairs fallback store ids view_is d is = grind (arith, store_of, stays)

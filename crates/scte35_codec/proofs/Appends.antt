@@ -1,11 +1,8 @@
 -- What writers add at the end of some bytes.
-use Rattle.std.proofs.Common.{◌≡◌, ℕ, zero, suc, ◌+◌, ◌-◌, ◌*◌, ◌/◌, ◌%◌, ◌^◌, ◌<◌, ◌≤◌, cond, List, [], ◌∷◌, ◌++◌, length, take, drop, Result, Ok, Err, is_ok, refl, sym, ap, subst, ◌∙◌, inl, append_assoc, arith}
-use Rattle.std.specs.Prelude.{OnOk, Bool, true, Option, Some, None, is_none, is_some, not}
+use Rattle.std.proofs.Common.{◌≡◌, ℕ, zero, suc, ◌+◌, ◌-◌, ◌*◌, ◌/◌, ◌%◌, ◌^◌, ◌≤◌, cond, List, [], ◌∷◌, ◌++◌, length, take, drop, Result, Ok, Err, is_ok, refl, sym, ap, subst, ◌∙◌, inl, append_assoc, arith}
+use Rattle.std.specs.Prelude.{OnOk, Bool, true, Option, is_none, is_some, not}
 use Rattle.std.specs.List.{flat_map}
 use Rattle.std.specs.Int.{byte_at, bytes_high_first}
-use Rattle.std.proofs.Math.Nat.{mod-eq_of_lt}
-use Rattle.std.proofs.lemmas.Bool.{not-true, not-false}
-use Rattle.std.proofs.lemmas.Nat.{mod-pow-add, mod_below}
 use Rattle.std.proofs.lemmas.List.{take_all}
 use Rattle.scte35_codec.specs.Layout.{Is, Reserved, Field, width, bytes_of, IsBytes, number, Splits, Holds, IsRead, IsWritten}
 use Rattle.scte35_codec.specs.declared.info.SpliceTime.{SpliceTime}
@@ -13,7 +10,7 @@ use Rattle.scte35_codec.specs.declared.info.InsertBody.{InsertBody}
 use Rattle.scte35_codec.specs.Section.{bodies_of, cancel_fields, Command, Insert, Other, Section, command_fields, StatesLength, section, IsSection, Target, Components, component, target_fields}
 use Rattle.scte35_codec.specs.Writing.{command_length, written_fields, has_section}
 use Rattle.scte35_codec.specs.Inner.Writing.{Appends}
-use Rattle.scte35_codec.proofs.Fields.{bytes-bits, Holds-join}
+use Rattle.scte35_codec.proofs.Fields.{Holds-join}
 use Rattle.scte35_codec.proofs.Takes.{IsBytes-append}
 use Rattle.scte35_codec.proofs.Sections.{bytes_hold, width_of_bytes}
 use Rattle.scte35_codec.proofs.Fits.{is_proper, kept}
@@ -29,28 +26,6 @@ length-bytes (suc k) n = ap suc (length-bytes k n)
 pub byte_is : (k n : ℕ) → byte_at k n ≡ n / 256 ^ k % 256
 byte_is zero n = omega arith
 byte_is (suc k) n = refl
-
-byte_below : (k n : ℕ) → byte_at k n < 256
-byte_below k n = rw byte_is (mod_below (n / 256 ^ k) 256 (omega arith))
-
-pub IsBytes-bytes : (k n : ℕ) → IsBytes (bytes_high_first k n)
-IsBytes-bytes zero n i = omega arith
-IsBytes-bytes (suc k) n zero = byte_below k n
-IsBytes-bytes (suc k) n (suc i) = IsBytes-bytes k n i
-
-number_mod : (k n : ℕ) → number (bytes_high_first k n) ≡ n % 2 ^ (8 * k)
-number_mod zero n = omega arith
-number_mod (suc k) n =
-    let rest = bytes_high_first k n in
-    let bits = bytes-bits k in
-    let unit : 256 ^ length rest ≡ 2 ^ (8 * k) = ap (λ (m : ℕ). 256 ^ m) (length-bytes k n) ∙ bits in
-    let top : byte_at k n ≡ n / 2 ^ (8 * k) % 2 ^ 8 = byte_is k n ∙ ap (λ (m : ℕ). n / m % 256) bits in
-    let more : 8 + 8 * k ≡ 8 * suc k = omega arith in
-    let parts : (n / 2 ^ (8 * k) % 2 ^ 8) * 2 ^ (8 * k) + n % 2 ^ (8 * k) ≡ n % 2 ^ (8 + 8 * k) = sym (mod-pow-add n 8 (8 * k)) in
-    ap (λ (m : ℕ). byte_at k n * m + number rest) unit ∙ ap (λ (m : ℕ). m * 2 ^ (8 * k) + number rest) top ∙ ap (λ (m : ℕ). (n / 2 ^ (8 * k) % 2 ^ 8) * 2 ^ (8 * k) + m) (number_mod k n) ∙ parts ∙ ap (λ (m : ℕ). n % 2 ^ m) more
-
-pub number_of_bytes : (k n : ℕ) → n < 2 ^ (8 * k) → number (bytes_high_first k n) ≡ n
-number_of_bytes k n below = number_mod k n ∙ mod-eq_of_lt below
 
 -- the lowest bytes of a number
 pub lowest_bytes : (j k n : ℕ) → drop j (bytes_high_first (j + k) n) ≡ bytes_high_first k n
@@ -88,14 +63,6 @@ Appends-then {fs} {gs} {a} {b} {c} p q = record {
 pub Appends-is : {fs gs : List Field} {a b : List ℕ} → fs ≡ gs → Appends fs a b → Appends gs a b
 Appends-is {fs} {gs} {a} {b} e h = subst (λ (x : List Field). Appends x a b) e h
 
-pub group_appends : (count : ℕ) (fields : List Field) (n : ℕ) (old new : List ℕ) → new ≡ old ++ bytes_high_first count n → 8 * count ≡ width fields → n < 2 ^ (8 * count) → Splits IsWritten fields n → Appends fields old new
-group_appends count fields n old new whole size below split = record {
-  added = bytes_high_first count n;
-  whole = whole;
-  bytes = IsBytes-bytes count n;
-  holds = record { count = ap (λ (k : ℕ). 8 * k) (length-bytes count n) ∙ size; split = subst (λ (m : ℕ). Splits IsWritten fields m) (sym (number_of_bytes count n below)) split };
-}
-
 pub bytes_append : (bs old new : List ℕ) → new ≡ old ++ bs → IsBytes bs → Appends (bytes_of bs) old new
 bytes_append bs old new whole fits = record { added = bs; whole = whole; bytes = fits; holds = bytes_hold IsWritten (λ v n e. e) bs fits }
 
@@ -109,8 +76,7 @@ counted_appends r cs ds n t a b c len same is count added =
 
 -- an event is cancelled exactly if it has no body
 pub cancelled : (b : Option InsertBody) (x : Bool) (old new : List ℕ) → is_some b ≡ not x → Appends (cancel_fields x) old new → Appends (cancel_fields (is_none (bodies_of b))) old new
-cancelled None x old new e h = subst (λ (y : Bool). Appends (cancel_fields y) old new) (not-false x (sym e)) h
-cancelled (Some b) x old new e h = subst (λ (y : Bool). Appends (cancel_fields y) old new) (not-true x (sym e)) h
+cancelled b x old new e h = grind arith
 
 -- ---- What is written is read
 

@@ -1,13 +1,13 @@
 -- A section that is written: its front, and then a CRC_32.
-use Rattle.std.proofs.Common.{◌≡◌, ℕ, ◌/◌, ◌^◌, ◌<◌, true, List, [], ◌∷◌, ◌++◌, refl, sym, ap, ◌∙◌, append_assoc, arith}
+use Rattle.std.proofs.Common.{◌≡◌, ℕ, ◌^◌, ◌<◌, true, List, [], ◌∷◌, ◌++◌, refl, append_assoc, arith}
 use Rattle.std.specs.Int.{bytes_high_first}
 use Rattle.scte35_codec.specs.Layout.{Field, Is}
 use Rattle.scte35_codec.specs.Section.{Section, start_fields, heading_fields, command_fields, after_length, section}
 use Rattle.scte35_codec.specs.Writing.{command_length, section_length, has_section, written_fields}
-use Rattle.scte35_codec.specs.Inner.Writing.{front_fields, tail_fields, Appends}
+use Rattle.scte35_codec.specs.Inner.Writing.{front_fields, Appends}
 use Rattle.scte35_codec.specs.Crc.{crc_of, with_crc, IsChecked}
 use Rattle.scte35_codec.proofs.Whole.{width-after}
-use Rattle.scte35_codec.proofs.Appends.{Appends-then, Appends-is, group_appends, Made, made, made_is, made_again}
+use Rattle.scte35_codec.proofs.Appends.{Appends-then, Appends-is, Made, made, made_is, made_again}
 use Rattle.scte35_codec.proofs.Registers.{crc_below}
 
 abbrev crc_fields : ℕ → List Field
@@ -30,17 +30,17 @@ whole_made s a b front crc = made s [] b refl (Appends-is (front_then_crc s) (Ap
 -- ---- Another CRC_32 changes nothing else
 
 same_length : (s : Section) (crc : ℕ) → section_length (with_crc s crc) ≡ section_length s
-same_length s crc = ap (λ (w : ℕ). w / 8) (width-after (with_crc s crc) (command_length s) ∙ sym (width-after s (command_length s)))
+same_length s crc = grind (arith, width-after)
 
 same_front : (s : Section) (crc : ℕ) → front_fields s ≡ front_fields (with_crc s crc)
-same_front s crc = ap (λ (n : ℕ). start_fields n ++ (middle s ++ tail_fields s)) (sym (same_length s crc))
+same_front s crc = grind (arith, same_length)
 
 still_has_section : (s : Section) (crc : ℕ) → has_section s ≡ true → has_section (with_crc s crc) ≡ true
 unfolding has_section
 still_has_section s crc fit = grind (arith, same_length)
 
 crc_appends : (crc : ℕ) (a b : List ℕ) → crc < 2 ^ 32 → b ≡ a ++ bytes_high_first 4 crc → Appends (crc_fields crc) a b
-crc_appends crc a b below whole = group_appends 4 (crc_fields crc) crc a b whole refl below (omega arith, omega arith)
+crc_appends crc a b below whole = grind arith
 
 -- the front, and then its CRC_32
 pub checked : (s : Section) (a b : List ℕ) → has_section s ≡ true → Appends (front_fields s) [] a → b ≡ a ++ bytes_high_first 4 (crc_of a) → IsChecked s b

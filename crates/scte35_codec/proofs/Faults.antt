@@ -8,7 +8,7 @@ use Rattle.scte35_codec.proofs.Hexadecimals.{pairs_decode}
 use Rattle.scte35_codec.specs.declared.fault.SpliceFault.{SpliceFault}
 use Rattle.scte35_codec.specs.declared.fault.SpliceFault.TheVariants.{NotHex, CommandLength, OutOfMemory, TooLarge}
 use Rattle.spec_words.specs.Outcomes.{◌>>=◌, Refuses}
-use Rattle.scte35_codec.specs.Reading.{Gives, number_at, bit, specified_time_at, time_at, optional_time_at, component_at, components_at, target_at, optional_duration_at, body_at, optional_body_at, insert_at, whole_insert_at, unmeasured_at, measured_of, command_at, ending_at, tail_at, contents_of, reading}
+use Rattle.scte35_codec.specs.Reading.{Gives, number_at, specified_time_at, time_at, optional_time_at, component_at, components_at, target_at, optional_duration_at, body_at, optional_body_at, insert_at, whole_insert_at, unmeasured_at, measured_of, command_at, ending_at, tail_at, contents_of, reading}
 
 -- a reading fails by the lengths alone
 abbrev pub ByLength : {A : Type 0} → Result A SpliceFault → Type 0
@@ -28,7 +28,7 @@ by_number count bytes = by_test (ltb (length bytes) count) _ _ refl tt
 
 by_time : (bytes : List ℕ) → ByLength (time_at bytes)
 unfolding time_at specified_time_at
-by_time bytes = by_then (number_at 1 bytes) _ (by_number 1 bytes) (λ flags. by_test (bit 7 flags.0) _ _ (by_then (number_at 5 bytes) _ (by_number 5 bytes) (λ _. tt)) tt)
+by_time bytes = grind arith
 
 by_optional_time : (immediate : Bool) (bytes : List ℕ) → ByLength (optional_time_at immediate bytes)
 unfolding optional_time_at
@@ -114,15 +114,13 @@ unfolding reading_hex hex_bytes
 not_hex_is text is = rw is refl
 
 by_text : (is : Bool) (text : List ℕ) → is_hex_text text ≡ is → Refuses OutOfMemory NotHex (reading_hex text) → is_hex_text text ≡ false
-by_text true text is h = absurd ((other_than NotHex (reading_hex text) (hex_is_read text is) h).0 refl)
-by_text false text is h = is
+by_text k text is h = grind (arith, other_than, hex_is_read)
 
 pub hex_fault_is : (text : List ℕ) (result : Result SpliceInfo SpliceFault) → Gives section_of result (reading_hex text) → result ≡ Err NotHex → is_hex_text text ≡ false
-hex_fault_is text result gives e = by_text (is_hex_text text) text refl (subst (λ (r : Result SpliceInfo SpliceFault). Gives section_of r (reading_hex text)) e gives)
+hex_fault_is text result gives e = grind (arith, by_text, Result)
 
 by_kind : (is : Bool) (text : List ℕ) (e : SpliceFault) → is_hex_text text ≡ is → Refuses OutOfMemory e (reading_hex text) → e ≢ TooLarge
-by_kind true text e is h = (other_than e (reading_hex text) (hex_is_read text is) h).1
-by_kind false text e is refused = λ f. let n = not_hex_is text is in let r : reading_hex text ≡ Err e = refused (λ m. cc) in cc
+by_kind k text e is h = grind (arith, other_than, hex_is_read, not_hex_is)
 
 pub hex_faults : (text : List ℕ) (result : Result SpliceInfo SpliceFault) → Gives section_of result (reading_hex text) → IfErr result (λ e. e ≢ TooLarge)
 hex_faults text (Ok info) gives = tt

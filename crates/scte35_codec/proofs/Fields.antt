@@ -51,10 +51,10 @@ bytes-bits (suc k) =
 
 -- the number of some bytes, in front of others of so many bits
 pub number-two : (xs ys : List ℕ) (w : ℕ) → 8 * length ys ≡ w → number (xs ++ ys) ≡ number xs * 2 ^ w + number ys
-number-two xs ys w e = number-append xs ys ∙ ap (λ (k : ℕ). number xs * k + number ys) (bytes-bits (length ys) ∙ ap (λ (k : ℕ). 2 ^ k) e)
+number-two xs ys w e = grind (arith, number-append, bytes-bits)
 
 pub number_fits : (xs : List ℕ) (w : ℕ) → IsBytes xs → 8 * length xs ≡ w → number xs < 2 ^ w
-number_fits xs w fits e = subst (λ (k : ℕ). number xs < k) (bytes-bits (length xs) ∙ ap (λ (k : ℕ). 2 ^ k) e) (number_below xs fits)
+number_fits xs w fits e = grind (arith, bytes-bits, number_below)
 
 pub Holds-join : (Has : Content → ℕ → Type 0) (fs gs : List Field) (xs ys : List ℕ) → IsBytes xs → IsBytes ys → Holds Has fs xs → Holds Has gs ys → Holds Has (fs ++ gs) (xs ++ ys)
 Holds-join Has fs gs xs ys x-fits y-fits front back =

@@ -1,11 +1,11 @@
 -- What a value that fits has.
-use Rattle.std.proofs.Common.{◌≡◌, ℕ, ◌^◌, ◌<◌, ◌≤◌, Bool, true, List, [], ◌∷◌, length, Option, Some, None, refl, arith}
+use Rattle.std.proofs.Common.{◌≡◌, ℕ, ◌^◌, ◌<◌, ◌≤◌, Bool, true, List, [], ◌∷◌, length, Option, refl, arith}
 use Rattle.std.specs.Prelude.{IsTrue}
 use Rattle.std.specs.List.{list_all}
 use Rattle.std.proofs.lemmas.Bool.{and_parts, and_from, leb-true, eqb-false, not-true}
 use Rattle.scte35_codec.specs.declared.info.SpliceTime.{SpliceTime}
 use Rattle.scte35_codec.specs.Section.{Target, Program, Components, Body, Command, Insert, Other, Section, is_timed, target_is_timed, BodyIsTimed, IsProper}
-use Rattle.scte35_codec.specs.Writing.{time_fits, place_fits, target_fits, duration_fits, body_fits, command_fits, section_length, has_section}
+use Rattle.scte35_codec.specs.Writing.{time_fits, place_fits, target_fits, body_fits, command_fits, section_length, has_section}
 use Rattle.scte35_codec.specs.Inner.Writing.{TargetFits}
 
 abbrev Component : Type 0
@@ -30,8 +30,7 @@ target_timed immediate (Program time) h = (and_parts (is_timed immediate time) (
 target_timed immediate (Components cs) h = (all_parts immediate cs (and_parts _ _ h).1).0
 
 body_timed : (b : Option Body) → IsTrue (body_fits b) → BodyIsTimed b
-body_timed None h = tt
-body_timed (Some b) h = target_timed b.immediate b.target (and_parts (target_fits b.immediate b.target) (duration_fits b.duration) h).0
+body_timed b h = grind (arith, target_timed, and_parts)
 
 pub is_proper : (c : Command) → IsTrue (command_fits c) → IsProper c
 is_proper (Insert i) h = body_timed i.body h

@@ -3,9 +3,9 @@ use Rattle.std.proofs.Common.{◌≡◌, ℕ, zero, suc, ◌+◌, ◌-◌, ◌*�
 use Rattle.std.specs.Prelude.{fold, bit_xor, ◌==◌}
 use Rattle.std.specs.Int.{byte_at, bytes_high_first}
 use Rattle.std.proofs.lemmas.List.Sums.{fold-append}
-use Rattle.std.proofs.lemmas.Nat.{shr-shr, shl-shr, field_of, mod_below, mul-mod_first, xor_lt}
+use Rattle.std.proofs.lemmas.Nat.{shr-shr, shl-shr, field_of, mod_below, xor_lt}
 use Rattle.std.proofs.lemmas.Grind.{flat_map-append}
-use Rattle.std.proofs.Math.Nat.{mod-eq_of_lt, mul_assoc, pow-suc}
+use Rattle.std.proofs.Math.Nat.{mod-eq_of_lt}
 use Rattle.std.proofs.Math.Pow.{mod-mod-pow}
 use Rattle.scte35_codec.specs.Reading.{bit}
 use Rattle.scte35_codec.proofs.Fields.{bytes-bits}
@@ -116,7 +116,7 @@ highest n j k e =
     bit_mod 31 0 32 (n * 2 ^ j) refl ∙ ap (λ (m : ℕ). m % 2 == 1) back
 
 goes_up : (n j : ℕ) → moved_up (n * 2 ^ j % 2 ^ 32) ≡ n * 2 ^ suc j % 2 ^ 32
-goes_up n j = mul-mod_first (n * 2 ^ j) 2 (2 ^ 32) ∙ ap (λ (m : ℕ). m % 2 ^ 32) (mul_assoc n (2 ^ j) 2 ∙ ap (λ (m : ℕ). n * m) (sym (pow-suc 2 j)))
+goes_up n j = grind arith
 
 -- the bits of the register itself push it out
 pushed_out : (n j k : ℕ) → j + k ≡ 32 → fold after_bit (n * 2 ^ j % 2 ^ 32) (lowest_bits k n) ≡ 0

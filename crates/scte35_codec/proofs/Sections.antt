@@ -84,7 +84,7 @@ whole_takes bytes i fits e =
     (here.takes, here)
 
 pub whole_width : (fields : List Field) (bytes : List ℕ) → Takes fields bytes [] → 8 * length bytes ≡ width fields
-whole_width fields bytes t = omega (arith, t.holds.count, ap length t.whole, length-append t.front [])
+whole_width fields bytes t = grind (arith, length-append)
 
 -- what takes a front of some bytes whole
 front_takes : (fields : List Field) (count : ℕ) (bytes : List ℕ) → IsBytes bytes → Takes fields (take count bytes) [] → Takes fields bytes (drop count bytes)

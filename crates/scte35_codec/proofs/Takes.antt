@@ -1,5 +1,5 @@
 -- What a reader took from the front of some bytes, and what it reads of fields that lie there.
-use Rattle.std.proofs.Common.{◌≡◌, ℕ, ◌+◌, ◌-◌, ◌*◌, ◌/◌, ◌%◌, ◌^◌, ◌<◌, ◌≤◌, Bool, true, false, cond, eqb, ltb, List, ◌++◌, length, take, drop, Result, Ok, Err, refl, sym, ap, subst, ◌∙◌, inl, inr, append_assoc, arith}
+use Rattle.std.proofs.Common.{◌≡◌, ℕ, ◌+◌, ◌*◌, ◌/◌, ◌%◌, ◌^◌, ◌<◌, ◌≤◌, Bool, true, false, cond, eqb, ltb, List, ◌++◌, length, take, drop, Result, Ok, Err, refl, sym, ap, subst, ◌∙◌, inl, inr, append_assoc, arith}
 use Rattle.std.proofs.lemmas.Bool.{cases_lt, ltb-false, le-ltb}
 use Rattle.std.proofs.lemmas.List.{length-take, length-drop, take-append-drop, take-take, get_or_append_left, get_or-append_right}
 use Rattle.scte35_codec.specs.declared.fault.SpliceFault.{SpliceFault}
@@ -44,11 +44,7 @@ test-flag k false e = rw e refl
 -- ---- Taken from the front
 
 pub IsBytes-append : (xs ys : List ℕ) → IsBytes xs → IsBytes ys → IsBytes (xs ++ ys)
-IsBytes-append xs ys p q i =
-    elim (cases_lt i (length xs)) [
-      | inl lt ↦ rw (get_or_append_left xs ys 0 i lt) (p i)
-      | inr le ↦ rw (get_or-append_right xs ys (length xs) i 0 refl le) (q (i - length xs))
-    ]
+IsBytes-append xs ys p q i = grind (arith, cases_lt, inl, get_or_append_left, inr, get_or-append_right)
 
 -- what fields took from the front of some bytes
 pub record Takes (fields : List Field) (bytes rest : List ℕ) : Type 0 where
@@ -78,8 +74,7 @@ pub record IsNumber (count : ℕ) (bytes : List ℕ) (n : ℕ) (rest : List ℕ)
   pub rest_fits : IsBytes rest
 
 pub number_takes : (count : ℕ) (bytes : List ℕ) (n : ℕ) (rest : List ℕ) → IsBytes bytes → number_at count bytes ≡ Ok (n, rest) → IsNumber count bytes n rest
-number_takes count bytes n rest fits e =
-    grind (arith, IsBytes-drop, IsBytes-take, length-take, number_fits, take-append-drop)
+number_takes count bytes n rest fits e = grind (arith, IsBytes-drop, IsBytes-take, length-take, number_fits, take-append-drop)
 
 -- a number that the fields take apart
 pub group_takes : (count : ℕ) (fields : List Field) (bytes : List ℕ) (n : ℕ) (rest : List ℕ) → IsNumber count bytes n rest → 8 * count ≡ width fields → Splits IsRead fields n → Takes fields bytes rest

@@ -1,5 +1,5 @@
 -- What a channel makes of a decision file and of one refresh.
-use Rattle.std.proofs.Common.{◌≡◌, ℕ, Bool, true, false, not, List, [], ◌∷◌, ◌++◌, refl, ap, sym, ◌∙◌, subst}
+use Rattle.std.proofs.Common.{◌≡◌, ℕ, Bool, true, false, not, List, [], ◌∷◌, ◌++◌, refl, ap, sym, ◌∙◌, subst, arith}
 use Rattle.std.specs.Prelude.{◌≢◌, Option, Some, None, Ok, Err, IsSome}
 use Rattle.std.specs.List.{list_all}
 use Rattle.url.specs.Parts.{Parts}
@@ -22,7 +22,7 @@ use Rattle.channel_spec.specs.declared.fault.RefreshFault.{RefreshFault}
 use Rattle.channel_spec.specs.declared.fault.RefreshFault.TheVariants.{Playlist as Unreadable, NumberRange as PassesRange, OutOfMemory as NoMemory}
 use Rattle.channel_spec.specs.Kept.{Kept}
 use Rattle.channel_spec.specs.Live as live
-use Rattle.channel_spec.specs.Live.{Told, told, refusal, number_range_fault, succession_fault, last_playlist, list_of, after_refresh, window_after}
+use Rattle.channel_spec.specs.Live.{Told, refusal, number_range_fault, succession_fault, last_playlist, list_of, after_refresh, window_after}
 use Rattle.channel_spec.specs.Successor.{fault_if}
 use Rattle.channel_spec.specs.Limits.{default_tolerance}
 use Rattle.live_channel.specs.declared.channel.Refreshed.{Refreshed}
@@ -82,12 +82,7 @@ after_base _ base file some h = absurd h
 
 -- no refresh was accepted before
 pub none_before : (base : Parts) (tolerance : ℕ) (file : Option (List ℕ)) → (told_by base tolerance (given_by file)).accepted ≡ []
-none_before base tolerance None = refl
-none_before base tolerance (Some bytes) = by (decisions_of bytes)
-  where
-    by : (o : Outcome Decisions) → (told tolerance (decisions_in o ++ [])).accepted ≡ []
-    by (Ok ds) = refl
-    by (Err e) = refl
+none_before base tolerance file = grind arith
 
 module _ (c : Channel) (bytes : List ℕ) (given : List Given) where
   abbrev before : Told

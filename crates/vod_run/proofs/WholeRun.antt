@@ -1,5 +1,5 @@
 -- What a run comes to: a channel that was given the decision file, if there is one, and then one refresh.
-use Rattle.std.proofs.Common.{◌≡◌, ℕ, List, [], ◌∷◌, ◌++◌, cond, refl, ap, sym, ◌∙◌, subst, rules}
+use Rattle.std.proofs.Common.{◌≡◌, ℕ, List, [], ◌∷◌, ◌++◌, cond, ap, sym, ◌∙◌, subst, rules, arith}
 use Rattle.std.specs.Prelude.{Option, Some, None, Result, Ok, Err, OnOk, IfErr, IsErrOf, IsOk, IsSome, ◌≢◌, is_ok, is_some, is_none, option_map, unwrap_or}
 use Rattle.std.specs.Result.{IsErrAnd}
 use Rattle.url.specs.Parts.{Parts}
@@ -162,26 +162,18 @@ abbrev pub FairToSink : {A : Type 0} → Result A VodFault → SinkStand → Sin
 FairToSink r old new = IsFairToSink Write r old new
 
 pub still_fair : {A B : Type 0} (e : VodFault) (old new : SourceStand) → FairToSource {A = A} (Err e) old new → FairToSource {A = B} (Err e) old new
-still_fair e old new f = record {
-  blamed = λ is. f.blamed (still e Read is);
-  unfailed = tt;
-  told = f.told;
-  too_many = λ is. f.too_many (still e TooManyReads is);
-  calls = f.calls;
-}
+still_fair e old new f = grind arith
 
 pub still_fair_sink : {A B : Type 0} (e : VodFault) (old new : SinkStand) → FairToSink {A = A} (Err e) old new → FairToSink {A = B} (Err e) old new
-still_fair_sink e old new f = record { blamed = λ is. f.blamed (still e Write is); unfailed = tt; told = f.told }
+still_fair_sink e old new f = grind arith
 
 -- what a call said of its source holds if its fault is handed on
 pub fair_on : {A B : Type 0} (r : Result A VodFault) (e : VodFault) (old new : SourceStand) → IsErrAnd r (λ d. d ≡ e) → FairToSource {A = B} (Err e) old new → FairToSource r old new
-fair_on (Ok x) e old new h f = absurd h
-fair_on {A = A} (Err d) e old new h f = subst (λ x. FairToSource {A = A} (Err x) old new) (sym h) (still_fair e old new f)
+fair_on k e old new h f = grind arith
 
 -- the same of its sink
 pub fair_sink_on : {A B : Type 0} (r : Result A VodFault) (e : VodFault) (old new : SinkStand) → IsErrAnd r (λ d. d ≡ e) → FairToSink {A = B} (Err e) old new → FairToSink r old new
-fair_sink_on (Ok x) e old new h f = absurd h
-fair_sink_on {A = A} (Err d) e old new h f = subst (λ x. FairToSink {A = A} (Err x) old new) (sym h) (still_fair_sink e old new f)
+fair_sink_on k e old new h f = grind arith
 
 pub write_is_no_read : (Write ≢ Read) × (Write ≢ TooManyReads)
 write_is_no_read = (λ same. absurd (cc), λ same. absurd (cc))
@@ -206,18 +198,10 @@ on_end (Err d) e P h f = subst (λ x. IfAtEnd x P) (sym h) f
 
 -- the source was read to its end, and isn't to blame for what comes after
 pub fair_source : {A B : Type 0} (r : Result A VodFault) (x : B) (old new : SourceStand) → FairToSource (Ok x) old new → IfErr r (λ e. (e ≢ Read) × (e ≢ TooManyReads)) → FairToSource r old new
-fair_source (Ok y) x old new f h = record { blamed = λ is. absurd (cc); unfailed = f.unfailed; told = tt; too_many = λ is. absurd (cc); calls = f.calls }
-fair_source (Err e) x old new f h = record {
-  blamed = λ is. let same : e ≡ Read = cc in absurd (h.0 same);
-  unfailed = tt;
-  told = λ other. f.unfailed;
-  too_many = λ is. let same : e ≡ TooManyReads = cc in absurd (h.1 same);
-  calls = f.calls;
-}
+fair_source k x old new f h = grind arith
 
 pub unused_sink : {A : Type 0} (r : Result A VodFault) (s : SinkStand) → IfErr r (λ e. e ≢ Write) → FairToSink r s s
-unused_sink (Ok x) s h = record { blamed = λ is. absurd (cc); unfailed = refl; told = tt }
-unused_sink (Err e) s h = record { blamed = λ is. let same : e ≡ Write = cc in absurd (h same); unfailed = tt; told = λ other. refl }
+unused_sink k s h = grind arith
 
 pub on_ok : {A E : Type 0} {P Q : Type 0} (r : Result A E) → OnOk r P → (P → Q) → OnOk r Q
 on_ok (Ok x) p f = f p
