@@ -32,7 +32,7 @@ def help_at(words: list[str], said: str | None) -> None:
 def usage() -> str:
     """What the program says of words that it doesn't take, as its source has it. Fails if that has none."""
     with open(MAIN, encoding="utf-8") as it:
-        return re.findall(r'^const USAGE: &str = "(.*)\\n";$', it.read(), re.MULTILINE)[0]
+        return str(re.findall(r'^const USAGE: &str = "(.*)\\n";$', it.read(), re.MULTILINE)[0])
 
 
 def program_at(word: str) -> str:
